@@ -1,0 +1,12 @@
+//! The fields of Kafka messages in the flexible encoding (KIP-482): their types, readers and writers.
+#![tactic(auto)]
+
+mod bytes;
+mod fault;
+mod items;
+mod text;
+
+pub use bytes::Bytes;
+pub use fault::{NoMemory, WireFault};
+pub use items::Items;
+pub use text::Text;
