@@ -2,11 +2,16 @@
 #![tactic(auto)]
 
 mod bytes;
+mod cursor;
 mod fault;
 mod items;
+mod lengths;
+mod numbers;
+mod spot;
 mod text;
 
 pub use bytes::Bytes;
+pub use cursor::Cursor;
 pub use fault::{NoMemory, WireFault};
 pub use items::Items;
 pub use text::Text;

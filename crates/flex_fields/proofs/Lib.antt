@@ -1,0 +1,3 @@
+pub mod Limits
+pub mod Repeated
+pub mod Utf8

@@ -1,0 +1,39 @@
+-- What the readers of a cursor answer, beside what reading gives.
+use Rattle.std.specs.Prelude.{◌≡◌, Result, Ok, Err}
+use Rattle.flex_fields.specs.declared.fault.WireFault.{WireFault}
+use Rattle.flex_fields.specs.declared.fault.WireFault.TheVariants.{NoMemory}
+use Rattle.flex_fields.specs.Reading.{At}
+
+-- the fault is that of reading, unless memory ran out
+abbrev pub Fails : {Y : Type 0} → WireFault → Result Y WireFault → Type 0
+Fails NoMemory read = Unit {0}
+Fails f read = read ≡ Err f
+
+-- what was returned, seen by `view`, is what reading gives, unless memory ran out
+abbrev pub Gives : {X Y : Type 0} → (X → Y) → Result X WireFault → Result Y WireFault → Type 0
+Gives view (Ok x) read = read ≡ Ok (view x)
+Gives view (Err e) read = Fails e read
+
+-- The value and where the cursor stands after it are those of reading; a refusal leaves the cursor as it was.
+abbrev pub Reads : {X : Type 0} → At → At → Result X WireFault → Result (X × At) WireFault → Type 0
+Reads old new (Ok x) read = read ≡ Ok (x, new)
+Reads old new (Err e) read = Fails e read × (new ≡ old)
+
+-- The same of a structure; after a refusal nothing is said of the cursor.
+abbrev pub Moves : {X : Type 0} → At → Result X WireFault → Result (X × At) WireFault → Type 0
+Moves new (Ok x) read = read ≡ Ok (x, new)
+Moves new (Err e) read = Fails e read
+
+abbrev pub IsOfBytes : WireFault → Type 0
+IsOfBytes NoMemory = ⊥
+IsOfBytes f = Unit {0}
+
+-- the answer isn't want of memory
+abbrev pub TakesNoMemory : {X : Type 0} → Result X WireFault → Type 0
+TakesNoMemory (Ok x) = Unit {0}
+TakesNoMemory (Err e) = IsOfBytes e
+
+-- a place alone, as a reading of no value
+abbrev pub no_value : Result At WireFault → Result (Unit {0} × At) WireFault
+no_value (Ok at) = Ok (tt, at)
+no_value (Err e) = Err e

@@ -1,0 +1,235 @@
+ghost use Rattle.std.specs.Prelude.{◌≡◌, ◌≢◌, ◌+◌, ◌^◌, ◌<◌, [], length, MatchResult, IfOk};
+ghost use Rattle.std.specs.Int.{w8, w16, w32, w64};
+ghost use Rattle.flex_fields.specs.Reading.{raw_at, int_at, bool_at, uvarint_at, varint_at, varlong_at, array_len_at, bytes_at, str_at, nullable_at, tags_at};
+ghost use Rattle.flex_fields.specs.Cursors.{no_value, Reads, TakesNoMemory};
+
+use crate::bytes::Bytes;
+use crate::fault::WireFault;
+use crate::lengths::{array_len, bytes, null_array_len, null_bytes, null_text, tags, text};
+use crate::numbers::{boolean, int8, int16, int32, int64, uuid, uvarint, varint, varlong};
+use crate::spot::Spot;
+use crate::text::Text;
+use std::alloc::Global;
+use std::marker::Model;
+use uuid::Uuid;
+
+/// Reads the fields of a message one after the other. Places count from its first byte.
+///
+/// A reader either takes its field or refuses it with the place where the field begins; the cursor
+/// then stands where it stood. Only strings and bytes take memory.
+#[derive(Drop)]
+pub struct Cursor<'a> {
+    at: Spot<'a>,
+}
+
+impl<'a> Model for Cursor<'a> {
+    ghost use Rattle.flex_fields.specs.Reading.{At};
+
+    ghost Value = { At };
+
+    ghost use Rattle.flex_fields.specs.Spots.{at_of};
+
+    ghost view = { λ c. at_of c.at };
+}
+
+impl<'a> Cursor<'a> {
+    pub fn new(bytes: &'a [u8]) -> Cursor<'a>
+        ensures { result ≡ record { place = 0; left = bytes.now } }
+    {
+        Cursor {
+            at: Spot {
+                place: 0,
+                rest: bytes,
+            },
+        }
+    }
+
+    /// A cursor whose first byte has this place.
+    pub fn starting_at(place: u64, bytes: &'a [u8]) -> Cursor<'a>
+        requires { place + length bytes.now < 2 ^ 64 }
+        ensures { result ≡ record { place = place; left = bytes.now } }
+    {
+        Cursor {
+            at: Spot { place, rest: bytes },
+        }
+    }
+
+    /// The place of the next byte: how many bytes were taken.
+    pub fn place(&self) -> u64
+        ensures { result ≡ self.now.place }
+    {
+        self.at.place
+    }
+
+    /// The bytes that are left.
+    pub fn rest(&self) -> &'a [u8]
+        ensures { result.now ≡ self.now.left }
+    {
+        self.at.rest
+    }
+
+    /// Refuses bytes that are left, as `Trailing`, with the place of the first one.
+    pub fn end(&self) -> Result<(), WireFault>
+        ensures { MatchResult result (λ _. self.now.left ≡ []) (λ f. (f ≡ WireFault.Trailing self.now.place) × (self.now.left ≢ [])) }
+    {
+        if self.at.rest.is_empty() {
+            Ok(())
+        } else {
+            Err(WireFault::Trailing {
+                place: self.at.place,
+            })
+        }
+    }
+
+    pub fn take_i8(&mut self) -> Result<i8, WireFault>
+        ensures read { Reads self.old self.new result (int_at w8 self.old) }
+        ensures memory { TakesNoMemory result }
+    {
+        let (value, after) = int8(self.at)?;
+        self.at = after;
+        Ok(value)
+    }
+
+    pub fn take_i16(&mut self) -> Result<i16, WireFault>
+        ensures read { Reads self.old self.new result (int_at w16 self.old) }
+        ensures memory { TakesNoMemory result }
+    {
+        let (value, after) = int16(self.at)?;
+        self.at = after;
+        Ok(value)
+    }
+
+    pub fn take_i32(&mut self) -> Result<i32, WireFault>
+        ensures read { Reads self.old self.new result (int_at w32 self.old) }
+        ensures memory { TakesNoMemory result }
+    {
+        let (value, after) = int32(self.at)?;
+        self.at = after;
+        Ok(value)
+    }
+
+    pub fn take_i64(&mut self) -> Result<i64, WireFault>
+        ensures read { Reads self.old self.new result (int_at w64 self.old) }
+        ensures memory { TakesNoMemory result }
+    {
+        let (value, after) = int64(self.at)?;
+        self.at = after;
+        Ok(value)
+    }
+
+    /// A byte: 0 is false, and any other is true.
+    pub fn take_bool(&mut self) -> Result<bool, WireFault>
+        ensures read { Reads self.old self.new result (bool_at self.old) }
+        ensures memory { TakesNoMemory result }
+    {
+        let (value, after) = boolean(self.at)?;
+        self.at = after;
+        Ok(value)
+    }
+
+    pub fn take_uuid(&mut self) -> Result<Uuid, WireFault>
+        ensures read { Reads self.old self.new result (raw_at 16 self.old) }
+        ensures memory { TakesNoMemory result }
+    {
+        match uuid(self.at) {
+            Ok((value, after)) => {
+                self.at = after;
+                Ok(value)
+            }
+            Err(fault) => Err(fault),
+        }
+    }
+
+    /// An unsigned number in at most five bytes. A longer spelling than the shortest is read.
+    pub fn take_uvarint(&mut self) -> Result<u32, WireFault>
+        ensures read { Reads self.old self.new result (uvarint_at self.old) }
+        ensures memory { TakesNoMemory result }
+    {
+        let (value, after) = uvarint(self.at)?;
+        self.at = after;
+        Ok(value)
+    }
+
+    /// A signed number, zigzag, in at most five bytes.
+    pub fn take_varint(&mut self) -> Result<i32, WireFault>
+        ensures read { Reads self.old self.new result (varint_at self.old) }
+        ensures memory { TakesNoMemory result }
+    {
+        let (value, after) = varint(self.at)?;
+        self.at = after;
+        Ok(value)
+    }
+
+    /// A signed number, zigzag, in at most ten bytes.
+    pub fn take_varlong(&mut self) -> Result<i64, WireFault>
+        ensures read { Reads self.old self.new result (varlong_at self.old) }
+        ensures memory { TakesNoMemory result }
+    {
+        let (value, after) = varlong(self.at)?;
+        self.at = after;
+        Ok(value)
+    }
+
+    /// A string, which can't be null here.
+    pub fn take_str(&mut self, alloc: Global) -> Result<Text, WireFault>
+        ensures { Reads self.old self.new result (str_at self.old) }
+    {
+        let (value, after) = text(alloc, self.at)?;
+        self.at = after;
+        Ok(value)
+    }
+
+    pub fn take_null_str(&mut self, alloc: Global) -> Result<Option<Text>, WireFault>
+        ensures { Reads self.old self.new result (nullable_at str_at self.old) }
+    {
+        let (value, after) = null_text(alloc, self.at)?;
+        self.at = after;
+        Ok(value)
+    }
+
+    /// Bytes, which can't be null here.
+    pub fn take_bytes(&mut self, alloc: Global) -> Result<Bytes, WireFault>
+        ensures { Reads self.old self.new result (bytes_at self.old) }
+    {
+        let (value, after) = bytes(alloc, self.at)?;
+        self.at = after;
+        Ok(value)
+    }
+
+    pub fn take_null_bytes(&mut self, alloc: Global) -> Result<Option<Bytes>, WireFault>
+        ensures { Reads self.old self.new result (nullable_at bytes_at self.old) }
+    {
+        let (value, after) = null_bytes(alloc, self.at)?;
+        self.at = after;
+        Ok(value)
+    }
+
+    /// The number of elements of an array, at most the number of bytes that are left.
+    pub fn take_array_len(&mut self) -> Result<u32, WireFault>
+        ensures read { Reads self.old self.new result (array_len_at self.old) }
+        ensures memory { TakesNoMemory result }
+        ensures few { IfOk result (λ n. n + 1 < 2 ^ 32) }
+    {
+        let (value, after) = array_len(self.at)?;
+        self.at = after;
+        Ok(value)
+    }
+
+    pub fn take_null_array_len(&mut self) -> Result<Option<u32>, WireFault>
+        ensures read { Reads self.old self.new result (nullable_at array_len_at self.old) }
+        ensures memory { TakesNoMemory result }
+    {
+        let (value, after) = null_array_len(self.at)?;
+        self.at = after;
+        Ok(value)
+    }
+
+    /// The tagged fields that end a structure, none of which says anything here.
+    pub fn skip_tags(&mut self) -> Result<(), WireFault>
+        ensures read { Reads self.old self.new result (no_value (tags_at self.old)) }
+        ensures memory { TakesNoMemory result }
+    {
+        self.at = tags(self.at)?;
+        Ok(())
+    }
+}
