@@ -7,6 +7,7 @@ mod fault;
 mod items;
 mod lengths;
 mod numbers;
+mod out;
 mod spot;
 mod text;
 
@@ -14,4 +15,5 @@ pub use bytes::Bytes;
 pub use cursor::Cursor;
 pub use fault::{NoMemory, WireFault};
 pub use items::Items;
+pub use out::Out;
 pub use text::Text;

@@ -1,0 +1,257 @@
+ghost use Rattle.std.specs.Prelude.{◌≡◌, ◌+◌, ◌^◌, ◌<◌, ◌++◌, [], ℕ, List, length, take, Some, None, OnOk, OnErr, IfSome};
+ghost use Rattle.std.specs.Int.{w8, w16, w32, w64};
+ghost use Rattle.std.specs.Option.{option_copied};
+ghost use Rattle.flex_fields.specs.Reading.{limit};
+ghost use Rattle.flex_fields.specs.Grammar.{IsInt, IsUvarint, IsVarint, IsVarlong, IsBool, IsSized, IsStr, OrNull, IsTags, IsRaw};
+ghost use Rattle.flex_fields.specs.Writing.{groups_of, uvarint_bytes, zigzag, varint_bytes, varlong_bytes, int_bytes, bool_bytes, sized_bytes, nullable_bytes};
+
+use crate::bytes::Bytes;
+use crate::fault::NoMemory;
+use std::alloc::Global;
+use std::marker::Model;
+use uuid::Uuid;
+
+/// Writes the fields of a message one after the other, each in its shortest form.
+///
+/// A writer that finds no memory leaves what was written before, and nothing of its own.
+#[derive(Drop)]
+pub struct Out {
+    bytes: Vec<u8>,
+}
+
+impl Model for Out {
+    ghost use Rattle.std.specs.Prelude.{List, ℕ};
+
+    ghost Value = { List ℕ };
+
+    ghost view = { λ o. o.bytes.items };
+}
+
+// Groups of seven bits, of which `more` may follow the first.
+#[tactic(auto, unfolding(crate::specs::Writing::groups_of), using(crate::proofs::Limits::limit_down))]
+fn put_groups(out: &mut Vec<u8>, more: u32, value: u64) -> Result<(), NoMemory>
+    requires { value < limit 127 more }
+    ensures ok { OnOk result (out.new.items ≡ out.old.items ++ groups_of more value) }
+    // A refusal leaves what was there at the front.
+    ensures err { OnErr result (take (length out.old.items) out.new.items ≡ out.old.items) }
+{
+    if more == 0 || value < 128 {
+        out.push(value as u8)?;
+        return Ok(());
+    }
+    out.push((value % 128 + 128) as u8)?;
+    put_groups(out, more - 1, value / 128)?;
+    Ok(())
+}
+
+fn zigzag_of(value: i64) -> u64
+    ensures { result ≡ zigzag value }
+{
+    if value >= 0 {
+        2 * value as u64
+    } else {
+        2 * (-1 - value) as u64 + 1
+    }
+}
+
+impl Out {
+    pub fn new(alloc: Global) -> Out
+        ensures { result ≡ [] }
+    {
+        Out {
+            bytes: Vec::new(alloc),
+        }
+    }
+
+    pub fn put_i8(&mut self, value: i8) -> Result<(), NoMemory>
+        ensures ok { OnOk result (self.new ≡ self.old ++ int_bytes w8 value) }
+        ensures err { OnErr result (self.new ≡ self.old) }
+        ensures stands { IsInt w8 (int_bytes w8 value) value }
+    {
+        self.bytes.extend_from_slice(&value.to_be_bytes())?;
+        Ok(())
+    }
+
+    pub fn put_i16(&mut self, value: i16) -> Result<(), NoMemory>
+        ensures ok { OnOk result (self.new ≡ self.old ++ int_bytes w16 value) }
+        ensures err { OnErr result (self.new ≡ self.old) }
+        ensures stands { IsInt w16 (int_bytes w16 value) value }
+    {
+        self.bytes.extend_from_slice(&value.to_be_bytes())?;
+        Ok(())
+    }
+
+    pub fn put_i32(&mut self, value: i32) -> Result<(), NoMemory>
+        ensures ok { OnOk result (self.new ≡ self.old ++ int_bytes w32 value) }
+        ensures err { OnErr result (self.new ≡ self.old) }
+        ensures stands { IsInt w32 (int_bytes w32 value) value }
+    {
+        self.bytes.extend_from_slice(&value.to_be_bytes())?;
+        Ok(())
+    }
+
+    pub fn put_i64(&mut self, value: i64) -> Result<(), NoMemory>
+        ensures ok { OnOk result (self.new ≡ self.old ++ int_bytes w64 value) }
+        ensures err { OnErr result (self.new ≡ self.old) }
+        ensures stands { IsInt w64 (int_bytes w64 value) value }
+    {
+        self.bytes.extend_from_slice(&value.to_be_bytes())?;
+        Ok(())
+    }
+
+    /// A byte, 0 or 1.
+    pub fn put_bool(&mut self, value: bool) -> Result<(), NoMemory>
+        ensures ok { OnOk result (self.new ≡ self.old ++ bool_bytes value) }
+        ensures err { OnErr result (self.new ≡ self.old) }
+        ensures stands { IsBool (bool_bytes value) value }
+    {
+        let byte = if value { 1 } else { 0 };
+        self.bytes.push(byte)?;
+        Ok(())
+    }
+
+    pub fn put_uuid(&mut self, value: Uuid) -> Result<(), NoMemory>
+        ensures ok { OnOk result (self.new ≡ self.old ++ value) }
+        ensures err { OnErr result (self.new ≡ self.old) }
+        ensures stands { IsRaw 16 value value }
+    {
+        self.bytes.extend_from_slice(value.as_bytes())?;
+        Ok(())
+    }
+
+    // Groups of seven bits, or nothing.
+    fn put_grouped(&mut self, more: u32, value: u64) -> Result<(), NoMemory>
+        requires { value < limit 127 more }
+        ensures ok { OnOk result (self.new ≡ self.old ++ groups_of more value) }
+        ensures err { OnErr result (self.new ≡ self.old) }
+    {
+        let len = self.bytes.len();
+        let written = put_groups(&mut self.bytes, more, value);
+        if written.is_err() {
+            self.bytes.truncate(len);
+        }
+        written
+    }
+
+    /// An unsigned number in as few bytes as it has groups of seven bits.
+    #[tactic(auto, using(crate::proofs::Written::uvarint_spells))]
+    pub fn put_uvarint(&mut self, value: u32) -> Result<(), NoMemory>
+        ensures ok { OnOk result (self.new ≡ self.old ++ uvarint_bytes value) }
+        ensures err { OnErr result (self.new ≡ self.old) }
+        ensures stands { IsUvarint (uvarint_bytes value) value }
+    {
+        self.put_grouped(4, u64::from(value))
+    }
+
+    /// A signed number, zigzag.
+    #[tactic(auto, using(crate::proofs::Written::varint_spells))]
+    pub fn put_varint(&mut self, value: i32) -> Result<(), NoMemory>
+        ensures ok { OnOk result (self.new ≡ self.old ++ varint_bytes value) }
+        ensures err { OnErr result (self.new ≡ self.old) }
+        ensures stands { IsVarint (varint_bytes value) value }
+    {
+        self.put_grouped(4, zigzag_of(i64::from(value)))
+    }
+
+    /// A signed number of 64 bits, zigzag.
+    #[tactic(auto, using(crate::proofs::Written::varlong_spells))]
+    pub fn put_varlong(&mut self, value: i64) -> Result<(), NoMemory>
+        ensures ok { OnOk result (self.new ≡ self.old ++ varlong_bytes value) }
+        ensures err { OnErr result (self.new ≡ self.old) }
+        ensures stands { IsVarlong (varlong_bytes value) value }
+    {
+        self.put_grouped(9, zigzag_of(value))
+    }
+
+    /// A string. It is never null.
+    #[tactic(auto, using(crate::proofs::Written::str_spells))]
+    pub fn put_str(&mut self, text: &str) -> Result<(), NoMemory>
+        requires { length text.now + 1 < 2 ^ 32 }
+        ensures ok { OnOk result (self.new ≡ self.old ++ sized_bytes text.now) }
+        ensures err { OnErr result (self.new ≡ self.old) }
+        ensures stands { IsStr (sized_bytes text.now) text.now }
+    {
+        self.put_bytes(text.as_bytes())
+    }
+
+    pub fn put_null_str(&mut self, text: Option<&str>) -> Result<(), NoMemory>
+        requires { IfSome text (λ t. length t.now + 1 < 2 ^ 32) }
+        ensures ok { OnOk result (self.new ≡ self.old ++ nullable_bytes sized_bytes (option_copied text.entry)) }
+        ensures err { OnErr result (self.new ≡ self.old) }
+        ensures stands { OrNull IsStr (nullable_bytes sized_bytes (option_copied text.entry)) (option_copied text.entry) }
+    {
+        match text {
+            None => self.put_uvarint(0),
+            Some(text) => self.put_str(text),
+        }
+    }
+
+    /// A length and the bytes. They are never null.
+    #[tactic(auto, using(crate::proofs::Written::sized_spells))]
+    pub fn put_bytes(&mut self, bytes: &[u8]) -> Result<(), NoMemory>
+        requires { length bytes.now + 1 < 2 ^ 32 }
+        ensures ok { OnOk result (self.new ≡ self.old ++ sized_bytes bytes.now) }
+        ensures err { OnErr result (self.new ≡ self.old) }
+        ensures stands { IsSized (sized_bytes bytes.now) bytes.now }
+    {
+        let len = self.bytes.len();
+        self.put_uvarint(bytes.len() as u32 + 1)?;
+        if self.bytes.extend_from_slice(bytes).is_err() {
+            self.bytes.truncate(len);
+            return Err(NoMemory);
+        }
+        Ok(())
+    }
+
+    pub fn put_null_bytes(&mut self, bytes: Option<&[u8]>) -> Result<(), NoMemory>
+        requires { IfSome bytes (λ b. length b.now + 1 < 2 ^ 32) }
+        ensures ok { OnOk result (self.new ≡ self.old ++ nullable_bytes sized_bytes (option_copied bytes.entry)) }
+        ensures err { OnErr result (self.new ≡ self.old) }
+        ensures stands { OrNull IsSized (nullable_bytes sized_bytes (option_copied bytes.entry)) (option_copied bytes.entry) }
+    {
+        match bytes {
+            None => self.put_uvarint(0),
+            Some(bytes) => self.put_bytes(bytes),
+        }
+    }
+
+    /// The number of elements of an array, which follow it.
+    pub fn put_array_len(&mut self, count: u32) -> Result<(), NoMemory>
+        requires { count + 1 < 2 ^ 32 }
+        ensures ok { OnOk result (self.new ≡ self.old ++ uvarint_bytes (count + 1)) }
+        ensures err { OnErr result (self.new ≡ self.old) }
+    {
+        self.put_uvarint(count + 1)?;
+        Ok(())
+    }
+
+    pub fn put_null_array_len(&mut self, count: Option<u32>) -> Result<(), NoMemory>
+        requires { IfSome count (λ n. n + 1 < 2 ^ 32) }
+        ensures ok { OnOk result (self.new ≡ self.old ++ nullable_bytes (λ n. uvarint_bytes (n + 1)) count) }
+        ensures err { OnErr result (self.new ≡ self.old) }
+    {
+        match count {
+            None => self.put_uvarint(0),
+            Some(count) => self.put_uvarint(count + 1),
+        }
+    }
+
+    /// No tags.
+    #[tactic(auto, using(crate::proofs::Written::no_tags))]
+    pub fn put_tags(&mut self) -> Result<(), NoMemory>
+        ensures ok { OnOk result (self.new ≡ self.old ++ uvarint_bytes 0) }
+        ensures err { OnErr result (self.new ≡ self.old) }
+        ensures stands { IsTags (uvarint_bytes 0) }
+    {
+        self.put_uvarint(0)?;
+        Ok(())
+    }
+
+    /// What was written, which takes no memory.
+    pub fn into_bytes(self) -> Bytes
+        ensures { result ≡ self }
+    {
+        let Out { bytes } = self;
+        Bytes::new(bytes)
+    }
+}
