@@ -1,4 +1,9 @@
+pub mod Counted
+pub mod Fields
 pub mod Limits
+pub mod Readers
 pub mod Repeated
+pub mod Sound
 pub mod Utf8
 pub mod Written
+pub mod WrittenArrays

@@ -42,8 +42,8 @@ uuid = record { is = IsRaw 16; read = raw_at 16; bytes = λ u. u }
 abbrev pub string : Format (List ℕ)
 string = record { is = IsStr; read = str_at; bytes = sized_bytes }
 
-abbrev pub bytes : Format (List ℕ)
-bytes = record { is = IsSized; read = bytes_at; bytes = sized_bytes }
+abbrev pub byte_string : Format (List ℕ)
+byte_string = record { is = IsSized; read = bytes_at; bytes = sized_bytes }
 
 -- ---- what is made of them
 

@@ -10,6 +10,7 @@ mod numbers;
 mod out;
 mod spot;
 mod text;
+mod wire;
 
 pub use bytes::Bytes;
 pub use cursor::Cursor;
@@ -17,3 +18,4 @@ pub use fault::{NoMemory, WireFault};
 pub use items::Items;
 pub use out::Out;
 pub use text::Text;
+pub use wire::{Wire, put_array, read_whole, stand_for_one, take_array, write_whole};

@@ -1,0 +1,108 @@
+ghost use Rattle.std.specs.Prelude.{◌≡◌, ◌+◌, ◌^◌, ◌<◌, ◌++◌, List, ℕ, length, vec_len, Option, OnOk, IfOk};
+ghost use Rattle.std.specs.List.{flat_map};
+ghost use Rattle.flex_fields.specs.Reading.{many_at, whole_at};
+ghost use Rattle.flex_fields.specs.Grammar.{AreMany};
+ghost use Rattle.flex_fields.specs.Cursors.{Gives, Moves};
+ghost use Rattle.flex_fields.specs.Formats.{Format, IsSound, Stands, ReadsWhole, array, nullable};
+
+use crate::bytes::Bytes;
+use crate::cursor::Cursor;
+use crate::fault::{NoMemory, WireFault};
+use crate::items::Items;
+use crate::out::Out;
+use std::alloc::Global;
+
+/// What stands in a message: a structure, or an element of an array.
+pub trait Wire: Sized + Drop {
+    /// Its schema.
+    ghost format: { Format Self };
+
+    /// Takes it from the cursor. After a refusal the cursor may stand anywhere before the fault.
+    fn take(alloc: Global, cursor: &mut Cursor<'_>) -> Result<Self, WireFault>
+        ensures { Moves cursor.new result (format.read cursor.old) };
+
+    /// Writes it. Where memory runs out, a part of it may be written.
+    fn put(&self, out: &mut Out) -> Result<(), NoMemory>
+        ensures bytes { OnOk result (out.new ≡ out.old ++ format.bytes self.now) }
+        ensures stands { OnOk result (Stands format self.now) };
+
+    /// It is read just where bytes stand for it.
+    ghost sound: { IsSound format };
+}
+
+fn take_many<T: Wire>(
+    alloc: Global,
+    count: u32,
+    cursor: &mut Cursor<'_>,
+) -> Result<Items<T>, WireFault>
+    requires few { count + 1 < 2 ^ 32 }
+    ensures { Moves cursor.new result (many_at T.format.read count cursor.old) }
+{
+    let mut items = Vec::new(alloc);
+    for _ in 0..count {
+        let item = T::take(alloc, cursor)?;
+        items.push(item)?;
+    }
+    Ok(Items::new(items))
+}
+
+/// Takes an array, which can't be null here.
+#[tactic(auto, unfolding(crate::specs::Reading::array_at))]
+pub fn take_array<T: Wire>(alloc: Global, cursor: &mut Cursor<'_>) -> Result<Items<T>, WireFault>
+    ensures { Moves cursor.new result ((array T.format).read cursor.old) }
+{
+    let count = cursor.take_array_len()?;
+    take_many(alloc, count, cursor)
+}
+
+fn put_items<T: Wire>(out: &mut Out, items: &[T]) -> Result<(), NoMemory>
+    ensures bytes { OnOk result (out.new ≡ out.old ++ flat_map T.format.bytes items.now) }
+    ensures stands { OnOk result (AreMany T.format.is (flat_map T.format.bytes items.now) items.now) }
+{
+    for item in items {
+        item.put(out)?;
+    }
+    Ok(())
+}
+
+/// Writes an array.
+pub fn put_array<T: Wire>(out: &mut Out, items: &Items<T>) -> Result<(), NoMemory>
+    ensures bytes { OnOk result (out.new ≡ out.old ++ (array T.format).bytes items.now) }
+    ensures stands { OnOk result (Stands (array T.format) items.now) }
+{
+    let items = items.as_slice();
+    out.put_array_len(items.len() as u32)?;
+    put_items(out, items)?;
+    Ok(())
+}
+
+fn take_all<T: Wire>(alloc: Global, bytes: &[u8]) -> Result<T, WireFault>
+    ensures { Gives (λ x. x) result (whole_at T.format.read bytes.now) }
+{
+    let mut cursor = Cursor::new(bytes);
+    let message = T::take(alloc, &mut cursor)?;
+    cursor.end()?;
+    Ok(message)
+}
+
+/// Reads all of the bytes as one message. Places count from the first byte.
+pub fn read_whole<T: Wire>(alloc: Global, bytes: &[u8]) -> Result<T, WireFault>
+    ensures { ReadsWhole T.format bytes.now result }
+{
+    take_all(alloc, bytes)
+}
+
+/// The bytes of a message, which stand for it again.
+pub fn write_whole<T: Wire>(alloc: Global, message: &T) -> Result<Bytes, NoMemory>
+    ensures bytes { IfOk result (λ b. b ≡ T.format.bytes message.now) }
+    ensures stands { OnOk result (Stands T.format message.now) }
+{
+    let mut out = Out::new(alloc);
+    message.put(&mut out)?;
+    Ok(out.into_bytes())
+}
+
+/// Bytes stand for one message at most.
+pub fn stand_for_one<T: Wire>()
+    ensures { (bytes : List ℕ) (x y : T) → T.format.is bytes x → T.format.is bytes y → x ≡ y }
+{}
