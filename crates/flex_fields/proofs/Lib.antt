@@ -1,9 +1,5 @@
-pub mod Counted
-pub mod Fields
-pub mod Limits
-pub mod Readers
+pub mod Puts
 pub mod Repeated
-pub mod Sound
 pub mod Utf8
+pub mod Whole
 pub mod Written
-pub mod WrittenArrays

@@ -1,7 +1,7 @@
 -- Reading fields from left to right: the value and what follows it, or the first fault with its place.
 -- The fields are those of the Kafka protocol guide ("Protocol primitive types") in the flexible encoding (KIP-482).
 -- Each function here is joined to the relation of `Grammar.antt` by the law `IsReader` of `Formats.antt`.
-use Rattle.std.specs.Prelude.{◌+◌, ◌-◌, ◌*◌, ◌/◌, ◌%◌, ℕ, ℤ, pos, negsuc, zero, suc, Bool, not, List, [], ◌∷◌, length, take, drop, slice_index_or, Option, Some, None, Result, Ok, Err, nat_lt, ◌==◌, if◌then◌else◌}
+use Rattle.std.specs.Prelude.{◌+◌, ◌-◌, ◌*◌, ◌/◌, ◌%◌, ℕ, ℤ, pos, negsuc, zero, suc, Bool, true, false, not, List, [], ◌∷◌, length, take, drop, slice_index_or, Option, Some, None, Result, Ok, Err, nat_lt, ◌==◌, if◌then◌else◌}
 use Rattle.std.specs.Int.{Width, byte_len, from_be_bytes, cast_signed}
 use Rattle.std.specs.Str.{is_utf8}
 use Rattle.flex_fields.specs.declared.fault.WireFault.{WireFault}
@@ -100,7 +100,13 @@ str_at at = do
   bytes ← bytes_at at
   if is_utf8 bytes.0 then Ok bytes else Err (NotUtf8 at.place)
 
--- null, which stands as the number 0, or what the reader reads
+-- whether null stands there, which is the number 0; where it doesn't, nothing is taken
+abbrev pub null_at : At → Result (Bool × At) WireFault
+null_at at = do
+  n ← uvarint_at at
+  if n.0 == 0 then Ok (true, n.1) else Ok (false, at)
+
+-- null, or what the reader reads
 unfoldable pub nullable_at : {A : Type 0} → (At → Result (A × At) WireFault) → At → Result (Option A × At) WireFault
 nullable_at read at = do
   n ← uvarint_at at

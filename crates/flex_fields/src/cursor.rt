@@ -1,6 +1,6 @@
 ghost use Rattle.std.specs.Prelude.{◌≡◌, ◌≢◌, ◌+◌, ◌^◌, ◌<◌, [], length, MatchResult, IfOk};
 ghost use Rattle.std.specs.Int.{w8, w16, w32, w64};
-ghost use Rattle.flex_fields.specs.Reading.{raw_at, int_at, bool_at, uvarint_at, varint_at, varlong_at, array_len_at, bytes_at, str_at, nullable_at, tags_at};
+ghost use Rattle.flex_fields.specs.Reading.{raw_at, int_at, bool_at, uvarint_at, varint_at, varlong_at, array_len_at, bytes_at, str_at, null_at, nullable_at, tags_at};
 ghost use Rattle.flex_fields.specs.Cursors.{no_value, Reads, TakesNoMemory};
 
 use crate::bytes::Bytes;
@@ -222,6 +222,19 @@ impl<'a> Cursor<'a> {
         let (value, after) = null_array_len(self.at)?;
         self.at = after;
         Ok(value)
+    }
+
+    /// Takes a null, and nothing else: whether one stood there.
+    pub fn skip_null(&mut self) -> Result<bool, WireFault>
+        ensures read { Reads self.old self.new result (null_at self.old) }
+        ensures memory { TakesNoMemory result }
+    {
+        let (number, after) = uvarint(self.at)?;
+        if number == 0 {
+            self.at = after;
+            return Ok(true);
+        }
+        Ok(false)
     }
 
     /// The tagged fields that end a structure, none of which says anything here.

@@ -3,6 +3,7 @@
 
 mod bytes;
 mod cursor;
+mod elements;
 mod fault;
 mod items;
 mod lengths;
@@ -18,4 +19,7 @@ pub use fault::{NoMemory, WireFault};
 pub use items::Items;
 pub use out::Out;
 pub use text::Text;
-pub use wire::{Wire, put_array, read_whole, stand_for_one, take_array, write_whole};
+pub use wire::{
+    Wire, put_array, put_null_array, read_whole, stand_for_one, take_array, take_null_array,
+    write_whole,
+};

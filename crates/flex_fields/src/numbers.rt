@@ -94,7 +94,7 @@ pub fn boolean(at: Spot<'_>) -> Result<(bool, Spot<'_>), WireFault>
 
 // A number in groups of seven bits, of which `more` may follow the first, and how many bytes it
 // takes. The last of so many groups is at most `top`.
-#[tactic(auto, unfolding(crate::specs::Reading::groups_at), using(crate::proofs::Limits::limit_at_least, crate::proofs::Limits::limit_down))]
+#[tactic(auto, unfolding(crate::specs::Reading::groups_at), using(crate::specs::Sound::Limits::limit_at_least, crate::specs::Sound::Limits::limit_down))]
 fn groups(place: u64, top: u8, more: u32, bytes: &[u8]) -> Result<(u64, usize), WireFault>
     requires fits { limit top more ≤ 2 ^ 64 }
     ensures read { Gives (λ x. x) result (groups_at place top more bytes.now) }

@@ -1,9 +1,9 @@
 ghost use Rattle.std.specs.Prelude.{◌≡◌, ◌+◌, ◌^◌, ◌<◌, ◌++◌, [], ℕ, List, length, take, Some, None, OnOk, OnErr, IfSome};
-ghost use Rattle.std.specs.Int.{w8, w16, w32, w64};
 ghost use Rattle.std.specs.Option.{option_copied};
 ghost use Rattle.flex_fields.specs.Reading.{limit};
-ghost use Rattle.flex_fields.specs.Grammar.{IsInt, IsUvarint, IsVarint, IsVarlong, IsBool, IsSized, IsStr, OrNull, IsTags, IsRaw};
-ghost use Rattle.flex_fields.specs.Writing.{groups_of, uvarint_bytes, zigzag, varint_bytes, varlong_bytes, int_bytes, bool_bytes, sized_bytes, nullable_bytes};
+ghost use Rattle.flex_fields.specs.Grammar.{IsUvarint, IsVarint, IsVarlong};
+ghost use Rattle.flex_fields.specs.Formats.{Writes, WritesNoTags, int8, int16, int32, int64, boolean, uuid as uuid_field, string, null_string, byte_string, null_byte_string};
+ghost use Rattle.flex_fields.specs.Writing.{groups_of, uvarint_bytes, zigzag, varint_bytes, varlong_bytes, nullable_bytes};
 
 use crate::bytes::Bytes;
 use crate::fault::NoMemory;
@@ -28,7 +28,7 @@ impl Model for Out {
 }
 
 // Groups of seven bits, of which `more` may follow the first.
-#[tactic(auto, unfolding(crate::specs::Writing::groups_of), using(crate::proofs::Limits::limit_down))]
+#[tactic(auto, unfolding(crate::specs::Writing::groups_of), using(crate::specs::Sound::Limits::limit_down))]
 fn put_groups(out: &mut Vec<u8>, more: u32, value: u64) -> Result<(), NoMemory>
     requires { value < limit 127 more }
     ensures ok { OnOk result (out.new.items ≡ out.old.items ++ groups_of more value) }
@@ -64,36 +64,32 @@ impl Out {
     }
 
     pub fn put_i8(&mut self, value: i8) -> Result<(), NoMemory>
-        ensures ok { OnOk result (self.new ≡ self.old ++ int_bytes w8 value) }
+        ensures ok { OnOk result (Writes int8 self.old self.new value) }
         ensures err { OnErr result (self.new ≡ self.old) }
-        ensures stands { IsInt w8 (int_bytes w8 value) value }
     {
         self.bytes.extend_from_slice(&value.to_be_bytes())?;
         Ok(())
     }
 
     pub fn put_i16(&mut self, value: i16) -> Result<(), NoMemory>
-        ensures ok { OnOk result (self.new ≡ self.old ++ int_bytes w16 value) }
+        ensures ok { OnOk result (Writes int16 self.old self.new value) }
         ensures err { OnErr result (self.new ≡ self.old) }
-        ensures stands { IsInt w16 (int_bytes w16 value) value }
     {
         self.bytes.extend_from_slice(&value.to_be_bytes())?;
         Ok(())
     }
 
     pub fn put_i32(&mut self, value: i32) -> Result<(), NoMemory>
-        ensures ok { OnOk result (self.new ≡ self.old ++ int_bytes w32 value) }
+        ensures ok { OnOk result (Writes int32 self.old self.new value) }
         ensures err { OnErr result (self.new ≡ self.old) }
-        ensures stands { IsInt w32 (int_bytes w32 value) value }
     {
         self.bytes.extend_from_slice(&value.to_be_bytes())?;
         Ok(())
     }
 
     pub fn put_i64(&mut self, value: i64) -> Result<(), NoMemory>
-        ensures ok { OnOk result (self.new ≡ self.old ++ int_bytes w64 value) }
+        ensures ok { OnOk result (Writes int64 self.old self.new value) }
         ensures err { OnErr result (self.new ≡ self.old) }
-        ensures stands { IsInt w64 (int_bytes w64 value) value }
     {
         self.bytes.extend_from_slice(&value.to_be_bytes())?;
         Ok(())
@@ -101,9 +97,8 @@ impl Out {
 
     /// A byte, 0 or 1.
     pub fn put_bool(&mut self, value: bool) -> Result<(), NoMemory>
-        ensures ok { OnOk result (self.new ≡ self.old ++ bool_bytes value) }
+        ensures ok { OnOk result (Writes boolean self.old self.new value) }
         ensures err { OnErr result (self.new ≡ self.old) }
-        ensures stands { IsBool (bool_bytes value) value }
     {
         let byte = if value { 1 } else { 0 };
         self.bytes.push(byte)?;
@@ -111,9 +106,8 @@ impl Out {
     }
 
     pub fn put_uuid(&mut self, value: Uuid) -> Result<(), NoMemory>
-        ensures ok { OnOk result (self.new ≡ self.old ++ value) }
+        ensures ok { OnOk result (Writes uuid_field self.old self.new value) }
         ensures err { OnErr result (self.new ≡ self.old) }
-        ensures stands { IsRaw 16 value value }
     {
         self.bytes.extend_from_slice(value.as_bytes())?;
         Ok(())
@@ -167,18 +161,16 @@ impl Out {
     #[tactic(auto, using(crate::proofs::Written::str_spells))]
     pub fn put_str(&mut self, text: &str) -> Result<(), NoMemory>
         requires { length text.now + 1 < 2 ^ 32 }
-        ensures ok { OnOk result (self.new ≡ self.old ++ sized_bytes text.now) }
+        ensures ok { OnOk result (Writes string self.old self.new text.now) }
         ensures err { OnErr result (self.new ≡ self.old) }
-        ensures stands { IsStr (sized_bytes text.now) text.now }
     {
         self.put_bytes(text.as_bytes())
     }
 
     pub fn put_null_str(&mut self, text: Option<&str>) -> Result<(), NoMemory>
         requires { IfSome text (λ t. length t.now + 1 < 2 ^ 32) }
-        ensures ok { OnOk result (self.new ≡ self.old ++ nullable_bytes sized_bytes (option_copied text.entry)) }
+        ensures ok { OnOk result (Writes null_string self.old self.new (option_copied text.entry)) }
         ensures err { OnErr result (self.new ≡ self.old) }
-        ensures stands { OrNull IsStr (nullable_bytes sized_bytes (option_copied text.entry)) (option_copied text.entry) }
     {
         match text {
             None => self.put_uvarint(0),
@@ -190,9 +182,8 @@ impl Out {
     #[tactic(auto, using(crate::proofs::Written::sized_spells))]
     pub fn put_bytes(&mut self, bytes: &[u8]) -> Result<(), NoMemory>
         requires { length bytes.now + 1 < 2 ^ 32 }
-        ensures ok { OnOk result (self.new ≡ self.old ++ sized_bytes bytes.now) }
+        ensures ok { OnOk result (Writes byte_string self.old self.new bytes.now) }
         ensures err { OnErr result (self.new ≡ self.old) }
-        ensures stands { IsSized (sized_bytes bytes.now) bytes.now }
     {
         let len = self.bytes.len();
         self.put_uvarint(bytes.len() as u32 + 1)?;
@@ -205,9 +196,8 @@ impl Out {
 
     pub fn put_null_bytes(&mut self, bytes: Option<&[u8]>) -> Result<(), NoMemory>
         requires { IfSome bytes (λ b. length b.now + 1 < 2 ^ 32) }
-        ensures ok { OnOk result (self.new ≡ self.old ++ nullable_bytes sized_bytes (option_copied bytes.entry)) }
+        ensures ok { OnOk result (Writes null_byte_string self.old self.new (option_copied bytes.entry)) }
         ensures err { OnErr result (self.new ≡ self.old) }
-        ensures stands { OrNull IsSized (nullable_bytes sized_bytes (option_copied bytes.entry)) (option_copied bytes.entry) }
     {
         match bytes {
             None => self.put_uvarint(0),
@@ -239,9 +229,8 @@ impl Out {
     /// No tags.
     #[tactic(auto, using(crate::proofs::Written::no_tags))]
     pub fn put_tags(&mut self) -> Result<(), NoMemory>
-        ensures ok { OnOk result (self.new ≡ self.old ++ uvarint_bytes 0) }
+        ensures ok { OnOk result (WritesNoTags self.old self.new) }
         ensures err { OnErr result (self.new ≡ self.old) }
-        ensures stands { IsTags (uvarint_bytes 0) }
     {
         self.put_uvarint(0)?;
         Ok(())

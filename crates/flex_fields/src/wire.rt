@@ -3,7 +3,7 @@ ghost use Rattle.std.specs.List.{flat_map};
 ghost use Rattle.flex_fields.specs.Reading.{many_at, whole_at};
 ghost use Rattle.flex_fields.specs.Grammar.{AreMany};
 ghost use Rattle.flex_fields.specs.Cursors.{Gives, Moves};
-ghost use Rattle.flex_fields.specs.Formats.{Format, IsSound, Stands, ReadsWhole, array, nullable};
+ghost use Rattle.flex_fields.specs.Formats.{Format, ReadsWhole, Writes, IsSpelling, array, null_array};
 
 use crate::bytes::Bytes;
 use crate::cursor::Cursor;
@@ -23,11 +23,7 @@ pub trait Wire: Sized + Drop {
 
     /// Writes it. Where memory runs out, a part of it may be written.
     fn put(&self, out: &mut Out) -> Result<(), NoMemory>
-        ensures bytes { OnOk result (out.new ≡ out.old ++ format.bytes self.now) }
-        ensures stands { OnOk result (Stands format self.now) };
-
-    /// It is read just where bytes stand for it.
-    ghost sound: { IsSound format };
+        ensures { OnOk result (Writes format out.old out.new self.now) };
 }
 
 fn take_many<T: Wire>(
@@ -67,13 +63,36 @@ fn put_items<T: Wire>(out: &mut Out, items: &[T]) -> Result<(), NoMemory>
 
 /// Writes an array.
 pub fn put_array<T: Wire>(out: &mut Out, items: &Items<T>) -> Result<(), NoMemory>
-    ensures bytes { OnOk result (out.new ≡ out.old ++ (array T.format).bytes items.now) }
-    ensures stands { OnOk result (Stands (array T.format) items.now) }
+    ensures { OnOk result (Writes (array T.format) out.old out.new items.now) }
 {
     let items = items.as_slice();
     out.put_array_len(items.len() as u32)?;
     put_items(out, items)?;
     Ok(())
+}
+
+/// Takes an array or null.
+#[tactic(auto, unfolding(crate::specs::Reading::nullable_at))]
+pub fn take_null_array<T: Wire>(
+    alloc: Global,
+    cursor: &mut Cursor<'_>,
+) -> Result<Option<Items<T>>, WireFault>
+    ensures { Moves cursor.new result ((null_array T.format).read cursor.old) }
+{
+    if cursor.skip_null()? {
+        return Ok(None);
+    }
+    Ok(Some(take_array(alloc, cursor)?))
+}
+
+/// Writes an array or null.
+pub fn put_null_array<T: Wire>(out: &mut Out, items: &Option<Items<T>>) -> Result<(), NoMemory>
+    ensures { OnOk result (Writes (null_array T.format) out.old out.new items.now) }
+{
+    match items {
+        None => out.put_uvarint(0),
+        Some(items) => put_array(out, items),
+    }
 }
 
 fn take_all<T: Wire>(alloc: Global, bytes: &[u8]) -> Result<T, WireFault>
@@ -94,8 +113,7 @@ pub fn read_whole<T: Wire>(alloc: Global, bytes: &[u8]) -> Result<T, WireFault>
 
 /// The bytes of a message, which stand for it again.
 pub fn write_whole<T: Wire>(alloc: Global, message: &T) -> Result<Bytes, NoMemory>
-    ensures bytes { IfOk result (λ b. b ≡ T.format.bytes message.now) }
-    ensures stands { OnOk result (Stands T.format message.now) }
+    ensures { IfOk result (IsSpelling T.format message.now) }
 {
     let mut out = Out::new(alloc);
     message.put(&mut out)?;

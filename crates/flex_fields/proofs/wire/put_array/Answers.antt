@@ -1,10 +1,10 @@
 use Rattle.std.proofs.Common.{subst}
-use Rattle.flex_fields.specs.Grammar.{IsArray}
-use Rattle.flex_fields.specs.Writing.{array_bytes}
-use Rattle.flex_fields.proofs.WrittenArrays.{array_stands}
+use Rattle.flex_fields.specs.Formats.{Writes, array}
+use Rattle.flex_fields.proofs.Puts.{array_writes}
 use Rattle.flex_fields.proofs.wire.put_array.Goals as goal
 
-pub returns-clause-stands : goal.returns-clause-stands
-returns-clause-stands g c =
-    subst (λ xs. IsArray g.T.Wire.format.is (array_bytes g.T.Wire.format.bytes xs) xs) c.as_slice-items.ensures.items
-    (array_stands g.T.Wire.format.is g.T.Wire.format.bytes c.as_slice-items.result.now (rw c.as_slice-items.ensures.items c.as_slice-items.ensures.few) c.in_ok-put_items.ensures.stands)
+pub returns : goal.returns
+returns g c =
+    let items = c.as_slice-items.ensures in
+    subst (λ xs. Writes (array g.T.Wire.format) c.args.out.now c.put_items.new.out xs) items.items
+    (array_writes g.T.Wire.format c.as_slice-items.result.now (rw items.items items.few) c.in_ok-put_array_len.ensures.ok c.in_ok-put_items.ensures.bytes c.in_ok-put_items.ensures.stands)

@@ -4,8 +4,8 @@ use Rattle.std.proofs.lemmas.List.{drop_at, take-append-drop, length-take}
 use Rattle.flex_fields.specs.declared.fault.WireFault.{WireFault}
 use Rattle.flex_fields.specs.Reading.{At, past, ◌>>=◌, limit, groups_at, uvarint_at, long_uvarint_at, bool_at, bool_of, varint_at, varlong_at, unzigzag, then_at, as_at}
 use Rattle.flex_fields.specs.Grammar.{IsGroups, IsUvarint, IsLongUvarint, IsBool, IsVarint, IsVarlong, Then, As}
-use Rattle.flex_fields.specs.Formats.{Takes, IsReader}
-use Rattle.flex_fields.proofs.Fields.{bind_ok, ok_is, IsBytes-rest, groups_take, groups_give, raw_reads}
+use Rattle.flex_fields.specs.Laws.{Takes, IsReader}
+use Rattle.flex_fields.specs.Sound.Fields.{bind_ok, ok_is, IsBytes-rest, groups_take, groups_give, raw_reads}
 
 abbrev at_place : ℕ → List ℕ → At
 at_place place left = record { place = place; left = left }

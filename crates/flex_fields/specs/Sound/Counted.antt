@@ -7,9 +7,9 @@ use Rattle.flex_fields.specs.declared.fault.WireFault.{WireFault}
 use Rattle.flex_fields.specs.declared.fault.WireFault.TheVariants.{Short, BadLength, NotUtf8}
 use Rattle.flex_fields.specs.Reading.{At, past, ◌>>=◌, uvarint_at, len_at, array_len_at, bytes_at, str_at, nullable_at, as_at, tag_at, some_tags_at, tags_at, many_at, array_at, tagged_at}
 use Rattle.flex_fields.specs.Grammar.{IsUvarint, IsSized, IsStr, OrNull, IsTag, AreTags, IsTags, Tagged, AreMany, IsArray, IsBytes}
-use Rattle.flex_fields.specs.Formats.{Takes, IsReader}
-use Rattle.flex_fields.proofs.Fields.{bind_ok, guard_ok, chosen, ok_is, IsBytes-rest}
-use Rattle.flex_fields.proofs.Readers.{uvarint_reads, Takes-then}
+use Rattle.flex_fields.specs.Laws.{Takes, IsReader}
+use Rattle.flex_fields.specs.Sound.Fields.{bind_ok, guard_ok, chosen, ok_is, IsBytes-rest}
+use Rattle.flex_fields.specs.Sound.Readers.{uvarint_reads, Takes-then}
 
 abbrev at_place : ℕ → List ℕ → At
 at_place place left = record { place = place; left = left }
@@ -274,3 +274,28 @@ module _ {A : Type 0} (P : List ℕ → A → Type 0) (r : At → Result (A × A
         (ap (λ (l : List ℕ). array_at r (at_place place l)) (append_assoc f g tail) ∙ rw (first, others) (λ i. Ok (xs, at_place (len i) tail)));
     some = λ front xs c. omega (arith, ap length c.4, length-append c.0 c.1, uvarint_reads.some c.0 (length xs + 1) c.2);
   }
+
+-- ---- null, and structures
+
+pub null_str_reads : IsReader (OrNull IsStr) (nullable_at str_at)
+null_str_reads = nullable_reads _ _ str_reads str_never_null
+
+pub null_sized_reads : IsReader (OrNull IsSized) (nullable_at bytes_at)
+null_sized_reads = nullable_reads _ _ sized_reads sized_never_null
+
+pub null_array_reads : {A : Type 0} (P : List ℕ → A → Type 0) (r : At → Result (A × At) WireFault) → IsReader P r → IsReader (OrNull (IsArray P)) (nullable_at (array_at r))
+null_array_reads P r p = nullable_reads _ _ (array_reads P r p) (array_never_null P)
+
+pub structure_reads : {S T : Type 0} (make : T → S) (parts : S → T) → ((s : S) → make (parts s) ≡ s) → ((t : T) → parts (make t) ≡ t)
+    → (P : List ℕ → T → Type 0) (r : At → Result (T × At) WireFault) → IsReader P r → IsReader (λ bytes s. Tagged P bytes (parts s)) (as_at make (tagged_at r))
+structure_reads {S} {T} make parts back there P r p =
+    let fields = tagged_reads P r p in
+    record {
+      takes = λ at x after fits e.
+          let m = bind_ok (tagged_at r at) (λ a. Ok (make a.0, a.1)) (x, after) e in
+          let t = fields.takes at m.0.0 m.0.1 fits m.1 in
+          subst (λ (y : S × At). Takes at y.1 (λ front. Tagged P front (parts y.0))) (ok_is (make m.0.0, m.0.1) (x, after) m.2)
+          (record { front = t.front; parts = t.parts; moved = t.moved; spelled = subst (λ (z : T). Tagged P t.front z) (sym (there m.0.0)) t.spelled });
+      gives = λ front tail place x c. rw (fields.gives front tail place (parts x) c) (λ i. Ok (back x i, at_place (place + length front) tail));
+      some = λ front x c. fields.some front (parts x) c;
+    }

@@ -1,15 +1,35 @@
--- What is written of a list stands for the list.
+-- What is written of the parts is written of the whole.
 use Rattle.std.proofs.Common.{◌≡◌, ℕ, ◌+◌, ◌^◌, ◌<◌, List, [], ◌∷◌, ◌++◌, length, take, get_or, refl, ap, sym, ◌∙◌, append_assoc}
 use Rattle.std.specs.List.{flat_map}
 use Rattle.std.proofs.lemmas.List.{append-nil, take_more}
 use Rattle.std.proofs.lemmas.List.Concat.{flat_map-cons}
 use Rattle.std.proofs.lemmas.Grind.{flat_map-append}
-use Rattle.flex_fields.specs.Grammar.{AreMany, IsArray}
-use Rattle.flex_fields.specs.Writing.{uvarint_bytes, array_bytes}
+use Rattle.flex_fields.specs.Grammar.{AreMany}
+use Rattle.flex_fields.specs.Writing.{uvarint_bytes}
+use Rattle.flex_fields.specs.Formats.{Format, Shape, Writes, WritesNoTags, array, ◌▹◌, structure}
 use Rattle.flex_fields.proofs.Written.{uvarint_spells}
 
-pub array_stands : {A : Type 0} (P : List ℕ → A → Type 0) (f : A → List ℕ) (xs : List A) → length xs + 1 < 2 ^ 32 → AreMany P (flat_map f xs) xs → IsArray P (array_bytes f xs) xs
-array_stands P f xs few many = (uvarint_bytes (length xs + 1), flat_map f xs, uvarint_spells (length xs + 1) few, many, refl)
+module _ {A B : Type 0} (f : Format A) (g : Format B) where
+  pub then_writes : {a b c : List ℕ} {x : A} {y : B} → Writes f a b x → Writes g b c y → Writes (f ▹ g) a c (x, y)
+  then_writes {a} {b} {c} {x} {y} p q = record {
+    appended = q.appended ∙ ap (λ (l : List ℕ). l ++ g.bytes y) p.appended ∙ append_assoc a (f.bytes x) (g.bytes y);
+    stands = (f.bytes x, g.bytes y, p.stands, q.stands, refl);
+  }
+
+module _ {S T : Type 0} (shape : Shape S T) (f : Format T) where
+  pub structure_writes : {a b c : List ℕ} {s : S} → Writes f a b (shape.parts s) → WritesNoTags b c → Writes (structure shape f) a c s
+  structure_writes {a} {b} {c} {s} p q = record {
+    appended = q.appended ∙ ap (λ (l : List ℕ). l ++ uvarint_bytes 0) p.appended ∙ append_assoc a (f.bytes (shape.parts s)) (uvarint_bytes 0);
+    stands = (f.bytes (shape.parts s), uvarint_bytes 0, p.stands, q.stands, refl);
+  }
+
+-- ---- arrays
+
+pub array_writes : {A : Type 0} (f : Format A) (xs : List A) {a b c : List ℕ} → length xs + 1 < 2 ^ 32 → b ≡ a ++ uvarint_bytes (length xs + 1) → c ≡ b ++ flat_map f.bytes xs → AreMany f.is (flat_map f.bytes xs) xs → Writes (array f) a c xs
+array_writes f xs {a} {b} {c} few len items many = record {
+  appended = items ∙ ap (λ (l : List ℕ). l ++ flat_map f.bytes xs) len ∙ append_assoc a (uvarint_bytes (length xs + 1)) (flat_map f.bytes xs);
+  stands = (uvarint_bytes (length xs + 1), flat_map f.bytes xs, uvarint_spells (length xs + 1) few, many, refl);
+}
 
 -- one item more
 pub many_push : {A : Type 0} (P : List ℕ → A → Type 0) (x : A) (last : List ℕ) (xs : List A) (bytes : List ℕ) → AreMany P bytes xs → P last x → AreMany P (bytes ++ last) (xs ++ x ∷ [])

@@ -1,14 +1,14 @@
 -- Each field is read just where its bytes stand for it.
 use Rattle.std.proofs.Common.{◌≡◌, ℕ, ℤ, zero, suc, ◌+◌, ◌-◌, ◌*◌, ◌<◌, ◌≤◌, Bool, true, false, cond, ltb, List, [], ◌∷◌, ◌++◌, length, get_or, take, Result, Ok, Err, refl, sym, ap, subst, ◌∙◌, arith, inl, inr, ◌⊎◌, length-append, add-one}
-use Rattle.std.specs.Int.{Width, byte_len, from_be_bytes, cast_signed}
+use Rattle.std.specs.Int.{Width, w8, w16, w32, w64, byte_len, from_be_bytes, cast_signed}
 use Rattle.std.proofs.lemmas.Bool.{ltb-false, ltb-true, le-ltb, lt-ltb}
 use Rattle.std.proofs.lemmas.List.{get_or-append-add, take_at, drop_at, take-append-drop, length-take}
 use Rattle.flex_fields.specs.declared.fault.WireFault.{WireFault}
 use Rattle.flex_fields.specs.declared.fault.WireFault.TheVariants.{Short, BadVarint}
 use Rattle.flex_fields.specs.Reading.{At, past, ◌>>=◌, int_at, raw_at, groups_at, limit}
-use Rattle.flex_fields.proofs.Limits.{limit_at_least}
+use Rattle.flex_fields.specs.Sound.Limits.{limit_at_least}
 use Rattle.flex_fields.specs.Grammar.{IsInt, IsRaw, IsGroups, IsBytes}
-use Rattle.flex_fields.specs.Formats.{Takes, IsReader}
+use Rattle.flex_fields.specs.Laws.{Takes, IsReader}
 
 pub bind_ok : {A B : Type 0} (r : Result A WireFault) (f : A → Result B WireFault) (y : B) → (r >>= f) ≡ Ok y → (x : A) × (r ≡ Ok x) × (f x ≡ Ok y)
 bind_ok (Ok x) f y e = (x, refl, e)
@@ -72,6 +72,21 @@ raw_reads n wide = record {
       rw (long, take_at front tail n s.0, drop_at front tail n s.0) (λ i. Ok (sym s.1 i, record { place = place + sym s.0 i; left = tail }));
   some = λ front x s. omega (arith, s.0, wide);
 }
+
+pub int8_reads : IsReader (IsInt w8) (int_at w8)
+int8_reads = int_reads w8 (omega arith)
+
+pub int16_reads : IsReader (IsInt w16) (int_at w16)
+int16_reads = int_reads w16 (omega arith)
+
+pub int32_reads : IsReader (IsInt w32) (int_at w32)
+int32_reads = int_reads w32 (omega arith)
+
+pub int64_reads : IsReader (IsInt w64) (int_at w64)
+int64_reads = int_reads w64 (omega arith)
+
+pub uuid_reads : IsReader (IsRaw 16) (raw_at 16)
+uuid_reads = raw_reads 16 (omega arith)
 
 -- ---- numbers in groups
 

@@ -1,0 +1,18 @@
+-- What joins a reading function to the relation of the bytes that stand for values.
+use Rattle.std.specs.Prelude.{◌≡◌, ◌+◌, ◌<◌, ℕ, List, ◌++◌, length, Result, Ok}
+use Rattle.flex_fields.specs.declared.fault.WireFault.{WireFault}
+use Rattle.flex_fields.specs.Reading.{At}
+use Rattle.flex_fields.specs.Grammar.{IsBytes}
+
+-- what a reader took: a front that stands for the value
+pub record Takes (at after : At) (P : List ℕ → Type 0) : Type 0 where
+  pub front : List ℕ
+  pub parts : at.left ≡ front ++ after.left
+  pub moved : after.place ≡ at.place + length front
+  pub spelled : P front
+
+-- The reader reads just what stands for a value, whatever follows it, and nothing stands as no byte.
+pub record IsReader {A : Type 0} (P : List ℕ → A → Type 0) (read : At → Result (A × At) WireFault) : Type 0 where
+  pub takes : (at : At) (x : A) (after : At) → IsBytes at.left → read at ≡ Ok (x, after) → Takes at after (λ front. P front x)
+  pub gives : (front tail : List ℕ) (place : ℕ) (x : A) → P front x → read (record { place = place; left = front ++ tail }) ≡ Ok (x, record { place = place + length front; left = tail })
+  pub some : (front : List ℕ) (x : A) → P front x → 0 < length front
