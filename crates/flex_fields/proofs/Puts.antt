@@ -9,19 +9,20 @@ use Rattle.flex_fields.specs.Writing.{uvarint_bytes}
 use Rattle.flex_fields.specs.Formats.{Format, Shape, Writes, WritesNoTags, array, ◌▹◌, structure}
 use Rattle.flex_fields.proofs.Written.{uvarint_spells}
 
-module _ {A B : Type 0} (f : Format A) (g : Format B) where
-  pub then_writes : {a b c : List ℕ} {x : A} {y : B} → Writes f a b x → Writes g b c y → Writes (f ▹ g) a c (x, y)
-  then_writes {a} {b} {c} {x} {y} p q = record {
-    appended = q.appended ∙ ap (λ (l : List ℕ). l ++ g.bytes y) p.appended ∙ append_assoc a (f.bytes x) (g.bytes y);
-    stands = (f.bytes x, g.bytes y, p.stands, q.stands, refl);
-  }
+-- the one was written, and then the other
+infixr 30 ◌▸◌
+pub ◌▸◌ : {A B : Type 0} {f : Format A} {g : Format B} {a b c : List ℕ} {x : A} {y : B} → Writes f a b x → Writes g b c y → Writes (f ▹ g) a c (x, y)
+◌▸◌ {A} {B} {f} {g} {a} {b} {c} {x} {y} p q = record {
+  appended = q.appended ∙ ap (λ (l : List ℕ). l ++ g.bytes y) p.appended ∙ append_assoc a (f.bytes x) (g.bytes y);
+  stands = (f.bytes x, g.bytes y, p.stands, q.stands, refl);
+}
 
-module _ {S T : Type 0} (shape : Shape S T) (f : Format T) where
-  pub structure_writes : {a b c : List ℕ} {s : S} → Writes f a b (shape.parts s) → WritesNoTags b c → Writes (structure shape f) a c s
-  structure_writes {a} {b} {c} {s} p q = record {
-    appended = q.appended ∙ ap (λ (l : List ℕ). l ++ uvarint_bytes 0) p.appended ∙ append_assoc a (f.bytes (shape.parts s)) (uvarint_bytes 0);
-    stands = (f.bytes (shape.parts s), uvarint_bytes 0, p.stands, q.stands, refl);
-  }
+-- the fields were written, and then no tags
+pub structure_writes : {S T : Type 0} (shape : Shape S T) {f : Format T} {a b c : List ℕ} {s : S} → Writes f a b (shape.parts s) → WritesNoTags b c → Writes (structure shape f) a c s
+structure_writes shape {f} {a} {b} {c} {s} p q = record {
+  appended = q.appended ∙ ap (λ (l : List ℕ). l ++ uvarint_bytes 0) p.appended ∙ append_assoc a (f.bytes (shape.parts s)) (uvarint_bytes 0);
+  stands = (f.bytes (shape.parts s), uvarint_bytes 0, p.stands, q.stands, refl);
+}
 
 -- ---- arrays
 
