@@ -1,0 +1,7 @@
+use Rattle.flex_fields.proofs.Puts.{◌▸◌, structure_writes}
+use Rattle.msgs_state.specs.ReadReply.{read_partition_result_shape, read_partition_result}
+use Rattle.msgs_state.proofs.read_reply.ReadPartitionResultWire.put.Goals as goal
+
+pub returns : goal.returns
+unfolding read_partition_result
+returns c = structure_writes read_partition_result_shape (c.in_ok-put.ensures ▸ c.in_ok-put-2.ensures ▸ c.in_ok-put-3.ensures ▸ c.in_ok-put-4.ensures ▸ c.in_ok-put-5.ensures ▸ c.in_ok-put-6.ensures) c.in_ok-put_tags.ensures.ok

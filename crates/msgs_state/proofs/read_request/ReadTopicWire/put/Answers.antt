@@ -1,0 +1,7 @@
+use Rattle.flex_fields.proofs.Puts.{◌▸◌, structure_writes}
+use Rattle.msgs_state.specs.ReadRequest.{read_topic_shape, read_topic}
+use Rattle.msgs_state.proofs.read_request.ReadTopicWire.put.Goals as goal
+
+pub returns : goal.returns
+unfolding read_topic
+returns c = structure_writes read_topic_shape (c.in_ok-put.ensures ▸ c.in_ok-put-2.ensures) c.in_ok-put_tags.ensures.ok

@@ -1,0 +1,40 @@
+-- The reply to InitializeShareGroupState, WriteShareGroupState and DeleteShareGroupState of version 0 (KIP-932,
+-- InitializeShareGroupStateResponse.json and its two likes).
+use Rattle.std.specs.Prelude.{ℕ, ℤ, List, Option, refl}
+use Rattle.flex_fields.specs.Formats.{Format, Shape, structure, array, ◌▹◌, null_string, uuid, int16, int32}
+use Rattle.msgs_state.specs.declared.state_reply.PartitionResult.{PartitionResult}
+use Rattle.msgs_state.specs.declared.state_reply.TopicResult.{TopicResult}
+use Rattle.msgs_state.specs.declared.state_reply.ShareGroupStateReply.{ShareGroupStateReply}
+
+abbrev pub partition_result_shape : Shape PartitionResult (ℤ × (ℤ × Option (List ℕ)))
+partition_result_shape = record {
+  make = λ x. record { partition = x.0; error_code = x.1.0; error_message = x.1.1 };
+  parts = λ s. (s.partition, (s.error_code, s.error_message));
+  back = λ _. refl;
+  there = λ _. refl;
+}
+
+unfoldable pub partition_result : Format PartitionResult
+partition_result = structure partition_result_shape (int32 ▹ int16 ▹ null_string)
+
+abbrev pub topic_result_shape : Shape TopicResult (List ℕ × List PartitionResult)
+topic_result_shape = record {
+  make = λ x. record { topic_id = x.0; partitions = x.1 };
+  parts = λ s. (s.topic_id, s.partitions);
+  back = λ _. refl;
+  there = λ _. refl;
+}
+
+unfoldable pub topic_result : Format TopicResult
+topic_result = structure topic_result_shape (uuid ▹ array partition_result)
+
+abbrev pub share_group_state_reply_shape : Shape ShareGroupStateReply (List TopicResult)
+share_group_state_reply_shape = record {
+  make = λ x. record { results = x };
+  parts = λ s. s.results;
+  back = λ _. refl;
+  there = λ _. refl;
+}
+
+unfoldable pub share_group_state_reply : Format ShareGroupStateReply
+share_group_state_reply = structure share_group_state_reply_shape (array topic_result)

@@ -1,0 +1,117 @@
+ghost use Rattle.std.specs.Prelude.{IfOk};
+ghost use Rattle.flex_fields.specs.Formats.{ReadsWhole, IsSpelling};
+ghost use Rattle.msgs_state.specs.InitializeRequest.{initialize_partition, initialize_topic, initialize_share_group_state_request};
+
+use flex_fields::{
+    Bytes, Cursor, Items, NoMemory, Out, Text, Wire, WireFault, read_whole, take_array, write_whole,
+};
+use std::alloc::Global;
+use uuid::Uuid;
+
+/// What the state of one partition begins with.
+#[derive(Clone, Copy, Debug, PartialEq, Eq)]
+pub struct InitializePartition {
+    pub partition: i32,
+    pub state_epoch: i32,
+    pub start_offset: i64,
+}
+
+/// The partitions of one topic.
+#[derive(Debug, Drop)]
+pub struct InitializeTopic {
+    pub topic_id: Uuid,
+    pub partitions: Items<InitializePartition>,
+}
+
+/// Begins the state of share partitions anew.
+#[derive(Debug, Drop)]
+pub struct InitializeShareGroupStateRequest {
+    pub group_id: Text,
+    pub topics: Items<InitializeTopic>,
+}
+
+impl Wire for InitializePartition {
+    ghost format = { initialize_partition };
+
+    #[tactic(auto, unfolding(crate::specs::InitializeRequest::initialize_partition))]
+    fn take(_: Global, cursor: &mut Cursor<'_>) -> Result<Self, WireFault> {
+        let partition = cursor.take_i32()?;
+        let state_epoch = cursor.take_i32()?;
+        let start_offset = cursor.take_i64()?;
+        cursor.skip_tags()?;
+        Ok(InitializePartition {
+            partition,
+            state_epoch,
+            start_offset,
+        })
+    }
+
+    fn put(&self, out: &mut Out) -> Result<(), NoMemory> {
+        self.partition.put(out)?;
+        self.state_epoch.put(out)?;
+        self.start_offset.put(out)?;
+        out.put_tags()?;
+        Ok(())
+    }
+}
+
+impl Wire for InitializeTopic {
+    ghost format = { initialize_topic };
+
+    #[tactic(auto, unfolding(crate::specs::InitializeRequest::initialize_topic))]
+    fn take(alloc: Global, cursor: &mut Cursor<'_>) -> Result<Self, WireFault> {
+        let topic_id = cursor.take_uuid()?;
+        let partitions = take_array(alloc, cursor)?;
+        cursor.skip_tags()?;
+        Ok(InitializeTopic {
+            topic_id,
+            partitions,
+        })
+    }
+
+    fn put(&self, out: &mut Out) -> Result<(), NoMemory> {
+        self.topic_id.put(out)?;
+        self.partitions.put(out)?;
+        out.put_tags()?;
+        Ok(())
+    }
+}
+
+impl Wire for InitializeShareGroupStateRequest {
+    ghost format = { initialize_share_group_state_request };
+
+    #[tactic(auto, unfolding(crate::specs::InitializeRequest::initialize_share_group_state_request))]
+    fn take(alloc: Global, cursor: &mut Cursor<'_>) -> Result<Self, WireFault> {
+        let group_id = cursor.take_str(alloc)?;
+        let topics = take_array(alloc, cursor)?;
+        cursor.skip_tags()?;
+        Ok(InitializeShareGroupStateRequest { group_id, topics })
+    }
+
+    fn put(&self, out: &mut Out) -> Result<(), NoMemory> {
+        self.group_id.put(out)?;
+        self.topics.put(out)?;
+        out.put_tags()?;
+        Ok(())
+    }
+}
+
+/// Reads the body of an InitializeShareGroupState request. Places count from its first byte.
+pub fn read_initialize_share_group_state_request(
+    alloc: Global,
+    bytes: &[u8],
+) -> Result<InitializeShareGroupStateRequest, WireFault>
+    ensures { ReadsWhole initialize_share_group_state_request bytes.now result }
+{
+    read_whole(alloc, bytes)
+}
+
+/// Writes the body of an InitializeShareGroupState request.
+pub fn write_initialize_share_group_state_request(
+    alloc: Global,
+    message: &InitializeShareGroupStateRequest,
+) -> Result<Bytes, NoMemory>
+    ensures { IfOk result (IsSpelling initialize_share_group_state_request message.now) }
+{
+    write_whole(alloc, message)
+}

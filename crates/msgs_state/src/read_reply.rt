@@ -1,0 +1,127 @@
+ghost use Rattle.std.specs.Prelude.{IfOk};
+ghost use Rattle.flex_fields.specs.Formats.{ReadsWhole, IsSpelling};
+ghost use Rattle.msgs_state.specs.ReadReply.{read_partition_result, read_topic_result, read_share_group_state_reply};
+
+use crate::state_batch::StateBatch;
+use flex_fields::{
+    Bytes, Cursor, Items, NoMemory, Out, Text, Wire, WireFault, read_whole, take_array, write_whole,
+};
+use std::alloc::Global;
+use uuid::Uuid;
+
+/// The state of one partition, or an error.
+#[derive(Debug, Drop)]
+pub struct ReadPartitionResult {
+    pub partition: i32,
+    pub error_code: i16,
+    pub error_message: Option<Text>,
+    pub state_epoch: i32,
+    pub start_offset: i64,
+    pub state_batches: Items<StateBatch>,
+}
+
+/// The partitions of one topic.
+#[derive(Debug, Drop)]
+pub struct ReadTopicResult {
+    pub topic_id: Uuid,
+    pub partitions: Items<ReadPartitionResult>,
+}
+
+/// The states that were asked for.
+#[derive(Debug, Drop)]
+pub struct ReadShareGroupStateReply {
+    pub results: Items<ReadTopicResult>,
+}
+
+impl Wire for ReadPartitionResult {
+    ghost format = { read_partition_result };
+
+    #[tactic(auto, unfolding(crate::specs::ReadReply::read_partition_result))]
+    fn take(alloc: Global, cursor: &mut Cursor<'_>) -> Result<Self, WireFault> {
+        let partition = cursor.take_i32()?;
+        let error_code = cursor.take_i16()?;
+        let error_message = cursor.take_null_str(alloc)?;
+        let state_epoch = cursor.take_i32()?;
+        let start_offset = cursor.take_i64()?;
+        let state_batches = take_array(alloc, cursor)?;
+        cursor.skip_tags()?;
+        Ok(ReadPartitionResult {
+            partition,
+            error_code,
+            error_message,
+            state_epoch,
+            start_offset,
+            state_batches,
+        })
+    }
+
+    fn put(&self, out: &mut Out) -> Result<(), NoMemory> {
+        self.partition.put(out)?;
+        self.error_code.put(out)?;
+        self.error_message.put(out)?;
+        self.state_epoch.put(out)?;
+        self.start_offset.put(out)?;
+        self.state_batches.put(out)?;
+        out.put_tags()?;
+        Ok(())
+    }
+}
+
+impl Wire for ReadTopicResult {
+    ghost format = { read_topic_result };
+
+    #[tactic(auto, unfolding(crate::specs::ReadReply::read_topic_result))]
+    fn take(alloc: Global, cursor: &mut Cursor<'_>) -> Result<Self, WireFault> {
+        let topic_id = cursor.take_uuid()?;
+        let partitions = take_array(alloc, cursor)?;
+        cursor.skip_tags()?;
+        Ok(ReadTopicResult {
+            topic_id,
+            partitions,
+        })
+    }
+
+    fn put(&self, out: &mut Out) -> Result<(), NoMemory> {
+        self.topic_id.put(out)?;
+        self.partitions.put(out)?;
+        out.put_tags()?;
+        Ok(())
+    }
+}
+
+impl Wire for ReadShareGroupStateReply {
+    ghost format = { read_share_group_state_reply };
+
+    #[tactic(auto, unfolding(crate::specs::ReadReply::read_share_group_state_reply))]
+    fn take(alloc: Global, cursor: &mut Cursor<'_>) -> Result<Self, WireFault> {
+        let results = take_array(alloc, cursor)?;
+        cursor.skip_tags()?;
+        Ok(ReadShareGroupStateReply { results })
+    }
+
+    fn put(&self, out: &mut Out) -> Result<(), NoMemory> {
+        self.results.put(out)?;
+        out.put_tags()?;
+        Ok(())
+    }
+}
+
+/// Reads the body of the reply to ReadShareGroupState. Places count from its first byte.
+pub fn read_read_share_group_state_reply(
+    alloc: Global,
+    bytes: &[u8],
+) -> Result<ReadShareGroupStateReply, WireFault>
+    ensures { ReadsWhole read_share_group_state_reply bytes.now result }
+{
+    read_whole(alloc, bytes)
+}
+
+/// Writes the body of the reply to ReadShareGroupState.
+pub fn write_read_share_group_state_reply(
+    alloc: Global,
+    message: &ReadShareGroupStateReply,
+) -> Result<Bytes, NoMemory>
+    ensures { IfOk result (IsSpelling read_share_group_state_reply message.now) }
+{
+    write_whole(alloc, message)
+}
