@@ -1,14 +1,14 @@
 -- Reading all of the bytes finds just what they stand for.
-use Rattle.std.proofs.Common.{◌≡◌, ℕ, List, [], ◌++◌, length, eqb, cond, Result, Ok, Err, refl, sym, ap, subst, ◌∙◌}
+use Rattle.std.proofs.Common.{◌≡◌, ◌≤◌, ◌+◌, ℕ, List, [], ◌++◌, length, take, length-append, arith, eqb, cond, Result, Ok, Err, refl, sym, ap, subst, ◌∙◌}
 use Rattle.std.specs.Prelude.{IfOk}
 use Rattle.std.proofs.lemmas.Bool.{eqb-true}
-use Rattle.std.proofs.lemmas.List.{append-nil, nil_from_length}
+use Rattle.std.proofs.lemmas.List.{append-nil, nil_from_length, take_at}
 use Rattle.flex_fields.specs.declared.fault.WireFault.{WireFault}
 use Rattle.flex_fields.specs.declared.fault.WireFault.TheVariants.{Trailing}
-use Rattle.flex_fields.specs.Reading.{whole_at}
+use Rattle.flex_fields.specs.Reading.{◌>>=◌, whole_at}
 use Rattle.flex_fields.specs.Grammar.{IsBytes}
 use Rattle.flex_fields.specs.Cursors.{Gives}
-use Rattle.flex_fields.specs.Formats.{Format, ReadsWhole}
+use Rattle.flex_fields.specs.Formats.{Format, ReadsWhole, ReadsFront, front_at}
 use Rattle.flex_fields.specs.Sound.Fields.{bind_ok, ok_is}
 use Rattle.flex_fields.specs.Sound.Counted.{kept}
 
@@ -40,5 +40,33 @@ module _ {A : Type 0} (f : Format A) where
   reads_whole all result fits given = record {
     found = found_by all result fits given;
     only = λ x c. subst (λ (s : Result A WireFault). Gives (λ x. x) result s) (whole_gives all x c) given;
+    exact = given;
+  }
+
+  -- ---- the front alone
+
+  front_takes : (all : List ℕ) (x : A) (n : ℕ) → IsBytes all → front_at f.read all ≡ Ok (x, n) → f.is (take n all) x × (n ≤ length all)
+  front_takes all x n fits e =
+      let m = bind_ok (f.read (record { place = 0; left = all })) (λ a. Ok (a.0, a.1.place)) (x, n) e in
+      let t = f.sound.takes (record { place = 0; left = all }) m.0.0 m.0.1 fits m.1 in
+      let moved : m.0.1.place ≡ length t.front = omega (arith, t.moved) in
+      let same : take m.0.1.place all ≡ t.front = ap (λ (l : List ℕ). take m.0.1.place l) t.parts ∙ take_at t.front m.0.1.left m.0.1.place (sym moved) in
+      subst (λ (y : A × ℕ). f.is (take y.1 all) y.0 × (y.1 ≤ length all)) (ok_is (m.0.0, m.0.1.place) (x, n) m.2)
+      (subst (λ (l : List ℕ). f.is l m.0.0) (sym same) t.spelled, omega (arith, moved, ap length t.parts, length-append t.front m.0.1.left))
+
+  front_gives : (all front rest : List ℕ) (x : A) → all ≡ front ++ rest → f.is front x → front_at f.read all ≡ Ok (x, length front)
+  front_gives all front rest x parts c =
+      let e = f.sound.gives front rest 0 x c in
+      let len : 0 + length front ≡ length front = omega arith in
+      ap (λ (l : List ℕ). front_at f.read l) parts ∙ rw e (λ i. Ok (x, len i))
+
+  front_found : (all : List ℕ) (result : Result (A × ℕ) WireFault) → IsBytes all → Gives (λ y. y) result (front_at f.read all) → IfOk result (λ x. f.is (take x.1 all) x.0 × (x.1 ≤ length all))
+  front_found all (Ok x) fits given = front_takes all x.0 x.1 fits given
+  front_found all (Err e) fits given = tt
+
+  pub reads_front : (all : List ℕ) (result : Result (A × ℕ) WireFault) → IsBytes all → Gives (λ y. y) result (front_at f.read all) → ReadsFront f all result
+  reads_front all result fits given = record {
+    found = front_found all result fits given;
+    only = λ x front rest parts c. subst (λ (s : Result (A × ℕ) WireFault). Gives (λ y. y) result s) (front_gives all front rest x parts c) given;
     exact = given;
   }

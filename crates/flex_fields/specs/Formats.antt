@@ -1,9 +1,9 @@
 -- A message is described once, as its schema: fields one after the other, structures and arrays of them. From that
 -- follow which bytes stand for which value, what reading gives, and which bytes are written.
-use Rattle.std.specs.Prelude.{◌≡◌, ℕ, ℤ, Bool, List, ◌++◌, Option, Result, Ok, IfOk}
+use Rattle.std.specs.Prelude.{◌≡◌, ◌≤◌, ℕ, ℤ, Bool, List, ◌++◌, length, take, Option, Result, Ok, IfOk}
 use Rattle.std.specs.Int.{w8, w16, w32, w64}
 use Rattle.flex_fields.specs.declared.fault.WireFault.{WireFault}
-use Rattle.flex_fields.specs.Reading.{At, raw_at, int_at, bool_at, str_at, bytes_at, nullable_at, array_at, then_at, tagged_at, as_at, whole_at}
+use Rattle.flex_fields.specs.Reading.{At, ◌>>=◌, raw_at, int_at, bool_at, str_at, bytes_at, nullable_at, array_at, then_at, tagged_at, as_at, whole_at}
 use Rattle.flex_fields.specs.Grammar.{IsInt, IsRaw, IsBool, IsStr, IsSized, OrNull, IsArray, IsTags, Then, Tagged}
 use Rattle.flex_fields.specs.Writing.{int_bytes, bool_bytes, sized_bytes, nullable_bytes, array_bytes, uvarint_bytes}
 use Rattle.flex_fields.specs.Cursors.{Gives}
@@ -90,6 +90,19 @@ pub record ReadsWhole {A : Type 0} (f : Format A) (bytes : List ℕ) (result : R
   pub found : IfOk result (λ x. f.is bytes x)
   pub only : (x : A) → f.is bytes x → Gives (λ x. x) result (Ok x)
   pub exact : Gives (λ x. x) result (whole_at f.read bytes)
+
+-- a value from the front of the bytes, and its length
+abbrev pub front_at : {A : Type 0} → (At → Result (A × At) WireFault) → List ℕ → Result (A × ℕ) WireFault
+front_at read bytes = do
+  x ← read (record { place = 0; left = bytes })
+  Ok (x.0, x.1.place)
+
+-- What reading from the front of the bytes answered: a value with its length exactly where a front stands for it, and
+-- otherwise the first fault.
+pub record ReadsFront {A : Type 0} (f : Format A) (bytes : List ℕ) (result : Result (A × ℕ) WireFault) : Type 0 where
+  pub found : IfOk result (λ x. f.is (take x.1 bytes) x.0 × (x.1 ≤ length bytes))
+  pub only : (x : A) (front rest : List ℕ) → bytes ≡ front ++ rest → f.is front x → Gives (λ y. y) result (Ok (x, length front))
+  pub exact : Gives (λ y. y) result (front_at f.read bytes)
 
 -- the one spelling of the value was appended, and it stands for the value again
 pub record Writes {A : Type 0} (f : Format A) (old new : List ℕ) (x : A) : Type 0 where

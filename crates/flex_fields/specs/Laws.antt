@@ -1,8 +1,8 @@
 -- What joins a reading function to the relation of the bytes that stand for values.
-use Rattle.std.specs.Prelude.{◌≡◌, ◌+◌, ◌<◌, ℕ, List, ◌++◌, length, Result, Ok}
+use Rattle.std.specs.Prelude.{◌≡◌, ◌+◌, ◌<◌, ◌≤◌, ℕ, List, ◌++◌, length, Result, Ok}
 use Rattle.flex_fields.specs.declared.fault.WireFault.{WireFault}
 use Rattle.flex_fields.specs.Reading.{At}
-use Rattle.flex_fields.specs.Grammar.{IsBytes}
+use Rattle.flex_fields.specs.Grammar.{IsBytes, IsUvarint}
 
 -- what a reader took: a front that stands for the value
 pub record Takes (at after : At) (P : List ℕ → Type 0) : Type 0 where
@@ -16,3 +16,8 @@ pub record IsReader {A : Type 0} (P : List ℕ → A → Type 0) (read : At → 
   pub takes : (at : At) (x : A) (after : At) → IsBytes at.left → read at ≡ Ok (x, after) → Takes at after (λ front. P front x)
   pub gives : (front tail : List ℕ) (place : ℕ) (x : A) → P front x → read (record { place = place; left = front ++ tail }) ≡ Ok (x, record { place = place + length front; left = tail })
   pub some : (front : List ℕ) (x : A) → P front x → 0 < length front
+
+-- a length, with so many bytes behind it
+pub record LenTakes (at : At) (n : ℕ) (after : At) : Type 0 where
+  pub front : Takes at after (λ front. IsUvarint front (n + 1))
+  pub within : n ≤ length after.left

@@ -1,12 +1,12 @@
-ghost use Rattle.std.specs.Prelude.{◌≡◌, ◌≢◌, ◌+◌, ◌^◌, ◌<◌, [], length, MatchResult, IfOk};
+ghost use Rattle.std.specs.Prelude.{◌≡◌, ◌≢◌, ◌+◌, ◌^◌, ◌<◌, [], length, MatchResult, IfOk, OnErr};
 ghost use Rattle.std.specs.Int.{w8, w16, w32, w64};
 ghost use Rattle.flex_fields.specs.Reading.{raw_at, int_at, bool_at, uvarint_at, varint_at, varlong_at, array_len_at, bytes_at, str_at, null_at, nullable_at, tags_at};
-ghost use Rattle.flex_fields.specs.Cursors.{no_value, Reads, TakesNoMemory};
+ghost use Rattle.flex_fields.specs.Cursors.{no_value, Gives, Reads, TakesNoMemory};
 
 use crate::bytes::Bytes;
 use crate::fault::WireFault;
 use crate::lengths::{array_len, bytes, null_array_len, null_bytes, null_text, tags, text};
-use crate::numbers::{boolean, int8, int16, int32, int64, uuid, uvarint, varint, varlong};
+use crate::numbers::{boolean, int8, int16, int32, int64, skip, uuid, uvarint, varint, varlong};
 use crate::spot::Spot;
 use crate::text::Text;
 use std::alloc::Global;
@@ -202,6 +202,21 @@ impl<'a> Cursor<'a> {
         let (value, after) = null_bytes(alloc, self.at)?;
         self.at = after;
         Ok(value)
+    }
+
+    /// So many bytes as they are, which are lent and not copied.
+    pub fn take_slice(&mut self, count: usize) -> Result<&'a [u8], WireFault>
+        ensures read { Gives (λ s. (s.now, self.new)) result (raw_at count self.old) }
+        ensures err { OnErr result (self.new ≡ self.old) }
+        ensures memory { TakesNoMemory result }
+    {
+        let at = self.at;
+        if at.rest.len() < count {
+            return Err(WireFault::Short { place: at.place });
+        }
+        let (bytes, _) = at.rest.split_at(count);
+        self.at = skip(at, count);
+        Ok(bytes)
     }
 
     /// The number of elements of an array, at most the number of bytes that are left.

@@ -6,6 +6,7 @@ mod cursor;
 mod elements;
 mod fault;
 mod items;
+mod laws;
 mod lengths;
 mod numbers;
 mod out;
@@ -17,9 +18,16 @@ pub use bytes::Bytes;
 pub use cursor::Cursor;
 pub use fault::{NoMemory, WireFault};
 pub use items::Items;
+pub use laws::{
+    array_lengths_are_read_where_they_stand, numbers_are_read_where_they_stand,
+    numbers_are_written_shortest,
+};
 pub use out::Out;
 pub use text::Text;
 pub use wire::{
-    Wire, put_array, put_null_array, read_whole, stand_for_one, take_array, take_null_array,
-    write_whole,
+    Wire, put_array, put_null_array, read_front, read_whole, stand_for_one, take_array,
+    take_null_array, write_whole,
 };
+
+#[cfg(test)]
+mod tests;

@@ -205,6 +205,15 @@ impl Out {
         }
     }
 
+    /// Bytes as they are, without a length.
+    pub fn put_slice(&mut self, bytes: &[u8]) -> Result<(), NoMemory>
+        ensures ok { OnOk result (self.new ≡ self.old ++ bytes.now) }
+        ensures err { OnErr result (self.new ≡ self.old) }
+    {
+        self.bytes.extend_from_slice(bytes)?;
+        Ok(())
+    }
+
     /// The number of elements of an array, which follow it.
     pub fn put_array_len(&mut self, count: u32) -> Result<(), NoMemory>
         requires { count + 1 < 2 ^ 32 }

@@ -3,7 +3,7 @@ ghost use Rattle.std.specs.List.{flat_map};
 ghost use Rattle.flex_fields.specs.Reading.{many_at, whole_at};
 ghost use Rattle.flex_fields.specs.Grammar.{AreMany};
 ghost use Rattle.flex_fields.specs.Cursors.{Gives, Moves};
-ghost use Rattle.flex_fields.specs.Formats.{Format, ReadsWhole, Writes, IsSpelling, array, null_array};
+ghost use Rattle.flex_fields.specs.Formats.{Format, ReadsWhole, ReadsFront, front_at, Writes, IsSpelling, array, null_array};
 
 use crate::bytes::Bytes;
 use crate::cursor::Cursor;
@@ -109,6 +109,22 @@ pub fn read_whole<T: Wire>(alloc: Global, bytes: &[u8]) -> Result<T, WireFault>
     ensures { ReadsWhole T.format bytes.now result }
 {
     take_all(alloc, bytes)
+}
+
+fn take_front<T: Wire>(alloc: Global, bytes: &[u8]) -> Result<(T, u64), WireFault>
+    ensures { Gives (λ x. x) result (front_at T.format.read bytes.now) }
+{
+    let mut cursor = Cursor::new(bytes);
+    let value = T::take(alloc, &mut cursor)?;
+    let length = cursor.place();
+    Ok((value, length))
+}
+
+/// Reads one value from the front of the bytes, and gives its length. What follows isn't looked at.
+pub fn read_front<T: Wire>(alloc: Global, bytes: &[u8]) -> Result<(T, u64), WireFault>
+    ensures { ReadsFront T.format bytes.now result }
+{
+    take_front(alloc, bytes)
 }
 
 /// The bytes of a message, which stand for it again.

@@ -7,7 +7,8 @@ use Rattle.flex_fields.specs.declared.fault.WireFault.{WireFault}
 use Rattle.flex_fields.specs.declared.fault.WireFault.TheVariants.{Short, BadLength, NotUtf8}
 use Rattle.flex_fields.specs.Reading.{At, past, ◌>>=◌, uvarint_at, len_at, array_len_at, bytes_at, str_at, nullable_at, as_at, tag_at, some_tags_at, tags_at, many_at, array_at, tagged_at}
 use Rattle.flex_fields.specs.Grammar.{IsUvarint, IsSized, IsStr, OrNull, IsTag, AreTags, IsTags, Tagged, AreMany, IsArray, IsBytes}
-use Rattle.flex_fields.specs.Laws.{Takes, IsReader}
+use Rattle.flex_fields.specs.Cursors.{no_value}
+use Rattle.flex_fields.specs.Laws.{Takes, LenTakes, IsReader}
 use Rattle.flex_fields.specs.Sound.Fields.{bind_ok, guard_ok, chosen, ok_is, IsBytes-rest}
 use Rattle.flex_fields.specs.Sound.Readers.{uvarint_reads, Takes-then}
 
@@ -21,11 +22,6 @@ done x = Ok x
 pub took : (n : ℕ) (at : At) → n ≤ length at.left → Takes at (past n at) (λ front. (front ≡ take n at.left) × (length front ≡ n))
 took n at le = let len : length (take n at.left) ≡ n = omega (arith, length-take n at.left) in
     record { front = take n at.left; parts = sym (take-append-drop n at.left); moved = ap (λ (k : ℕ). at.place + k) (sym len); spelled = (refl, len) }
-
--- a length, and so many bytes behind it
-pub record LenTakes (at : At) (n : ℕ) (after : At) : Type 0 where
-  pub front : Takes at after (λ front. IsUvarint front (n + 1))
-  pub within : n ≤ length after.left
 
 pub len_takes : (beyond : WireFault) (at : At) (n : ℕ) (after : At) → IsBytes at.left → len_at beyond at ≡ Ok (n, after) → LenTakes at n after
 unfolding len_at
@@ -151,7 +147,7 @@ tag_takes at after fits e =
     let t = uvarint_reads.takes at r.0.0 r.0.1 fits r.1 in
     let u = uvarint_reads.takes r.0.1 q.0.0 q.0.1 (IsBytes-rest at r.0.1 _ fits t) q.1 in
     let v = took q.0.0 q.0.1 (ltb-false _ _ g.0) in
-    let inner = Takes-then {R = IsInner} r.0.1 q.0.1 (past q.0.0 q.0.1) u v (λ f d s w. (f, d, subst (λ (k : ℕ). IsUvarint f k) (sym w.1) s, refl)) in
+    let inner = Takes-then {Q = λ front. (front ≡ take q.0.0 q.0.1.left) × (length front ≡ q.0.0)} {R = IsInner} r.0.1 q.0.1 (past q.0.0 q.0.1) u v (λ f d s w. (f, d, subst (λ (k : ℕ). IsUvarint f k) (sym w.1) s, refl)) in
     subst (λ (a : At). Takes at a IsTag) (ok_is (past q.0.0 q.0.1) after g.1)
     (Takes-then {R = IsTag} at r.0.1 (past q.0.0 q.0.1) t inner (λ f d s w. (f, w.0, w.1, r.0.0, s, w.2, ap (λ (l : List ℕ). f ++ l) w.3)))
 
@@ -190,6 +186,10 @@ some_tags_give (suc n) front tail place c =
     subst (λ (l : List ℕ). some_tags_at (suc n) (at_place place (l ++ tail)) ≡ Ok (at_place (place + length l) tail)) (sym c.4)
     (ap (λ (l : List ℕ). some_tags_at (suc n) (at_place place l)) (append_assoc f g tail) ∙ rw (first, others) (λ i. Ok (at_place (len i) tail)))
 
+place_of : (r : Result At WireFault) (x : Unit {0}) (after : At) → no_value r ≡ Ok (x, after) → r ≡ Ok after
+place_of (Ok at) x after e = ap (λ (a : At). done a) (ap (λ (p : Unit {0} × At). p.1) (ok_is (tt, at) (x, after) e))
+place_of (Err f) x after e = absurd cc
+
 pub tags_take : (at after : At) → IsBytes at.left → tags_at at ≡ Ok after → Takes at after IsTags
 unfolding tags_at
 tags_take at after fits e =
@@ -208,6 +208,13 @@ tags_give front tail place c =
     let len : place + length f + length g ≡ place + length (f ++ g) = omega (arith, length-append f g) in
     subst (λ (l : List ℕ). tags_at (at_place place (l ++ tail)) ≡ Ok (at_place (place + length l) tail)) (sym c.5)
     (ap (λ (l : List ℕ). tags_at (at_place place l)) (append_assoc f g tail) ∙ rw (first, others) (λ i. Ok (at_place (len i) tail)))
+
+pub tags_reads : IsReader (λ bytes _. IsTags bytes) (λ at. no_value (tags_at at))
+tags_reads = record {
+  takes = λ at x after fits e. tags_take at after fits (place_of (tags_at at) x after e);
+  gives = λ front tail place x c. ap no_value (tags_give front tail place c);
+  some = λ front x c. omega (arith, ap length c.5, length-append c.0 c.1, uvarint_reads.some c.0 c.2 c.3);
+}
 
 pub tagged_reads : {A : Type 0} (P : List ℕ → A → Type 0) (r : At → Result (A × At) WireFault) → IsReader P r → IsReader (Tagged P) (tagged_at r)
 tagged_reads {A} P r p = record {
