@@ -26,3 +26,6 @@ pub use state_reply::{
     PartitionResult, ShareGroupStateReply, TopicResult, read_share_group_state_reply,
     write_share_group_state_reply,
 };
+
+#[cfg(test)]
+mod tests;
