@@ -5,7 +5,7 @@ use Rattle.std.proofs.lemmas.Bool.{eqb-true}
 use Rattle.std.proofs.lemmas.List.{append-nil, nil_from_length, take_at}
 use Rattle.flex_fields.specs.declared.fault.WireFault.{WireFault}
 use Rattle.flex_fields.specs.declared.fault.WireFault.TheVariants.{Trailing}
-use Rattle.flex_fields.specs.Reading.{◌>>=◌, whole_at}
+use Rattle.flex_fields.specs.Reading.{whole_at}
 use Rattle.flex_fields.specs.Grammar.{IsBytes}
 use Rattle.flex_fields.specs.Cursors.{Gives}
 use Rattle.flex_fields.specs.Formats.{Format, ReadsWhole, ReadsFront, front_at}
