@@ -1,0 +1,7 @@
+use Rattle.flex_fields.proofs.Puts.{◌▸◌, structure_writes}
+use Rattle.msgs_base.specs.ApiVersionsReply.{api_versions_reply_shape, api_versions_reply}
+use Rattle.msgs_base.proofs.api_versions_reply.ApiVersionsReplyWire.put.Goals as goal
+
+pub returns : goal.returns
+unfolding api_versions_reply
+returns c = structure_writes api_versions_reply_shape (c.in_ok-put.ensures ▸ c.in_ok-put-2.ensures ▸ c.in_ok-put-3.ensures) c.in_ok-put_tags.ensures.ok

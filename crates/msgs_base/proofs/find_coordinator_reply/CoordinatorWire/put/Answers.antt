@@ -1,0 +1,7 @@
+use Rattle.flex_fields.proofs.Puts.{◌▸◌, structure_writes}
+use Rattle.msgs_base.specs.FindCoordinatorReply.{coordinator_shape, coordinator}
+use Rattle.msgs_base.proofs.find_coordinator_reply.CoordinatorWire.put.Goals as goal
+
+pub returns : goal.returns
+unfolding coordinator
+returns c = structure_writes coordinator_shape (c.in_ok-put.ensures ▸ c.in_ok-put-2.ensures ▸ c.in_ok-put-3.ensures ▸ c.in_ok-put-4.ensures ▸ c.in_ok-put-5.ensures ▸ c.in_ok-put-6.ensures) c.in_ok-put_tags.ensures.ok

@@ -1,0 +1,31 @@
+//! The calls that a Kafka client makes first: ApiVersions, Metadata and FindCoordinator.
+//!
+//! Each message is a struct, its schema in `specs/`, and two calls that read and write its body.
+#![tactic(auto)]
+
+mod api_versions_reply;
+mod api_versions_request;
+mod find_coordinator_reply;
+mod find_coordinator_request;
+mod metadata_reply;
+mod metadata_request;
+
+pub use api_versions_reply::{
+    ApiVersion, ApiVersionsReply, read_api_versions_reply, write_api_versions_reply,
+};
+pub use api_versions_request::{
+    ApiVersionsRequest, read_api_versions_request, write_api_versions_request,
+};
+pub use find_coordinator_reply::{
+    Coordinator, FindCoordinatorReply, read_find_coordinator_reply, write_find_coordinator_reply,
+};
+pub use find_coordinator_request::{
+    FindCoordinatorRequest, read_find_coordinator_request, write_find_coordinator_request,
+};
+pub use metadata_reply::{
+    MetadataBroker, MetadataPartition, MetadataReply, MetadataTopic, read_metadata_reply,
+    write_metadata_reply,
+};
+pub use metadata_request::{
+    MetadataRequest, MetadataRequestTopic, read_metadata_request, write_metadata_request,
+};

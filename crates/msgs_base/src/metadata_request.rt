@@ -1,0 +1,83 @@
+ghost use Rattle.std.specs.Prelude.{IfOk};
+ghost use Rattle.flex_fields.specs.Formats.{ReadsWhole, IsSpelling};
+ghost use Rattle.msgs_base.specs.MetadataRequest.{metadata_request_topic, metadata_request};
+
+use flex_fields::{
+    Bytes, Cursor, Items, NoMemory, Out, Text, Wire, WireFault, read_whole, take_null_array,
+    write_whole,
+};
+use std::alloc::Global;
+use uuid::Uuid;
+
+/// A topic that is asked for, by name or by id.
+#[derive(Debug, Drop)]
+pub struct MetadataRequestTopic {
+    pub topic_id: Uuid,
+    pub name: Option<Text>,
+}
+
+/// Asks for topics, or for all of them where they are null.
+#[derive(Debug, Drop)]
+pub struct MetadataRequest {
+    pub topics: Option<Items<MetadataRequestTopic>>,
+    pub allow_auto_topic_creation: bool,
+    pub include_topic_authorized_operations: bool,
+}
+
+impl Wire for MetadataRequestTopic {
+    ghost format = { metadata_request_topic };
+
+    #[tactic(auto, unfolding(crate::specs::MetadataRequest::metadata_request_topic))]
+    fn take(alloc: Global, cursor: &mut Cursor<'_>) -> Result<Self, WireFault> {
+        let topic_id = cursor.take_uuid()?;
+        let name = cursor.take_null_str(alloc)?;
+        cursor.skip_tags()?;
+        Ok(MetadataRequestTopic { topic_id, name })
+    }
+
+    fn put(&self, out: &mut Out) -> Result<(), NoMemory> {
+        self.topic_id.put(out)?;
+        self.name.put(out)?;
+        out.put_tags()?;
+        Ok(())
+    }
+}
+
+impl Wire for MetadataRequest {
+    ghost format = { metadata_request };
+
+    #[tactic(auto, unfolding(crate::specs::MetadataRequest::metadata_request))]
+    fn take(alloc: Global, cursor: &mut Cursor<'_>) -> Result<Self, WireFault> {
+        let topics = take_null_array(alloc, cursor)?;
+        let allow_auto_topic_creation = cursor.take_bool()?;
+        let include_topic_authorized_operations = cursor.take_bool()?;
+        cursor.skip_tags()?;
+        Ok(MetadataRequest {
+            topics,
+            allow_auto_topic_creation,
+            include_topic_authorized_operations,
+        })
+    }
+
+    fn put(&self, out: &mut Out) -> Result<(), NoMemory> {
+        self.topics.put(out)?;
+        self.allow_auto_topic_creation.put(out)?;
+        self.include_topic_authorized_operations.put(out)?;
+        out.put_tags()?;
+        Ok(())
+    }
+}
+
+/// Reads the body of a Metadata request. Places count from its first byte.
+pub fn read_metadata_request(alloc: Global, bytes: &[u8]) -> Result<MetadataRequest, WireFault>
+    ensures { ReadsWhole metadata_request bytes.now result }
+{
+    read_whole(alloc, bytes)
+}
+
+/// Writes the body of a Metadata request.
+pub fn write_metadata_request(alloc: Global, message: &MetadataRequest) -> Result<Bytes, NoMemory>
+    ensures { IfOk result (IsSpelling metadata_request message.now) }
+{
+    write_whole(alloc, message)
+}
