@@ -1,6 +1,10 @@
+pub mod ApiVersionsOldReply
 pub mod ApiVersionsReply
 pub mod ApiVersionsRequest
+pub mod Counted
+pub mod CountedRead
 pub mod FindCoordinatorReply
 pub mod FindCoordinatorRequest
 pub mod MetadataReply
 pub mod MetadataRequest
+pub mod OldReply

@@ -3,13 +3,18 @@
 //! Each message is a struct, its schema in `specs/`, and two calls that read and write its body.
 #![tactic(auto)]
 
+mod api_versions_old_reply;
 mod api_versions_reply;
 mod api_versions_request;
+mod counted;
 mod find_coordinator_reply;
 mod find_coordinator_request;
 mod metadata_reply;
 mod metadata_request;
 
+pub use api_versions_old_reply::{
+    ApiVersionsOldReply, OldApiVersion, read_api_versions_old_reply, write_api_versions_old_reply,
+};
 pub use api_versions_reply::{
     ApiVersion, ApiVersionsReply, read_api_versions_reply, write_api_versions_reply,
 };
