@@ -1,5 +1,5 @@
 ghost use Rattle.std.specs.Prelude.{IfOk, true};
-ghost use Rattle.flex_fields.specs.Cursors.{Gives};
+ghost use Rattle.flex_fields.specs.Cursors.{Gives, TakesNoMemory};
 ghost use Rattle.flex_fields.specs.Formats.{ReadsFront, IsSpelling, front_at};
 ghost use Rattle.req_head.specs.Heads.{request_head, reply_head};
 
@@ -73,7 +73,8 @@ pub fn write_head(alloc: Global, head: &RequestHead) -> Result<Bytes, NoMemory>
 }
 
 fn take_reply_head(bytes: &[u8]) -> Result<(i32, u64), WireFault>
-    ensures { Gives (λ x. x) result (front_at (reply_head true).read bytes.now) }
+    ensures read { Gives (λ x. x) result (front_at (reply_head true).read bytes.now) }
+    ensures memory { TakesNoMemory result }
 {
     let mut cursor = Cursor::new(bytes);
     let correlation = cursor.take_i32()?;
@@ -84,7 +85,8 @@ fn take_reply_head(bytes: &[u8]) -> Result<(i32, u64), WireFault>
 /// Reads a response header of version 1 from the front of the bytes: the correlation id and the
 /// header's length. It takes no memory.
 pub fn read_reply_head(bytes: &[u8]) -> Result<(i32, u64), WireFault>
-    ensures { ReadsFront (reply_head true) bytes.now result }
+    ensures read { ReadsFront (reply_head true) bytes.now result }
+    ensures memory { TakesNoMemory result }
 {
     take_reply_head(bytes)
 }
