@@ -1,0 +1,36 @@
+-- What contracts see of the streams in memory.
+use Rattle.std.specs.Prelude.{◌≡◌, ◌⊎◌, ◌+◌, ◌-◌, ◌^◌, ℕ, Bool, true, List, Contains, min, Result, IsErr, MatchResult}
+
+-- a number after it was raised by one, where a u64 has room
+abbrev pub raised : ℕ → ℕ
+raised n = min (n + 1) (2 ^ 64 - 1)
+
+-- a source: the bytes that are left, and the numbers of the calls that fail
+pub record Supply : Type 0 where
+  pub left : List ℕ
+  pub failing : List ℕ
+  -- the number of the next call, from 0 on
+  pub calls : ℕ
+  pub ended : Bool
+  pub faults : ℕ
+
+-- a sink: the bytes that it took, and the numbers of the calls that fail
+pub record Collected : Type 0 where
+  pub held : List ℕ
+  pub failing : List ℕ
+  -- the number of the next call, from 0 on
+  pub calls : ℕ
+  -- a call has failed for want of memory
+  pub starved : Bool
+  pub faults : ℕ
+
+-- a fault is counted where the call failed, and not else
+abbrev pub CountsFault : {T E : Type 0} → ℕ → ℕ → Result T E → Type 0
+CountsFault old new result = MatchResult result (λ _. new ≡ old) (λ _. new ≡ raised old)
+
+-- it fails where the list of failing calls says so, and else only where it finds no memory
+pub record FailsAsListed {T E : Type 0} (failing : List ℕ) (call : ℕ) (was_starved starved : Bool) (result : Result T E) : Type 0 where
+  pub listed : Contains failing call → IsErr result
+  pub only : IsErr result → Contains failing call ⊎ (starved ≡ true)
+  pub starves : starved ≡ true → (was_starved ≡ true) ⊎ IsErr result
+  pub stays : was_starved ≡ true → starved ≡ true

@@ -1,0 +1,11 @@
+//! Sources, sinks, disks and bays in memory, whose contracts tell all that they hold and when they fail.
+//!
+//! They stand in for files and connections wherever a run is to be repeated: in recorded sessions, in tests,
+//! and in every statement that speaks of bytes.
+#![tactic(auto)]
+
+mod sink;
+mod source;
+
+pub use sink::MemSink;
+pub use source::MemSource;
