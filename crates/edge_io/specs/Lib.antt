@@ -1,2 +1,5 @@
+pub mod Armed
 pub mod Causes
+pub mod Disk
+pub mod Moments
 pub mod Streams

@@ -5,7 +5,11 @@
 #![tactic(auto)]
 
 mod copying;
+mod disk;
+mod fault;
 mod streams;
 
 pub use copying::{ReadError, read_to_end, write_all};
+pub use disk::Disk;
+pub use fault::{Armed, DiskPlace, FaultMode};
 pub use streams::{Failed, Sink, Source};

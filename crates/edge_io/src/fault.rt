@@ -1,0 +1,29 @@
+/// How an armed fault breaks a call.
+#[derive(Clone, Copy, Debug, PartialEq, Eq)]
+pub enum FaultMode {
+    /// The call does nothing, and the disk is disarmed.
+    Once,
+    /// A write writes the first half of its bytes, rounded down; any other call does nothing. The disk is disarmed.
+    Torn,
+    /// As `Torn`, and every later call fails too and does nothing, until a power loss.
+    Dead,
+}
+
+/// The fault that a disk is armed with. It counts reads, writes, cuts and syncs.
+#[derive(Clone, Copy, Debug, PartialEq, Eq)]
+pub enum Armed {
+    /// No call is broken.
+    Nothing,
+    /// This many calls pass, and the next one is broken.
+    After { passes: u64, mode: FaultMode },
+    /// Every call is broken.
+    Broken,
+}
+
+/// Which disk of a partition: that of its log, or one of the two of its state.
+#[derive(Clone, Copy, Debug, PartialEq, Eq)]
+pub enum DiskPlace {
+    Log,
+    StateA,
+    StateB,
+}
