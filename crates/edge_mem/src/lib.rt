@@ -4,8 +4,14 @@
 //! and in every statement that speaks of bytes.
 #![tactic(auto)]
 
+mod change;
+mod content;
+mod disk;
+mod faulty;
+mod history;
 mod sink;
 mod source;
 
+pub use disk::MemDisk;
 pub use sink::MemSink;
 pub use source::MemSource;

@@ -1,0 +1,5 @@
+pub mod Calls
+pub mod Contents
+pub mod Fresh
+pub mod Marks
+pub mod Sounds

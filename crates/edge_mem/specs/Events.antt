@@ -1,0 +1,74 @@
+-- What happened to a disk in memory, and what it makes of a content.
+use Rattle.std.specs.Prelude.{◌≡◌, ℕ, List, [], ◌∷◌, ◌++◌, length, take, if◌then◌else◌, nat_lt}
+use Rattle.edge_io.specs.Disk.{written, UnfinishedWrite, UnfinishedCut}
+
+pub data Event : Type 0 where
+  -- these bytes were written at a place
+  Wrote : ℕ → List ℕ → Event
+  -- a cut to a length
+  CutTo : ℕ → Event
+  -- a sync
+  Kept : Event
+  -- a power loss by a choice left this content
+  Lost : ℕ → List ℕ → Event
+
+-- the content after a change
+abbrev pub done : Event → List ℕ → List ℕ
+done (Wrote at bytes) c = written at bytes c
+done (CutTo n) c = take n c
+done Kept c = c
+done (Lost choice left) c = c
+
+-- the content after changes
+abbrev pub replay : List Event → List ℕ → List ℕ
+replay [] c = c
+replay (e ∷ es) c = replay es (done e c)
+
+-- what a crash may leave of a change
+abbrev pub LeavesBy : Event → List ℕ → List ℕ → Type 0
+LeavesBy (Wrote at bytes) c d = UnfinishedWrite at (length bytes) c d
+LeavesBy (CutTo n) c d = UnfinishedCut n c d
+LeavesBy Kept c d = d ≡ c
+LeavesBy (Lost choice left) c d = d ≡ c
+
+-- what a crash may leave of changes
+abbrev pub IsImage : List Event → List ℕ → List ℕ → Type 0
+IsImage [] base c = c ≡ base
+IsImage (e ∷ es) base c = (d : List ℕ) × LeavesBy e base d × IsImage es d c
+
+-- since the start or the last power loss: the content then, the changes up to the last sync and those since
+pub record State : Type 0 where
+  pub first : List ℕ
+  pub kept : List Event
+  pub changes : List Event
+  pub losses : List (ℕ × List ℕ)
+
+-- the content at the last sync
+abbrev pub base : State → List ℕ
+base s = replay s.kept s.first
+
+abbrev pub content_of : State → List ℕ
+content_of s = replay s.changes (base s)
+
+abbrev pub image_of : State → List ℕ → Type 0
+image_of s c = IsImage s.changes (base s) c
+
+-- what a power loss leaves: the first changes since the last sync
+abbrev pub loss_of : State → ℕ → List ℕ
+loss_of s choice = replay (take choice s.changes) (base s)
+
+abbrev pub changed : State → Event → State
+changed s e = record { first = s.first; kept = s.kept; changes = s.changes ++ e ∷ []; losses = s.losses }
+
+abbrev pub next : State → Event → State
+next s (Wrote at bytes) = if nat_lt (length (content_of s)) at then s else changed s (Wrote at bytes)
+next s (CutTo n) = changed s (CutTo n)
+next s Kept = record { first = s.first; kept = s.kept ++ s.changes; changes = []; losses = s.losses }
+next s (Lost choice left) = record { first = left; kept = []; changes = []; losses = s.losses ++ (choice, left) ∷ [] }
+
+unfoldable pub run : State → List Event → State
+run s [] = s
+run s (e ∷ es) = run (next s e) es
+
+abbrev pub begun : List ℕ → State
+begun first = record { first = first; kept = []; changes = []; losses = [] }

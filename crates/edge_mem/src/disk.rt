@@ -1,0 +1,172 @@
+ghost use Rattle.std.specs.Prelude.{◌≡◌, ◌⊎◌, ◌≤◌, ◌+◌, ◌-◌, ◌^◌, min, ℕ, List, [], length, take, drop, false, true, Some, IfOk, OnOk, OnErr, IsErr};
+ghost use Rattle.edge_io.specs.declared.fault.Armed.TheVariants.{Nothing, After};
+ghost use Rattle.edge_io.specs.Armed.{RunsAsArmed};
+ghost use Rattle.edge_io.specs.Causes.{FailsBy, HasCause, Rose};
+ghost use Rattle.edge_io.specs.Disk.{written, WhereTold, Changes, UnfinishedWrite, UnfinishedCut, StepsBy, Within, SameImages, Synced, SameContent, IsUneventful, GrowsTo, ShrinksTo, LosesPower, KeepsPower};
+ghost use Rattle.edge_io.specs.Moments.{Elapses};
+ghost use Rattle.edge_mem.specs.Events.{CutTo, Kept, Lost, loss_of};
+ghost use Rattle.edge_mem.specs.Past.{state, content, image, since, with_event, broken_by, after_write, after_change};
+ghost use Rattle.edge_mem.specs.Laws.{content_is_image, counts_now, only_now};
+ghost use Rattle.edge_mem.specs.declared.faulty.Refusal.TheVariants.{NoMemory};
+
+use crate::faulty::{Refusal, count_call, cut, write};
+use crate::history::History;
+use edge_io::{Armed, Disk, Failed, FaultMode};
+use std::alloc::{AllocError, Global};
+use std::marker::Model;
+
+/// A disk in memory. It keeps all that happened to it, so that it tells what a crash might have left at any moment.
+///
+/// A sync takes no memory. A write takes memory for its bytes twice, a cut for one entry, and a power loss for the
+/// content that it leaves three times.
+#[derive(Drop)]
+pub struct MemDisk {
+    history: History,
+    armed: Armed,
+    arms: u64,
+    starved: bool,
+    faults: u64,
+}
+
+impl Model for MemDisk {
+    ghost use Rattle.edge_mem.specs.Past.{DiskState};
+
+    ghost Value = { DiskState };
+
+    ghost view = { λ d. record { past = d.history; armed = d.armed; arms = d.arms; starved = d.starved; faults = d.faults } };
+}
+
+fn copy_part(from: &[u8], place: usize, into: &mut [u8])
+    requires { place + length into.old ≤ length from.now }
+    ensures { into.new ≡ take (length into.old) (drop place from.now) }
+{
+    let (_, rest) = from.split_at(place);
+    let (part, _) = rest.split_at(into.len());
+    into.copy_from_slice(part);
+}
+
+impl MemDisk {
+    /// A disk with this content, on which nothing has happened yet.
+    pub fn new(alloc: Global, bytes: Vec<u8>) -> Result<MemDisk, AllocError>
+        ensures state { IfOk result (λ d. d ≡ record { past = record { first = bytes.items; events = [] }; armed = Nothing; arms = 0; starved = false; faults = 0 }) }
+        ensures content { IfOk result (λ d. content d.past ≡ bytes.items) }
+    {
+        Ok(MemDisk {
+            history: History::new(alloc, bytes)?,
+            armed: Armed::Nothing,
+            arms: 0,
+            starved: false,
+            faults: 0,
+        })
+    }
+
+    /// What a read gives.
+    pub fn bytes(&self) -> &[u8]
+        ensures { result.now ≡ content self.now.past }
+    {
+        self.history.bytes()
+    }
+
+    // Counts the fault of a call that was refused.
+    fn refuse(&mut self, refusal: Refusal) -> Failed
+        ensures past { self.new.past ≡ self.old.past }
+        ensures armed { self.new.armed ≡ self.old.armed }
+        ensures arms { self.new.arms ≡ self.old.arms }
+        ensures starves { refusal ≡ NoMemory → self.new.starved ≡ true }
+        ensures stays { self.old.starved ≡ true → self.new.starved ≡ true }
+        ensures later { self.old.faults ≤ self.new.faults }
+        ensures rose { Rose self.old.faults self.new.faults }
+    {
+        self.starved = self.starved | (refusal == Refusal::NoMemory);
+        self.faults = self.faults.saturating_add(1);
+        Failed
+    }
+}
+
+impl Disk for MemDisk {
+    ghost content = { λ d. Some (content d.past) };
+
+    ghost size = { λ d. length (content d.past) };
+
+    ghost image = { λ d c. image d.past c };
+
+    ghost moment = { λ d. length d.past.events };
+
+    ghost since = { λ d t c. since d.past t c };
+
+    ghost faults = { λ d. d.faults };
+
+    ghost losses = { λ d. (state d.past).losses };
+
+    ghost arms = { λ d. d.arms };
+
+    ghost armed = { λ d. d.armed };
+
+    ghost starved = { λ d. d.starved };
+
+    ghost read_is_image = { λ d c told. content_is_image d.past c told };
+
+    ghost counts_now = { λ d t c le now. counts_now d.past t c le now };
+
+    ghost only_now = { λ d c left. only_now d.past c left };
+
+    fn len(&self) -> u64 {
+        self.history.bytes().len() as u64
+    }
+
+    fn starved(&self) -> bool {
+        self.starved
+    }
+
+    fn faults(&self) -> u64 {
+        self.faults
+    }
+
+    fn read_at(&mut self, place: u64, into: &mut [u8]) -> Result<(), Failed> {
+        if count_call(&mut self.armed).is_some() {
+            return Err(self.refuse(Refusal::Broken));
+        }
+        copy_part(self.history.bytes(), place as usize, into);
+        Ok(())
+    }
+
+    fn write_at(&mut self, place: u64, bytes: &[u8]) -> Result<(), Failed> {
+        match write(&mut self.history, &mut self.armed, place as usize, bytes) {
+            Ok(()) => Ok(()),
+            Err(refusal) => Err(self.refuse(refusal)),
+        }
+    }
+
+    fn cut(&mut self, to: u64) -> Result<(), Failed> {
+        match cut(&mut self.history, &mut self.armed, to as usize) {
+            Ok(()) => Ok(()),
+            Err(refusal) => Err(self.refuse(refusal)),
+        }
+    }
+
+    fn sync(&mut self) -> Result<(), Failed> {
+        if count_call(&mut self.armed).is_some() {
+            return Err(self.refuse(Refusal::Broken));
+        }
+        self.history.sync();
+        Ok(())
+    }
+
+    fn power_loss(&mut self, choice: u64) -> Result<(), Failed> {
+        match self.history.lose(choice) {
+            Ok(()) => {
+                self.armed = Armed::Nothing;
+                Ok(())
+            }
+            Err(_) => Err(self.refuse(Refusal::NoMemory)),
+        }
+    }
+
+    fn arm(&mut self, after: u64, mode: FaultMode) {
+        self.armed = Armed::After {
+            passes: after,
+            mode,
+        };
+        self.arms = self.arms.saturating_add(1);
+    }
+}

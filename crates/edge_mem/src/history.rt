@@ -1,0 +1,102 @@
+// The content of a disk in memory, with all that happened to it.
+ghost use Rattle.std.specs.Prelude.{◌≡◌, ◌⊎◌, ◌≤◌, ◌+◌, ℕ, List, [], ◌∷◌, ◌++◌, length, take, drop, IfOk, OnOk, OnErr};
+ghost use Rattle.edge_mem.specs.Events.{Event, Wrote, CutTo, Kept, Lost, State, loss_of, replay};
+ghost use Rattle.edge_mem.specs.Past.{Past, state, content, with_event};
+ghost use Rattle.edge_mem.specs.Steps.{EndsKept};
+
+use crate::change::{Change, Step};
+use crate::content::{after_loss, cut_step, mark, push_step, redone, write_step};
+use std::alloc::{AllocError, Global};
+use std::marker::Model;
+
+#[derive(Drop)]
+pub struct History {
+    alloc: Global,
+    first: Vec<u8>,
+    log: Vec<Step>,
+    // where the steps since the last power loss begin
+    start: usize,
+    // the content with_event
+    era: Vec<u8>,
+    // how many of them were done at the last sync
+    kept: usize,
+    bytes: Vec<u8>,
+}
+
+impl Model for History {
+    ghost use Rattle.edge_mem.specs.Past.{Past};
+
+    ghost Value = { Past };
+
+    ghost use Rattle.edge_mem.specs.Steps.{events};
+    ghost use Rattle.edge_mem.specs.Sound.{IsSound};
+
+    ghost view = { λ h. record { first = h.first.items; events = events h.log.items } };
+
+    ghost invariant = { λ h. IsSound h.first.items h.era.items h.bytes.items h.log.items h.start h.kept };
+}
+
+impl History {
+    pub fn new(alloc: Global, bytes: Vec<u8>) -> Result<History, AllocError>
+        ensures { IfOk result (λ h. h ≡ record { first = bytes.items; events = [] }) }
+    {
+        let first = bytes.to_vec(alloc)?;
+        let era = bytes.to_vec(alloc)?;
+        Ok(History {
+            alloc,
+            first,
+            log: Vec::new(alloc),
+            start: 0,
+            era,
+            kept: 0,
+            bytes,
+        })
+    }
+
+    pub fn bytes(&self) -> &[u8]
+        ensures { result.now ≡ content self.now }
+    {
+        &self.bytes
+    }
+
+    pub fn write(&mut self, place: usize, bytes: &[u8]) -> Result<(), AllocError>
+        requires { place ≤ length (content self.old) }
+        ensures ok { OnOk result (self.new ≡ with_event self.old (Wrote place bytes.now)) }
+        ensures err { OnErr result (self.new ≡ self.old) }
+    {
+        write_step(self.alloc, &mut self.log, &mut self.bytes, place, bytes)?;
+        Ok(())
+    }
+
+    pub fn cut(&mut self, to: usize) -> Result<(), AllocError>
+        ensures ok { OnOk result (self.new ≡ with_event self.old (CutTo to)) }
+        ensures err { OnErr result (self.new ≡ self.old) }
+    {
+        cut_step(&mut self.log, &mut self.bytes, to)?;
+        Ok(())
+    }
+
+    pub fn sync(&mut self)
+        ensures { (self.new ≡ with_event self.old Kept) ⊎ ((self.new ≡ self.old) × EndsKept self.old.events) }
+    {
+        mark(&mut self.log);
+        self.kept = self.log.len() - self.start;
+    }
+
+    pub fn lose(&mut self, choice: u64) -> Result<(), AllocError>
+        ensures ok { OnOk result (self.new ≡ with_event self.old (Lost choice (loss_of (state self.old) choice))) }
+        ensures err { OnErr result (self.new ≡ self.old) }
+    {
+        let left = after_loss(
+            self.alloc, &self.era, &self.log, self.start, self.kept, choice,
+        )?;
+        let era = left.to_vec(self.alloc)?;
+        let bytes = left.to_vec(self.alloc)?;
+        push_step(&mut self.log, Change::Loss { choice, left })?;
+        self.start = self.log.len();
+        self.era = era;
+        self.kept = 0;
+        self.bytes = bytes;
+        Ok(())
+    }
+}
