@@ -1,10 +1,12 @@
 -- What an armed fault does to the calls that it counts: reads, writes, cuts and syncs.
-use Rattle.std.specs.Prelude.{◌≡◌, ℕ, ◌-◌, ◌==◌, if◌then◌else◌, Bool, true, false, Result, OnOk}
+use Rattle.std.specs.Prelude.{◌≡◌, ◌⊎◌, ℕ, ◌-◌, ◌==◌, if◌then◌else◌, Bool, true, false, List, is_some, Result, OnOk}
+use Rattle.std.specs.declared.option.Option.{Option}
 use Rattle.edge_io.specs.declared.fault.FaultMode.{FaultMode}
 use Rattle.edge_io.specs.declared.fault.FaultMode.TheVariants.{Once, Torn, Dead}
 use Rattle.edge_io.specs.declared.fault.Armed.{Armed}
 use Rattle.edge_io.specs.declared.fault.Armed.TheVariants.{Nothing, After, Broken}
 use Rattle.edge_io.specs.Causes.{FailsBy}
+use Rattle.edge_io.specs.Disk.{IsTold}
 
 -- the call that comes next is broken
 abbrev pub breaks : Armed → Bool
@@ -30,3 +32,29 @@ pub record RunsAsArmed {T E : Type 0} (was armed : Armed) (was_starved starved :
   pub next : armed ≡ next_armed was
   pub fails : FailsBy (breaks was ≡ true) was_starved starved result
   pub quiet : OnOk result (now ≡ before)
+
+-- ---- over several calls
+
+-- a fault that breaks one call and no more
+abbrev pub IsOneShot : Armed → Type 0
+IsOneShot Nothing = ⊥
+IsOneShot (After passes Once) = Unit {0}
+IsOneShot (After passes Torn) = Unit {0}
+IsOneShot (After passes Dead) = ⊥
+IsOneShot Broken = ⊥
+
+-- What calls do to the armed fault and the count of faults, where memory is found: with nothing armed none fails, and a
+-- fault that breaks one call is gone once it did.
+pub record Spends (old new : Armed) (before now : ℕ) : Type 0 where
+  pub disarmed : old ≡ Nothing → (new ≡ Nothing) × (now ≡ before)
+  pub one_shot : IsOneShot old → (IsOneShot new × (now ≡ before)) ⊎ (new ≡ Nothing)
+
+-- What calls of a disk do to it besides its content and images. The members of the disk come first.
+pub record RunsOn {D : Type 0} (content : D → Option (List ℕ)) (losses : D → List (ℕ × List ℕ)) (arms : D → ℕ) (armed : D → Armed) (starved : D → Bool) (faults : D → ℕ) (old new : D) : Type 0 where
+  -- no power was lost, and no fault was armed
+  pub same_losses : losses new ≡ losses old
+  pub same_arms : arms new ≡ arms old
+  pub told : is_some (content new) ≡ is_some (content old)
+  -- where it tells its content: what is starved stays so, and if it isn't, the armed fault alone makes calls fail
+  pub stays : IsTold (content old) → starved old ≡ true → starved new ≡ true
+  pub spends : IsTold (content old) → starved new ≡ false → Spends (armed old) (armed new) (faults old) (faults new)

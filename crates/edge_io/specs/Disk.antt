@@ -1,12 +1,16 @@
 -- What the calls of a disk do to its content, and what a crash may leave of it. A content is a list of bytes. A disk
 -- that tells its content has `Some` of it; one that tells nothing, as a file, has `None` and no images, and then these
 -- words say nothing of it.
-use Rattle.std.specs.Prelude.{◌≡◌, ℕ, ◌+◌, ◌≤◌, min, max, List, [], ◌∷◌, ◌++◌, length, take, drop, Some, is_some, Result, OnOk, MatchResult}
+use Rattle.std.specs.Prelude.{◌≡◌, ℕ, ◌+◌, ◌≤◌, min, max, List, [], ◌∷◌, ◌++◌, length, take, drop, Some, is_some, true, Result, OnOk, MatchResult}
 use Rattle.std.specs.declared.option.Option.{Option}
 use Rattle.edge_io.specs.declared.fault.Armed.{Armed}
 use Rattle.edge_io.specs.declared.fault.Armed.TheVariants.{Nothing}
 
 -- ---- contents
+
+-- the content is told
+abbrev pub IsTold : Option (List ℕ) → Type 0
+IsTold content = is_some content ≡ true
 
 -- where a content is told, it has P
 abbrev pub WhereTold : Option (List ℕ) → (List ℕ → Type 0) → Type 0
@@ -52,6 +56,14 @@ Leads step old new = (c d : List ℕ) → old d → step d c → new c
 pub record StepsBy {T E : Type 0} (step : List ℕ → List ℕ → Type 0) (old new : List ℕ → Type 0) (result : Result T E) : Type 0 where
   pub follows : Follows step old new
   pub leads : OnOk result (Leads step old new)
+
+-- this is a step of an image
+abbrev pub Stepped : (List ℕ → Type 0) → (List ℕ → List ℕ → Type 0) → List ℕ → Type 0
+Stepped image step c = (d : List ℕ) × image d × step d c
+
+-- each image now is what this makes of the content that was told
+abbrev pub Reaches : (List ℕ → List ℕ) → Option (List ℕ) → (List ℕ → Type 0) → Type 0
+Reaches f content image = (c : List ℕ) → image c → (d : List ℕ) × (content ≡ Some d) × (c ≡ f d)
 
 -- each image now is an image before
 abbrev pub Within : (List ℕ → Type 0) → (List ℕ → Type 0) → Type 0

@@ -4,7 +4,7 @@ ghost use Rattle.edge_io.specs.declared.fault.Armed.{Armed};
 ghost use Rattle.edge_io.specs.declared.fault.Armed.TheVariants.{After};
 ghost use Rattle.edge_io.specs.Armed.{RunsAsArmed};
 ghost use Rattle.edge_io.specs.Causes.{FailsBy, HasCause};
-ghost use Rattle.edge_io.specs.Disk.{written, WhereTold, Changes, UnfinishedWrite, UnfinishedCut, StepsBy, Within, SameImages, Synced, SameContent, IsUneventful, GrowsTo, ShrinksTo, LosesPower, KeepsPower};
+ghost use Rattle.edge_io.specs.Disk.{written, IsTold, WhereTold, Changes, UnfinishedWrite, UnfinishedCut, StepsBy, Within, SameImages, Synced, SameContent, IsUneventful, GrowsTo, ShrinksTo, LosesPower, KeepsPower};
 ghost use Rattle.edge_io.specs.Moments.{Elapses};
 
 use crate::{Failed, FaultMode};
@@ -65,7 +65,7 @@ pub trait Disk {
         ensures images { SameImages (image self.old) (image self.new) }
         ensures time { Elapses (moment self.old) (moment self.new) (since self.old) (since self.new) (image self.new) }
         ensures events { IsUneventful (losses self.old) (losses self.new) (arms self.old) (arms self.new) }
-        ensures fails { WhereTold (content self.old) (λ _. RunsAsArmed (armed self.old) (armed self.new) (starved self.old) (starved self.new) (faults self.old) (faults self.new) result) }
+        ensures fails { IsTold (content self.old) → RunsAsArmed (armed self.old) (armed self.new) (starved self.old) (starved self.new) (faults self.old) (faults self.new) result }
         ensures cause { HasCause (faults self.old) (faults self.new) result };
 
     /// Writes bytes at `place`, over what stands there and past the end. It is safe from a crash after the next sync.
@@ -77,7 +77,7 @@ pub trait Disk {
         ensures images { StepsBy (UnfinishedWrite place (length bytes.now)) (image self.old) (image self.new) result }
         ensures time { Elapses (moment self.old) (moment self.new) (since self.old) (since self.new) (image self.new) }
         ensures events { IsUneventful (losses self.old) (losses self.new) (arms self.old) (arms self.new) }
-        ensures fails { WhereTold (content self.old) (λ _. RunsAsArmed (armed self.old) (armed self.new) (starved self.old) (starved self.new) (faults self.old) (faults self.new) result) }
+        ensures fails { IsTold (content self.old) → RunsAsArmed (armed self.old) (armed self.new) (starved self.old) (starved self.new) (faults self.old) (faults self.new) result }
         ensures cause { HasCause (faults self.old) (faults self.new) result };
 
     /// Cuts the content to a length. It is safe from a crash after the next sync.
@@ -88,7 +88,7 @@ pub trait Disk {
         ensures images { StepsBy (UnfinishedCut to) (image self.old) (image self.new) result }
         ensures time { Elapses (moment self.old) (moment self.new) (since self.old) (since self.new) (image self.new) }
         ensures events { IsUneventful (losses self.old) (losses self.new) (arms self.old) (arms self.new) }
-        ensures fails { WhereTold (content self.old) (λ _. RunsAsArmed (armed self.old) (armed self.new) (starved self.old) (starved self.new) (faults self.old) (faults self.new) result) }
+        ensures fails { IsTold (content self.old) → RunsAsArmed (armed self.old) (armed self.new) (starved self.old) (starved self.new) (faults self.old) (faults self.new) result }
         ensures cause { HasCause (faults self.old) (faults self.new) result };
 
     /// Makes what a read gives the only image.
@@ -98,7 +98,7 @@ pub trait Disk {
         ensures images { Within (image self.old) (image self.new) }
         ensures time { Elapses (moment self.old) (moment self.new) (since self.old) (since self.new) (image self.new) }
         ensures events { IsUneventful (losses self.old) (losses self.new) (arms self.old) (arms self.new) }
-        ensures fails { WhereTold (content self.old) (λ _. RunsAsArmed (armed self.old) (armed self.new) (starved self.old) (starved self.new) (faults self.old) (faults self.new) result) }
+        ensures fails { IsTold (content self.old) → RunsAsArmed (armed self.old) (armed self.new) (starved self.old) (starved self.new) (faults self.old) (faults self.new) result }
         ensures cause { HasCause (faults self.old) (faults self.new) result };
 
     /// Loses power: the content becomes one of the images, by a choice, and no fault is armed any more. It fails only
@@ -111,15 +111,15 @@ pub trait Disk {
         ensures images { Within (image self.old) (image self.new) }
         ensures time { Elapses (moment self.old) (moment self.new) (since self.old) (since self.new) (image self.new) }
         ensures arms { arms self.new ≡ arms self.old }
-        ensures fails { WhereTold (content self.old) (λ _. FailsBy ⊥ (starved self.old) (starved self.new) result) }
-        ensures quiet { WhereTold (content self.old) (λ _. OnOk result (faults self.new ≡ faults self.old)) }
+        ensures fails { IsTold (content self.old) → FailsBy ⊥ (starved self.old) (starved self.new) result }
+        ensures quiet { IsTold (content self.old) → OnOk result (faults self.new ≡ faults self.old) }
         ensures cause { HasCause (faults self.old) (faults self.new) result };
 
     /// Arms a fault: the next `after` calls pass, and the one after them is broken. It takes the place of an earlier
     /// one. A file ignores it.
     fn arm(&mut self, after: u64, mode: FaultMode)
-        ensures armed { WhereTold (content self.old) (λ _. armed self.new ≡ After after mode) }
-        ensures arms { WhereTold (content self.old) (λ _. arms self.new ≡ min (arms self.old + 1) (2 ^ 64 - 1)) }
+        ensures armed { IsTold (content self.old) → armed self.new ≡ After after mode }
+        ensures arms { IsTold (content self.old) → arms self.new ≡ min (arms self.old + 1) (2 ^ 64 - 1) }
         ensures losses { losses self.new ≡ losses self.old }
         ensures stays { SameContent (content self.old) (content self.new) (size self.old) (size self.new) }
         ensures images { SameImages (image self.old) (image self.new) }
