@@ -85,5 +85,5 @@ module _ {D : Type 0} (content : D → Option (List ℕ)) (losses : D → List (
     same_arms = events.arms;
     told = told;
     stays = λ is was. (runs is).fails.stays was;
-    spends = λ is not. spends_by _ _ _ _ (runs is).next (done_or_broken _ _ _ _ r not (runs is).fails.only (runs is).quiet);
+    spends = λ is not. spends_by _ _ _ _ (runs is).next (done_or_broken (armed old) _ _ _ r not (runs is).fails.only (runs is).quiet);
   }
