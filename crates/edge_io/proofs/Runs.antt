@@ -6,7 +6,6 @@ use Rattle.edge_io.specs.declared.fault.FaultMode.{FaultMode}
 use Rattle.edge_io.specs.declared.fault.FaultMode.TheVariants.{Once, Torn, Dead}
 use Rattle.edge_io.specs.declared.fault.Armed.{Armed}
 use Rattle.edge_io.specs.declared.fault.Armed.TheVariants.{Nothing, After, Broken}
-use Rattle.edge_io.specs.Causes.{FailsBy}
 use Rattle.edge_io.specs.Disk.{IsTold, IsUneventful}
 use Rattle.edge_io.specs.Armed.{breaks, spent, next_armed, RunsAsArmed, IsOneShot, Spends, RunsOn}
 
