@@ -1,5 +1,7 @@
 -- How a run of device calls goes on: what a crash at any moment of it leaves.
-use Rattle.std.proofs.Common.{inl, inr, ⊎_elim, ℕ, List, arith}
+use Rattle.std.proofs.Common.{inl, inr, ⊎_elim, refl, ℕ, List, length, arith}
+use Rattle.std.proofs.lemmas.List.{take_all}
+use Rattle.edge_io.specs.Disk.{UnfinishedWrite, UnfinishedCut, Follows, Stepped, Within}
 use Rattle.edge_io.specs.Moments.{Elapses, LeavesOnly, LeavesPairs}
 
 module _ {D : Type 0} (moment : D → ℕ) (since : D → ℕ → List ℕ → Type 0) where
@@ -31,6 +33,23 @@ module _ {D : Type 0} (moment : D → ℕ) (since : D → ℕ → List ℕ → T
     each = λ c left. p c (run.each c left);
     before = λ t c le left. ⊎_elim (λ was. inl was) (λ x. inr (p c x)) (run.before t c le left);
   }
+
+-- an unfinished call may have done nothing
+pub write_same : (at n : ℕ) (c : List ℕ) → UnfinishedWrite at n c c
+write_same at n c = record { before = refl; behind = refl; no_shorter = omega arith; no_longer = omega arith }
+
+pub cut_same : (n : ℕ) (c : List ℕ) → UnfinishedCut n c c
+cut_same n c = record { no_shorter = omega arith; front = take_all (length c) c (omega arith) }
+
+module _ {D : Type 0} (image : D → List ℕ → Type 0) (moment : D → ℕ) (since : D → ℕ → List ℕ → Type 0) (only_now : (d : D) (c : List ℕ) → since d (moment d) c → image d c) (step : List ℕ → List ℕ → Type 0) (same : (c : List ℕ) → step c c) where
+  -- a call that a crash may cut short at this step
+  pub one_step : (old new : D) → Elapses (moment old) (moment new) (since old) (since new) (image new) → Follows step (image old) (image new) → LeavesOnly moment since old new (Stepped (image old) step)
+  one_step old new time follows = goes_on moment since image old old new (Stepped (image old) step) (started moment since old (Stepped (image old) step) (λ c left. (c, only_now old c left, same c))) time follows
+
+  -- and a sync behind it
+  pub step_and_sync : (old mid new : D) → Elapses (moment old) (moment mid) (since old) (since mid) (image mid) → Follows step (image old) (image mid) → Elapses (moment mid) (moment new) (since mid) (since new) (image new)
+      → Within (image mid) (image new) → LeavesOnly moment since old new (Stepped (image old) step)
+  step_and_sync old mid new first follows second within = goes_on moment since image old mid new (Stepped (image old) step) (one_step old mid first follows) second (λ c now. follows c (within c now))
 
 -- two disks, each with what is said of it alone
 pub paired : {A B : Type 0} (moment_a : A → ℕ) (since_a : A → ℕ → List ℕ → Type 0) (moment_b : B → ℕ) (since_b : B → ℕ → List ℕ → Type 0) (old_a new_a : A) (old_b new_b : B) (P Q : List ℕ → Type 0) (R : List ℕ → List ℕ → Type 0)
