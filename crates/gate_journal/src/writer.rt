@@ -1,0 +1,173 @@
+// The writing end of a journal: its last gate, and what is left to mend behind it.
+ghost use Rattle.std.specs.Prelude.{◌≡◌, ◌+◌, ◌<◌, ◌≤◌, ◌^◌, ◌++◌, [], ◌∷◌, List, ℕ, length, Some, None, OnOk, OnErr};
+ghost use Rattle.std.specs.declared.option.Option.{Option};
+ghost use Rattle.edge_io.specs.Armed.{RunsOn};
+ghost use Rattle.edge_io.specs.Causes.{HasCause};
+ghost use Rattle.edge_io.specs.Moments.{LeavesOnly};
+ghost use Rattle.gate_journal.specs.Frames.{StandsFor, IsBeforeOrAfter, IsWithPending, IsFrame, IsRest, IsShut, IsHeld, IsAjar, framed};
+
+use crate::device::{cut_and_sync, write_and_sync};
+use edge_io::{Disk, Failed};
+
+/// What a write that failed has left to mend.
+#[derive(Clone, Copy, Debug, PartialEq, Eq)]
+pub enum Mending {
+    Nothing,
+    /// Bytes behind the closed gate.
+    Behind,
+    /// A gate that may be open, and a frame behind it.
+    Gate,
+}
+
+/// A disk whose content up to `end` is journal text of `count` frames. The last gate is the byte before `end`.
+#[derive(Drop)]
+pub struct Writer<D: Disk> {
+    pub disk: D,
+    pub end: u64,
+    pub count: u64,
+    pub mending: Mending,
+}
+
+impl<D: Disk> Writer<D> {
+    ghost use Rattle.gate_journal.specs.Journals.{HasRoom, IsShaped, Mends};
+
+    // Closes a gate that may be open.
+    fn close_gate(&mut self) -> Result<(), Failed>
+        requires gate { self.old.mending ≡ Mending.Gate }
+        requires room { HasRoom D.size self.old }
+        requires ends { self.old.end ≤ 2 ^ 62 }
+        ensures ok { OnOk result ((frames : List (List ℕ)) (frame : List ℕ) → IsShaped D.image self.old frames (IsAjar frames frame) → IsShaped D.image self.new frames (IsShut frames)) }
+        ensures kept { (frames : List (List ℕ)) (frame : List ℕ) → IsShaped D.image self.old frames (IsAjar frames frame) → IsShaped D.image self.new frames (IsAjar frames frame) }
+        ensures any_moment { (frames : List (List ℕ)) (frame : List ℕ) → IsShaped D.image self.old frames (IsAjar frames frame) → IsFrame frame →
+            LeavesOnly D.moment D.since self.old.disk self.new.disk (IsBeforeOrAfter frames frame) }
+        ensures done { OnOk result (self.new.mending ≡ Mending.Behind) }
+        ensures err { OnErr result (self.new.mending ≡ Mending.Gate) }
+        ensures same { (self.new.end ≡ self.old.end) × (self.new.count ≡ self.old.count) }
+        ensures room_kept { HasRoom D.size self.new }
+        ensures runs { RunsOn D.content D.losses D.arms D.armed D.starved D.faults self.old.disk self.new.disk }
+        ensures cause { HasCause (D.faults self.old.disk) (D.faults self.new.disk) result }
+    {
+        write_and_sync(&mut self.disk, self.end - 1, &[0])?;
+        self.mending = Mending::Behind;
+        Ok(())
+    }
+
+    // Cuts off what stands behind the closed gate.
+    fn cut_behind(&mut self) -> Result<(), Failed>
+        requires behind { self.old.mending ≡ Mending.Behind }
+        requires room { HasRoom D.size self.old }
+        ensures ok { OnOk result ((frames : List (List ℕ)) → IsShaped D.image self.old frames (IsShut frames) → IsShaped D.image self.new frames (IsRest frames)) }
+        ensures kept { (frames : List (List ℕ)) → IsShaped D.image self.old frames (IsShut frames) → IsShaped D.image self.new frames (IsShut frames) }
+        ensures any_moment { (frames : List (List ℕ)) → IsShaped D.image self.old frames (IsShut frames) → LeavesOnly D.moment D.since self.old.disk self.new.disk (λ c. StandsFor c frames) }
+        ensures done { OnOk result (self.new.mending ≡ Mending.Nothing) }
+        ensures err { OnErr result (self.new.mending ≡ Mending.Behind) }
+        ensures same { (self.new.end ≡ self.old.end) × (self.new.count ≡ self.old.count) }
+        ensures room_kept { HasRoom D.size self.new }
+        ensures runs { RunsOn D.content D.losses D.arms D.armed D.starved D.faults self.old.disk self.new.disk }
+        ensures cause { HasCause (D.faults self.old.disk) (D.faults self.new.disk) result }
+    {
+        cut_and_sync(&mut self.disk, self.end)?;
+        self.mending = Mending::Nothing;
+        Ok(())
+    }
+
+    // Writes a frame behind the closed gate.
+    fn stage(&mut self, bytes: &[u8]) -> Result<(), Failed>
+        requires mended { self.old.mending ≡ Mending.Nothing }
+        requires room { HasRoom D.size self.old }
+        requires ends { self.old.end + length bytes.now ≤ 2 ^ 62 }
+        ensures ok { OnOk result ((frames : List (List ℕ)) (frame : List ℕ) → IsShaped D.image self.old frames (IsRest frames) → bytes.now ≡ framed frame → IsShaped D.image self.new frames (IsHeld frames frame)) }
+        ensures kept { (frames : List (List ℕ)) → IsShaped D.image self.old frames (IsRest frames) → IsShaped D.image self.new frames (IsShut frames) }
+        ensures any_moment { (frames : List (List ℕ)) → IsShaped D.image self.old frames (IsRest frames) → LeavesOnly D.moment D.since self.old.disk self.new.disk (λ c. StandsFor c frames) }
+        ensures done { OnOk result (self.new.mending ≡ Mending.Nothing) }
+        ensures err { OnErr result (self.new.mending ≡ Mending.Behind) }
+        ensures same { (self.new.end ≡ self.old.end) × (self.new.count ≡ self.old.count) }
+        ensures room_kept { HasRoom D.size self.new }
+        ensures reach { OnOk result (self.old.end + length bytes.now ≤ D.size self.new.disk) }
+        ensures runs { RunsOn D.content D.losses D.arms D.armed D.starved D.faults self.old.disk self.new.disk }
+        ensures cause { HasCause (D.faults self.old.disk) (D.faults self.new.disk) result }
+    {
+        if let Err(failed) = write_and_sync(&mut self.disk, self.end, bytes) {
+            self.mending = Mending::Behind;
+            return Err(failed);
+        }
+        Ok(())
+    }
+
+    // Opens the gate before a frame that was written with its gate, `len` bytes in all.
+    fn open_gate(&mut self, len: u64) -> Result<(), Failed>
+        requires mended { self.old.mending ≡ Mending.Nothing }
+        requires room { HasRoom D.size self.old }
+        requires ends { self.old.end + len ≤ 2 ^ 62 }
+        requires reach { self.old.end + len ≤ D.size self.old.disk }
+        requires some { 0 < len }
+        ensures ok { OnOk result ((frames : List (List ℕ)) (frame : List ℕ) → IsShaped D.image self.old frames (IsHeld frames frame) → IsFrame frame → len ≡ length (framed frame) →
+            IsShaped D.image self.new (frames ++ frame ∷ []) (IsRest (frames ++ frame ∷ []))) }
+        ensures kept { OnErr result ((frames : List (List ℕ)) (frame : List ℕ) → IsShaped D.image self.old frames (IsHeld frames frame) → IsShaped D.image self.new frames (IsAjar frames frame)) }
+        ensures any_moment { (frames : List (List ℕ)) (frame : List ℕ) → IsShaped D.image self.old frames (IsHeld frames frame) → IsFrame frame →
+            LeavesOnly D.moment D.since self.old.disk self.new.disk (IsBeforeOrAfter frames frame) }
+        ensures done { OnOk result ((self.new.mending ≡ Mending.Nothing) × (self.new.end ≡ self.old.end + len) × (self.new.count ≡ self.old.count + 1)) }
+        ensures err { OnErr result ((self.new.mending ≡ Mending.Gate) × (self.new.end ≡ self.old.end) × (self.new.count ≡ self.old.count)) }
+        ensures room_kept { HasRoom D.size self.new }
+        ensures runs { RunsOn D.content D.losses D.arms D.armed D.starved D.faults self.old.disk self.new.disk }
+        ensures cause { HasCause (D.faults self.old.disk) (D.faults self.new.disk) result }
+    {
+        if let Err(failed) = write_and_sync(&mut self.disk, self.end - 1, &[1]) {
+            self.mending = Mending::Gate;
+            return Err(failed);
+        }
+        self.end += len;
+        self.count += 1;
+        Ok(())
+    }
+
+    // Mends what a write that failed has left.
+    pub fn mend(&mut self) -> Result<(), Failed>
+        requires room { HasRoom D.size self.old }
+        requires ends { self.old.end ≤ 2 ^ 62 }
+        ensures ok { OnOk result ((frames : List (List ℕ)) (pending : Option (List ℕ)) → Mends D.image self.old self.old.mending frames pending → IsShaped D.image self.new frames (IsRest frames)) }
+        ensures kept { OnErr result ((frames : List (List ℕ)) (pending : Option (List ℕ)) → Mends D.image self.old self.old.mending frames pending → Mends D.image self.new self.new.mending frames pending) }
+        ensures any_moment { (frames : List (List ℕ)) (pending : Option (List ℕ)) → Mends D.image self.old self.old.mending frames pending → LeavesOnly D.moment D.since self.old.disk self.new.disk (IsWithPending frames pending) }
+        ensures done { OnOk result (self.new.mending ≡ Mending.Nothing) }
+        ensures same { (self.new.end ≡ self.old.end) × (self.new.count ≡ self.old.count) }
+        ensures room_kept { HasRoom D.size self.new }
+        ensures runs { RunsOn D.content D.losses D.arms D.armed D.starved D.faults self.old.disk self.new.disk }
+        ensures cause { HasCause (D.faults self.old.disk) (D.faults self.new.disk) result }
+    {
+        match self.mending {
+            Mending::Nothing => Ok(()),
+            Mending::Behind => {
+                self.cut_behind()?;
+                Ok(())
+            }
+            Mending::Gate => {
+                self.close_gate()?;
+                self.cut_behind()?;
+                Ok(())
+            }
+        }
+    }
+
+    // Adds a frame, which the bytes have with its length and its gate.
+    pub fn add(&mut self, bytes: &[u8]) -> Result<(), Failed>
+        requires mended { self.old.mending ≡ Mending.Nothing }
+        requires room { HasRoom D.size self.old }
+        requires ends { self.old.end + length bytes.now ≤ 2 ^ 62 }
+        requires some { 0 < length bytes.now }
+        ensures ok { OnOk result ((frames : List (List ℕ)) (frame : List ℕ) → IsShaped D.image self.old frames (IsRest frames) → IsFrame frame → bytes.now ≡ framed frame →
+            IsShaped D.image self.new (frames ++ frame ∷ []) (IsRest (frames ++ frame ∷ []))) }
+        ensures kept { OnErr result ((frames : List (List ℕ)) (frame : List ℕ) → IsShaped D.image self.old frames (IsRest frames) → IsFrame frame → bytes.now ≡ framed frame →
+            Mends D.image self.new self.new.mending frames (Some frame)) }
+        ensures any_moment { (frames : List (List ℕ)) (frame : List ℕ) → IsShaped D.image self.old frames (IsRest frames) → IsFrame frame → bytes.now ≡ framed frame →
+            LeavesOnly D.moment D.since self.old.disk self.new.disk (IsBeforeOrAfter frames frame) }
+        ensures done { OnOk result ((self.new.mending ≡ Mending.Nothing) × (self.new.end ≡ self.old.end + length bytes.now) × (self.new.count ≡ self.old.count + 1)) }
+        ensures err { OnErr result ((self.new.end ≡ self.old.end) × (self.new.count ≡ self.old.count)) }
+        ensures room_kept { HasRoom D.size self.new }
+        ensures runs { RunsOn D.content D.losses D.arms D.armed D.starved D.faults self.old.disk self.new.disk }
+        ensures cause { HasCause (D.faults self.old.disk) (D.faults self.new.disk) result }
+    {
+        self.stage(bytes)?;
+        self.open_gate(bytes.len() as u64)?;
+        Ok(())
+    }
+}
