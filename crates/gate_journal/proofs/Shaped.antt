@@ -1,10 +1,11 @@
 -- From the shape of the images before a call to that of those after it.
-use Rattle.std.proofs.Common.{◌≡◌, sym, inl, ℕ, List, Option, Some, None, subst, Result, Ok, Err, OnErr}
+use Rattle.std.proofs.Common.{◌≡◌, ◌∙◌, refl, sym, ap, inl, inr, arith, ℕ, ◌-◌, List, [], ◌∷◌, ◌++◌, length, take, drop, Option, Some, None, subst, Result, Ok, Err, OnErr, length-append, length-take, length-drop}
+use Rattle.std.proofs.lemmas.List.{take_at}
 use Rattle.edge_io.specs.Disk.{Follows, Stepped, Reaches}
 use Rattle.edge_io.specs.Moments.{LeavesOnly}
 use Rattle.edge_io.proofs.Moments.{weakened}
-use Rattle.gate_journal.specs.Frames.{IsFrame, IsShut, IsAjar, IsWithPending, StandsFor, IsBeforeOrAfter}
-use Rattle.gate_journal.specs.Journals.{IsShaped, Mends}
+use Rattle.gate_journal.specs.Frames.{IsFrame, IsRest, IsShut, IsAjar, IsWithPending, StandsFor, IsBeforeOrAfter, frame_in, framed}
+use Rattle.gate_journal.specs.Journals.{IsShaped, Mends, Stands}
 use Rattle.gate_journal.specs.declared.writer.Writer.{Writer}
 use Rattle.gate_journal.specs.declared.writer.Mending.{Mending}
 use Rattle.gate_journal.specs.declared.writer.Mending.TheVariants.{Nothing, Behind, Gate}
@@ -54,3 +55,21 @@ pub mends_images : {D : Type 0} (image : D → List ℕ → Type 0) (writer : Wr
 mends_images image writer Nothing frames pending h c now = without frames pending c (rest_stands frames c h.1.fit (h.1.each c now))
 mends_images image writer Behind frames pending h c now = without frames pending c (shut_stands frames c h.fit (h.each c now))
 mends_images image writer Gate frames pending h c now = with_pending frames pending h.0 c h.1 (ajar_stands frames h.0 c h.3.fit h.2 (h.3.each c now))
+
+-- ---- an append
+
+pub frame_in_length : (bytes : List ℕ) → length (frame_in bytes) ≡ length bytes - 5
+frame_in_length bytes = omega (arith, length-take (length bytes - 5) (drop 4 bytes), length-drop 4 bytes)
+
+-- the buffer has the same frame when its five bytes are set
+pub frame_in_framed : (frame : List ℕ) → frame_in (framed frame) ≡ frame
+frame_in_framed frame =
+    let len : length (framed frame) - 5 ≡ length frame = omega (arith, length-append frame (0 ∷ [])) in
+    ap (λ (k : ℕ). take k (frame ++ 0 ∷ [])) len ∙ take_at frame (0 ∷ []) (length frame) refl
+
+module _ {D : Type 0} (image : D → List ℕ → Type 0) (writer : Writer D) (frames : List (List ℕ)) where
+  pub stands_by : (pending : Option (List ℕ)) → Mends image writer writer.mending frames pending → Stands image writer frames pending
+  stands_by pending m = record { images = mends_images image writer writer.mending frames pending m; mends = m }
+
+  pub stands_mended : writer.mending ≡ Nothing → IsShaped image writer frames (IsRest frames) → Stands image writer frames None
+  stands_mended is s = stands_by None (subst (λ (k : Mending). Mends image writer k frames None) (sym is) (refl, s))

@@ -2,4 +2,7 @@
 #![tactic(auto)]
 
 mod device;
+mod journal;
 mod writer;
+
+pub use journal::{Journal, StoreFault};

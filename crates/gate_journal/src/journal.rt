@@ -1,0 +1,118 @@
+ghost use Rattle.std.specs.Prelude.{◌≡◌, ◌⊎◌, ◌+◌, ◌<◌, ◌≤◌, ◌^◌, ◌++◌, ◌↔◌, [], ◌∷◌, List, ℕ, length, Some, None, IfOk, OnOk, OnErr, Err};
+ghost use Rattle.std.specs.declared.option.Option.{Option};
+ghost use Rattle.edge_io.specs.Armed.{RunsOn};
+ghost use Rattle.edge_io.specs.Causes.{Rose};
+ghost use Rattle.edge_io.specs.Moments.{LeavesOnly};
+ghost use Rattle.gate_journal.specs.Frames.{IsBeforeOrAfter, IsWithPending, IsFrame, frame_in, framed};
+
+use crate::writer::{Mending, Writer};
+use edge_io::{Disk, FaultMode};
+use std::marker::Model;
+use thiserror::Error;
+
+/// Why a frame was not stored.
+#[derive(Clone, Copy, Debug, PartialEq, Eq, Error)]
+pub enum StoreFault {
+    /// The disk failed. The frame is then pending, or the one that was pending still is.
+    #[error("the disk failed")]
+    Device,
+    /// The frame would end past 2^62 bytes. Nothing was changed; `end` is the number of bytes up to the last gate and
+    /// with it.
+    #[error("the journal is full at {end}")]
+    Full { end: u64 },
+}
+
+const MAX_END: u64 = 1 << 62;
+
+// Sets the length before the frame and the closed gate behind it.
+fn set_frame(buffer: &mut [u8])
+    requires room { 5 ≤ length buffer.old }
+    requires few { length buffer.old ≤ 33554437 }
+    ensures { buffer.new ≡ framed (frame_in buffer.old) }
+{
+    let len = buffer.len() - 5;
+    let (front, rest) = buffer.split_at_mut(4);
+    front.copy_from_slice(&(len as u32).to_be_bytes());
+    rest[len] = 0;
+}
+
+/// A list of frames on a disk, which grows by one frame at a time and survives a crash at any moment.
+///
+/// An append makes two writes, each with a sync behind it. Where it fails, the frame is *pending*: a crash may leave it
+/// or not. The next append first mends the disk, so that a pending frame never lands once it has answered Ok.
+#[derive(Drop)]
+pub struct Journal<D: Disk> {
+    writer: Writer<D>,
+}
+
+impl<D: Disk> Model for Journal<D> {
+    ghost use Rattle.gate_journal.specs.declared.writer.Writer.{Writer};
+    ghost use Rattle.gate_journal.specs.Journals.{HasRoom};
+
+    ghost Value = { Writer D };
+
+    ghost view = { λ j. j.writer };
+
+    ghost invariant = { λ j. HasRoom D.size j.writer };
+}
+
+impl<D: Disk> Journal<D> {
+    ghost use Rattle.gate_journal.specs.Journals.{HasRoom, Stands};
+
+    // A journal of frames that were read from the disk.
+    pub(crate) fn opened(disk: D, end: u64, count: u64) -> Self
+        requires { HasRoom D.size (record { disk = disk; end = end; count = count; mending = Mending.Nothing }) }
+        ensures { result ≡ record { disk = disk; end = end; count = count; mending = Mending.Nothing } }
+    {
+        Journal {
+            writer: Writer {
+                disk,
+                end,
+                count,
+                mending: Mending::Nothing,
+            },
+        }
+    }
+
+    /// Adds a frame, and answers its number, from 0 on. It takes no memory.
+    ///
+    /// `buffer` has the frame, of 1 to 33554432 bytes, behind four bytes of any value and before one: the five are set
+    /// to the frame's length and a closed gate, so that one device write carries all. An append that finds nothing to
+    /// mend makes four device calls: a write, a sync, a write of one byte, a sync.
+    pub fn append(&mut self, buffer: &mut [u8]) -> Result<u64, StoreFault>
+        requires { IsFrame (frame_in buffer.old) }
+
+        // At Ok each image stands for the frames with this one, and no write is pending.
+        ensures kept { OnOk result ((frames : List (List ℕ)) (pending : Option (List ℕ)) → Stands D.image self.old frames pending →
+            Stands D.image self.new (frames ++ frame_in buffer.old ∷ []) None) }
+        ensures number { IfOk result (λ n. n ≡ self.old.count) }
+
+        // At Err the frames are the same. The pending write is the one from before, or this one.
+        ensures failed { OnErr result ((frames : List (List ℕ)) (pending : Option (List ℕ)) → Stands D.image self.old frames pending →
+            Stands D.image self.new frames pending ⊎ Stands D.image self.new frames (Some (frame_in buffer.old))) }
+        ensures full { (end : ℕ) → (result ≡ Err (StoreFault.Full end)) ↔ ((end ≡ self.old.end) × (2 ^ 62 < self.old.end + length buffer.old)) }
+        ensures untouched { (end : ℕ) → result ≡ Err (StoreFault.Full end) → self.new ≡ self.old }
+        ensures device { result ≡ Err StoreFault.Device → Rose (D.faults self.old.disk) (D.faults self.new.disk) }
+
+        // At each moment since the call began a crash leaves the frames, with or without the pending one, or with this one.
+        ensures any_moment { (frames : List (List ℕ)) (pending : Option (List ℕ)) → Stands D.image self.old frames pending →
+            LeavesOnly D.moment D.since self.old.disk self.new.disk (λ c. IsWithPending frames pending c ⊎ IsBeforeOrAfter frames (frame_in buffer.old) c) }
+        ensures runs { RunsOn D.content D.losses D.arms D.armed D.starved D.faults self.old.disk self.new.disk }
+        ensures buffer { frame_in buffer.new ≡ frame_in buffer.old }
+    {
+        let len = buffer.len() as u64;
+        let end = self.writer.end;
+        if end > MAX_END || len > MAX_END - end {
+            return Err(StoreFault::Full { end });
+        }
+        set_frame(buffer);
+        if let Err(_) = self.writer.mend() {
+            return Err(StoreFault::Device);
+        }
+        let number = self.writer.count;
+        if let Err(_) = self.writer.add(buffer) {
+            return Err(StoreFault::Device);
+        }
+        Ok(number)
+    }
+}
