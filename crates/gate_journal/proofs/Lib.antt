@@ -1,2 +1,5 @@
+pub mod Once
+pub mod Repairs
 pub mod Shaped
 pub mod Shapes
+pub mod Texts

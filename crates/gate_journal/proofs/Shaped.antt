@@ -1,5 +1,5 @@
 -- From the shape of the images before a call to that of those after it.
-use Rattle.std.proofs.Common.{◌≡◌, ◌∙◌, refl, sym, ap, inl, inr, arith, ℕ, ◌-◌, List, [], ◌∷◌, ◌++◌, length, take, drop, Option, Some, None, subst, Result, Ok, Err, OnErr, length-append, length-take, length-drop}
+use Rattle.std.proofs.Common.{◌≡◌, ◌∙◌, refl, sym, ap, inl, arith, ℕ, ◌-◌, List, [], ◌∷◌, ◌++◌, length, take, drop, Option, Some, None, subst, Result, Ok, Err, OnErr, length-append, length-take, length-drop}
 use Rattle.std.proofs.lemmas.List.{take_at}
 use Rattle.edge_io.specs.Disk.{Follows, Stepped, Reaches}
 use Rattle.edge_io.specs.Moments.{LeavesOnly}

@@ -1,8 +1,8 @@
-use Rattle.std.proofs.Common.{◌≡◌, ◌⊎◌, inl, inr, subst, sym, ap, List, ℕ, Option, Some}
+use Rattle.std.proofs.Common.{◌⊎◌, inl, inr, subst, sym, Some}
 use Rattle.edge_io.specs.Moments.{LeavesOnly}
 use Rattle.edge_io.proofs.Moments.{joined}
-use Rattle.gate_journal.specs.Frames.{IsWithPending, IsBeforeOrAfter, IsRest, frame_in}
-use Rattle.gate_journal.specs.Journals.{IsShaped, Mends, Stands}
+use Rattle.gate_journal.specs.Frames.{IsWithPending, IsBeforeOrAfter, frame_in}
+use Rattle.gate_journal.specs.Journals.{Stands}
 use Rattle.gate_journal.specs.declared.writer.Writer.{Writer}
 use Rattle.gate_journal.proofs.Shaped.{stands_by, stands_mended}
 use Rattle.gate_journal.proofs.journal.Journal.append.Goals as goal
