@@ -1,12 +1,12 @@
 -- What an armed fault does to the calls that it counts: reads, writes, cuts and syncs.
-use Rattle.std.specs.Prelude.{◌≡◌, ◌⊎◌, ℕ, ◌-◌, ◌==◌, if◌then◌else◌, Bool, true, false, List, is_some, Result, OnOk}
+use Rattle.std.specs.Prelude.{◌≡◌, ◌⊎◌, ℕ, ◌+◌, ◌-◌, ◌^◌, min, ◌==◌, if◌then◌else◌, Bool, true, false, List, is_some, Result, OnOk}
 use Rattle.std.specs.declared.option.Option.{Option}
 use Rattle.edge_io.specs.declared.fault.FaultMode.{FaultMode}
 use Rattle.edge_io.specs.declared.fault.FaultMode.TheVariants.{Once, Torn, Dead}
 use Rattle.edge_io.specs.declared.fault.Armed.{Armed}
 use Rattle.edge_io.specs.declared.fault.Armed.TheVariants.{Nothing, After, Broken}
 use Rattle.edge_io.specs.Causes.{FailsBy}
-use Rattle.edge_io.specs.Disk.{IsTold}
+use Rattle.edge_io.specs.Disk.{IsTold, SameImages}
 
 -- the call that comes next is broken
 abbrev pub breaks : Armed → Bool
@@ -58,3 +58,13 @@ pub record RunsOn {D : Type 0} (content : D → Option (List ℕ)) (losses : D �
   -- where it tells its content: what is starved stays so, and if it isn't, the armed fault alone makes calls fail
   pub stays : IsTold (content old) → starved old ≡ true → starved new ≡ true
   pub spends : IsTold (content old) → starved new ≡ false → Spends (armed old) (armed new) (faults old) (faults new)
+
+-- A fault was armed, and nothing else of the disk has changed. The members of the disk come first.
+pub record ArmsAlone {D : Type 0} (content : D → Option (List ℕ)) (image : D → List ℕ → Type 0) (losses : D → List (ℕ × List ℕ)) (arms : D → ℕ) (armed : D → Armed) (starved : D → Bool) (faults : D → ℕ) (after : ℕ) (mode : FaultMode) (old new : D) : Type 0 where
+  pub is_armed : IsTold (content old) → armed new ≡ After after mode
+  pub counted : IsTold (content old) → arms new ≡ min (arms old + 1) (2 ^ 64 - 1)
+  pub same_content : content new ≡ content old
+  pub same_images : SameImages (image old) (image new)
+  pub same_losses : losses new ≡ losses old
+  pub same_starved : starved new ≡ starved old
+  pub same_faults : faults new ≡ faults old

@@ -1,8 +1,8 @@
 ghost use Rattle.std.specs.Prelude.{◌≡◌, ◌⊎◌, ◌+◌, ◌<◌, ◌≤◌, ◌^◌, ◌++◌, ◌↔◌, [], ◌∷◌, List, ℕ, length, Some, None, IfOk, OnOk, OnErr, Err};
 ghost use Rattle.std.specs.declared.option.Option.{Option};
-ghost use Rattle.edge_io.specs.Armed.{RunsOn};
+ghost use Rattle.edge_io.specs.Armed.{ArmsAlone, RunsOn};
 ghost use Rattle.edge_io.specs.Causes.{Rose};
-ghost use Rattle.edge_io.specs.Moments.{LeavesOnly};
+ghost use Rattle.edge_io.specs.Moments.{Elapses, LeavesOnly};
 ghost use Rattle.gate_journal.specs.Frames.{IsBeforeOrAfter, IsWithPending, IsFrame, frame_in, framed};
 
 use crate::writer::{Mending, Writer};
@@ -114,5 +114,29 @@ impl<D: Disk> Journal<D> {
             return Err(StoreFault::Device);
         }
         Ok(number)
+    }
+
+    /// Whether a call of its disk has failed for want of memory.
+    pub fn starved(&self) -> bool
+        ensures { result ≡ D.starved self.now.disk }
+    {
+        self.writer.disk.starved()
+    }
+
+    /// Arms a fault of its disk, and changes nothing else.
+    pub fn arm(&mut self, after: u64, mode: FaultMode)
+        ensures disk { ArmsAlone D.content D.image D.losses D.arms D.armed D.starved D.faults after mode self.old.disk self.new.disk }
+        ensures time { Elapses (D.moment self.old.disk) (D.moment self.new.disk) (D.since self.old.disk) (D.since self.new.disk) (D.image self.new.disk) }
+        ensures rest { self.new ≡ record self.old { disk = self.new.disk } }
+        ensures stands { (frames : List (List ℕ)) (pending : Option (List ℕ)) → Stands D.image self.old frames pending → Stands D.image self.new frames pending }
+    {
+        self.writer.disk.arm(after, mode);
+    }
+
+    /// Gives the disk back.
+    pub fn into_disk(self) -> D
+        ensures { result ≡ self.disk }
+    {
+        self.writer.disk
     }
 }
