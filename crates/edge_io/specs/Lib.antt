@@ -1,5 +1,7 @@
 pub mod Armed
+pub mod Bays
 pub mod Causes
 pub mod Disk
 pub mod Moments
+pub mod Names
 pub mod Streams

@@ -19,11 +19,3 @@ pub enum Armed {
     /// Every call is broken.
     Broken,
 }
-
-/// Which disk of a partition: that of its log, or one of the two of its state.
-#[derive(Clone, Copy, Debug, PartialEq, Eq)]
-pub enum DiskPlace {
-    Log,
-    StateA,
-    StateB,
-}

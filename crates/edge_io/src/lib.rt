@@ -4,12 +4,17 @@
 //! count of what it was handed rose in that call, so an error always has a cause outside.
 #![tactic(auto)]
 
+mod bay;
 mod copying;
 mod disk;
 mod fault;
+mod name;
 mod streams;
+mod topic;
 
+pub use bay::Bay;
 pub use copying::{ReadError, read_to_end, write_all};
 pub use disk::Disk;
-pub use fault::{Armed, DiskPlace, FaultMode};
+pub use fault::{Armed, FaultMode};
+pub use name::{DiskName, DiskPlace};
 pub use streams::{Failed, Sink, Source};

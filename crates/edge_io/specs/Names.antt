@@ -1,0 +1,30 @@
+-- The names of disks: `TOPIC/N/log`, `TOPIC/N/state-a` and `TOPIC/N/state-b` for the partitions that a broker hosts, and
+-- `foreign/state-a` and `foreign/state-b` for the states of those that it doesn't. They are also the paths of their files.
+use Rattle.std.specs.Prelude.{◌≡◌, ◌≢◌, ◌⊎◌, ◌<◌, ◌≤◌, ◌+◌, ◌/◌, ◌%◌, ◌==◌, ◌&&◌, ◌||◌, nat_le, nat_lt, if◌then◌else◌, ℕ, Bool, true, List, [], ◌∷◌, ◌++◌, length, All, codes}
+use Rattle.edge_io.specs.declared.name.DiskPlace.{DiskPlace}
+use Rattle.edge_io.specs.declared.name.DiskPlace.TheVariants.{Log, StateA, StateB}
+
+-- a letter, a digit, '.', '_' or '-', in ASCII
+abbrev pub is_topic_byte : ℕ → Bool
+is_topic_byte b = (nat_le 48 b && nat_le b 57) || (nat_le 65 b && nat_le b 90) || (nat_le 97 b && nat_le b 122) || (b == 46) || (b == 95) || (b == 45)
+
+-- the name of a topic: 1 to 249 such bytes, and neither '.' nor '..'
+abbrev pub IsTopicName : List ℕ → Type 0
+IsTopicName name = (0 < length name) × (length name ≤ 249) × All (λ b. is_topic_byte b ≡ true) name × (name ≢ codes ".") × (name ≢ codes "..")
+
+-- a number below 100 in decimal digits
+abbrev pub number_word : ℕ → List ℕ
+number_word n = if nat_lt n 10 then (48 + n) ∷ [] else (48 + n / 10) ∷ (48 + n % 10) ∷ []
+
+abbrev pub place_word : DiskPlace → List ℕ
+place_word Log = codes "log"
+place_word StateA = codes "state-a"
+place_word StateB = codes "state-b"
+
+abbrev pub hosted_name : List ℕ → ℕ → DiskPlace → List ℕ
+hosted_name topic number place = topic ++ (codes "/" ++ (number_word number ++ (codes "/" ++ place_word place)))
+
+-- one of these names; a topic has at most 64 partitions
+abbrev pub IsDiskName : List ℕ → Type 0
+IsDiskName name = ((topic : List ℕ) × (number : ℕ) × (place : DiskPlace) × IsTopicName topic × (number < 64) × (name ≡ hosted_name topic number place))
+    ⊎ ((name ≡ codes "foreign/state-a") ⊎ (name ≡ codes "foreign/state-b"))

@@ -1,0 +1,52 @@
+ghost use Rattle.std.specs.Prelude.{◌≡◌, ◌≢◌, ◌≤◌, ◌<◌, ℕ, List, Bool, true, false, IfOk, OnErr};
+ghost use Rattle.edge_io.specs.Causes.{HasCause, Rose};
+ghost use Rattle.edge_io.specs.Bays.{SameSlot};
+
+use crate::{Disk, DiskName, Failed};
+
+/// Disks by their names. A disk is taken out, used, and put back.
+///
+/// What `take` gives is the disk that was put back last: its content, images, losses, arms, armed fault and count are
+/// as they were then.
+pub trait Bay {
+    type D: Disk;
+
+    /// What `take` gives for a name whose disk isn't out.
+    ghost disk: { Self → List ℕ → Self.D };
+
+    /// The disk of that name was taken and not put back.
+    ghost out: { Self → List ℕ → Bool };
+
+    /// The count of faults with which a disk that is out was taken.
+    ghost taken: { Self → List ℕ → ℕ };
+
+    /// How many faults there were, those of the disks that were put back included.
+    ghost faults: { Self → ℕ };
+
+    /// Whether a call has failed for want of memory.
+    ghost starved: { Self → Bool };
+
+    /// Whether a call has failed for want of memory.
+    fn starved(&self) -> bool
+        ensures { result ≡ starved self.now };
+
+    /// Takes a disk. At an `Err` it isn't out.
+    fn take(&mut self, name: &DiskName) -> Result<Self::D, Failed>
+        requires { out self.old name.now ≡ false }
+        ensures given { IfOk result (λ d. d ≡ disk self.old name.now) }
+        ensures is_out { IfOk result (λ d. (out self.new name.now ≡ true) × (taken self.new name.now ≡ Self.D.faults d)) }
+        ensures err { OnErr result ((disk self.new name.now ≡ disk self.old name.now) × (out self.new name.now ≡ false)) }
+        ensures others { (m : List ℕ) → m ≢ name.now → SameSlot disk out taken m self.old self.new }
+        ensures stays { starved self.old ≡ true → starved self.new ≡ true }
+        ensures cause { HasCause (faults self.old) (faults self.new) result };
+
+    /// Puts a disk back. Its faults since it was taken count as the bay's.
+    fn put_back(&mut self, name: &DiskName, given: Self::D)
+        requires { out self.old name.now ≡ true }
+        ensures there { (disk self.new name.now ≡ given) × (out self.new name.now ≡ false) }
+        ensures others { (m : List ℕ) → m ≢ name.now → SameSlot disk out taken m self.old self.new }
+        ensures later { faults self.old ≤ faults self.new }
+        ensures counts { taken self.old name.now < Self.D.faults given → Rose (faults self.old) (faults self.new) }
+        ensures quiet { Self.D.faults given ≤ taken self.old name.now → faults self.new ≡ faults self.old }
+        ensures starved { starved self.new ≡ starved self.old };
+}

@@ -1,0 +1,87 @@
+ghost use Rattle.std.specs.Prelude.{◌≡◌, ◌↔◌, ◌<◌, ◌≤◌, ◌+◌, ◌++◌, IsTrue, IsSome, IfSome, length, codes};
+ghost use Rattle.arrayvec.specs.ArrayVec.{array_vec_len};
+ghost use Rattle.edge_io.specs.declared.name.DiskPlace.TheVariants.{Log, StateA, StateB};
+
+use crate::topic::{is_topic_name, place_word, push, push_number};
+use arrayvec::ArrayVec;
+use std::marker::Model;
+
+/// Which disk of a partition: that of its log, or one of the two of its state.
+#[derive(Clone, Copy, Debug, PartialEq, Eq)]
+pub enum DiskPlace {
+    Log,
+    StateA,
+    StateB,
+}
+
+/// The greatest number of partitions of a topic.
+const MAX_PARTITIONS: u32 = 64;
+
+/// The longest name: 249 bytes of a topic, two digits, a place, and two slashes.
+const MAX_NAME: usize = 260;
+
+/// The name of a disk: `TOPIC/N/log`, `TOPIC/N/state-a`, `TOPIC/N/state-b`, `foreign/state-a` or `foreign/state-b`.
+///
+/// It is also the path of the disk's file under a folder. It is kept inside the value, and takes no memory.
+#[derive(Drop)]
+pub struct DiskName {
+    text: ArrayVec<u8, MAX_NAME>,
+}
+
+impl Model for DiskName {
+    ghost use Rattle.std.specs.Prelude.{List, ℕ};
+    ghost use Rattle.edge_io.specs.Names.{IsDiskName};
+
+    ghost Value = { List ℕ };
+
+    ghost view = { λ n. n.text.items };
+
+    ghost invariant = { λ n. IsDiskName n.text.items };
+}
+
+impl DiskName {
+    ghost use Rattle.edge_io.specs.Names.{IsTopicName, IsDiskName, hosted_name};
+
+    /// The name of a disk of a partition. `None` where a topic can't have this name, or the number is above 63.
+    pub fn hosted(topic: &[u8], number: u32, place: DiskPlace) -> Option<DiskName>
+        ensures some { IfSome result (λ n. n ≡ hosted_name topic.now number place) }
+        ensures exact { IsSome result ↔ (IsTopicName topic.now × (number < 64)) }
+    {
+        if !is_topic_name(topic) || number >= MAX_PARTITIONS {
+            return None;
+        }
+        let mut text = ArrayVec::new();
+        push(&mut text, topic);
+        push(&mut text, b"/");
+        push_number(&mut text, number);
+        push(&mut text, b"/");
+        push(&mut text, place_word(place));
+        Some(DiskName { text })
+    }
+
+    /// `foreign/state-a`.
+    pub fn foreign_state_a() -> DiskName
+        ensures { result ≡ codes "foreign/state-a" }
+    {
+        let mut text = ArrayVec::new();
+        push(&mut text, b"foreign/state-a");
+        DiskName { text }
+    }
+
+    /// `foreign/state-b`.
+    pub fn foreign_state_b() -> DiskName
+        ensures { result ≡ codes "foreign/state-b" }
+    {
+        let mut text = ArrayVec::new();
+        push(&mut text, b"foreign/state-b");
+        DiskName { text }
+    }
+
+    /// Its bytes.
+    pub fn as_bytes(&self) -> &[u8]
+        ensures same { result.now ≡ self.now }
+        ensures name { IsDiskName self.now }
+    {
+        self.text.as_slice()
+    }
+}
