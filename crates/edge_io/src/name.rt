@@ -77,6 +77,15 @@ impl DiskName {
         DiskName { text }
     }
 
+    /// The same name once more.
+    pub fn duplicate(&self) -> DiskName
+        ensures { result ≡ self.now }
+    {
+        let mut text = ArrayVec::new();
+        push(&mut text, self.text.as_slice());
+        DiskName { text }
+    }
+
     /// Its bytes.
     pub fn as_bytes(&self) -> &[u8]
         ensures same { result.now ≡ self.now }

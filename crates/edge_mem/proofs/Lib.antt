@@ -2,4 +2,5 @@ pub mod Calls
 pub mod Contents
 pub mod Fresh
 pub mod Marks
+pub mod Places
 pub mod Sounds

@@ -4,6 +4,7 @@
 //! and in every statement that speaks of bytes.
 #![tactic(auto)]
 
+mod bay;
 mod change;
 mod content;
 mod disk;
@@ -12,6 +13,7 @@ mod history;
 mod sink;
 mod source;
 
+pub use bay::{MemBay, Slot};
 pub use disk::MemDisk;
 pub use sink::MemSink;
 pub use source::MemSource;

@@ -1,0 +1,216 @@
+ghost use Rattle.std.specs.Prelude.{◌≡◌, ◌≢◌, ◌≤◌, ◌<◌, ℕ, List, Bool, true, false, OnErr, ◌+◌, ◌-◌, ◌^◌, ◌++◌, ◌∷◌, [], min, Some, None, IfSome, IfOk, Contains, length, slice_index_or};
+ghost use Rattle.edge_io.specs.Bays.{SameSlot};
+ghost use Rattle.edge_io.specs.Causes.{FailsBy, HasCause, Rose};
+ghost use Rattle.edge_mem.specs.Bays.{place, found, disk_at, out_at, taken_at, is_empty, fresh, Taken, Put};
+ghost use Rattle.edge_mem.specs.Streams.{CountsFault, raised};
+ghost use Rattle.edge_mem.specs.declared.bay.Slot.{Slot};
+
+use crate::disk::MemDisk;
+use edge_io::{Bay, Disk, DiskName, Failed};
+use std::alloc::{AllocError, Global};
+use std::marker::Model;
+
+/// A place for a disk, and the count of faults with which it was taken.
+#[derive(Drop)]
+pub struct Slot {
+    pub name: DiskName,
+    pub disk: Option<MemDisk>,
+    pub count: u64,
+}
+
+/// Disks in memory. A disk that is taken for the first time is empty; one with a content is put back first.
+#[derive(Drop)]
+pub struct MemBay {
+    alloc: Global,
+    slots: Vec<Slot>,
+    failing: Vec<u64>,
+    calls: u64,
+    starved: bool,
+    faults: u64,
+}
+
+impl Model for MemBay {
+    ghost use Rattle.edge_mem.specs.Bays.{BayState};
+
+    ghost Value = { BayState };
+
+    ghost view = { λ b. record { slots = b.slots.items; failing = b.failing.items; calls = b.calls; starved = b.starved; faults = b.faults } };
+}
+
+// Where the slot of that name stands.
+fn position(slots: &[Slot], name: &[u8]) -> Option<usize>
+    ensures at { result ≡ place slots.now name.now }
+    ensures within { IfSome result (λ n. n < length slots.now) }
+{
+    let Some((first, rest)) = slots.split_first() else {
+        return None;
+    };
+    if first.name.as_bytes() == name {
+        return Some(0);
+    }
+    match position(rest, name) {
+        None => None,
+        Some(n) => Some(n + 1),
+    }
+}
+
+// Takes the disk of a slot.
+fn take_at(slots: &mut Vec<Slot>, at: usize) -> MemDisk
+    requires within { at < length slots.old.items }
+    requires there { (d : Slot) → is_empty (slice_index_or slots.old.items at d).disk ≡ false }
+    ensures { (d : Slot) → Taken slots.old.items at d result slots.new.items }
+{
+    let slot = &mut slots[at];
+    match slot.disk.take() {
+        None => unreachable!(),
+        Some(disk) => {
+            slot.count = disk.faults();
+            disk
+        }
+    }
+}
+
+// Puts a disk into a slot, and answers how much its count rose.
+fn put_at(slots: &mut Vec<Slot>, at: usize, disk: MemDisk) -> u64
+    requires within { at < length slots.old.items }
+    ensures put { (d : Slot) → Put slots.old.items at d disk slots.new.items }
+    ensures rose { (d : Slot) → result ≡ disk.faults - (slice_index_or slots.old.items at d).count }
+{
+    let slot = &mut slots[at];
+    let rose = disk.faults().saturating_sub(slot.count);
+    slot.disk = Some(disk);
+    rose
+}
+
+// A count of faults with some more.
+fn counted(faults: u64, more: u64) -> u64
+    ensures sum { result ≡ min (faults + more) (2 ^ 64 - 1) }
+    ensures none { more ≡ 0 → result ≡ faults }
+{
+    faults.saturating_add(more)
+}
+
+// A new disk, whose slot is out.
+fn make(alloc: Global, slots: &mut Vec<Slot>, name: &DiskName) -> Result<MemDisk, AllocError>
+    ensures ok { IfOk result (λ d. (d ≡ fresh) × ((s : Slot) × (s.name ≡ name.now) × (s.disk ≡ None) × (s.count ≡ 0) × (slots.new.items ≡ slots.old.items ++ s ∷ []))) }
+    ensures err { OnErr result (slots.new.items ≡ slots.old.items) }
+{
+    let disk = MemDisk::new(alloc, Vec::new(alloc))?;
+    slots.push(Slot {
+        name: name.duplicate(),
+        disk: None,
+        count: 0,
+    })?;
+    Ok(disk)
+}
+
+impl MemBay {
+    /// A bay with no disks yet. The calls of `take` whose numbers, from 0 on, are in `failing` fail.
+    pub fn new(alloc: Global, failing: Vec<u64>) -> MemBay
+        ensures { result ≡ record { slots = []; failing = failing.items; calls = 0; starved = false; faults = 0 } }
+    {
+        MemBay {
+            alloc,
+            slots: Vec::new(alloc),
+            failing,
+            calls: 0,
+            starved: false,
+            faults: 0,
+        }
+    }
+}
+
+impl MemBay {
+    // Takes the disk of that name, which is made if it is new.
+    fn take_named(&mut self, name: &DiskName) -> Result<MemDisk, AllocError>
+        requires { out_at self.old name.now ≡ false }
+        ensures given { IfOk result (λ d. d ≡ disk_at self.old name.now) }
+        ensures is_out { IfOk result (λ d. (out_at self.new name.now ≡ true) × (taken_at self.new name.now ≡ d.faults)) }
+        ensures err { OnErr result (self.new ≡ self.old) }
+        ensures others { (m : List ℕ) → m ≢ name.now → SameSlot disk_at out_at taken_at m self.old self.new }
+        ensures failing { self.new.failing ≡ self.old.failing }
+        ensures calls { self.new.calls ≡ self.old.calls }
+        ensures starved { self.new.starved ≡ self.old.starved }
+        ensures faults { self.new.faults ≡ self.old.faults }
+    {
+        match position(&self.slots, name.as_bytes()) {
+            Some(at) => Ok(take_at(&mut self.slots, at)),
+            None => {
+                let disk = make(self.alloc, &mut self.slots, name)?;
+                Ok(disk)
+            }
+        }
+    }
+}
+
+impl Bay for MemBay {
+    type D = MemDisk;
+
+    ghost disk = { disk_at };
+
+    ghost out = { out_at };
+
+    ghost taken = { taken_at };
+
+    ghost faults = { λ b. b.faults };
+
+    ghost starved = { λ b. b.starved };
+
+    fn starved(&self) -> bool {
+        self.starved
+    }
+
+    fn take(&mut self, name: &DiskName) -> Result<MemDisk, Failed>
+        requires { out_at self.old name.now ≡ false }
+        ensures given { IfOk result (λ d. d ≡ disk_at self.old name.now) }
+        ensures is_out { IfOk result (λ d. (out_at self.new name.now ≡ true) × (taken_at self.new name.now ≡ d.faults)) }
+        ensures err { OnErr result ((disk_at self.new name.now ≡ disk_at self.old name.now) × (out_at self.new name.now ≡ false)) }
+        ensures others { (m : List ℕ) → m ≢ name.now → SameSlot disk_at out_at taken_at m self.old self.new }
+        ensures stays { self.old.starved ≡ true → self.new.starved ≡ true }
+        ensures cause { HasCause self.old.faults self.new.faults result }
+
+        // It fails where the list says so or where it finds no memory, and else counts no fault.
+        ensures fails { FailsBy (Contains self.old.failing self.old.calls) self.old.starved self.new.starved result }
+        ensures failing { self.new.failing ≡ self.old.failing }
+        ensures calls { self.new.calls ≡ raised self.old.calls }
+        ensures faults { CountsFault self.old.faults self.new.faults result }
+    {
+        let fails = self.failing.contains(&self.calls);
+        self.calls = self.calls.saturating_add(1);
+        if fails {
+            self.faults = self.faults.saturating_add(1);
+            return Err(Failed);
+        }
+        match self.take_named(name) {
+            Ok(disk) => Ok(disk),
+            Err(_) => {
+                self.starved = true;
+                self.faults = self.faults.saturating_add(1);
+                Err(Failed)
+            }
+        }
+    }
+
+    fn put_back(&mut self, name: &DiskName, given: MemDisk)
+        requires { out_at self.old name.now ≡ true }
+        ensures there { (disk_at self.new name.now ≡ given) × (out_at self.new name.now ≡ false) }
+        ensures others { (m : List ℕ) → m ≢ name.now → SameSlot disk_at out_at taken_at m self.old self.new }
+        ensures later { self.old.faults ≤ self.new.faults }
+        ensures counts { taken_at self.old name.now < given.faults → Rose self.old.faults self.new.faults }
+        ensures quiet { given.faults ≤ taken_at self.old name.now → self.new.faults ≡ self.old.faults }
+        ensures starved { self.new.starved ≡ self.old.starved }
+
+        // The faults of the disk since it was taken are added.
+        ensures faults { self.new.faults ≡ min (self.old.faults + (given.faults - taken_at self.old name.now)) (2 ^ 64 - 1) }
+        ensures failing { self.new.failing ≡ self.old.failing }
+        ensures calls { self.new.calls ≡ self.old.calls }
+    {
+        match position(&self.slots, name.as_bytes()) {
+            None => unreachable!(),
+            Some(at) => {
+                let rose = put_at(&mut self.slots, at, given);
+                self.faults = counted(self.faults, rose);
+            }
+        }
+    }
+}
