@@ -1,6 +1,7 @@
 ghost use Rattle.std.specs.Prelude.{◌≡◌, ◌≢◌, ◌≤◌, ◌<◌, ℕ, List, Bool, true, false, IfOk, OnErr};
+ghost use Rattle.std.specs.declared.option.Option.{Option};
 ghost use Rattle.edge_io.specs.Causes.{HasCause, Rose};
-ghost use Rattle.edge_io.specs.Bays.{SameSlot};
+ghost use Rattle.edge_io.specs.Bays.{SameSlot, IsAsTold, Holds};
 
 use crate::{Disk, DiskName, Failed};
 
@@ -11,8 +12,8 @@ use crate::{Disk, DiskName, Failed};
 pub trait Bay {
     type D: Disk;
 
-    /// What `take` gives for a name whose disk isn't out.
-    ghost disk: { Self → List ℕ → Self.D };
+    /// What `take` gives for a name whose disk isn't out, where the bay tells it. A folder tells nothing.
+    ghost disk: { Self → List ℕ → Option Self.D };
 
     /// The disk of that name was taken and not put back.
     ghost out: { Self → List ℕ → Bool };
@@ -33,7 +34,7 @@ pub trait Bay {
     /// Takes a disk. At an `Err` it isn't out.
     fn take(&mut self, name: &DiskName) -> Result<Self::D, Failed>
         requires { out self.old name.now ≡ false }
-        ensures given { IfOk result (λ d. d ≡ disk self.old name.now) }
+        ensures given { IfOk result (λ d. IsAsTold (disk self.old name.now) d) }
         ensures is_out { IfOk result (λ d. (out self.new name.now ≡ true) × (taken self.new name.now ≡ Self.D.faults d)) }
         ensures err { OnErr result ((disk self.new name.now ≡ disk self.old name.now) × (out self.new name.now ≡ false)) }
         ensures others { (m : List ℕ) → m ≢ name.now → SameSlot disk out taken m self.old self.new }
@@ -43,7 +44,8 @@ pub trait Bay {
     /// Puts a disk back. Its faults since it was taken count as the bay's.
     fn put_back(&mut self, name: &DiskName, given: Self::D)
         requires { out self.old name.now ≡ true }
-        ensures there { (disk self.new name.now ≡ given) × (out self.new name.now ≡ false) }
+        ensures there { Holds (disk self.old name.now) (disk self.new name.now) given }
+        ensures is_in { out self.new name.now ≡ false }
         ensures others { (m : List ℕ) → m ≢ name.now → SameSlot disk out taken m self.old self.new }
         ensures later { faults self.old ≤ faults self.new }
         ensures counts { taken self.old name.now < Self.D.faults given → Rose (faults self.old) (faults self.new) }

@@ -130,10 +130,10 @@ module _ (slots new : List Slot) (name : List ℕ) (s : Slot) (none : found slot
 
 -- ---- the bay, seen as its state
 
-pub same_slot : (old new b : BayState) (m : List ℕ) → b ≡ old → Same b.slots new.slots m → SameSlot disk_at out_at taken_at m old new
-same_slot old new b m e s = subst (λ (k : BayState). SameSlot disk_at out_at taken_at m k new) e (record { same_disk = s.0; same_out = s.1; same_taken = s.2 })
+pub same_slot : (old new b : BayState) (m : List ℕ) → b ≡ old → Same b.slots new.slots m → SameSlot (λ k l. Some (disk_at k l)) out_at taken_at m old new
+same_slot old new b m e s = subst (λ (k : BayState). SameSlot (λ k l. Some (disk_at k l)) out_at taken_at m k new) e (record { same_disk = ap (λ (d : DiskState). Some d) s.0; same_out = s.1; same_taken = s.2 })
 
-pub still_in : (old b : BayState) (slots : List Slot) (name : List ℕ) → b ≡ old → slots ≡ b.slots → out_at old name ≡ false → (disk_in (found slots name) ≡ disk_at old name) × (out_in (found slots name) ≡ false)
+pub still_in : (old b : BayState) (slots : List Slot) (name : List ℕ) → b ≡ old → slots ≡ b.slots → out_at old name ≡ false → (Some (disk_in (found slots name)) ≡ Some (disk_at old name)) × (out_in (found slots name) ≡ false)
 still_in old b slots name e s out =
     let same : slots ≡ old.slots = s ∙ ap (λ (k : BayState). k.slots) e in
-    (ap (λ (l : List Slot). disk_in (found l name)) same, ap (λ (l : List Slot). out_in (found l name)) same ∙ out)
+    (ap (λ (l : List Slot). Some (disk_in (found l name))) same, ap (λ (l : List Slot). out_in (found l name)) same ∙ out)

@@ -1,5 +1,5 @@
 -- What contracts see of the streams in memory.
-use Rattle.std.specs.Prelude.{◌≡◌, ◌⊎◌, ◌+◌, ◌-◌, ◌^◌, ℕ, Bool, true, List, Contains, min, Result, IsErr, MatchResult}
+use Rattle.std.specs.Prelude.{◌≡◌, ◌+◌, ◌-◌, ◌^◌, ℕ, Bool, List, min, Result, MatchResult}
 
 -- a number after it was raised by one, where a u64 has room
 abbrev pub raised : ℕ → ℕ
@@ -27,10 +27,3 @@ pub record Collected : Type 0 where
 -- a fault is counted where the call failed, and not else
 abbrev pub CountsFault : {T E : Type 0} → ℕ → ℕ → Result T E → Type 0
 CountsFault old new result = MatchResult result (λ _. new ≡ old) (λ _. new ≡ raised old)
-
--- it fails where the list of failing calls says so, and else only where it finds no memory
-pub record FailsAsListed {T E : Type 0} (failing : List ℕ) (call : ℕ) (was_starved starved : Bool) (result : Result T E) : Type 0 where
-  pub listed : Contains failing call → IsErr result
-  pub only : IsErr result → Contains failing call ⊎ (starved ≡ true)
-  pub starves : starved ≡ true → (was_starved ≡ true) ⊎ IsErr result
-  pub stays : was_starved ≡ true → starved ≡ true

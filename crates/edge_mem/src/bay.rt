@@ -1,5 +1,5 @@
 ghost use Rattle.std.specs.Prelude.{◌≡◌, ◌≢◌, ◌≤◌, ◌<◌, ℕ, List, Bool, true, false, OnErr, ◌+◌, ◌-◌, ◌^◌, ◌++◌, ◌∷◌, [], min, Some, None, IfSome, IfOk, Contains, length, slice_index_or};
-ghost use Rattle.edge_io.specs.Bays.{SameSlot};
+ghost use Rattle.edge_io.specs.Bays.{SameSlot, IsAsTold, Holds};
 ghost use Rattle.edge_io.specs.Causes.{FailsBy, HasCause, Rose};
 ghost use Rattle.edge_mem.specs.Bays.{place, found, disk_at, out_at, taken_at, is_empty, fresh, Taken, Put};
 ghost use Rattle.edge_mem.specs.Streams.{CountsFault, raised};
@@ -127,7 +127,7 @@ impl MemBay {
         ensures given { IfOk result (λ d. d ≡ disk_at self.old name.now) }
         ensures is_out { IfOk result (λ d. (out_at self.new name.now ≡ true) × (taken_at self.new name.now ≡ d.faults)) }
         ensures err { OnErr result (self.new ≡ self.old) }
-        ensures others { (m : List ℕ) → m ≢ name.now → SameSlot disk_at out_at taken_at m self.old self.new }
+        ensures others { (m : List ℕ) → m ≢ name.now → SameSlot (λ b k. Some (disk_at b k)) out_at taken_at m self.old self.new }
         ensures failing { self.new.failing ≡ self.old.failing }
         ensures calls { self.new.calls ≡ self.old.calls }
         ensures starved { self.new.starved ≡ self.old.starved }
@@ -146,7 +146,7 @@ impl MemBay {
 impl Bay for MemBay {
     type D = MemDisk;
 
-    ghost disk = { disk_at };
+    ghost disk = { λ b name. Some (disk_at b name) };
 
     ghost out = { out_at };
 
@@ -162,14 +162,15 @@ impl Bay for MemBay {
 
     fn take(&mut self, name: &DiskName) -> Result<MemDisk, Failed>
         requires { out_at self.old name.now ≡ false }
-        ensures given { IfOk result (λ d. d ≡ disk_at self.old name.now) }
+        ensures given { IfOk result (λ d. IsAsTold (Some (disk_at self.old name.now)) d) }
         ensures is_out { IfOk result (λ d. (out_at self.new name.now ≡ true) × (taken_at self.new name.now ≡ d.faults)) }
-        ensures err { OnErr result ((disk_at self.new name.now ≡ disk_at self.old name.now) × (out_at self.new name.now ≡ false)) }
-        ensures others { (m : List ℕ) → m ≢ name.now → SameSlot disk_at out_at taken_at m self.old self.new }
+        ensures err { OnErr result ((Some (disk_at self.new name.now) ≡ Some (disk_at self.old name.now)) × (out_at self.new name.now ≡ false)) }
+        ensures others { (m : List ℕ) → m ≢ name.now → SameSlot (λ b k. Some (disk_at b k)) out_at taken_at m self.old self.new }
         ensures stays { self.old.starved ≡ true → self.new.starved ≡ true }
         ensures cause { HasCause self.old.faults self.new.faults result }
 
-        // It fails where the list says so or where it finds no memory, and else counts no fault.
+        // It gives the disk that is told. It fails where the list says so or where it finds no memory.
+        ensures disk { IfOk result (λ d. d ≡ disk_at self.old name.now) }
         ensures fails { FailsBy (Contains self.old.failing self.old.calls) self.old.starved self.new.starved result }
         ensures failing { self.new.failing ≡ self.old.failing }
         ensures calls { self.new.calls ≡ raised self.old.calls }
@@ -193,14 +194,16 @@ impl Bay for MemBay {
 
     fn put_back(&mut self, name: &DiskName, given: MemDisk)
         requires { out_at self.old name.now ≡ true }
-        ensures there { (disk_at self.new name.now ≡ given) × (out_at self.new name.now ≡ false) }
-        ensures others { (m : List ℕ) → m ≢ name.now → SameSlot disk_at out_at taken_at m self.old self.new }
+        ensures there { Holds (Some (disk_at self.old name.now)) (Some (disk_at self.new name.now)) given }
+        ensures is_in { out_at self.new name.now ≡ false }
+        ensures others { (m : List ℕ) → m ≢ name.now → SameSlot (λ b k. Some (disk_at b k)) out_at taken_at m self.old self.new }
         ensures later { self.old.faults ≤ self.new.faults }
         ensures counts { taken_at self.old name.now < given.faults → Rose self.old.faults self.new.faults }
         ensures quiet { given.faults ≤ taken_at self.old name.now → self.new.faults ≡ self.old.faults }
         ensures starved { self.new.starved ≡ self.old.starved }
 
         // The faults of the disk since it was taken are added.
+        ensures disk { disk_at self.new name.now ≡ given }
         ensures faults { self.new.faults ≡ min (self.old.faults + (given.faults - taken_at self.old name.now)) (2 ^ 64 - 1) }
         ensures failing { self.new.failing ≡ self.old.failing }
         ensures calls { self.new.calls ≡ self.old.calls }

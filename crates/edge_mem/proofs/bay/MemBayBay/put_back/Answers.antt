@@ -1,4 +1,6 @@
 use Rattle.std.proofs.Common.{◌≡◌, ◌-◌, ℕ, true, false, sym, ap, ◌∙◌, subst, arith, rules}
+use Rattle.std.proofs.Common.{Some}
+use Rattle.edge_mem.specs.Past.{DiskState}
 use Rattle.edge_mem.specs.Bays.{BayState, out_in, out_at, taken_at}
 use Rattle.edge_mem.proofs.Places.{IsAt, is_at, is_absent, some_slot, count_at, put_there, put_others, same_slot}
 use Rattle.edge_mem.proofs.bay.MemBayBay.put_back.Goals as goal
@@ -12,7 +14,13 @@ unreachable-requires c =
     let e : false ≡ true = sym (ap out_in none) ∙ subst (λ (b : BayState). out_at b c.args.name.now ≡ true) (sym c.self.view_is) c.requires in search rules
 
 pub returns-clause-there : goal.returns-clause-there
-returns-clause-there c = put_there _ _ _ _ (at c) some_slot _ (c.put_at-rose.ensures.put some_slot)
+returns-clause-there c = λ told. ap (λ (d : DiskState). Some d) (put_there _ _ _ _ (at c) some_slot _ (c.put_at-rose.ensures.put some_slot)).0
+
+pub returns-clause-is_in : goal.returns-clause-is_in
+returns-clause-is_in c = (put_there _ _ _ _ (at c) some_slot _ (c.put_at-rose.ensures.put some_slot)).1
+
+pub returns-clause-disk : goal.returns-clause-disk
+returns-clause-disk c = (put_there _ _ _ _ (at c) some_slot _ (c.put_at-rose.ensures.put some_slot)).0
 
 pub returns-clause-others : goal.returns-clause-others
 returns-clause-others c = λ m away. same_slot _ _ _ m c.self.view_is (put_others _ _ _ _ (at c) some_slot _ (c.put_at-rose.ensures.put some_slot) m away)
