@@ -1,11 +1,13 @@
-ghost use Rattle.std.specs.Prelude.{◌≡◌, ◌⊎◌, ◌≤◌, ◌+◌, ◌-◌, ◌^◌, min, ℕ, List, [], length, take, drop, false, true, Some, IfOk, OnOk, OnErr, IsErr};
+ghost use Rattle.std.specs.Prelude.{◌≡◌, ◌↔◌, ◌⊎◌, ◌≤◌, ◌+◌, ◌-◌, ◌^◌, min, [], length, take, drop, false, true, Some, is_some, IfOk, OnOk, OnErr, IsErr, MatchResult};
 ghost use Rattle.edge_io.specs.declared.fault.Armed.TheVariants.{Nothing, After};
-ghost use Rattle.edge_io.specs.Armed.{RunsAsArmed};
+ghost use Rattle.edge_io.specs.Armed.{breaks, RunsAsArmed};
 ghost use Rattle.edge_io.specs.Causes.{FailsBy, HasCause, Rose};
-ghost use Rattle.edge_io.specs.Disk.{written, WhereTold, Changes, UnfinishedWrite, UnfinishedCut, StepsBy, Within, SameImages, Synced, SameContent, IsUneventful, GrowsTo, ShrinksTo, LosesPower, KeepsPower};
+ghost use Rattle.edge_io.specs.Disk.{written, IsTold, WhereTold, Changes, UnfinishedWrite, UnfinishedCut, StepsBy, Within, SameImages, Synced, SameContent, IsUneventful, GrowsTo, ShrinksTo, LosesPower, KeepsPower};
 ghost use Rattle.edge_io.specs.Moments.{Elapses};
 ghost use Rattle.edge_mem.specs.Events.{CutTo, Kept, Lost, loss_of};
-ghost use Rattle.edge_mem.specs.Past.{state, content, image, since, with_event, broken_by, after_write, after_change};
+ghost use Rattle.edge_mem.specs.Steps.{EndsKept};
+ghost use Rattle.edge_mem.specs.Streams.{CountsFault, raised};
+ghost use Rattle.edge_mem.specs.Past.{state, content, image, since, with_event, broken_by, after_write};
 ghost use Rattle.edge_mem.specs.Laws.{content_is_image, counts_now, only_now};
 ghost use Rattle.edge_mem.specs.declared.faulty.Refusal.TheVariants.{NoMemory};
 
@@ -76,6 +78,8 @@ impl MemDisk {
         ensures stays { self.old.starved ≡ true → self.new.starved ≡ true }
         ensures later { self.old.faults ≤ self.new.faults }
         ensures rose { Rose self.old.faults self.new.faults }
+        ensures faults { self.new.faults ≡ raised self.old.faults }
+        ensures only { self.new.starved ≡ true → (self.old.starved ≡ true) ⊎ (refusal ≡ NoMemory) }
     {
         self.starved = self.starved | (refusal == Refusal::NoMemory);
         self.faults = self.faults.saturating_add(1);
@@ -122,7 +126,22 @@ impl Disk for MemDisk {
         self.faults
     }
 
-    fn read_at(&mut self, place: u64, into: &mut [u8]) -> Result<(), Failed> {
+    fn read_at(&mut self, place: u64, into: &mut [u8]) -> Result<(), Failed>
+        requires { place + length into.old ≤ length (content self.old.past) }
+        ensures bytes { OnOk result (WhereTold (Some (content self.old.past)) (λ c. into.new ≡ take (length into.old) (drop place c))) }
+        ensures stays { SameContent (Some (content self.old.past)) (Some (content self.new.past)) (length (content self.old.past)) (length (content self.new.past)) }
+        ensures images { SameImages (image self.old.past) (image self.new.past) }
+        ensures time { Elapses (length self.old.past.events) (length self.new.past.events) (since self.old.past) (since self.new.past) (image self.new.past) }
+        ensures events { IsUneventful (state self.old.past).losses (state self.new.past).losses self.old.arms self.new.arms }
+        ensures fails { IsTold (Some (content self.old.past)) → RunsAsArmed self.old.armed self.new.armed self.old.starved self.new.starved self.old.faults self.new.faults result }
+        ensures cause { HasCause self.old.faults self.new.faults result }
+
+        // It fails exactly where the armed fault breaks it, and changes nothing.
+        ensures broken { IsErr result ↔ (breaks self.old.armed ≡ true) }
+        ensures past { self.new.past ≡ self.old.past }
+        ensures starved { self.new.starved ≡ self.old.starved }
+        ensures faults { CountsFault self.old.faults self.new.faults result }
+    {
         if count_call(&mut self.armed).is_some() {
             return Err(self.refuse(Refusal::Broken));
         }
@@ -130,21 +149,62 @@ impl Disk for MemDisk {
         Ok(())
     }
 
-    fn write_at(&mut self, place: u64, bytes: &[u8]) -> Result<(), Failed> {
+    fn write_at(&mut self, place: u64, bytes: &[u8]) -> Result<(), Failed>
+        requires begins { place ≤ length (content self.old.past) }
+        requires ends { place + length bytes.now ≤ 2 ^ 62 }
+        ensures content { Changes (written place bytes.now) (Some (content self.old.past)) (Some (content self.new.past)) result }
+        ensures size { GrowsTo (place + length bytes.now) (length (content self.old.past)) (length (content self.new.past)) result }
+        ensures images { StepsBy (UnfinishedWrite place (length bytes.now)) (image self.old.past) (image self.new.past) result }
+        ensures time { Elapses (length self.old.past.events) (length self.new.past.events) (since self.old.past) (since self.new.past) (image self.new.past) }
+        ensures events { IsUneventful (state self.old.past).losses (state self.new.past).losses self.old.arms self.new.arms }
+        ensures fails { IsTold (Some (content self.old.past)) → RunsAsArmed self.old.armed self.new.armed self.old.starved self.new.starved self.old.faults self.new.faults result }
+        ensures cause { HasCause self.old.faults self.new.faults result }
+
+        // A broken one leaves nothing, or the first half, by the mode of the fault. Without memory it changes nothing.
+        ensures past { (self.new.past ≡ after_write (broken_by self.old.armed) place bytes.now self.old.past) ⊎ ((self.new.starved ≡ true) × (self.new.past ≡ self.old.past)) }
+        ensures faults { CountsFault self.old.faults self.new.faults result }
+    {
         match write(&mut self.history, &mut self.armed, place as usize, bytes) {
             Ok(()) => Ok(()),
             Err(refusal) => Err(self.refuse(refusal)),
         }
     }
 
-    fn cut(&mut self, to: u64) -> Result<(), Failed> {
+    fn cut(&mut self, to: u64) -> Result<(), Failed>
+        requires { to ≤ length (content self.old.past) }
+        ensures content { Changes (take to) (Some (content self.old.past)) (Some (content self.new.past)) result }
+        ensures size { ShrinksTo to (length (content self.old.past)) (length (content self.new.past)) result }
+        ensures images { StepsBy (UnfinishedCut to) (image self.old.past) (image self.new.past) result }
+        ensures time { Elapses (length self.old.past.events) (length self.new.past.events) (since self.old.past) (since self.new.past) (image self.new.past) }
+        ensures events { IsUneventful (state self.old.past).losses (state self.new.past).losses self.old.arms self.new.arms }
+        ensures fails { IsTold (Some (content self.old.past)) → RunsAsArmed self.old.armed self.new.armed self.old.starved self.new.starved self.old.faults self.new.faults result }
+        ensures cause { HasCause self.old.faults self.new.faults result }
+
+        // One that fails changes nothing.
+        ensures past { MatchResult result (λ _. self.new.past ≡ with_event self.old.past (CutTo to)) (λ _. self.new.past ≡ self.old.past) }
+        ensures faults { CountsFault self.old.faults self.new.faults result }
+    {
         match cut(&mut self.history, &mut self.armed, to as usize) {
             Ok(()) => Ok(()),
             Err(refusal) => Err(self.refuse(refusal)),
         }
     }
 
-    fn sync(&mut self) -> Result<(), Failed> {
+    fn sync(&mut self) -> Result<(), Failed>
+        ensures synced { OnOk result (Synced (Some (content self.old.past)) (image self.new.past)) }
+        ensures stays { SameContent (Some (content self.old.past)) (Some (content self.new.past)) (length (content self.old.past)) (length (content self.new.past)) }
+        ensures images { Within (image self.old.past) (image self.new.past) }
+        ensures time { Elapses (length self.old.past.events) (length self.new.past.events) (since self.old.past) (since self.new.past) (image self.new.past) }
+        ensures events { IsUneventful (state self.old.past).losses (state self.new.past).losses self.old.arms self.new.arms }
+        ensures fails { IsTold (Some (content self.old.past)) → RunsAsArmed self.old.armed self.new.armed self.old.starved self.new.starved self.old.faults self.new.faults result }
+        ensures cause { HasCause self.old.faults self.new.faults result }
+
+        // It fails exactly where the armed fault breaks it, and then changes nothing.
+        ensures broken { IsErr result ↔ (breaks self.old.armed ≡ true) }
+        ensures past { MatchResult result (λ _. (self.new.past ≡ with_event self.old.past Kept) ⊎ ((self.new.past ≡ self.old.past) × EndsKept self.old.past.events)) (λ _. self.new.past ≡ self.old.past) }
+        ensures starved { self.new.starved ≡ self.old.starved }
+        ensures faults { CountsFault self.old.faults self.new.faults result }
+    {
         if count_call(&mut self.armed).is_some() {
             return Err(self.refuse(Refusal::Broken));
         }
@@ -152,7 +212,22 @@ impl Disk for MemDisk {
         Ok(())
     }
 
-    fn power_loss(&mut self, choice: u64) -> Result<(), Failed> {
+    fn power_loss(&mut self, choice: u64) -> Result<(), Failed>
+        ensures loses { OnOk result (LosesPower choice (image self.old.past) (state self.old.past).losses (Some (content self.new.past)) (image self.new.past) (state self.new.past).losses self.new.armed) }
+        ensures keeps { OnErr result (KeepsPower (state self.old.past).losses (state self.new.past).losses self.old.armed self.new.armed (image self.old.past) (image self.new.past)) }
+        ensures stays { OnErr result (SameContent (Some (content self.old.past)) (Some (content self.new.past)) (length (content self.old.past)) (length (content self.new.past))) }
+        ensures told { is_some (Some (content self.new.past)) ≡ is_some (Some (content self.old.past)) }
+        ensures images { Within (image self.old.past) (image self.new.past) }
+        ensures time { Elapses (length self.old.past.events) (length self.new.past.events) (since self.old.past) (since self.new.past) (image self.new.past) }
+        ensures arms { self.new.arms ≡ self.old.arms }
+        ensures fails { IsTold (Some (content self.old.past)) → FailsBy ⊥ self.old.starved self.new.starved result }
+        ensures quiet { IsTold (Some (content self.old.past)) → OnOk result (self.new.faults ≡ self.old.faults) }
+        ensures cause { HasCause self.old.faults self.new.faults result }
+
+        // It leaves the content at the last sync with the first changes since, as many as the choice says.
+        ensures past { MatchResult result (λ _. self.new.past ≡ with_event self.old.past (Lost choice (loss_of (state self.old.past) choice))) (λ _. self.new.past ≡ self.old.past) }
+        ensures faults { CountsFault self.old.faults self.new.faults result }
+    {
         match self.history.lose(choice) {
             Ok(()) => {
                 self.armed = Armed::Nothing;
