@@ -12,6 +12,8 @@ mod frame;
 mod journal;
 mod opening;
 mod repair;
+#[cfg(test)]
+mod tests;
 mod text;
 mod writer;
 
