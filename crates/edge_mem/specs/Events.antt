@@ -47,28 +47,36 @@ pub record State : Type 0 where
 abbrev pub base : State → List ℕ
 base s = replay s.kept s.first
 
+-- what a read gives
 abbrev pub content_of : State → List ℕ
 content_of s = replay s.changes (base s)
 
+-- what a crash may leave: the content at the last sync, after each change since, each as a crash may leave it
 abbrev pub image_of : State → List ℕ → Type 0
 image_of s c = IsImage s.changes (base s) c
 
--- what a power loss leaves: the first changes since the last sync
+-- What a power loss leaves: the content at the last sync with the first changes since done, as many as the choice says.
+-- Worked example: a content `ab` at the last sync, then `cd` written at 2, then a cut to 1: choice 0 leaves `ab`, choice
+-- 1 leaves `abcd`, and any greater one leaves `a`.
 abbrev pub loss_of : State → ℕ → List ℕ
 loss_of s choice = replay (take choice s.changes) (base s)
 
+-- a change more since the last sync
 abbrev pub changed : State → Event → State
 changed s e = record { first = s.first; kept = s.kept; changes = s.changes ++ e ∷ []; losses = s.losses }
 
+-- What an event makes of the state. A write that begins behind the end, which no call may ask for, is none.
 abbrev pub next : State → Event → State
 next s (Wrote at bytes) = if nat_lt (length (content_of s)) at then s else changed s (Wrote at bytes)
 next s (CutTo n) = changed s (CutTo n)
 next s Kept = record { first = s.first; kept = s.kept ++ s.changes; changes = []; losses = s.losses }
 next s (Lost choice left) = record { first = left; kept = []; changes = []; losses = s.losses ++ (choice, left) ∷ [] }
 
+-- the state after events
 unfoldable pub run : State → List Event → State
 run s [] = s
 run s (e ∷ es) = run (next s e) es
 
+-- a disk that was made with this content
 abbrev pub begun : List ℕ → State
 begun first = record { first = first; kept = []; changes = []; losses = [] }

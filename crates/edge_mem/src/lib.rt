@@ -12,6 +12,8 @@ mod faulty;
 mod history;
 mod sink;
 mod source;
+#[cfg(test)]
+mod tests;
 
 pub use bay::{MemBay, Slot};
 pub use disk::MemDisk;
