@@ -2,7 +2,8 @@ ghost use Rattle.std.specs.Prelude.{◌≡◌, ◌↔◌, ◌⊎◌, ◌≤◌, 
 ghost use Rattle.edge_io.specs.declared.fault.Armed.TheVariants.{Nothing, After};
 ghost use Rattle.edge_io.specs.Armed.{breaks, RunsAsArmed};
 ghost use Rattle.edge_io.specs.Causes.{FailsBy, HasCause, Rose};
-ghost use Rattle.edge_io.specs.Disk.{written, IsTold, WhereTold, Changes, UnfinishedWrite, UnfinishedCut, StepsBy, Within, SameImages, Synced, SameContent, IsUneventful, GrowsTo, ShrinksTo, LosesPower, KeepsPower};
+ghost use Rattle.edge_io.specs.Disk.{written, IsTold, WhereTold, Changes, UnfinishedWrite, UnfinishedCut, StepsBy, Within};
+ghost use Rattle.edge_io.specs.Disk.{SameImages, Synced, SameContent, IsUneventful, GrowsTo, ShrinksTo, LosesPower, KeepsPower};
 ghost use Rattle.edge_io.specs.Moments.{Elapses};
 ghost use Rattle.edge_mem.specs.Events.{CutTo, Kept, Lost, loss_of};
 ghost use Rattle.edge_mem.specs.Steps.{EndsKept};
@@ -201,7 +202,8 @@ impl Disk for MemDisk {
 
         // It fails exactly where the armed fault breaks it, and then changes nothing.
         ensures broken { IsErr result ↔ (breaks self.old.armed ≡ true) }
-        ensures past { MatchResult result (λ _. (self.new.past ≡ with_event self.old.past Kept) ⊎ ((self.new.past ≡ self.old.past) × EndsKept self.old.past.events)) (λ _. self.new.past ≡ self.old.past) }
+        ensures past { MatchResult result (λ _. (self.new.past ≡ with_event self.old.past Kept) ⊎ ((self.new.past ≡ self.old.past) × EndsKept self.old.past.events))
+            (λ _. self.new.past ≡ self.old.past) }
         ensures starved { self.new.starved ≡ self.old.starved }
         ensures faults { CountsFault self.old.faults self.new.faults result }
     {
@@ -213,8 +215,10 @@ impl Disk for MemDisk {
     }
 
     fn power_loss(&mut self, choice: u64) -> Result<(), Failed>
-        ensures loses { OnOk result (LosesPower choice (image self.old.past) (state self.old.past).losses (Some (content self.new.past)) (image self.new.past) (state self.new.past).losses self.new.armed) }
-        ensures keeps { OnErr result (KeepsPower (state self.old.past).losses (state self.new.past).losses self.old.armed self.new.armed (image self.old.past) (image self.new.past)) }
+        ensures loses { OnOk result (LosesPower choice (image self.old.past) (state self.old.past).losses
+            (Some (content self.new.past)) (image self.new.past) (state self.new.past).losses self.new.armed) }
+        ensures keeps { OnErr result (KeepsPower (state self.old.past).losses (state self.new.past).losses
+            self.old.armed self.new.armed (image self.old.past) (image self.new.past)) }
         ensures stays { OnErr result (SameContent (Some (content self.old.past)) (Some (content self.new.past)) (length (content self.old.past)) (length (content self.new.past))) }
         ensures told { is_some (Some (content self.new.past)) ≡ is_some (Some (content self.old.past)) }
         ensures images { Within (image self.old.past) (image self.new.past) }
@@ -225,7 +229,8 @@ impl Disk for MemDisk {
         ensures cause { HasCause self.old.faults self.new.faults result }
 
         // It leaves the content at the last sync with the first changes since, as many as the choice says.
-        ensures past { MatchResult result (λ _. self.new.past ≡ with_event self.old.past (Lost choice (loss_of (state self.old.past) choice))) (λ _. self.new.past ≡ self.old.past) }
+        ensures past { MatchResult result (λ _. self.new.past ≡ with_event self.old.past (Lost choice (loss_of (state self.old.past) choice)))
+            (λ _. self.new.past ≡ self.old.past) }
         ensures faults { CountsFault self.old.faults self.new.faults result }
     {
         match self.history.lose(choice) {

@@ -93,7 +93,9 @@ fn fits(first: bool, second: bool, frames: &[u8]) -> bool {
         (true, true) => frames == b"abc".as_slice(),
         (true, false) => frames == b"ab".as_slice() || frames == b"abc".as_slice(),
         (false, true) => frames == b"ac".as_slice(),
-        (false, false) => frames == b"a".as_slice() || frames == b"ab".as_slice() || frames == b"ac".as_slice(),
+        (false, false) => frames == b"a".as_slice()
+            || frames == b"ab".as_slice()
+            || frames == b"ac".as_slice(),
     }
 }
 
@@ -104,7 +106,10 @@ fn each_broken_call_leaves_the_answered_frames_whatever_the_power_loss(rt: HostR
             for choice in 0..5 {
                 let run = broken_run(rt.alloc(), after, mode, choice);
                 let (first, second, frames) = run.expect(&rt, "a power loss leaves journal text");
-                assert!(rt; fits(first, second, &frames), "{after} {mode:?} {choice}: {frames:?}");
+                assert!(rt;
+                    fits(first, second, &frames),
+                    "{after} {mode:?} {choice}: {frames:?}"
+                );
                 assert_eq!(rt; first, after >= 4, "an append makes four calls");
                 if mode != FaultMode::Dead && after < 4 {
                     assert!(rt; second, "the next append mends and goes on");
@@ -150,11 +155,16 @@ fn a_frame_lands_only_where_the_last_sync_failed_and_the_write_was_kept(rt: Host
 
 #[test]
 fn a_frame_comes_back_as_its_bytes(rt: HostRuntime) {
-    let content = b"\x01\x00\x00\x00\x02ab\x00".to_vec(rt.alloc()).expect(&rt, "memory");
+    let content = b"\x01\x00\x00\x00\x02ab\x00"
+        .to_vec(rt.alloc())
+        .expect(&rt, "memory");
     let disk = MemDisk::new(rt.alloc(), content).expect(&rt, "memory");
     let Ok((journal, mut frames)) = start(rt.alloc(), disk) else {
         panic!(rt; "it is journal text");
     };
     assert!(rt; !journal.starved());
-    assert_eq!(rt; frames.pop().map(Frame::into_vec).as_deref(), Some(b"ab".as_slice()));
+    assert_eq!(rt;
+        frames.pop().map(Frame::into_vec).as_deref(),
+        Some(b"ab".as_slice())
+    );
 }

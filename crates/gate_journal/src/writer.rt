@@ -36,8 +36,10 @@ impl<D: Disk> Writer<D> {
         requires gate { self.old.mending ≡ Mending.Gate }
         requires room { HasRoom D.size self.old }
         requires ends { self.old.end ≤ 2 ^ 62 }
-        ensures ok { OnOk result ((frames : List (List ℕ)) (frame : List ℕ) → IsShaped D.image self.old frames (IsAjar frames frame) → IsShaped D.image self.new frames (IsShut frames)) }
-        ensures kept { (frames : List (List ℕ)) (frame : List ℕ) → IsShaped D.image self.old frames (IsAjar frames frame) → IsShaped D.image self.new frames (IsAjar frames frame) }
+        ensures ok { OnOk result ((frames : List (List ℕ)) (frame : List ℕ) → IsShaped D.image self.old frames (IsAjar frames frame) →
+            IsShaped D.image self.new frames (IsShut frames)) }
+        ensures kept { (frames : List (List ℕ)) (frame : List ℕ) → IsShaped D.image self.old frames (IsAjar frames frame) →
+            IsShaped D.image self.new frames (IsAjar frames frame) }
         ensures any_moment { (frames : List (List ℕ)) (frame : List ℕ) → IsShaped D.image self.old frames (IsAjar frames frame) → IsFrame frame →
             LeavesOnly D.moment D.since self.old.disk self.new.disk (IsBeforeOrAfter frames frame) }
         ensures done { OnOk result (self.new.mending ≡ Mending.Behind) }
@@ -56,9 +58,11 @@ impl<D: Disk> Writer<D> {
     fn cut_behind(&mut self) -> Result<(), Failed>
         requires behind { self.old.mending ≡ Mending.Behind }
         requires room { HasRoom D.size self.old }
-        ensures ok { OnOk result ((frames : List (List ℕ)) → IsShaped D.image self.old frames (IsShut frames) → IsShaped D.image self.new frames (IsRest frames)) }
+        ensures ok { OnOk result ((frames : List (List ℕ)) → IsShaped D.image self.old frames (IsShut frames) →
+            IsShaped D.image self.new frames (IsRest frames)) }
         ensures kept { (frames : List (List ℕ)) → IsShaped D.image self.old frames (IsShut frames) → IsShaped D.image self.new frames (IsShut frames) }
-        ensures any_moment { (frames : List (List ℕ)) → IsShaped D.image self.old frames (IsShut frames) → LeavesOnly D.moment D.since self.old.disk self.new.disk (λ c. StandsFor c frames) }
+        ensures any_moment { (frames : List (List ℕ)) → IsShaped D.image self.old frames (IsShut frames) →
+            LeavesOnly D.moment D.since self.old.disk self.new.disk (λ c. StandsFor c frames) }
         ensures done { OnOk result (self.new.mending ≡ Mending.Nothing) }
         ensures err { OnErr result (self.new.mending ≡ Mending.Behind) }
         ensures same { (self.new.end ≡ self.old.end) × (self.new.count ≡ self.old.count) }
@@ -76,9 +80,11 @@ impl<D: Disk> Writer<D> {
         requires mended { self.old.mending ≡ Mending.Nothing }
         requires room { HasRoom D.size self.old }
         requires ends { self.old.end + length bytes.now ≤ 2 ^ 62 }
-        ensures ok { OnOk result ((frames : List (List ℕ)) (frame : List ℕ) → IsShaped D.image self.old frames (IsRest frames) → bytes.now ≡ framed frame → IsShaped D.image self.new frames (IsHeld frames frame)) }
+        ensures ok { OnOk result ((frames : List (List ℕ)) (frame : List ℕ) → IsShaped D.image self.old frames (IsRest frames) →
+            bytes.now ≡ framed frame → IsShaped D.image self.new frames (IsHeld frames frame)) }
         ensures kept { (frames : List (List ℕ)) → IsShaped D.image self.old frames (IsRest frames) → IsShaped D.image self.new frames (IsShut frames) }
-        ensures any_moment { (frames : List (List ℕ)) → IsShaped D.image self.old frames (IsRest frames) → LeavesOnly D.moment D.since self.old.disk self.new.disk (λ c. StandsFor c frames) }
+        ensures any_moment { (frames : List (List ℕ)) → IsShaped D.image self.old frames (IsRest frames) →
+            LeavesOnly D.moment D.since self.old.disk self.new.disk (λ c. StandsFor c frames) }
         ensures done { OnOk result (self.new.mending ≡ Mending.Nothing) }
         ensures err { OnErr result (self.new.mending ≡ Mending.Behind) }
         ensures same { (self.new.end ≡ self.old.end) × (self.new.count ≡ self.old.count) }
@@ -101,9 +107,11 @@ impl<D: Disk> Writer<D> {
         requires ends { self.old.end + len ≤ 2 ^ 62 }
         requires reach { self.old.end + len ≤ D.size self.old.disk }
         requires some { 0 < len }
-        ensures ok { OnOk result ((frames : List (List ℕ)) (frame : List ℕ) → IsShaped D.image self.old frames (IsHeld frames frame) → IsFrame frame → len ≡ length (framed frame) →
+        ensures ok { OnOk result ((frames : List (List ℕ)) (frame : List ℕ) → IsShaped D.image self.old frames (IsHeld frames frame) →
+            IsFrame frame → len ≡ length (framed frame) →
             IsShaped D.image self.new (frames ++ frame ∷ []) (IsRest (frames ++ frame ∷ []))) }
-        ensures kept { OnErr result ((frames : List (List ℕ)) (frame : List ℕ) → IsShaped D.image self.old frames (IsHeld frames frame) → IsShaped D.image self.new frames (IsAjar frames frame)) }
+        ensures kept { OnErr result ((frames : List (List ℕ)) (frame : List ℕ) → IsShaped D.image self.old frames (IsHeld frames frame) →
+            IsShaped D.image self.new frames (IsAjar frames frame)) }
         ensures any_moment { (frames : List (List ℕ)) (frame : List ℕ) → IsShaped D.image self.old frames (IsHeld frames frame) → IsFrame frame →
             LeavesOnly D.moment D.since self.old.disk self.new.disk (IsBeforeOrAfter frames frame) }
         ensures done { OnOk result ((self.new.mending ≡ Mending.Nothing) × (self.new.end ≡ self.old.end + len) × (self.new.count ≡ self.old.count + 1)) }
@@ -125,9 +133,12 @@ impl<D: Disk> Writer<D> {
     pub fn mend(&mut self) -> Result<(), Failed>
         requires room { HasRoom D.size self.old }
         requires ends { self.old.end ≤ 2 ^ 62 }
-        ensures ok { OnOk result ((frames : List (List ℕ)) (pending : Option (List ℕ)) → Mends D.image self.old self.old.mending frames pending → IsShaped D.image self.new frames (IsRest frames)) }
-        ensures kept { OnErr result ((frames : List (List ℕ)) (pending : Option (List ℕ)) → Mends D.image self.old self.old.mending frames pending → Mends D.image self.new self.new.mending frames pending) }
-        ensures any_moment { (frames : List (List ℕ)) (pending : Option (List ℕ)) → Mends D.image self.old self.old.mending frames pending → LeavesOnly D.moment D.since self.old.disk self.new.disk (IsWithPending frames pending) }
+        ensures ok { OnOk result ((frames : List (List ℕ)) (pending : Option (List ℕ)) → Mends D.image self.old self.old.mending frames pending →
+            IsShaped D.image self.new frames (IsRest frames)) }
+        ensures kept { OnErr result ((frames : List (List ℕ)) (pending : Option (List ℕ)) → Mends D.image self.old self.old.mending frames pending →
+            Mends D.image self.new self.new.mending frames pending) }
+        ensures any_moment { (frames : List (List ℕ)) (pending : Option (List ℕ)) → Mends D.image self.old self.old.mending frames pending →
+            LeavesOnly D.moment D.since self.old.disk self.new.disk (IsWithPending frames pending) }
         ensures done { OnOk result (self.new.mending ≡ Mending.Nothing) }
         ensures same { (self.new.end ≡ self.old.end) × (self.new.count ≡ self.old.count) }
         ensures room_kept { HasRoom D.size self.new }
@@ -154,11 +165,14 @@ impl<D: Disk> Writer<D> {
         requires room { HasRoom D.size self.old }
         requires ends { self.old.end + length bytes.now ≤ 2 ^ 62 }
         requires some { 0 < length bytes.now }
-        ensures ok { OnOk result ((frames : List (List ℕ)) (frame : List ℕ) → IsShaped D.image self.old frames (IsRest frames) → IsFrame frame → bytes.now ≡ framed frame →
+        ensures ok { OnOk result ((frames : List (List ℕ)) (frame : List ℕ) →
+            IsShaped D.image self.old frames (IsRest frames) → IsFrame frame → bytes.now ≡ framed frame →
             IsShaped D.image self.new (frames ++ frame ∷ []) (IsRest (frames ++ frame ∷ []))) }
-        ensures kept { OnErr result ((frames : List (List ℕ)) (frame : List ℕ) → IsShaped D.image self.old frames (IsRest frames) → IsFrame frame → bytes.now ≡ framed frame →
+        ensures kept { OnErr result ((frames : List (List ℕ)) (frame : List ℕ) →
+            IsShaped D.image self.old frames (IsRest frames) → IsFrame frame → bytes.now ≡ framed frame →
             Mends D.image self.new self.new.mending frames (Some frame)) }
-        ensures any_moment { (frames : List (List ℕ)) (frame : List ℕ) → IsShaped D.image self.old frames (IsRest frames) → IsFrame frame → bytes.now ≡ framed frame →
+        ensures any_moment { (frames : List (List ℕ)) (frame : List ℕ) → IsShaped D.image self.old frames (IsRest frames) →
+            IsFrame frame → bytes.now ≡ framed frame →
             LeavesOnly D.moment D.since self.old.disk self.new.disk (IsBeforeOrAfter frames frame) }
         ensures done { OnOk result ((self.new.mending ≡ Mending.Nothing) × (self.new.end ≡ self.old.end + length bytes.now) × (self.new.count ≡ self.old.count + 1)) }
         ensures err { OnErr result ((self.new.end ≡ self.old.end) × (self.new.count ≡ self.old.count)) }
