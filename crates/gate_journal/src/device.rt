@@ -21,7 +21,7 @@ pub fn write_and_sync<D: Disk>(disk: &mut D, place: u64, bytes: &[u8]) -> Result
     ensures cause { HasCause (D.faults disk.old) (D.faults disk.new) result }
 {
     disk.write_at(place, bytes)?;
-    disk.sync()?;
+    disk.sync()?; // now the write lasts
     Ok(())
 }
 
