@@ -1,0 +1,62 @@
+/// An error code of the Kafka protocol.
+#[derive(Clone, Copy, Debug, PartialEq, Eq)]
+pub struct Code(pub i16);
+
+impl Code {
+    pub const NONE: Code = Code(0);
+    pub const CORRUPT_MESSAGE: Code = Code(2);
+    pub const UNKNOWN_TOPIC_OR_PARTITION: Code = Code(3);
+    pub const MESSAGE_TOO_LARGE: Code = Code(10);
+    pub const INVALID_REQUIRED_ACKS: Code = Code(21);
+    pub const INVALID_GROUP_ID: Code = Code(24);
+    pub const UNKNOWN_MEMBER_ID: Code = Code(25);
+    pub const UNSUPPORTED_VERSION: Code = Code(35);
+    pub const INVALID_REQUEST: Code = Code(42);
+    pub const STORAGE_ERROR: Code = Code(56);
+    pub const FENCED_LEADER_EPOCH: Code = Code(74);
+    pub const UNSUPPORTED_COMPRESSION_TYPE: Code = Code(76);
+    pub const GROUP_MAX_SIZE_REACHED: Code = Code(81);
+    pub const INVALID_RECORD: Code = Code(87);
+    pub const UNKNOWN_TOPIC_ID: Code = Code(100);
+    pub const FENCED_MEMBER_EPOCH: Code = Code(110);
+    pub const INVALID_RECORD_STATE: Code = Code(121);
+    pub const SHARE_SESSION_NOT_FOUND: Code = Code(122);
+    pub const INVALID_SHARE_SESSION_EPOCH: Code = Code(123);
+    pub const FENCED_STATE_EPOCH: Code = Code(124);
+    pub const SHARE_SESSION_LIMIT_REACHED: Code = Code(133);
+}
+
+/// Why a write to a store was refused.
+#[derive(Clone, Copy, Debug, PartialEq, Eq)]
+pub enum StoreFault {
+    /// A device call failed.
+    Device,
+    /// The journal, whose content ends at `end`, has no room for the frame below 2^62.
+    Full { end: u64 },
+}
+
+/// Why bytes aren't a record batch of version 2 in the form that was asked for.
+#[derive(Clone, Copy, Debug, PartialEq, Eq)]
+pub enum BatchFault {
+    /// It is longer than 1048588 bytes.
+    TooLarge,
+    /// It is shorter than a header, or its length field and its length disagree.
+    Short,
+    /// The magic byte isn't 2.
+    BadMagic,
+    /// The checksum doesn't agree with the bytes.
+    BadCrc,
+    /// The records are compressed.
+    Compressed,
+    /// The batch belongs to a transaction.
+    Transactional,
+    /// It is a control batch.
+    Control,
+    /// It has a producer id.
+    HasProducer,
+    /// The record with this index, counted from 0, isn't a record; it is the count of records where
+    /// bytes follow the last one, and 0 where the count is negative.
+    BadRecord { index: u32 },
+    /// The offsets of its records aren't those that the form asks for.
+    BadDeltas,
+}

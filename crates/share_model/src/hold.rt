@@ -1,0 +1,18 @@
+use crate::name::Name;
+
+/// Who holds a record: the member, the moment at which its acquisition lock ends, and how often the
+/// record was delivered, this time with them.
+#[derive(Clone, Copy, Debug, PartialEq, Eq)]
+pub struct Hold {
+    pub member: Name,
+    pub end: u64,
+    pub count: u16,
+}
+
+/// Consecutive offsets, `first` and `last` with them, that a fetch acquired with one delivery count.
+#[derive(Clone, Copy, Debug, PartialEq, Eq)]
+pub struct Grant {
+    pub first: u64,
+    pub last: u64,
+    pub count: u16,
+}
