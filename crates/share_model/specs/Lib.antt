@@ -1,4 +1,5 @@
 pub mod Keys
 pub mod Names
+pub mod Rooms
 pub mod Rows
 pub mod Runs

@@ -4,25 +4,45 @@ pub struct Code(pub i16);
 
 impl Code {
     pub const NONE: Code = Code(0);
+
     pub const CORRUPT_MESSAGE: Code = Code(2);
+
     pub const UNKNOWN_TOPIC_OR_PARTITION: Code = Code(3);
+
     pub const MESSAGE_TOO_LARGE: Code = Code(10);
+
     pub const INVALID_REQUIRED_ACKS: Code = Code(21);
+
     pub const INVALID_GROUP_ID: Code = Code(24);
+
     pub const UNKNOWN_MEMBER_ID: Code = Code(25);
+
     pub const UNSUPPORTED_VERSION: Code = Code(35);
+
     pub const INVALID_REQUEST: Code = Code(42);
+
     pub const STORAGE_ERROR: Code = Code(56);
+
     pub const FENCED_LEADER_EPOCH: Code = Code(74);
+
     pub const UNSUPPORTED_COMPRESSION_TYPE: Code = Code(76);
+
     pub const GROUP_MAX_SIZE_REACHED: Code = Code(81);
+
     pub const INVALID_RECORD: Code = Code(87);
+
     pub const UNKNOWN_TOPIC_ID: Code = Code(100);
+
     pub const FENCED_MEMBER_EPOCH: Code = Code(110);
+
     pub const INVALID_RECORD_STATE: Code = Code(121);
+
     pub const SHARE_SESSION_NOT_FOUND: Code = Code(122);
+
     pub const INVALID_SHARE_SESSION_EPOCH: Code = Code(123);
+
     pub const FENCED_STATE_EPOCH: Code = Code(124);
+
     pub const SHARE_SESSION_LIMIT_REACHED: Code = Code(133);
 }
 

@@ -3,16 +3,23 @@
 
 mod blob;
 mod fault;
+mod foreign;
 mod hold;
 mod key;
+mod lists;
 mod name;
+mod room;
 mod row;
 mod run;
 
 pub use blob::Blob;
 pub use fault::{BatchFault, Code, StoreFault};
+pub use flex_fields::NoMemory;
+pub use foreign::{ForeignAnswer, ForeignOp, StateBatch};
 pub use hold::{Grant, Hold};
 pub use key::Key;
+pub use lists::{Grants, RunList, StateBatchList};
 pub use name::Name;
+pub use room::Room;
 pub use row::{Row, RowState};
 pub use run::Run;
