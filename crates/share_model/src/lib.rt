@@ -22,4 +22,4 @@ pub use lists::{Grants, RunList, StateBatchList};
 pub use name::Name;
 pub use room::Room;
 pub use row::{Row, RowState};
-pub use run::Run;
+pub use run::{Run, canonical_runs_are_unique};

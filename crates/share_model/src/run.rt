@@ -1,4 +1,6 @@
-ghost use Rattle.std.specs.Prelude.{◌≡◌};
+ghost use Rattle.std.specs.Prelude.{◌≡◌, List, ℕ};
+ghost use Rattle.share_model.specs.Runs.{IsCanonical, row_at};
+ghost use Rattle.share_model.specs.declared.run.Run.{Run};
 
 use crate::row::{Row, RowState};
 
@@ -23,4 +25,10 @@ impl Run {
             count: self.count,
         }
     }
+}
+
+/// A look-up has one canonical list of runs: two of them with the same look-up are equal.
+pub fn canonical_runs_are_unique()
+    ensures { (xs ys : List Run) → IsCanonical xs → IsCanonical ys → ((offset : ℕ) → row_at xs offset ≡ row_at ys offset) → xs ≡ ys }
+{
 }
