@@ -1,0 +1,53 @@
+-- Lists of runs, cut and joined.
+use Rattle.std.specs.Prelude.{◌≡◌, ◌≤◌, ◌<◌, ◌+◌, ◌-◌, ℕ, suc, min, max, Bool, List, [], ◌∷◌, Option, Some, None, nat_eq, nat_le, nat_lt, ◌&&◌, if◌then◌else◌}
+use Rattle.share_model.specs.Rows.{state_number}
+use Rattle.share_model.specs.declared.run.Run.{Run}
+
+-- the second run begins right behind the first, with the same row
+unfoldable pub touches : Run → Run → Bool
+touches x y = nat_eq (x.last + 1) y.first && (nat_eq (state_number x.state) (state_number y.state) && nat_eq x.count y.count)
+
+abbrev pub joined_to : Run → List Run → List Run
+joined_to x [] = x ∷ []
+joined_to x (y ∷ ys) = if touches x y then (record x { last = y.last }) ∷ ys else x ∷ y ∷ ys
+
+-- the runs of both, one run where the last of the first list and the first of the second touch
+abbrev pub joined : List Run → List Run → List Run
+joined [] ys = ys
+joined (x ∷ []) ys = joined_to x ys
+joined (x ∷ x2 ∷ xs) ys = x ∷ joined (x2 ∷ xs) ys
+
+-- the part of a run below an offset, and the part behind one
+abbrev pub run_before : Run → ℕ → Run
+run_before x offset = record x { last = min x.last (offset - 1) }
+
+abbrev pub run_behind : Run → ℕ → Run
+run_behind x offset = record x { first = max x.first (offset + 1) }
+
+-- the runs below an offset, and the runs behind one
+abbrev pub before : List Run → ℕ → List Run
+before [] offset = []
+before (x ∷ xs) offset = if nat_lt x.first offset then run_before x offset ∷ before xs offset else []
+
+abbrev pub behind : List Run → ℕ → List Run
+behind [] offset = []
+behind (x ∷ xs) offset = if nat_le x.last offset then behind xs offset else run_behind x offset ∷ xs
+
+-- how many runs begin below an offset, and how many end at it or below
+abbrev pub begun : List Run → ℕ → ℕ
+begun [] offset = 0
+begun (x ∷ xs) offset = if nat_lt x.first offset then suc (begun xs offset) else 0
+
+abbrev pub ended : List Run → ℕ → ℕ
+ended [] offset = 0
+ended (x ∷ xs) offset = if nat_le x.last offset then suc (ended xs offset) else 0
+
+-- each run ends below an offset
+abbrev pub EndsBelow : List Run → ℕ → Type 0
+EndsBelow [] offset = Unit {0}
+EndsBelow (x ∷ xs) offset = (x.last < offset) × EndsBelow xs offset
+
+-- the first run begins at an offset or behind it
+abbrev pub StartsFrom : List Run → ℕ → Type 0
+StartsFrom [] offset = Unit {0}
+StartsFrom (x ∷ xs) offset = offset ≤ x.first

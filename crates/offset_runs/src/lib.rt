@@ -1,0 +1,4 @@
+//! Rows by offset, kept as runs.
+#![tactic(auto)]
+
+mod search;

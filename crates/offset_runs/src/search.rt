@@ -1,0 +1,21 @@
+ghost use Rattle.std.specs.Prelude.{◌≡◌};
+ghost use Rattle.offset_runs.specs.Parts.{begun, ended};
+ghost use Rattle.share_model.specs.Runs.{IsCanonical};
+
+use share_model::Run;
+
+// How many runs begin below an offset.
+pub(crate) fn count_begun(runs: &[Run], offset: u64) -> usize
+    requires { IsCanonical runs.now }
+    ensures { result ≡ begun runs.now offset }
+{
+    runs.partition_point(|run| run.first < offset)
+}
+
+// How many runs end at an offset or below it.
+pub(crate) fn count_ended(runs: &[Run], offset: u64) -> usize
+    requires { IsCanonical runs.now }
+    ensures { result ≡ ended runs.now offset }
+{
+    runs.partition_point(|run| run.last <= offset)
+}
