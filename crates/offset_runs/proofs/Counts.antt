@@ -1,6 +1,7 @@
 -- How many runs a search finds.
 use Rattle.std.proofs.Common.{◌≡◌, ℕ, zero, suc, ◌+◌, ◌<◌, ◌≤◌, Bool, true, false, cond, List, [], ◌∷◌, length, get_or, refl, ap, ◌∙◌, sym, arith}
 use Rattle.std.specs.Prelude.{nat_lt, nat_le}
+use Rattle.std.proofs.lemmas.Bool.Decides.{nat_tests}
 use Rattle.std.specs.List.Sorted.{IsNonDecreasingBy}
 use Rattle.share_model.specs.Runs.{Follows, IsCanonical}
 use Rattle.share_model.specs.declared.run.Run.{Run}
@@ -44,6 +45,10 @@ pub counted-begun : (offset : ℕ) (xs : List Run) (i : ℕ) → i ≤ length xs
     → ((k : ℕ) (d : Run) → i ≤ k → k < length xs → nat_lt (get_or xs k d).first offset ≡ false) → i ≡ begun xs offset
 counted-begun offset = counted (λ r. nat_lt r.first offset) (λ xs. begun xs offset) refl (λ x xs. refl)
 
-pub counted-ended : (offset : ℕ) (xs : List Run) (i : ℕ) → i ≤ length xs → ((k : ℕ) (d : Run) → 0 ≤ k → k < i → nat_le (get_or xs k d).last offset ≡ true)
-    → ((k : ℕ) (d : Run) → i ≤ k → k < length xs → nat_le (get_or xs k d).last offset ≡ false) → i ≡ ended xs offset
-counted-ended offset = counted (λ r. nat_le r.last offset) (λ xs. ended xs offset) refl (λ x xs. refl)
+pub counted-ended : (offset : ℕ) (xs : List Run) (i : ℕ) → i ≤ length xs → ((k : ℕ) (d : Run) → 0 ≤ k → k < i → nat_lt (get_or xs k d).last offset ≡ true)
+    → ((k : ℕ) (d : Run) → i ≤ k → k < length xs → nat_lt (get_or xs k d).last offset ≡ false) → i ≡ ended xs offset
+counted-ended offset = counted (λ r. nat_lt r.last offset) (λ xs. ended xs offset) refl (λ x xs. refl)
+
+-- a test for `at most` as one for `below`
+pub upto : (m n : ℕ) (b : Bool) → nat_le m n ≡ b → nat_lt m (n + 1) ≡ b
+upto m n b e = grind (arith, nat_tests)

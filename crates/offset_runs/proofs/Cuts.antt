@@ -9,19 +9,13 @@ use Rattle.share_model.specs.Runs.{row_of, row_at, Follows, IsCanonical}
 use Rattle.share_model.specs.declared.row.Row.{Row}
 use Rattle.share_model.specs.declared.run.Run.{Run}
 use Rattle.offset_runs.proofs.Joins.{choose}
-use Rattle.offset_runs.specs.Parts.{run_before, run_behind, before, behind, begun, ended, EndsBelow, StartsFrom}
+use Rattle.offset_runs.specs.Parts.{run_before, run_from, before, from_on, EndsBelow, StartsFrom}
 
 pub lt_yes : (m n : ℕ) → nat_lt m n ≡ true → m < n
 lt_yes m n e = grind (arith, nat_tests)
 
 pub lt_no : (m n : ℕ) → nat_lt m n ≡ false → n ≤ m
 lt_no m n e = grind (arith, nat_tests)
-
-pub le_yes : (m n : ℕ) → nat_le m n ≡ true → m ≤ n
-le_yes m n e = grind (arith, nat_tests)
-
-pub le_no : (m n : ℕ) → nat_le m n ≡ false → n < m
-le_no m n e = grind (arith, nat_tests)
 
 -- below the offset a cut list has the rows of the whole, and from it on none
 pub before-row_at : (xs : List Run) (f o : ℕ) → IsCanonical xs → row_at (before xs f) o ≡ cond (nat_lt o f) (row_at xs o) None
@@ -64,39 +58,39 @@ before-ends (x ∷ xs) f =
     choose (λ (zs : List Run). EndsBelow zs f) (nat_lt x.first f) (run_before x f ∷ before xs f) []
     (λ e. (omega (arith, lt_yes x.first f e), before-ends xs f)) (λ e. tt)
 
--- behind the offset a cut list has the rows of the whole, and up to it none
-pub behind-row_at : (xs : List Run) (l o : ℕ) → IsCanonical xs → row_at (behind xs l) o ≡ cond (nat_lt l o) (row_at xs o) None
-behind-row_at [] l o canonical = choose (λ (r : Option Row). None ≡ r) (nat_lt l o) None None (λ e. refl) (λ e. refl)
-behind-row_at (x ∷ xs) l o canonical =
-    choose (λ (zs : List Run). row_at zs o ≡ cond (nat_lt l o) (row_at (x ∷ xs) o) None) (nat_le x.last l) (behind xs l) (run_behind x l ∷ xs)
-    (λ ends. let le = le_yes x.last l ends in
-      behind-row_at xs l o canonical.2 ∙ choose (λ (r : Option Row). cond (nat_lt l o) (row_at xs o) None ≡ r) (nat_lt l o) (row_at (x ∷ xs) o) None
-      (λ past. ap (λ (b : Bool). cond b (row_at xs o) None) past ∙ sym (row_at-beyond x xs o (omega (arith, lt_yes l o past))))
-      (λ upto. ap (λ (b : Bool). cond b (row_at xs o) None) upto))
-    (λ goes. let more = le_no x.last l goes in
-      choose (λ (r : Option Row). row_at (run_behind x l ∷ xs) o ≡ r) (nat_lt l o) (row_at (x ∷ xs) o) None
-      (λ past. let high = lt_yes l o past in
+-- from the offset on a cut list has the rows of the whole, and below it none
+pub from_on-row_at : (xs : List Run) (f o : ℕ) → IsCanonical xs → row_at (from_on xs f) o ≡ cond (nat_lt o f) None (row_at xs o)
+from_on-row_at [] f o canonical = choose (λ (r : Option Row). None ≡ r) (nat_lt o f) None None (λ e. refl) (λ e. refl)
+from_on-row_at (x ∷ xs) f o canonical =
+    choose (λ (zs : List Run). row_at zs o ≡ cond (nat_lt o f) None (row_at (x ∷ xs) o)) (nat_lt x.last f) (from_on xs f) (run_from x f ∷ xs)
+    (λ ends. let low = lt_yes x.last f ends in
+      from_on-row_at xs f o canonical.2 ∙ choose (λ (r : Option Row). cond (nat_lt o f) None (row_at xs o) ≡ r) (nat_lt o f) None (row_at (x ∷ xs) o)
+      (λ under. ap (λ (b : Bool). cond b None (row_at xs o)) under)
+      (λ over. ap (λ (b : Bool). cond b None (row_at xs o)) over ∙ sym (row_at-beyond x xs o (omega (arith, lt_no o f over)))))
+    (λ goes. let more = lt_no x.last f goes in
+      choose (λ (r : Option Row). row_at (run_from x f ∷ xs) o ≡ r) (nat_lt o f) None (row_at (x ∷ xs) o)
+      (λ under. let low = lt_yes o f under in
+        row_at-below (run_from x f) xs o (omega arith) ∙ row_at-none x xs o canonical.1 canonical.2 (omega arith))
+      (λ over. let high = lt_no o f over in
         elim (cases_lt o x.first) [
-          inl early ↦ row_at-below (run_behind x l) xs o (omega arith) ∙ sym (row_at-below x xs o early)
+          inl early ↦ row_at-below (run_from x f) xs o (omega arith) ∙ sym (row_at-below x xs o early)
         | inr from ↦ elim (cases_lt x.last o) [
-            inl beyond ↦ row_at-beyond (run_behind x l) xs o beyond ∙ sym (row_at-beyond x xs o beyond)
-          | inr within ↦ row_at-here (run_behind x l) xs o (omega arith) within ∙ sym (row_at-here x xs o from within)
+            inl beyond ↦ row_at-beyond (run_from x f) xs o beyond ∙ sym (row_at-beyond x xs o beyond)
+          | inr within ↦ row_at-here (run_from x f) xs o (omega arith) within ∙ sym (row_at-here x xs o from within)
           ]
-        ])
-      (λ upto. let low = lt_no l o upto in
-        row_at-below (run_behind x l) xs o (omega arith) ∙ row_at-none x xs o canonical.1 canonical.2 (omega arith)))
+        ]))
 
-Follows-behind : (x : Run) (xs : List Run) (l : ℕ) → Follows x xs → Follows (run_behind x l) xs
-Follows-behind x [] l follows = tt
-Follows-behind x (next ∷ xs) l follows = follows
+Follows-from : (x : Run) (xs : List Run) (f : ℕ) → Follows x xs → Follows (run_from x f) xs
+Follows-from x [] f follows = tt
+Follows-from x (next ∷ xs) f follows = follows
 
-pub behind-canonical : (xs : List Run) (l : ℕ) → IsCanonical xs → IsCanonical (behind xs l)
-behind-canonical [] l canonical = tt
-behind-canonical (x ∷ xs) l canonical =
-    choose IsCanonical (nat_le x.last l) (behind xs l) (run_behind x l ∷ xs) (λ e. behind-canonical xs l canonical.2)
-    (λ e. (omega (arith, canonical.0, le_no x.last l e), Follows-behind x xs l canonical.1, canonical.2))
+pub from_on-canonical : (xs : List Run) (f : ℕ) → IsCanonical xs → IsCanonical (from_on xs f)
+from_on-canonical [] f canonical = tt
+from_on-canonical (x ∷ xs) f canonical =
+    choose IsCanonical (nat_lt x.last f) (from_on xs f) (run_from x f ∷ xs) (λ e. from_on-canonical xs f canonical.2)
+    (λ e. (omega (arith, canonical.0, lt_no x.last f e), Follows-from x xs f canonical.1, canonical.2))
 
-pub behind-starts : (xs : List Run) (l : ℕ) → StartsFrom (behind xs l) (l + 1)
-behind-starts [] l = tt
-behind-starts (x ∷ xs) l =
-    choose (λ (zs : List Run). StartsFrom zs (l + 1)) (nat_le x.last l) (behind xs l) (run_behind x l ∷ xs) (λ e. behind-starts xs l) (λ e. omega arith)
+pub from_on-starts : (xs : List Run) (f : ℕ) → StartsFrom (from_on xs f) f
+from_on-starts [] f = tt
+from_on-starts (x ∷ xs) f =
+    choose (λ (zs : List Run). StartsFrom zs f) (nat_lt x.last f) (from_on xs f) (run_from x f ∷ xs) (λ e. from_on-starts xs f) (λ e. omega arith)

@@ -1,5 +1,5 @@
 -- Lists of runs, cut and joined.
-use Rattle.std.specs.Prelude.{◌≡◌, ◌≤◌, ◌<◌, ◌+◌, ◌-◌, ℕ, suc, min, max, Bool, List, [], ◌∷◌, Option, Some, None, nat_eq, nat_le, nat_lt, ◌&&◌, if◌then◌else◌}
+use Rattle.std.specs.Prelude.{◌≡◌, ◌≤◌, ◌<◌, ◌+◌, ◌-◌, ℕ, suc, min, max, Bool, List, [], ◌∷◌, Option, Some, None, nat_eq, nat_lt, ◌&&◌, if◌then◌else◌}
 use Rattle.share_model.specs.Rows.{state_number}
 use Rattle.share_model.specs.declared.run.Run.{Run}
 
@@ -17,30 +17,30 @@ joined [] ys = ys
 joined (x ∷ []) ys = joined_to x ys
 joined (x ∷ x2 ∷ xs) ys = x ∷ joined (x2 ∷ xs) ys
 
--- the part of a run below an offset, and the part behind one
+-- the part of a run below an offset, and the part from an offset on
 abbrev pub run_before : Run → ℕ → Run
 run_before x offset = record x { last = min x.last (offset - 1) }
 
-abbrev pub run_behind : Run → ℕ → Run
-run_behind x offset = record x { first = max x.first (offset + 1) }
+abbrev pub run_from : Run → ℕ → Run
+run_from x offset = record x { first = max x.first offset }
 
--- the runs below an offset, and the runs behind one
+-- the runs below an offset, and the runs from an offset on
 abbrev pub before : List Run → ℕ → List Run
 before [] offset = []
 before (x ∷ xs) offset = if nat_lt x.first offset then run_before x offset ∷ before xs offset else []
 
-abbrev pub behind : List Run → ℕ → List Run
-behind [] offset = []
-behind (x ∷ xs) offset = if nat_le x.last offset then behind xs offset else run_behind x offset ∷ xs
+abbrev pub from_on : List Run → ℕ → List Run
+from_on [] offset = []
+from_on (x ∷ xs) offset = if nat_lt x.last offset then from_on xs offset else run_from x offset ∷ xs
 
--- how many runs begin below an offset, and how many end at it or below
+-- how many runs begin below an offset, and how many end below one
 abbrev pub begun : List Run → ℕ → ℕ
 begun [] offset = 0
 begun (x ∷ xs) offset = if nat_lt x.first offset then suc (begun xs offset) else 0
 
 abbrev pub ended : List Run → ℕ → ℕ
 ended [] offset = 0
-ended (x ∷ xs) offset = if nat_le x.last offset then suc (ended xs offset) else 0
+ended (x ∷ xs) offset = if nat_lt x.last offset then suc (ended xs offset) else 0
 
 -- each run ends below an offset
 abbrev pub EndsBelow : List Run → ℕ → Type 0
@@ -51,3 +51,8 @@ EndsBelow (x ∷ xs) offset = (x.last < offset) × EndsBelow xs offset
 abbrev pub StartsFrom : List Run → ℕ → Type 0
 StartsFrom [] offset = Unit {0}
 StartsFrom (x ∷ xs) offset = offset ≤ x.first
+
+-- the run that is there, if one is
+abbrev pub maybe_run : Option Run → List Run
+maybe_run None = []
+maybe_run (Some x) = x ∷ []

@@ -1,4 +1,6 @@
 //! Rows by offset, kept as runs.
 #![tactic(auto)]
 
+mod joining;
+mod parts;
 mod search;

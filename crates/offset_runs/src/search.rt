@@ -1,4 +1,4 @@
-ghost use Rattle.std.specs.Prelude.{◌≡◌};
+ghost use Rattle.std.specs.Prelude.{◌≡◌, ◌≤◌, ◌+◌, length};
 ghost use Rattle.offset_runs.specs.Parts.{begun, ended};
 ghost use Rattle.share_model.specs.Runs.{IsCanonical};
 
@@ -7,15 +7,26 @@ use share_model::Run;
 // How many runs begin below an offset.
 pub(crate) fn count_begun(runs: &[Run], offset: u64) -> usize
     requires { IsCanonical runs.now }
-    ensures { result ≡ begun runs.now offset }
+    ensures count { result ≡ begun runs.now offset }
+    ensures within { result ≤ length runs.now }
 {
     runs.partition_point(|run| run.first < offset)
 }
 
-// How many runs end at an offset or below it.
+// How many runs end below an offset.
 pub(crate) fn count_ended(runs: &[Run], offset: u64) -> usize
     requires { IsCanonical runs.now }
-    ensures { result ≡ ended runs.now offset }
+    ensures count { result ≡ ended runs.now offset }
+    ensures within { result ≤ length runs.now }
+{
+    runs.partition_point(|run| run.last < offset)
+}
+
+// How many runs end at an offset or below it.
+pub(crate) fn count_ended_by(runs: &[Run], offset: u64) -> usize
+    requires { IsCanonical runs.now }
+    ensures count { result ≡ ended runs.now (offset + 1) }
+    ensures within { result ≤ length runs.now }
 {
     runs.partition_point(|run| run.last <= offset)
 }
