@@ -14,6 +14,9 @@ use Rattle.offset_runs.specs.Parts.{run_before, run_from, before, from_on, EndsB
 pub lt_yes : (m n : ℕ) → nat_lt m n ≡ true → m < n
 lt_yes m n e = grind (arith, nat_tests)
 
+pub yes_lt : (m n : ℕ) → m < n → nat_lt m n ≡ true
+yes_lt m n h = grind (arith, nat_tests)
+
 pub lt_no : (m n : ℕ) → nat_lt m n ≡ false → n ≤ m
 lt_no m n e = grind (arith, nat_tests)
 

@@ -1,10 +1,13 @@
 -- Where a list of runs is cut.
 use Rattle.std.proofs.Common.{◌≡◌, ℕ, zero, suc, ◌+◌, ◌-◌, ◌<◌, ◌≤◌, min, max, Bool, true, false, cond, List, [], ◌∷◌, ◌++◌, length, get_or, take, drop, refl, ap, ◌∙◌, sym, subst, arith, ◌⊎◌, inl, inr}
 use Rattle.std.specs.Prelude.{nat_lt}
-use Rattle.share_model.specs.Runs.{Follows, IsCanonical}
+use Rattle.std.proofs.Common.{Option, Some, None}
+use Rattle.std.proofs.lemmas.Bool.Decides.{nat_tests}
+use Rattle.share_model.proofs.Lookups.{row_at-here, row_at-first}
+use Rattle.share_model.specs.Runs.{row_of, row_at, Follows, IsCanonical}
 use Rattle.share_model.specs.declared.run.Run.{Run}
 use Rattle.offset_runs.proofs.Joins.{choose}
-use Rattle.offset_runs.proofs.Cuts.{lt_yes, lt_no}
+use Rattle.offset_runs.proofs.Cuts.{lt_yes, lt_no, yes_lt, from_on-row_at, from_on-canonical}
 use Rattle.offset_runs.specs.Parts.{before, from_on, begun, ended, run_before, run_from}
 
 -- no run begins below the offset
@@ -91,3 +94,49 @@ drop-whole [] zero count = refl
 drop-whole [] (suc n) count = refl
 drop-whole (x ∷ xs) zero count = absurd (omega arith)
 drop-whole (x ∷ xs) (suc n) count = drop-whole xs n (omega arith)
+
+-- where one run follows another, all that ends below it comes before
+Follows-ended : (x : Run) (xs : List Run) (first last : ℕ) → IsCanonical (x ∷ xs) → first ≤ last → begun xs first ≤ ended (x ∷ xs) (last + 1)
+Follows-ended x [] first last canonical order = omega arith
+Follows-ended x (next ∷ xs) first last canonical order =
+    elim (nat_lt next.first first) as (λ b. nat_lt next.first first ≡ b → cond b (suc (begun xs first)) 0 ≤ ended (x ∷ next ∷ xs) (last + 1)) [
+      false ↦ λ test. omega arith
+    | true ↦ λ test.
+        let begins = lt_yes next.first first test in
+        let ends : nat_lt x.last (last + 1) ≡ true = yes_lt x.last (last + 1) (omega (arith, canonical.1.0)) in
+        let rest = Follows-ended next xs first last canonical.2 order in
+        subst (λ b. suc (begun xs first) ≤ cond b (suc (ended (next ∷ xs) (last + 1))) 0) (sym ends) (omega (arith, rest))
+    ] refl
+
+-- the runs that stay before a range are no more than those that end below it
+pub begun-ended : (xs : List Run) (first last : ℕ) → IsCanonical xs → first ≤ last → begun xs first - 1 ≤ ended xs (last + 1)
+begun-ended [] first last canonical order = omega arith
+begun-ended (x ∷ xs) first last canonical order =
+    elim (nat_lt x.first first) as (λ b. cond b (suc (begun xs first)) 0 - 1 ≤ ended (x ∷ xs) (last + 1)) [
+      false ↦ omega arith
+    | true ↦ omega (arith, Follows-ended x xs first last canonical order)
+    ]
+
+not_below_itself : (o : ℕ) → nat_lt o o ≡ false
+not_below_itself o = grind (arith, nat_tests)
+
+at_offset : (xs : List Run) (o : ℕ) → IsCanonical xs → row_at xs o ≡ row_at (from_on xs o) o
+at_offset xs o canonical = sym (from_on-row_at xs o o canonical ∙ ap (λ (b : Bool). cond b None (row_at xs o)) (not_below_itself o))
+
+-- what is looked for at an offset
+pub look-place : (xs : List Run) (o n : ℕ) (d : Run) → IsCanonical xs → ended xs o ≡ n → n < length xs → (get_or xs n d).first ≤ o → row_at xs o ≡ Some (row_of (get_or xs n d))
+look-place xs o n d canonical count within begins =
+    let first = ended-place xs o n d count within in
+    let run = get_or xs n d in
+    at_offset xs o canonical ∙ ap (λ (l : List Run). row_at l o) first.parts
+    ∙ row_at-here (run_from run o) (drop (suc n) xs) o (omega arith) first.ends
+
+pub look-gap : (xs : List Run) (o n : ℕ) (d : Run) → IsCanonical xs → ended xs o ≡ n → n < length xs → o < (get_or xs n d).first → row_at xs o ≡ None
+look-gap xs o n d canonical count within gap =
+    let first = ended-place xs o n d count within in
+    let run = get_or xs n d in
+    at_offset xs o canonical ∙ ap (λ (l : List Run). row_at l o) first.parts
+    ∙ row_at-first (run_from run o) (drop (suc n) xs) o (subst IsCanonical first.parts (from_on-canonical xs o canonical)) (omega arith)
+
+pub look-none : (xs : List Run) (o : ℕ) → IsCanonical xs → ended xs o ≡ length xs → row_at xs o ≡ None
+look-none xs o canonical count = at_offset xs o canonical ∙ ap (λ (l : List Run). row_at l o) (ended-none xs o count)

@@ -56,3 +56,7 @@ StartsFrom (x ∷ xs) offset = offset ≤ x.first
 abbrev pub maybe_run : Option Run → List Run
 maybe_run None = []
 maybe_run (Some x) = x ∷ []
+
+-- the runs below a range, the range, and the runs behind it
+abbrev pub put_over : List Run → Run → List Run
+put_over xs middle = joined (joined (before xs middle.first) (middle ∷ [])) (from_on xs (middle.last + 1))

@@ -1,6 +1,11 @@
 //! Rows by offset, kept as runs.
 #![tactic(auto)]
 
+mod change;
 mod joining;
 mod parts;
+mod runs;
 mod search;
+mod shift;
+
+pub use runs::Runs;

@@ -1,8 +1,8 @@
 ghost use Rattle.std.specs.Prelude.{◌≡◌, ◌≤◌, ◌+◌, length};
 ghost use Rattle.offset_runs.specs.Parts.{begun, ended};
-ghost use Rattle.share_model.specs.Runs.{IsCanonical};
+ghost use Rattle.share_model.specs.Runs.{IsCanonical, row_at};
 
-use share_model::Run;
+use share_model::{Row, Run};
 
 // How many runs begin below an offset.
 pub(crate) fn count_begun(runs: &[Run], offset: u64) -> usize
@@ -29,4 +29,21 @@ pub(crate) fn count_ended_by(runs: &[Run], offset: u64) -> usize
     ensures within { result ≤ length runs.now }
 {
     runs.partition_point(|run| run.last <= offset)
+}
+
+// The row at an offset.
+pub(crate) fn find_row(runs: &[Run], offset: u64) -> Option<Row>
+    requires { IsCanonical runs.now }
+    ensures { result ≡ row_at runs.now offset }
+{
+    let place = count_ended(runs, offset);
+    if place == runs.len() {
+        return None;
+    }
+    let run = runs[place];
+    if run.first <= offset {
+        Some(run.row())
+    } else {
+        None
+    }
 }
