@@ -17,6 +17,9 @@ lt_yes m n e = grind (arith, nat_tests)
 pub yes_lt : (m n : ℕ) → m < n → nat_lt m n ≡ true
 yes_lt m n h = grind (arith, nat_tests)
 
+pub no_lt : (m n : ℕ) → n ≤ m → nat_lt m n ≡ false
+no_lt m n h = grind (arith, nat_tests)
+
 pub lt_no : (m n : ℕ) → nat_lt m n ≡ false → n ≤ m
 lt_no m n e = grind (arith, nat_tests)
 

@@ -5,3 +5,4 @@ pub mod Places
 pub mod Puts
 pub mod Pushes
 pub mod Shifts
+pub mod Merges
