@@ -1,6 +1,7 @@
 -- One list of runs laid over another, from the front.
-use Rattle.std.proofs.Common.{◌≡◌, ℕ, ◌+◌, ◌-◌, ◌<◌, ◌≤◌, max, Bool, true, false, cond, List, [], ◌∷◌, ◌++◌, Option, Some, None, refl, ap, ◌∙◌, sym, subst, arith, ◌⊎◌, inl, inr}
+use Rattle.std.proofs.Common.{◌≡◌, ℕ, ◌+◌, ◌-◌, ◌<◌, ◌≤◌, max, Bool, true, false, cond, List, [], ◌∷◌, ◌++◌, Option, Some, None, IfNone, length, refl, ap, ◌∙◌, sym, subst, arith, ◌⊎◌, inl, inr}
 use Rattle.std.proofs.lemmas.Bool.{cases_lt}
+use Rattle.std.proofs.lemmas.List.{nil_from_length}
 use Rattle.std.proofs.lemmas.Bool.Decides.{nat_tests}
 use Rattle.std.specs.Prelude.{nat_lt}
 use Rattle.std.specs.Option.{option_or}
@@ -8,9 +9,9 @@ use Rattle.share_model.proofs.Lookups.{row_at-here, row_at-below, row_at-beyond,
 use Rattle.share_model.specs.Runs.{row_of, row_at, Follows, IsCanonical}
 use Rattle.share_model.specs.declared.row.Row.{Row}
 use Rattle.share_model.specs.declared.run.Run.{Run}
-use Rattle.offset_runs.proofs.Joins.{choose, row_at-cons, joined-canonical, joined-row_at, EndsBelow-more, EndsBelow-joined}
+use Rattle.offset_runs.proofs.Joins.{choose, row_at-cons, joined-canonical, joined-row_at, joined-back, EndsBelow-more, EndsBelow-joined}
 use Rattle.offset_runs.proofs.Cuts.{lt_yes, lt_no, yes_lt, no_lt, before-row_at, before-canonical, before-ends}
-use Rattle.offset_runs.specs.Parts.{joined, before, run_before, run_from, EndsBelow, StartsFrom}
+use Rattle.offset_runs.specs.Parts.{joined, before, run_before, run_from, maybe_run, EndsBelow, StartsFrom}
 use Rattle.offset_runs.specs.Changes.{Overlays}
 
 -- all runs of the first list end where the second begins
@@ -217,7 +218,7 @@ merges-theirs mine theirs out x y xs ys m ends =
       rows = λ o. over_rows out x y xs ys o c1 m.out_canonical cx cy ends ∙ m.rows o;
     }
 
-joined-none : (xs : List Run) → joined xs [] ≡ xs
+pub joined-none : (xs : List Run) → joined xs [] ≡ xs
 joined-none [] = refl
 joined-none (x ∷ []) = refl
 joined-none (x ∷ x2 ∷ xs) = ap (λ (l : List Run). x ∷ l) (joined-none (x2 ∷ xs))
@@ -247,3 +248,42 @@ ends-mine mine theirs out ys m = record {
     canonical = joined-lead out ys m.out_canonical m.theirs_canonical m.before_theirs;
     rows = λ o. joined-row_at out ys o m.out_canonical m.theirs_canonical ∙ ap (option_or (row_at out o)) (sym (option_or-none (row_at ys o))) ∙ m.rows o;
   }
+
+-- no first run, and so no other
+nothing_left : (head : Option Run) (rest : List Run) → IfNone head (rest ≡ []) → head ≡ None → maybe_run head ++ rest ≡ []
+nothing_left None rest none is = none
+nothing_left (Some x) rest none is = absurd cc
+
+module _ (mine theirs out : List Run) (head : Option Run) (rest left : List Run) (merging : IsMerging mine theirs out (maybe_run head ++ rest) left) where
+  with_first : (x y : Run) (others : List Run) → head ≡ Some x → left ≡ y ∷ others → IsMerging mine theirs out (x ∷ rest) (y ∷ others)
+  with_first x y others is split = subst (λ (l : List Run). IsMerging mine theirs out (x ∷ rest) l) split (subst (λ (h : Option Run). IsMerging mine theirs out (maybe_run h ++ rest) left) is merging)
+
+  -- the loop ends where nothing of mine is left
+  pub mine_done : (new : List Run) → IfNone head (rest ≡ []) → head ≡ None → new ≡ joined out left → IsMerged mine theirs new
+  mine_done new none is written_is =
+      subst (IsMerged mine theirs) (sym written_is)
+      (ends-mine mine theirs out left (subst (λ (l : List Run). IsMerging mine theirs out l left) (nothing_left head rest none is) merging))
+
+  -- the loop ends where nothing of theirs is left
+  pub theirs_done : (new first_out : List Run) (x : Run) → head ≡ Some x → length left ≡ 0 → first_out ≡ joined out (x ∷ []) → new ≡ first_out ++ rest → IsMerged mine theirs new
+  theirs_done new first_out x is none first_is new_is =
+      let m : IsMerging mine theirs out (x ∷ rest) [] =
+        subst (λ (l : List Run). IsMerging mine theirs out (x ∷ rest) l) (nil_from_length left none) (subst (λ (h : Option Run). IsMerging mine theirs out (maybe_run h ++ rest) left) is merging) in
+      subst (IsMerged mine theirs) (sym (new_is ∙ ap (λ (l : List Run). l ++ rest) first_is ∙ sym (joined-back out x rest))) (ends-theirs mine theirs out (x ∷ rest) m)
+
+  -- the loop goes on with the next run of mine
+  pub next_of_mine : (new : List Run) (x y : Run) (others : List Run) (head2 : Option Run) (rest2 : List Run) → head ≡ Some x → left ≡ y ∷ others → x.last ≤ y.last
+      → new ≡ joined out (before (x ∷ []) y.first) → maybe_run head2 ++ rest2 ≡ rest → IsMerging mine theirs new (maybe_run head2 ++ rest2) left
+  next_of_mine new x y others head2 rest2 is split ends new_is parts =
+      let m = merges-mine mine theirs out x y rest others (with_first x y others is split) ends in
+      let m2 : IsMerging mine theirs new rest (y ∷ others) = subst (λ (l : List Run). IsMerging mine theirs l rest (y ∷ others)) (sym new_is) m in
+      subst (λ (l : List Run). IsMerging mine theirs new l left) (sym parts) (subst (λ (l : List Run). IsMerging mine theirs new rest l) (sym split) m2)
+
+  -- the loop goes on with the next run of theirs
+  pub next_of_theirs : (new first_out : List Run) (x y cut : Run) (others : List Run) → head ≡ Some x → left ≡ y ∷ others → y.last < x.last
+      → first_out ≡ joined out (before (x ∷ []) y.first) → new ≡ joined first_out (y ∷ []) → cut ≡ run_from x (y.last + 1) → IsMerging mine theirs new (cut ∷ rest) others
+  next_of_theirs new first_out x y cut others is split ends first_is new_is cut_is =
+      let m = merges-theirs mine theirs out x y rest others (with_first x y others is split) ends in
+      let out_is = new_is ∙ ap (λ (l : List Run). joined l (y ∷ [])) first_is in
+      subst (λ (r : Run). IsMerging mine theirs new (r ∷ rest) others) (sym cut_is)
+      (subst (λ (l : List Run). IsMerging mine theirs l (run_from x (y.last + 1) ∷ rest) others) (sym out_is) m)

@@ -3,6 +3,7 @@
 
 mod change;
 mod joining;
+mod overlay;
 mod parts;
 mod runs;
 mod search;

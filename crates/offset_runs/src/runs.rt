@@ -1,6 +1,7 @@
 ghost use Rattle.std.specs.Prelude.{◌≡◌, ◌≤◌, [], length, OnOk, OnErr};
 
 use crate::change::{cut_front, put_over};
+use crate::overlay::overlay;
 use crate::search::find_row;
 use share_model::{NoMemory, Row, Run, RunList};
 use std::alloc::Global;
@@ -71,6 +72,26 @@ impl Runs {
         ensures { CutsBelow self.old self.new offset }
     {
         cut_front(&mut self.list, offset);
+    }
+
+    /// Lays the rows of others over these, in one pass over both: where the others have a row, that is
+    /// the row. After want of memory the rows are as before.
+    pub fn merge_from(&mut self, other: &Runs) -> Result<(), NoMemory>
+        ensures ok { OnOk result (Overlays self.old self.new other.now) }
+        ensures err { OnErr result (self.new ≡ self.old) }
+    {
+        self.list = overlay(*self.list.allocator(), &self.list, &other.list)?;
+        Ok(())
+    }
+
+    /// The rows of canonical runs. It takes no memory.
+    pub fn from_list(runs: RunList) -> Runs
+        requires { IsCanonical runs }
+        ensures { result ≡ runs }
+    {
+        Runs {
+            list: runs.into_vec(),
+        }
     }
 
     /// The canonical runs, in order.

@@ -1,0 +1,14 @@
+use Rattle.std.proofs.Common.{◌≡◌, ◌++◌, ◌+◌, [], IfNone, length}
+use Rattle.offset_runs.specs.Parts.{maybe_run}
+use Rattle.offset_runs.proofs.Merges.{IsMerging}
+use Rattle.offset_runs.proofs.overlay.overlay.Given as goal
+
+abbrev pub invariant-loop-head : goal.invariant-loop-head
+invariant-loop-head l =
+    record {
+      merging : IsMerging l.fn.mine l.fn.theirs l.out.items (maybe_run l.head ++ l.rest) l.theirs;
+      none : IfNone l.head (l.rest ≡ []);
+    }
+
+abbrev pub decreases-loop-head : goal.decreases-loop-head
+decreases-loop-head l = length (maybe_run l.head ++ l.rest) + length l.theirs
