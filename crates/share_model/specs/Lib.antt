@@ -1,3 +1,4 @@
+pub mod Foreign
 pub mod Keys
 pub mod Names
 pub mod Rooms

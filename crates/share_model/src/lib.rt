@@ -2,6 +2,7 @@
 #![tactic(auto)]
 
 mod blob;
+mod close_cause;
 mod fault;
 mod foreign;
 mod hold;
@@ -13,6 +14,7 @@ mod row;
 mod run;
 
 pub use blob::Blob;
+pub use close_cause::CloseCause;
 pub use fault::{BatchFault, Code, StoreFault};
 pub use flex_fields::NoMemory;
 pub use foreign::{ForeignAnswer, ForeignOp, StateBatch};

@@ -1,0 +1,60 @@
+-- Foreign state: the share-partition states of partitions that this broker doesn't host. Their coordinators keep them here
+-- by the share-group state calls of KIP-932.
+use Rattle.std.specs.Prelude.{ℕ, ℤ, pos, negsuc, Bool, true, false, List, [], ◌∷◌, Option, Some, None, int_lt, if◌then◌else◌}
+use Rattle.std.specs.declared.cmp.Ordering.{Ordering}
+use Rattle.std.specs.declared.cmp.Ordering.TheVariants.{Equal}
+use Rattle.share_model.specs.Keys.{KeyParts, key_cmp}
+use Rattle.share_model.specs.declared.fault.TheConstants.Code.{NONE, UNKNOWN_TOPIC_OR_PARTITION, FENCED_LEADER_EPOCH, FENCED_STATE_EPOCH}
+use Rattle.share_model.specs.declared.fault.Code.{Code}
+
+
+use Rattle.share_model.specs.declared.foreign.ForeignAnswer.{ForeignAnswer}
+
+-- what the last accepted calls on a key gave
+pub record ForeignState : Type 0 where
+  pub state_epoch : ℤ
+  pub leader_epoch : ℤ
+  pub start : ℤ
+
+pub record ForeignEntry : Type 0 where
+  pub key : KeyParts
+  pub state : ForeignState
+
+abbrev pub is_equal : Ordering → Bool
+is_equal Equal = true
+is_equal _ = false
+
+abbrev pub same_key : KeyParts → KeyParts → Bool
+same_key a b = is_equal (key_cmp a b)
+
+-- the state of a key that is there
+abbrev pub known_at : KeyParts → List ForeignEntry → Option ForeignState
+known_at key [] = None
+known_at key (entry ∷ entries) = if same_key key entry.key then Some entry.state else known_at key entries
+
+-- the key has this state from now on; a new key stands behind the others
+abbrev pub with_state : KeyParts → ForeignState → List ForeignEntry → List ForeignEntry
+with_state key state [] = record { key = key; state = state } ∷ []
+with_state key state (entry ∷ entries) = if same_key key entry.key then record { key = key; state = state } ∷ entries else entry ∷ with_state key state entries
+
+-- an answer that tells nothing but its code
+abbrev pub code_alone : Code → ForeignAnswer
+code_alone code = record { code = code; state_epoch = pos 0; start = negsuc 0; runs = [] }
+
+-- a state epoch below the one that is known comes from a coordinator that was replaced
+abbrev pub is_fenced_state : Option ForeignState → ℤ → Bool
+is_fenced_state None epoch = false
+is_fenced_state (Some state) epoch = int_lt epoch state.state_epoch
+
+abbrev pub initialize_answer : Option ForeignState → ℤ → ForeignAnswer
+initialize_answer state epoch = if is_fenced_state state epoch then code_alone FENCED_STATE_EPOCH else code_alone NONE
+
+abbrev pub initialized : KeyParts → ℤ → ℤ → List ForeignEntry → List ForeignEntry
+initialized key epoch start entries =
+    if is_fenced_state (known_at key entries) epoch then entries else with_state key (record { state_epoch = epoch; leader_epoch = pos 0; start = start }) entries
+
+abbrev pub read_answer : Option ForeignState → ℤ → ForeignAnswer
+read_answer None leader_epoch = code_alone UNKNOWN_TOPIC_OR_PARTITION
+read_answer (Some state) leader_epoch =
+    if int_lt leader_epoch state.leader_epoch then code_alone FENCED_LEADER_EPOCH
+    else record { code = NONE; state_epoch = state.state_epoch; start = state.start; runs = [] }
