@@ -1,17 +1,17 @@
 -- Runs that are put together.
-use Rattle.std.proofs.Common.{◌≡◌, ◌≢◌, ℕ, ◌+◌, ◌-◌, ◌<◌, ◌≤◌, Bool, true, false, cond, List, [], ◌∷◌, ◌++◌, Option, Some, None, refl, ap, ◌∙◌, sym, subst, arith, ◌⊎◌, inl, inr}
+use Rattle.std.proofs.Common.{◌≡◌, ℕ, ◌+◌, ◌≤◌, Bool, true, false, cond, List, [], ◌∷◌, ◌++◌, Option, Some, None, refl, ap, ◌∙◌, sym, arith, inl, inr}
 use Rattle.std.proofs.lemmas.Bool.{cases_lt}
 use Rattle.std.proofs.lemmas.Bool.Decides.{nat_tests}
 use Rattle.std.specs.Prelude.{nat_le, ◌&&◌}
 use Rattle.std.specs.Option.{option_or}
-use Rattle.share_model.proofs.Lookups.{row_at-here, row_at-below, row_at-beyond, row_at-none, row_at-first}
+use Rattle.share_model.proofs.Lookups.{row_at-here, row_at-below, row_at-beyond}
 use Rattle.share_model.specs.Rows.{state_number}
 use Rattle.share_model.specs.Runs.{row_of, row_at, Follows, IsCanonical}
 use Rattle.share_model.specs.declared.row.Row.{Row}
 use Rattle.share_model.specs.declared.row.RowState.{RowState}
 use Rattle.share_model.specs.declared.row.RowState.TheVariants.{Available, Acknowledged, Archived}
 use Rattle.share_model.specs.declared.run.Run.{Run}
-use Rattle.offset_runs.specs.Parts.{touches, joined_to, joined, EndsBelow, StartsFrom}
+use Rattle.offset_runs.specs.Parts.{touches, joined, EndsBelow, StartsFrom}
 
 -- a choice by a test, and what the test says
 pub choose : {A : Type 0} (P : A → Type 0) (b : Bool) (x y : A) → (b ≡ true → P x) → (b ≡ false → P y) → P (cond b x y)
@@ -91,15 +91,15 @@ taken-row_at : (x y : Run) (ys : List Run) (o : ℕ) → x.first ≤ x.last → 
 taken-row_at x y ys o some next touch row =
     let both : Run = record x { last = y.last } in
     elim (cases_lt o x.first) [
-      inl below ↦
-        row_at-below both ys o below ∙ sym (row_at-below y ys o (omega arith)) ∙ ap (λ (l : Option Row). option_or l (row_at (y ∷ ys) o)) (sym (row_at-below x [] o below))
-    | inr from ↦ elim (cases_lt x.last o) [
-        inr upto ↦ row_at-here both ys o from (omega arith) ∙ ap (λ (l : Option Row). option_or l (row_at (y ∷ ys) o)) (sym (row_at-here x [] o from upto))
-      | inl beyond ↦ let first : row_at (x ∷ []) o ≡ None = row_at-beyond x [] o beyond in elim (cases_lt y.last o) [
-          inl past ↦ row_at-beyond both ys o past ∙ sym (row_at-beyond y ys o past) ∙ ap (λ (l : Option Row). option_or l (row_at (y ∷ ys) o)) (sym first)
-        | inr within ↦
-            row_at-here both ys o (omega arith) within ∙ ap (λ (r : Row). Some r) row ∙ sym (row_at-here y ys o (omega arith) within)
-            ∙ ap (λ (l : Option Row). option_or l (row_at (y ∷ ys) o)) (sym first)
+      | inl below ↦
+          row_at-below both ys o below ∙ sym (row_at-below y ys o (omega arith)) ∙ ap (λ (l : Option Row). option_or l (row_at (y ∷ ys) o)) (sym (row_at-below x [] o below))
+      | inr from ↦ elim (cases_lt x.last o) [
+        | inr upto ↦ row_at-here both ys o from (omega arith) ∙ ap (λ (l : Option Row). option_or l (row_at (y ∷ ys) o)) (sym (row_at-here x [] o from upto))
+        | inl beyond ↦ let first : row_at (x ∷ []) o ≡ None = row_at-beyond x [] o beyond in elim (cases_lt y.last o) [
+          | inl past ↦ row_at-beyond both ys o past ∙ sym (row_at-beyond y ys o past) ∙ ap (λ (l : Option Row). option_or l (row_at (y ∷ ys) o)) (sym first)
+          | inr within ↦
+              row_at-here both ys o (omega arith) within ∙ ap (λ (r : Row). Some r) row ∙ sym (row_at-here y ys o (omega arith) within)
+              ∙ ap (λ (l : Option Row). option_or l (row_at (y ∷ ys) o)) (sym first)
         ]
       ]
     ]

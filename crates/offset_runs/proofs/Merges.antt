@@ -1,8 +1,7 @@
 -- One list of runs laid over another, from the front.
-use Rattle.std.proofs.Common.{◌≡◌, ℕ, ◌+◌, ◌-◌, ◌<◌, ◌≤◌, max, Bool, true, false, cond, List, [], ◌∷◌, ◌++◌, Option, Some, None, IfNone, length, refl, ap, ◌∙◌, sym, subst, arith, ◌⊎◌, inl, inr}
+use Rattle.std.proofs.Common.{◌≡◌, ℕ, ◌+◌, ◌<◌, ◌≤◌, max, true, false, cond, List, [], ◌∷◌, ◌++◌, Option, Some, None, IfNone, length, refl, ap, ◌∙◌, sym, subst, arith, inl, inr}
 use Rattle.std.proofs.lemmas.Bool.{cases_lt}
 use Rattle.std.proofs.lemmas.List.{nil_from_length}
-use Rattle.std.proofs.lemmas.Bool.Decides.{nat_tests}
 use Rattle.std.specs.Prelude.{nat_lt}
 use Rattle.std.specs.Option.{option_or}
 use Rattle.share_model.proofs.Lookups.{row_at-here, row_at-below, row_at-beyond, row_at-none, row_at-first}
@@ -34,13 +33,13 @@ no_lead (x ∷ xs) = tt
 
 pub begins-merging : (mine theirs : List Run) → IsCanonical mine → IsCanonical theirs → IsMerging mine theirs [] mine theirs
 begins-merging mine theirs cm ct = record {
-    out_canonical = tt;
-    mine_canonical = cm;
-    theirs_canonical = ct;
-    before_mine = no_lead mine;
-    before_theirs = no_lead theirs;
-    rows = λ o. refl;
-  }
+  out_canonical = tt;
+  mine_canonical = cm;
+  theirs_canonical = ct;
+  before_mine = no_lead mine;
+  before_theirs = no_lead theirs;
+  rows = λ o. refl;
+}
 
 -- the part of a run below an offset
 abbrev part : Run → ℕ → List Run
@@ -95,19 +94,19 @@ kept_rows out x y xs ys o co cx cy ends =
     let goal_at : Option Row → Option Row → Type 0 = λ d e. option_or (option_or a d) (option_or e c) ≡ option_or a (option_or e (option_or b c)) in
     ap (λ (r : Option Row). option_or r (option_or w c)) (written-rows out x y.first o co cx.0)
     ∙ choose (λ (d : Option Row). option_or (option_or a d) (option_or w c) ≡ option_or a (option_or w (option_or b c))) (nat_lt o y.first) b None
-      (λ below.
-        let none : w ≡ None = row_at-first y ys o cy (lt_yes o y.first below) in
-        subst (λ (e : Option Row). option_or (option_or a b) (option_or e c) ≡ option_or a (option_or e (option_or b c))) (sym none) (under_both a b c))
-      (λ above.
-        let from : y.first ≤ o = lt_no o y.first above in
-        elim (cases_lt x.last o) [
-          inl beyond ↦
-            let none : b ≡ None = row_at-beyond x [] o beyond in
-            subst (λ (e : Option Row). option_or (option_or a None) (option_or w c) ≡ option_or a (option_or w (option_or e c))) (sym none) (passed a w c)
-        | inr upto ↦
-            let some : w ≡ Some (row_of y) = row_at-here y ys o from (omega arith) in
-            subst (λ (e : Option Row). option_or (option_or a None) (option_or e c) ≡ option_or a (option_or e (option_or b c))) (sym some) (covered a b c (row_of y))
-        ])
+    (λ below.
+    let none : w ≡ None = row_at-first y ys o cy (lt_yes o y.first below) in
+    subst (λ (e : Option Row). option_or (option_or a b) (option_or e c) ≡ option_or a (option_or e (option_or b c))) (sym none) (under_both a b c))
+    (λ above.
+    let from : y.first ≤ o = lt_no o y.first above in
+    elim (cases_lt x.last o) [
+      | inl beyond ↦
+          let none : b ≡ None = row_at-beyond x [] o beyond in
+          subst (λ (e : Option Row). option_or (option_or a None) (option_or w c) ≡ option_or a (option_or w (option_or e c))) (sym none) (passed a w c)
+      | inr upto ↦
+          let some : w ≡ Some (row_of y) = row_at-here y ys o from (omega arith) in
+          subst (λ (e : Option Row). option_or (option_or a None) (option_or e c) ≡ option_or a (option_or e (option_or b c))) (sym some) (covered a b c (row_of y))
+    ])
     ∙ ap (λ (r : Option Row). option_or a (option_or w r)) (sym (row_at-cons x xs o))
 
 -- a step where the first of mine ends no later than the first of theirs
@@ -128,15 +127,15 @@ cut-single : (x : Run) (xs : List Run) (g o : ℕ) → g ≤ x.last → IsCanoni
 cut-single x xs g o within canonical =
     row_at-cons (run_from x g) xs o
     ∙ ap (λ (r : Option Row). option_or r (row_at xs o)) (choose (λ (r : Option Row). row_at (run_from x g ∷ []) o ≡ r) (nat_lt o g) None (row_at (x ∷ []) o)
-      (λ below. row_at-below (run_from x g) [] o (omega (arith, lt_yes o g below)))
-      (λ above. let high = lt_no o g above in
-        elim (cases_lt o x.first) [
-          inl early ↦ row_at-below (run_from x g) [] o (omega arith) ∙ sym (row_at-below x [] o early)
-        | inr from ↦ elim (cases_lt x.last o) [
-            inl beyond ↦ row_at-beyond (run_from x g) [] o beyond ∙ sym (row_at-beyond x [] o beyond)
-          | inr upto ↦ row_at-here (run_from x g) [] o (omega arith) upto ∙ sym (row_at-here x [] o from upto)
-          ]
-        ]))
+    (λ below. row_at-below (run_from x g) [] o (omega (arith, lt_yes o g below)))
+    (λ above. let high = lt_no o g above in
+    elim (cases_lt o x.first) [
+      | inl early ↦ row_at-below (run_from x g) [] o (omega arith) ∙ sym (row_at-below x [] o early)
+      | inr from ↦ elim (cases_lt x.last o) [
+        | inl beyond ↦ row_at-beyond (run_from x g) [] o beyond ∙ sym (row_at-beyond x [] o beyond)
+        | inr upto ↦ row_at-here (run_from x g) [] o (omega arith) upto ∙ sym (row_at-here x [] o from upto)
+      ]
+    ]))
 
 -- what is known below theirs, within it and behind it
 below_theirs : (a b c : Option Row) → option_or (option_or (option_or a b) None) (option_or None (option_or None c)) ≡ option_or a (option_or None (option_or b c))
@@ -161,10 +160,10 @@ over_rows out x y xs ys o c1 co cx cy ends =
     let c = row_at xs o in
     let z = row_at ys o in
     ap (λ (r : Option Row). option_or r (option_or z (row_at (run_from x (y.last + 1) ∷ xs) o)))
-      (joined-row_at (joined out (part x y.first)) (y ∷ []) o c1 (single y cy.0) ∙ ap (λ (r : Option Row). option_or r (row_at (y ∷ []) o)) (written-rows out x y.first o co cx.0))
+    (joined-row_at (joined out (part x y.first)) (y ∷ []) o c1 (single y cy.0) ∙ ap (λ (r : Option Row). option_or r (row_at (y ∷ []) o)) (written-rows out x y.first o co cx.0))
     ∙ ap (λ (r : Option Row). option_or (option_or (option_or a (cond (nat_lt o y.first) b None)) (row_at (y ∷ []) o)) (option_or z r)) (cut-single x xs (y.last + 1) o (omega arith) cx)
     ∙ elim (cases_lt o y.first) [
-        inl below ↦
+      | inl below ↦
           let t1 : nat_lt o y.first ≡ true = yes_lt o y.first below in
           let t2 : nat_lt o (y.last + 1) ≡ true = yes_lt o (y.last + 1) (omega (arith, cy.0)) in
           let e1 : row_at (y ∷ []) o ≡ None = row_at-below y [] o below in
@@ -173,7 +172,7 @@ over_rows out x y xs ys o c1 co cx cy ends =
           (λ i. option_or (option_or (option_or a (cond (t1 i) b None)) (e1 i)) (option_or (e2 i) (option_or (cond (t2 i) None b) c)))
           ∙ below_theirs a b c ∙ ap (λ (e : Option Row). option_or a (option_or e (option_or b c))) (sym e3)
       | inr from ↦ elim (cases_lt y.last o) [
-          inr upto ↦
+        | inr upto ↦
             let t1 : nat_lt o y.first ≡ false = no_lt o y.first from in
             let e1 : row_at (y ∷ []) o ≡ Some (row_of y) = row_at-here y [] o from upto in
             let e3 : row_at (y ∷ ys) o ≡ Some (row_of y) = row_at-here y ys o from upto in
@@ -187,8 +186,8 @@ over_rows out x y xs ys o c1 co cx cy ends =
             let e3 : row_at (y ∷ ys) o ≡ z = row_at-beyond y ys o beyond in
             (λ i. option_or (option_or (option_or a (cond (t1 i) b None)) (e1 i)) (option_or z (option_or (cond (t2 i) None b) c)))
             ∙ behind_theirs a b c z ∙ ap (λ (e : Option Row). option_or a (option_or e (option_or b c))) (sym e3)
-        ]
       ]
+    ]
     ∙ ap (λ (r : Option Row). option_or a (option_or (row_at (y ∷ ys) o) r)) (sym (row_at-cons x xs o))
 
 Follows-cut : (x : Run) (xs : List Run) (g : ℕ) → Follows x xs → Follows (run_from x g) xs
@@ -234,9 +233,9 @@ pub record IsMerged (mine theirs out : List Run) : Type 0 where
 
 pub ends-theirs : (mine theirs out xs : List Run) → IsMerging mine theirs out xs [] → IsMerged mine theirs (joined out xs)
 ends-theirs mine theirs out xs m = record {
-    canonical = joined-lead out xs m.out_canonical m.mine_canonical m.before_mine;
-    rows = λ o. joined-row_at out xs o m.out_canonical m.mine_canonical ∙ m.rows o;
-  }
+  canonical = joined-lead out xs m.out_canonical m.mine_canonical m.before_mine;
+  rows = λ o. joined-row_at out xs o m.out_canonical m.mine_canonical ∙ m.rows o;
+}
 
 option_or-none : (o : Option Row) → option_or o None ≡ o
 option_or-none None = refl
@@ -245,9 +244,9 @@ option_or-none (Some row) = refl
 -- nothing is left of mine
 pub ends-mine : (mine theirs out ys : List Run) → IsMerging mine theirs out [] ys → IsMerged mine theirs (joined out ys)
 ends-mine mine theirs out ys m = record {
-    canonical = joined-lead out ys m.out_canonical m.theirs_canonical m.before_theirs;
-    rows = λ o. joined-row_at out ys o m.out_canonical m.theirs_canonical ∙ ap (option_or (row_at out o)) (sym (option_or-none (row_at ys o))) ∙ m.rows o;
-  }
+  canonical = joined-lead out ys m.out_canonical m.theirs_canonical m.before_theirs;
+  rows = λ o. joined-row_at out ys o m.out_canonical m.theirs_canonical ∙ ap (option_or (row_at out o)) (sym (option_or-none (row_at ys o))) ∙ m.rows o;
+}
 
 -- no first run, and so no other
 nothing_left : (head : Option Run) (rest : List Run) → IfNone head (rest ≡ []) → head ≡ None → maybe_run head ++ rest ≡ []
@@ -268,7 +267,7 @@ module _ (mine theirs out : List Run) (head : Option Run) (rest left : List Run)
   pub theirs_done : (new first_out : List Run) (x : Run) → head ≡ Some x → length left ≡ 0 → first_out ≡ joined out (x ∷ []) → new ≡ first_out ++ rest → IsMerged mine theirs new
   theirs_done new first_out x is none first_is new_is =
       let m : IsMerging mine theirs out (x ∷ rest) [] =
-        subst (λ (l : List Run). IsMerging mine theirs out (x ∷ rest) l) (nil_from_length left none) (subst (λ (h : Option Run). IsMerging mine theirs out (maybe_run h ++ rest) left) is merging) in
+      subst (λ (l : List Run). IsMerging mine theirs out (x ∷ rest) l) (nil_from_length left none) (subst (λ (h : Option Run). IsMerging mine theirs out (maybe_run h ++ rest) left) is merging) in
       subst (IsMerged mine theirs) (sym (new_is ∙ ap (λ (l : List Run). l ++ rest) first_is ∙ sym (joined-back out x rest))) (ends-theirs mine theirs out (x ∷ rest) m)
 
   -- the loop goes on with the next run of mine

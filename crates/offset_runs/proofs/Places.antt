@@ -1,12 +1,11 @@
 -- Where a list of runs is cut.
-use Rattle.std.proofs.Common.{◌≡◌, ℕ, zero, suc, ◌+◌, ◌-◌, ◌<◌, ◌≤◌, min, max, Bool, true, false, cond, List, [], ◌∷◌, ◌++◌, length, get_or, take, drop, refl, ap, ◌∙◌, sym, subst, arith, ◌⊎◌, inl, inr}
+use Rattle.std.proofs.Common.{◌≡◌, ℕ, zero, suc, ◌+◌, ◌-◌, ◌<◌, ◌≤◌, min, Bool, true, false, cond, List, [], ◌∷◌, ◌++◌, length, get_or, take, drop, refl, ap, ◌∙◌, sym, subst, arith}
 use Rattle.std.specs.Prelude.{nat_lt}
-use Rattle.std.proofs.Common.{Option, Some, None}
+use Rattle.std.proofs.Common.{Some, None}
 use Rattle.std.proofs.lemmas.Bool.Decides.{nat_tests}
 use Rattle.share_model.proofs.Lookups.{row_at-here, row_at-first}
 use Rattle.share_model.specs.Runs.{row_of, row_at, Follows, IsCanonical}
 use Rattle.share_model.specs.declared.run.Run.{Run}
-use Rattle.offset_runs.proofs.Joins.{choose}
 use Rattle.offset_runs.proofs.Cuts.{lt_yes, lt_no, yes_lt, from_on-row_at, from_on-canonical}
 use Rattle.offset_runs.specs.Parts.{before, from_on, begun, ended, run_before, run_from}
 
@@ -15,8 +14,8 @@ pub begun-none : (xs : List Run) (f : ℕ) → begun xs f ≡ 0 → before xs f 
 begun-none [] f none = refl
 begun-none (x ∷ xs) f none =
     elim (nat_lt x.first f) as (λ b. cond b (suc (begun xs f)) 0 ≡ 0 → cond b (run_before x f ∷ before xs f) [] ≡ []) [
-      true ↦ λ e. absurd (omega arith)
-    | false ↦ λ e. refl
+      | true ↦ λ e. absurd (omega arith)
+      | false ↦ λ e. refl
     ] none
 
 -- the last run that begins below the offset
@@ -34,10 +33,10 @@ more : (x : Run) (xs : List Run) (f n : ℕ) (d : Run) → IsCanonical (x ∷ xs
 more x [] f n d canonical begins test count last = absurd (omega arith)
 more x (next ∷ xs) f n d canonical begins test count last =
     let there : next.first < f =
-      elim (nat_lt next.first f) as (λ b. nat_lt next.first f ≡ b → cond b (suc (begun xs f)) 0 ≡ suc n → next.first < f) [
-        true ↦ λ t e. lt_yes next.first f t
+    elim (nat_lt next.first f) as (λ b. nat_lt next.first f ≡ b → cond b (suc (begun xs f)) 0 ≡ suc n → next.first < f) [
+      | true ↦ λ t e. lt_yes next.first f t
       | false ↦ λ t e. absurd (omega arith)
-      ] refl count
+    ] refl count
     in
     record {
       begins = last.begins;
@@ -48,17 +47,17 @@ pub begun-place : (xs : List Run) (f n : ℕ) (d : Run) → IsCanonical xs → b
 begun-place [] f n d canonical count = absurd (omega arith)
 begun-place (x ∷ xs) f zero d canonical count =
     elim (nat_lt x.first f) as (λ b. nat_lt x.first f ≡ b → cond b (suc (begun xs f)) 0 ≡ 1 → LastBefore (x ∷ xs) f 0 d) [
-      true ↦ λ test e. record {
+      | true ↦ λ test e. record {
         begins = lt_yes x.first f test;
         parts = ap (λ (b : Bool). cond b (run_before x f ∷ before xs f) []) test ∙ ap (λ (l : List Run). run_before x f ∷ l) (begun-none xs f (omega arith));
       }
-    | false ↦ λ test e. absurd (omega arith)
+      | false ↦ λ test e. absurd (omega arith)
     ] refl count
 begun-place (x ∷ xs) f (suc n) d canonical count =
     elim (nat_lt x.first f) as (λ b. nat_lt x.first f ≡ b → cond b (suc (begun xs f)) 0 ≡ suc (suc n) → LastBefore (x ∷ xs) f (suc n) d) [
-      true ↦ λ test e. let known : begun xs f ≡ suc n = omega arith in
-        more x xs f n d canonical (lt_yes x.first f test) test known (begun-place xs f n d canonical.2 known)
-    | false ↦ λ test e. absurd (omega arith)
+      | true ↦ λ test e. let known : begun xs f ≡ suc n = omega arith in
+          more x xs f n d canonical (lt_yes x.first f test) test known (begun-place xs f n d canonical.2 known)
+      | false ↦ λ test e. absurd (omega arith)
     ] refl count
 
 -- the first run that ends at the offset or behind it
@@ -70,23 +69,23 @@ pub ended-place : (xs : List Run) (f n : ℕ) (d : Run) → ended xs f ≡ n →
 ended-place [] f n d count within = absurd (omega arith)
 ended-place (x ∷ xs) f zero d count within =
     elim (nat_lt x.last f) as (λ b. nat_lt x.last f ≡ b → cond b (suc (ended xs f)) 0 ≡ 0 → FirstFrom (x ∷ xs) f 0 d) [
-      true ↦ λ test e. absurd (omega arith)
-    | false ↦ λ test e. record { ends = lt_no x.last f test; parts = ap (λ (b : Bool). cond b (from_on xs f) (run_from x f ∷ xs)) test }
+      | true ↦ λ test e. absurd (omega arith)
+      | false ↦ λ test e. record { ends = lt_no x.last f test; parts = ap (λ (b : Bool). cond b (from_on xs f) (run_from x f ∷ xs)) test }
     ] refl count
 ended-place (x ∷ xs) f (suc n) d count within =
     elim (nat_lt x.last f) as (λ b. nat_lt x.last f ≡ b → cond b (suc (ended xs f)) 0 ≡ suc n → FirstFrom (x ∷ xs) f (suc n) d) [
-      true ↦ λ test e.
-        let rest = ended-place xs f n d (omega arith) (omega arith) in
-        record { ends = rest.ends; parts = ap (λ (b : Bool). cond b (from_on xs f) (run_from x f ∷ xs)) test ∙ rest.parts }
-    | false ↦ λ test e. absurd (omega arith)
+      | true ↦ λ test e.
+          let rest = ended-place xs f n d (omega arith) (omega arith) in
+          record { ends = rest.ends; parts = ap (λ (b : Bool). cond b (from_on xs f) (run_from x f ∷ xs)) test ∙ rest.parts }
+      | false ↦ λ test e. absurd (omega arith)
     ] refl count
 
 pub ended-none : (xs : List Run) (f : ℕ) → ended xs f ≡ length xs → from_on xs f ≡ []
 ended-none [] f count = refl
 ended-none (x ∷ xs) f count =
     elim (nat_lt x.last f) as (λ b. cond b (suc (ended xs f)) 0 ≡ suc (length xs) → cond b (from_on xs f) (run_from x f ∷ xs) ≡ []) [
-      true ↦ λ e. ended-none xs f (omega arith)
-    | false ↦ λ e. absurd (omega arith)
+      | true ↦ λ e. ended-none xs f (omega arith)
+      | false ↦ λ e. absurd (omega arith)
     ] count
 
 pub drop-whole : (xs : List Run) (n : ℕ) → n ≡ length xs → drop n xs ≡ []
@@ -100,12 +99,12 @@ Follows-ended : (x : Run) (xs : List Run) (first last : ℕ) → IsCanonical (x 
 Follows-ended x [] first last canonical order = omega arith
 Follows-ended x (next ∷ xs) first last canonical order =
     elim (nat_lt next.first first) as (λ b. nat_lt next.first first ≡ b → cond b (suc (begun xs first)) 0 ≤ ended (x ∷ next ∷ xs) (last + 1)) [
-      false ↦ λ test. omega arith
-    | true ↦ λ test.
-        let begins = lt_yes next.first first test in
-        let ends : nat_lt x.last (last + 1) ≡ true = yes_lt x.last (last + 1) (omega (arith, canonical.1.0)) in
-        let rest = Follows-ended next xs first last canonical.2 order in
-        subst (λ b. suc (begun xs first) ≤ cond b (suc (ended (next ∷ xs) (last + 1))) 0) (sym ends) (omega (arith, rest))
+      | false ↦ λ test. omega arith
+      | true ↦ λ test.
+          let begins = lt_yes next.first first test in
+          let ends : nat_lt x.last (last + 1) ≡ true = yes_lt x.last (last + 1) (omega (arith, canonical.1.0)) in
+          let rest = Follows-ended next xs first last canonical.2 order in
+          subst (λ b. suc (begun xs first) ≤ cond b (suc (ended (next ∷ xs) (last + 1))) 0) (sym ends) (omega (arith, rest))
     ] refl
 
 -- the runs that stay before a range are no more than those that end below it
@@ -113,8 +112,8 @@ pub begun-ended : (xs : List Run) (first last : ℕ) → IsCanonical xs → firs
 begun-ended [] first last canonical order = omega arith
 begun-ended (x ∷ xs) first last canonical order =
     elim (nat_lt x.first first) as (λ b. cond b (suc (begun xs first)) 0 - 1 ≤ ended (x ∷ xs) (last + 1)) [
-      false ↦ omega arith
-    | true ↦ omega (arith, Follows-ended x xs first last canonical order)
+      | false ↦ omega arith
+      | true ↦ omega (arith, Follows-ended x xs first last canonical order)
     ]
 
 not_below_itself : (o : ℕ) → nat_lt o o ≡ false

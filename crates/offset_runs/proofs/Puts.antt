@@ -1,5 +1,5 @@
 -- A range that is put over runs.
-use Rattle.std.proofs.Common.{◌≡◌, ℕ, length, take, drop, IfNone, subst, ◌+◌, ◌-◌, ◌<◌, ◌≤◌, Bool, true, false, cond, List, [], ◌∷◌, ◌++◌, append-nil, Option, Some, None, refl, ap, ◌∙◌, sym, arith}
+use Rattle.std.proofs.Common.{◌≡◌, ℕ, length, take, drop, IfNone, subst, ◌+◌, ◌≤◌, Bool, true, false, cond, List, [], ◌∷◌, ◌++◌, append-nil, Option, Some, None, refl, ap, ◌∙◌, sym, arith}
 use Rattle.std.proofs.lemmas.Bool.Decides.{nat_tests}
 use Rattle.std.specs.Prelude.{nat_le, nat_lt, ◌&&◌, not}
 use Rattle.std.specs.Option.{option_or}
@@ -52,7 +52,7 @@ put_over-canonical xs middle canonical order =
     (joined-canonical (before xs middle.first) (middle ∷ []) middle.first (before-canonical xs middle.first canonical) single (before-ends xs middle.first) (omega arith))
     (from_on-canonical xs (middle.last + 1) canonical)
     (EndsBelow-joined (before xs middle.first) (middle ∷ []) (middle.last + 1)
-      (EndsBelow-more (before xs middle.first) middle.first (middle.last + 1) (omega arith) (before-ends xs middle.first)) ends)
+    (EndsBelow-more (before xs middle.first) middle.first (middle.last + 1) (omega arith) (before-ends xs middle.first)) ends)
     (from_on-starts xs (middle.last + 1))
 
 pick : (a c : Bool) (old : Option Row) (row : Row) → (a ≡ true → c ≡ true)
@@ -79,7 +79,7 @@ put_over-rows xs middle canonical order o =
     let back = from_on xs (middle.last + 1) in
     let front_canonical : IsCanonical front = before-canonical xs middle.first canonical in
     let both : IsCanonical (joined front (middle ∷ [])) =
-      joined-canonical front (middle ∷ []) middle.first front_canonical single (before-ends xs middle.first) (omega arith) in
+    joined-canonical front (middle ∷ []) middle.first front_canonical single (before-ends xs middle.first) (omega arith) in
     let a = nat_lt o middle.first in
     let c = nat_le o middle.last in
     let old = row_at xs o in
@@ -110,9 +110,9 @@ pub put_parts : (xs front back new pieces : List Run) (start end : ℕ) (left ri
 put_parts xs front back new pieces start end left right middle same same2 before_is no_left behind_is no_right pieces_are new_is =
     let no_right2 : IfNone right (end ≡ length xs) = subst (λ (l : List Run). IfNone right (end ≡ length l)) same2 no_right in
     let before2 : before xs middle.first ≡ take start xs ++ maybe_run left =
-      subst (λ (l : List Run). before l middle.first ≡ take start l ++ maybe_run left) same before_is in
+    subst (λ (l : List Run). before l middle.first ≡ take start l ++ maybe_run left) same before_is in
     let behind2 : from_on xs (middle.last + 1) ≡ maybe_run right ++ drop end xs =
-      subst (λ (l : List Run). from_on l (middle.last + 1) ≡ maybe_run right ++ drop end l) same2 behind_is in
+    subst (λ (l : List Run). from_on l (middle.last + 1) ≡ maybe_run right ++ drop end l) same2 behind_is in
     new_is ∙ ap (λ (l : List Run). take start xs ++ (l ++ drop end xs)) pieces_are
     ∙ pieces_between (take start xs) (drop end xs) left right middle (none_before left start xs no_left) (none_behind right end xs no_right2)
     ∙ ap (λ (l : List Run). joined (joined l (middle ∷ [])) (maybe_run right ++ drop end xs)) (sym before2)

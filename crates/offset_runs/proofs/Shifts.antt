@@ -1,5 +1,5 @@
 -- Runs that are moved within their list.
-use Rattle.std.proofs.Common.{◌≡◌, ℕ, zero, suc, ◌+◌, ◌-◌, ◌<◌, ◌≤◌, min, max, Bool, true, false, cond, set, List, [], ◌∷◌, ◌++◌, length, get_or, take, drop, refl, ap, ◌∙◌, sym, arith}
+use Rattle.std.proofs.Common.{◌≡◌, ℕ, suc, ◌+◌, ◌-◌, ◌<◌, ◌≤◌, max, true, false, cond, set, List, [], ◌∷◌, length, get_or, take, drop, refl, ap, ◌∙◌, sym, arith}
 use Rattle.std.proofs.lemmas.List.{ext_get_or, get_or-drop, get_or-take, length-drop, length-take, nil_from_length}
 use Rattle.std.specs.Prelude.{None, nat_lt}
 use Rattle.std.specs.Iterator.{Yields}
@@ -28,7 +28,7 @@ moved_down xs ys count n rest len within moved =
     let default : Run = record { first = 0; last = 0; state = Available; count = 0 } in
     ext_get_or default (take n ys) (drop count xs) (omega (arith, length-take n ys, length-drop count xs))
     (λ i low. let here : i < n = omega (arith, length-take n ys) in
-      get_or-take n ys i default here ∙ moved i default here ∙ sym (get_or-drop count xs i default))
+    get_or-take n ys i default here ∙ moved i default here ∙ sym (get_or-drop count xs i default))
 
 abbrev first_cut : List Run → ℕ → List Run
 first_cut [] f = []
@@ -38,8 +38,8 @@ from_on-drop : (xs : List Run) (f : ℕ) → first_cut (drop (ended xs f) xs) f 
 from_on-drop [] f = refl
 from_on-drop (x ∷ xs) f =
     elim (nat_lt x.last f) as (λ b. first_cut (drop (cond b (suc (ended xs f)) 0) (x ∷ xs)) f ≡ cond b (from_on xs f) (run_from x f ∷ xs)) [
-      true ↦ from_on-drop xs f
-    | false ↦ refl
+      | true ↦ from_on-drop xs f
+      | false ↦ refl
     ]
 
 -- the first run is read as `z` and written as `x`

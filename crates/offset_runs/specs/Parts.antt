@@ -1,5 +1,5 @@
 -- Lists of runs, cut and joined.
-use Rattle.std.specs.Prelude.{◌≡◌, ◌≤◌, ◌<◌, ◌+◌, ◌-◌, ℕ, suc, min, max, Bool, List, [], ◌∷◌, Option, Some, None, nat_eq, nat_lt, ◌&&◌, if◌then◌else◌}
+use Rattle.std.specs.Prelude.{◌≤◌, ◌<◌, ◌+◌, ◌-◌, ℕ, suc, min, max, Bool, List, [], ◌∷◌, Option, Some, None, nat_eq, nat_lt, ◌&&◌, if◌then◌else◌}
 use Rattle.share_model.specs.Rows.{state_number}
 use Rattle.share_model.specs.declared.run.Run.{Run}
 

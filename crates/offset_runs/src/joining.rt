@@ -1,8 +1,8 @@
 ghost use Rattle.std.specs.Prelude.{◌≡◌, ◌≤◌, [], ◌∷◌, OnOk, OnErr, IfOk};
 ghost use Rattle.offset_runs.specs.Parts.{touches, joined, maybe_run};
 
-use std::alloc::{AllocError, Global};
 use share_model::Run;
+use std::alloc::{AllocError, Global};
 
 // Whether the second run begins right behind the first, with the same row.
 #[tactic(auto, unfolding(crate::specs::Parts::touches))]

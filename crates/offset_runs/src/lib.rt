@@ -8,5 +8,7 @@ mod parts;
 mod runs;
 mod search;
 mod shift;
+#[cfg(test)]
+mod tests;
 
 pub use runs::Runs;

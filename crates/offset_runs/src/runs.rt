@@ -94,6 +94,15 @@ impl Runs {
         }
     }
 
+    /// The canonical runs, handed out with no memory.
+    pub fn into_vec(self) -> Vec<Run>
+        ensures same { result.items ≡ self }
+        ensures canonical { IsCanonical self }
+    {
+        let Runs { list } = self;
+        list
+    }
+
     /// The canonical runs, in order.
     pub fn list(&self) -> &[Run]
         ensures same { result.now ≡ self.now }

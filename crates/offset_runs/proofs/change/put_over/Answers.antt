@@ -1,7 +1,4 @@
-use Rattle.std.proofs.Common.{arith, ◌≡◌, ◌≤◌, ◌+◌, ◌-◌, ◌++◌, ◌∙◌, [], ◌∷◌, List, Option, None, sym, ap, subst, take, drop}
-use Rattle.share_model.specs.Runs.{IsCanonical}
-use Rattle.share_model.specs.declared.run.Run.{Run}
-use Rattle.offset_runs.specs.Parts.{begun, ended, joined, maybe_run}
+use Rattle.std.proofs.Common.{arith}
 use Rattle.offset_runs.proofs.Places.{begun-ended}
 use Rattle.offset_runs.proofs.Puts.{put_parts}
 use Rattle.offset_runs.proofs.change.put_over.Goals as goal

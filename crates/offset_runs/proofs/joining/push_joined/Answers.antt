@@ -11,7 +11,7 @@ returns-then-is_touched-clause-ok c =
 pub returns-clause-ok : goal.returns-clause-ok
 returns-clause-ok c =
     c.in_ok-push.ensures.items ∙ elim c.else-count-gt0.branch [
-      else-count-gt0-via-then-count-gt0+else-is_touched w ↦
-        push-apart c.args.runs.now.items (c.len-count.result - 1) c.args.run w.index.result.now (omega arith) w.index.ensures (sym w.is_touched.ensures ∙ w.if-is_touched.false)
-    | else-count-gt0-via-else-count-gt0 w ↦ push-empty c.args.runs.now.items c.args.run (omega arith)
+      | else-count-gt0-via-then-count-gt0+else-is_touched w ↦
+          push-apart c.args.runs.now.items (c.len-count.result - 1) c.args.run w.index.result.now (omega arith) w.index.ensures (sym w.is_touched.ensures ∙ w.if-is_touched.false)
+      | else-count-gt0-via-else-count-gt0 w ↦ push-empty c.args.runs.now.items c.args.run (omega arith)
     ]

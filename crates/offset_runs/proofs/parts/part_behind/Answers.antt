@@ -1,4 +1,4 @@
-use Rattle.std.proofs.Common.{arith, ◌≡◌, ◌+◌, [], ◌∙◌, sym, drop, add-one}
+use Rattle.std.proofs.Common.{arith, ◌+◌, ◌∙◌, sym, add-one}
 use Rattle.share_model.specs.declared.row.RowState.TheVariants.{Available}
 use Rattle.share_model.specs.declared.run.Run.{Run}
 use Rattle.offset_runs.proofs.Places.{ended-none, ended-place, drop-whole}

@@ -1,4 +1,4 @@
-use Rattle.std.proofs.Common.{arith, ◌-◌, ◌∙◌, sym}
+use Rattle.std.proofs.Common.{arith, ◌-◌, ◌∙◌}
 use Rattle.offset_runs.proofs.Shifts.{moved_down}
 use Rattle.offset_runs.proofs.shift.remove_front.Goals as goal
 

@@ -1,4 +1,4 @@
-use Rattle.std.proofs.Common.{◌≡◌, ◌≤◌, ◌+◌, ◌-◌, ◌<◌, ℕ, vec_len, get_or}
+use Rattle.std.proofs.Common.{◌≡◌, ◌≤◌, ◌+◌, ◌<◌, ℕ, vec_len, get_or}
 use Rattle.share_model.specs.declared.run.Run.{Run}
 use Rattle.offset_runs.proofs.shift.remove_front.Given as goal
 

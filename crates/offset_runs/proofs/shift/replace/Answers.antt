@@ -1,6 +1,6 @@
-use Rattle.std.proofs.Common.{arith, ◌≡◌, ◌∙◌, sym, List, ◌++◌, ap, length, take, drop}
+use Rattle.std.proofs.Common.{◌≡◌, ◌∙◌, sym, List, ◌++◌, ap, length, take, drop}
 use Rattle.share_model.specs.declared.run.Run.{Run}
-use Rattle.std.specs.Vec.Iter.{into_iter_steps, into_iter_items, into_iter_len}
+use Rattle.std.specs.Vec.Iter.{into_iter_items, into_iter_len}
 use Rattle.offset_runs.proofs.Shifts.{drained}
 use Rattle.offset_runs.proofs.shift.replace.Goals as goal
 

@@ -1,4 +1,4 @@
-use Rattle.std.proofs.Common.{arith, sym, subst}
+use Rattle.std.proofs.Common.{sym, subst}
 use Rattle.share_model.specs.Runs.{IsCanonical}
 use Rattle.offset_runs.proofs.Cuts.{from_on-canonical, from_on-row_at}
 use Rattle.offset_runs.proofs.runs.Runs.cut_below.Goals as goal

@@ -1,7 +1,6 @@
-use Rattle.std.proofs.Common.{arith, sym, subst, List, ap}
+use Rattle.std.proofs.Common.{arith, sym, subst}
 use Rattle.share_model.specs.Runs.{IsCanonical}
 use Rattle.share_model.specs.declared.run.Run.{Run}
-use Rattle.offset_runs.specs.Changes.{PutsRange}
 use Rattle.offset_runs.proofs.Puts.{put_over-canonical, put_over-rows}
 use Rattle.offset_runs.proofs.runs.Runs.put_range.Goals as goal
 
