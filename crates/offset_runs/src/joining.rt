@@ -4,9 +4,10 @@ ghost use Rattle.offset_runs.specs.Parts.{touches, joined, maybe_run};
 use share_model::Run;
 use std::alloc::{AllocError, Global};
 
-// Whether the second run begins right behind the first, with the same row.
+/// Whether the second run begins right behind the first, with the same row, so that the two could be
+/// one.
 #[tactic(auto, unfolding(crate::specs::Parts::touches))]
-fn is_touched(x: &Run, y: &Run) -> bool
+pub fn touches(x: &Run, y: &Run) -> bool
     ensures { result ≡ touches x.now y.now }
 {
     x.last < y.first
@@ -21,7 +22,7 @@ pub(crate) fn push_joined(runs: &mut Vec<Run>, run: Run) -> Result<(), AllocErro
     ensures err { OnErr result (runs.new.items ≡ runs.old.items) }
 {
     let count = runs.len();
-    if count > 0 && is_touched(&runs[count - 1], &run) {
+    if count > 0 && touches(&runs[count - 1], &run) {
         runs[count - 1].last = run.last;
         return Ok(());
     }

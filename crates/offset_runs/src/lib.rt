@@ -11,4 +11,5 @@ mod shift;
 #[cfg(test)]
 mod tests;
 
+pub use joining::touches;
 pub use runs::Runs;
