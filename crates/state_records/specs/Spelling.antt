@@ -1,0 +1,52 @@
+-- The bytes of a state record, of which each record has just these.
+use Rattle.std.specs.Prelude.{◌-◌, ◌^◌, ℕ, ℤ, pos, negsuc, List, [], ◌∷◌, ◌++◌, length}
+use Rattle.std.specs.Int.{w16, w32, w64, to_be_bytes}
+use Rattle.std.specs.List.{flat_map}
+use Rattle.share_model.specs.Keys.{KeyParts}
+use Rattle.share_model.specs.Rows.{state_number}
+use Rattle.share_model.specs.declared.run.Run.{Run}
+use Rattle.state_records.specs.States.{StateParts, IsKey, IsState}
+use Rattle.state_records.specs.declared.record.StateRecord.{StateRecord}
+use Rattle.state_records.specs.declared.record.StateRecord.TheVariants.{Snapshot, Update, Removal}
+
+-- two bytes of length, and the name
+abbrev pub name_bytes : List ℕ → List ℕ
+name_bytes name = to_be_bytes w16 (length name) ++ name
+
+-- the group, the topic's 16 bytes and the partition in four
+abbrev pub key_bytes : KeyParts → List ℕ
+key_bytes key = name_bytes key.group ++ (key.topic ++ to_be_bytes w32 key.part)
+
+-- a signed number that is not negative, or -1, in two's complement of 64 bits
+abbrev pub epoch_number : ℤ → ℕ
+epoch_number (pos n) = n
+epoch_number (negsuc n) = 0
+
+abbrev pub start_number : ℤ → ℕ
+start_number (pos n) = n
+start_number (negsuc n) = 2 ^ 64 - 1
+
+-- both offsets in eight bytes, the state in one and the count in two
+abbrev pub run_bytes : Run → List ℕ
+run_bytes run = to_be_bytes w64 run.first ++ (to_be_bytes w64 run.last ++ ((state_number run.state ∷ []) ++ to_be_bytes w16 run.count))
+
+-- the number of runs in four bytes, and the runs
+abbrev pub runs_bytes : List Run → List ℕ
+runs_bytes runs = to_be_bytes w32 (length runs) ++ flat_map run_bytes runs
+
+abbrev pub state_bytes : StateParts → List ℕ
+state_bytes state =
+    key_bytes state.key ++ (to_be_bytes w64 state.snapshot ++ (to_be_bytes w32 (epoch_number state.state_epoch)
+    ++ (to_be_bytes w32 (epoch_number state.leader_epoch) ++ (to_be_bytes w64 (start_number state.start) ++ runs_bytes state.runs))))
+
+-- the kind, version 0 and the fields
+abbrev pub record_bytes : StateRecord → List ℕ
+record_bytes (Snapshot state) = 0 ∷ 0 ∷ state_bytes state
+record_bytes (Update state) = 1 ∷ 0 ∷ state_bytes state
+record_bytes (Removal key) = 2 ∷ 0 ∷ key_bytes key
+
+-- the records that there are
+abbrev pub IsRecord : StateRecord → Type 0
+IsRecord (Snapshot state) = IsState state
+IsRecord (Update state) = IsState state
+IsRecord (Removal key) = IsKey key

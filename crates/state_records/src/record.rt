@@ -1,0 +1,38 @@
+use share_model::{Key, RunList};
+use std::marker::Model;
+
+/// The state of a share partition, as a journal keeps it.
+///
+/// The epochs are at least 0, `start` is at least -1, and the runs are canonical, with offsets below
+/// 2^63 and counts below 2^15. A contract sees the record of the fields.
+#[derive(Debug, Drop)]
+pub struct KeyState {
+    pub key: Key,
+    pub snapshot: u64,
+    pub state_epoch: i32,
+    pub leader_epoch: i32,
+    pub start: i64,
+    pub runs: RunList,
+}
+
+impl Model for KeyState {
+    ghost use Rattle.state_records.specs.States.{StateParts, IsEpoch, IsStart, AreStoredRuns};
+
+    ghost Value = { StateParts };
+
+    ghost view = { λ s. record { key = s.key; snapshot = s.snapshot; state_epoch = s.state_epoch; leader_epoch = s.leader_epoch; start = s.start; runs = s.runs } };
+
+    ghost invariant = { λ s. IsEpoch s.state_epoch × IsEpoch s.leader_epoch × IsStart s.start × AreStoredRuns s.runs };
+}
+
+/// A record of the state journal.
+#[derive(Debug, Drop)]
+pub enum StateRecord {
+    /// The key has this state, whatever it had before.
+    Snapshot(KeyState),
+    /// Both epochs become these, the start becomes this one unless it is -1, and the rows of these
+    /// runs change.
+    Update(KeyState),
+    /// The key is gone.
+    Removal { key: Key },
+}
