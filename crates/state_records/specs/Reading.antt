@@ -169,6 +169,6 @@ fields_at (suc (suc n)) at = as_at (λ k. Removal k) key_at at
 unfoldable pub record_at : List ℕ → Result StateRecord ℕ
 record_at bytes = do
   kind ← only_at (λ n. nat_lt n 3) byte_at (record { place = 0; left = bytes })
-  version ← only_at (λ n. n == 0) byte_at kind.1
+  version ← only_at (λ n. nat_lt n 1) byte_at kind.1
   fields ← fields_at kind.0 version.1
   if length fields.1.left == 0 then Ok fields.0 else Err fields.1.place

@@ -4,7 +4,9 @@
 mod fault;
 mod fields;
 mod reader;
+mod reading;
 mod record;
 
 pub use fault::RecordFault;
+pub use reading::read_record;
 pub use record::{KeyState, StateRecord};

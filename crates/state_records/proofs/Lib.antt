@@ -1,0 +1,5 @@
+pub mod Loop
+pub mod Spells
+pub mod Stored
+pub mod Records
+pub mod Whole
