@@ -3,3 +3,5 @@ pub mod Spells
 pub mod Stored
 pub mod Records
 pub mod Whole
+pub mod Appends
+pub mod Signed

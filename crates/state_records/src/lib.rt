@@ -6,7 +6,9 @@ mod fields;
 mod reader;
 mod reading;
 mod record;
+mod writing;
 
 pub use fault::RecordFault;
 pub use reading::read_record;
 pub use record::{KeyState, StateRecord};
+pub use writing::write_record;
