@@ -33,7 +33,7 @@ name_test bytes h =
 name_spells : Spells name_at name_bytes IsName
 unfolding name_at
 name_spells = record {
-    takes = λ at x after fits e.
+  takes = λ at x after fits e.
       let a = bind_ok (number_at w16 at) (λ n. cond (nat_lt (length n.1.left) n.0) (Err at.place) (cond (is_name (take n.0 n.1.left)) (Ok (take n.0 n.1.left, past n.0 n.1)) (Err at.place))) (x, after) e in
       let n = a.0.0 in
       let rest = a.0.1 in
@@ -47,7 +47,7 @@ name_spells = record {
       let whole : Takes at.left (name_bytes (take n rest.left)) (drop n rest.left) = subst (λ (k : ℕ). Takes at.left (to_be_bytes w16 k ++ take n rest.left) (drop n rest.left)) (sym len) both in
       let made : List ℕ × At = (take n rest.left, past n rest) in
       subst (λ (z : List ℕ × At). Takes at.left (name_bytes z.0) z.1.left × IsName z.0) (ok_is made (x, after) h.1) (whole, named (take n rest.left) h.0);
-    again = λ at x rest name e.
+  again = λ at x rest name e.
       let g1 = (number_spells w16 (2 ^ 16) wide16).again at (length x) (x ++ rest) (omega (arith, name.few)) (e ∙ append_assoc (to_be_bytes w16 (length x)) x rest) in
       let left = g1.after.left in
       let long : nat_lt (length left) (length x) ≡ false = no_lt _ _ (omega (arith, ap length g1.left, length-append x rest)) in
@@ -58,7 +58,7 @@ name_spells = record {
         is = rw (g1.is, long, front, name_test x name) refl;
         left = back;
       };
-  }
+}
 
 pub key_spells : Spells key_at key_bytes IsKey
 unfolding key_at
@@ -67,7 +67,7 @@ key_spells =
     (λ x. name_bytes x.0 ++ (x.1.0 ++ to_be_bytes w32 x.1.1)) key_bytes (λ x. IsName x.0 × ((length x.1.0 ≡ 16) × (x.1.1 < 2 ^ 31))) IsKey
     (λ x. refl) (λ x f. record { group = f.0; topic = f.1.0; part = f.1.1 }) (λ k h. ((h.group, (h.topic, h.part)), refl, refl))
     (then_spells name_at (then_at (raw_at 16) (below_at w32 (2 ^ 31))) name_bytes (λ x. x.0 ++ to_be_bytes w32 x.1) IsName (λ x. (length x.0 ≡ 16) × (x.1 < 2 ^ 31)) name_spells
-      (then_spells (raw_at 16) (below_at w32 (2 ^ 31)) (λ x. x) (to_be_bytes w32) (λ x. length x ≡ 16) (λ n. n < 2 ^ 31) (raw_spells 16) (low32 (2 ^ 31) (omega arith))))
+    (then_spells (raw_at 16) (below_at w32 (2 ^ 31)) (λ x. x) (to_be_bytes w32) (λ x. length x ≡ 16) (λ n. n < 2 ^ 31) (raw_spells 16) (low32 (2 ^ 31) (omega arith))))
 
 epoch_back : (z : ℤ) → IsEpoch z → (epoch_number z < 2 ^ 31) × (pos (epoch_number z) ≡ z) × (to_be_bytes w32 (epoch_number z) ≡ to_be_bytes w32 (epoch_number z))
 epoch_back (pos n) h = (h, refl, refl)
@@ -103,16 +103,16 @@ unfolding state_at parts_of
 state_spells =
     let s5 = then_spells start_at all_runs_at (λ z. to_be_bytes w64 (start_number z)) runs_bytes IsStart AreAllRuns start_spells all_runs_spells in
     let s4 = then_spells epoch_at (then_at start_at all_runs_at) (λ z. to_be_bytes w32 (epoch_number z)) (λ x. to_be_bytes w64 (start_number x.0) ++ runs_bytes x.1)
-        IsEpoch (λ x. IsStart x.0 × AreAllRuns x.1) epoch_spells s5 in
+    IsEpoch (λ x. IsStart x.0 × AreAllRuns x.1) epoch_spells s5 in
     let s3 = then_spells epoch_at (then_at epoch_at (then_at start_at all_runs_at)) (λ z. to_be_bytes w32 (epoch_number z))
-        (λ x. to_be_bytes w32 (epoch_number x.0) ++ (to_be_bytes w64 (start_number x.1.0) ++ runs_bytes x.1.1))
-        IsEpoch (λ x. IsEpoch x.0 × (IsStart x.1.0 × AreAllRuns x.1.1)) epoch_spells s4 in
+    (λ x. to_be_bytes w32 (epoch_number x.0) ++ (to_be_bytes w64 (start_number x.1.0) ++ runs_bytes x.1.1))
+    IsEpoch (λ x. IsEpoch x.0 × (IsStart x.1.0 × AreAllRuns x.1.1)) epoch_spells s4 in
     let s2 = then_spells (number_at w64) (then_at epoch_at (then_at epoch_at (then_at start_at all_runs_at))) (to_be_bytes w64)
-        (λ x. to_be_bytes w32 (epoch_number x.0) ++ (to_be_bytes w32 (epoch_number x.1.0) ++ (to_be_bytes w64 (start_number x.1.1.0) ++ runs_bytes x.1.1.1)))
-        (λ n. n < 2 ^ 64) (λ x. IsEpoch x.0 × (IsEpoch x.1.0 × (IsStart x.1.1.0 × AreAllRuns x.1.1.1))) (number_spells w64 (2 ^ 64) wide64) s3 in
+    (λ x. to_be_bytes w32 (epoch_number x.0) ++ (to_be_bytes w32 (epoch_number x.1.0) ++ (to_be_bytes w64 (start_number x.1.1.0) ++ runs_bytes x.1.1.1)))
+    (λ n. n < 2 ^ 64) (λ x. IsEpoch x.0 × (IsEpoch x.1.0 × (IsStart x.1.1.0 × AreAllRuns x.1.1.1))) (number_spells w64 (2 ^ 64) wide64) s3 in
     let s1 = then_spells key_at (then_at (number_at w64) (then_at epoch_at (then_at epoch_at (then_at start_at all_runs_at)))) key_bytes
-        (λ x. to_be_bytes w64 x.0 ++ (to_be_bytes w32 (epoch_number x.1.0) ++ (to_be_bytes w32 (epoch_number x.1.1.0) ++ (to_be_bytes w64 (start_number x.1.1.1.0) ++ runs_bytes x.1.1.1.1))))
-        IsKey (λ x. (x.0 < 2 ^ 64) × (IsEpoch x.1.0 × (IsEpoch x.1.1.0 × (IsStart x.1.1.1.0 × AreAllRuns x.1.1.1.1)))) key_spells s2 in
+    (λ x. to_be_bytes w64 x.0 ++ (to_be_bytes w32 (epoch_number x.1.0) ++ (to_be_bytes w32 (epoch_number x.1.1.0) ++ (to_be_bytes w64 (start_number x.1.1.1.0) ++ runs_bytes x.1.1.1.1))))
+    IsKey (λ x. (x.0 < 2 ^ 64) × (IsEpoch x.1.0 × (IsEpoch x.1.1.0 × (IsStart x.1.1.1.0 × AreAllRuns x.1.1.1.1)))) key_spells s2 in
     as_spells state_of_parts parts_of (then_at key_at (then_at (number_at w64) (then_at epoch_at (then_at epoch_at (then_at start_at all_runs_at)))))
     (λ x. key_bytes x.0 ++ (to_be_bytes w64 x.1.0 ++ (to_be_bytes w32 (epoch_number x.1.1.0) ++ (to_be_bytes w32 (epoch_number x.1.1.1.0) ++ (to_be_bytes w64 (start_number x.1.1.1.1.0) ++ runs_bytes x.1.1.1.1.1)))))
     state_bytes

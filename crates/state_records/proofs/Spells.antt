@@ -64,7 +64,7 @@ pub record Spells {A : Type 0} (read : At → Result (A × At) ℕ) (spell : A �
 pub then_spells : {A B : Type 0} (first : At → Result (A × At) ℕ) (second : At → Result (B × At) ℕ) (s1 : A → List ℕ) (s2 : B → List ℕ) (f1 : A → Type 0) (f2 : B → Type 0)
     → Spells first s1 f1 → Spells second s2 f2 → Spells (then_at first second) (λ x. s1 x.0 ++ s2 x.1) (λ x. f1 x.0 × f2 x.1)
 then_spells {A} {B} first second s1 s2 f1 f2 p q = record {
-    takes = λ at x after fits e.
+  takes = λ at x after fits e.
       let a = bind_ok (first at) (λ u. second u.1 >>= λ v. Ok ((u.0, v.0), v.1)) (x, after) e in
       let b = bind_ok (second a.0.1) (λ v. Ok ((a.0.0, v.0), v.1)) (x, after) a.2 in
       let t1 = p.takes at a.0.0 a.0.1 fits a.1 in
@@ -72,7 +72,7 @@ then_spells {A} {B} first second s1 s2 f1 f2 p q = record {
       let made : (A × B) × At = ((a.0.0, b.0.0), b.0.1) in
       subst (λ (y : (A × B) × At). Takes at.left (s1 y.0.0 ++ s2 y.0.1) y.1.left × (f1 y.0.0 × f2 y.0.1)) (ok_is made (x, after) b.2)
       (Takes-then at.left (s1 a.0.0) a.0.1.left (s2 b.0.0) b.0.1.left t1.0 t2.0, (t1.1, t2.1));
-    again = λ at x rest fits e.
+  again = λ at x rest fits e.
       let g1 = p.again at x.0 (s2 x.1 ++ rest) fits.0 (e ∙ append_assoc (s1 x.0) (s2 x.1) rest) in
       let g2 = q.again g1.after x.1 rest fits.1 g1.left in
       record {
@@ -80,19 +80,19 @@ then_spells {A} {B} first second s1 s2 f1 f2 p q = record {
         is = ap (λ (r : Result (A × At) ℕ). r >>= λ u. second u.1 >>= λ v. Ok ((u.0, v.0), v.1)) g1.is ∙ ap (λ (r : Result (B × At) ℕ). r >>= λ v. Ok ((x.0, v.0), v.1)) g2.is;
         left = g2.left;
       };
-  }
+}
 
 pub as_spells : {A B : Type 0} (f : A → B) (g : B → A) (read : At → Result (A × At) ℕ) (spell : A → List ℕ) (spell2 : B → List ℕ) (fits : A → Type 0) (fits2 : B → Type 0)
     → ((x : A) → spell2 (f x) ≡ spell x) → ((x : A) → fits x → fits2 (f x)) → ((y : B) → fits2 y → fits (g y) × (f (g y) ≡ y) × (spell (g y) ≡ spell2 y))
     → Spells read spell fits → Spells (as_at f read) spell2 fits2
 as_spells {A} {B} f g read spell spell2 fits fits2 same good back p = record {
-    takes = λ at y after bytes e.
+  takes = λ at y after bytes e.
       let a = bind_ok (read at) (λ u. Ok (f u.0, u.1)) (y, after) e in
       let t = p.takes at a.0.0 a.0.1 bytes a.1 in
       let made : B × At = (f a.0.0, a.0.1) in
       subst (λ (z : B × At). Takes at.left (spell2 z.0) z.1.left × fits2 z.0) (ok_is made (y, after) a.2)
       (subst (λ (l : List ℕ). Takes at.left l a.0.1.left) (sym (same a.0.0)) t.0, good a.0.0 t.1);
-    again = λ at y rest h e.
+  again = λ at y rest h e.
       let b = back y h in
       let r = p.again at (g y) rest b.0 (e ∙ ap (λ (l : List ℕ). l ++ rest) (sym b.2)) in
       record {
@@ -100,17 +100,17 @@ as_spells {A} {B} f g read spell spell2 fits fits2 same good back p = record {
         is = ap (λ (q : Result (A × At) ℕ). q >>= λ u. Ok (f u.0, u.1)) r.is ∙ ap (λ (z : B). Ok (z, r.after)) b.1;
         left = r.left;
       };
-  }
+}
 
 pub only_spells : {A : Type 0} (test : A → Bool) (read : At → Result (A × At) ℕ) (spell : A → List ℕ) (fits good : A → Type 0)
     → ((x : A) → fits x → test x ≡ true → good x) → ((x : A) → good x → fits x × (test x ≡ true)) → Spells read spell fits → Spells (only_at test read) spell good
 only_spells {A} test read spell fits good passes back p = record {
-    takes = λ at x after bytes e.
+  takes = λ at x after bytes e.
       let a = bind_ok (read at) (λ u. cond (test u.0) (Ok u) (Err at.place)) (x, after) e in
       let g = guard_then (test a.0.0) at.place (Ok a.0) (x, after) a.2 in
       let t = p.takes at a.0.0 a.0.1 bytes a.1 in
       subst (λ (z : A × At). Takes at.left (spell z.0) z.1.left × good z.0) (ok_is a.0 (x, after) g.1) (t.0, passes a.0.0 t.1 g.0);
-    again = λ at x rest h e.
+  again = λ at x rest h e.
       let b = back x h in
       let r = p.again at x rest b.0 e in
       record {
@@ -118,7 +118,7 @@ only_spells {A} test read spell fits good passes back p = record {
         is = ap (λ (q : Result (A × At) ℕ). q >>= λ u. cond (test u.0) (Ok u) (Err at.place)) r.is ∙ ap (λ (t : Bool). cond t (Ok (x, r.after)) (Err at.place)) b.1;
         left = r.left;
       };
-  }
+}
 
 found_ok : {A : Type 0} (place : ℕ) (o : Option A) (at : At) (x : A) (after : At) → found_at place o at ≡ Ok (x, after) → (o ≡ Some x) × (at ≡ after)
 found_ok {A} place None at x after e = absurd cc
@@ -132,13 +132,13 @@ pub found_spells : {A : Type 0} (decode : ℕ → Option A) (number : A → ℕ)
     → ((n : ℕ) (x : A) → decode n ≡ Some x → (number x ≡ n) × good x) → ((x : A) → good x → fits (number x) × (decode (number x) ≡ Some x))
     → Spells read spell fits → Spells (λ at. read at >>= λ n. found_at at.place (decode n.0) n.1) (λ x. spell (number x)) good
 found_spells {A} decode number read spell fits good back code p = record {
-    takes = λ at x after bytes e.
+  takes = λ at x after bytes e.
       let a = bind_ok (read at) (λ n. found_at at.place (decode n.0) n.1) (x, after) e in
       let f = found_ok at.place (decode a.0.0) a.0.1 x after a.2 in
       let t = p.takes at a.0.0 a.0.1 bytes a.1 in
       let b = back a.0.0 x f.0 in
       (subst (λ (z : At). Takes at.left (spell (number x)) z.left) f.1 (subst (λ (n : ℕ). Takes at.left (spell n) a.0.1.left) (sym b.0) t.0), b.1);
-    again = λ at x rest h e.
+  again = λ at x rest h e.
       let c = code x h in
       let r = p.again at (number x) rest c.0 e in
       record {
@@ -146,7 +146,7 @@ found_spells {A} decode number read spell fits good back code p = record {
         is = ap (λ (q : Result (ℕ × At) ℕ). q >>= λ n. found_at at.place (decode n.0) n.1) r.is ∙ ap (λ (o : Option A). found_at at.place o r.after) c.1;
         left = r.left;
       };
-  }
+}
 
 -- ---- numbers
 
@@ -182,13 +182,13 @@ wide64 = record {
 
 pub raw_spells : (n : ℕ) → Spells (raw_at n) (λ x. x) (λ x. length x ≡ n)
 raw_spells n = record {
-    takes = λ at x after fits e.
+  takes = λ at x after fits e.
       let g = guard_else (ltb (length at.left) n) at.place (Ok (take n at.left, past n at)) (x, after) e in
       let long : n ≤ length at.left = ltb-false _ _ g.0 in
       let made : List ℕ × At = (take n at.left, past n at) in
       subst (λ (z : List ℕ × At). Takes at.left z.0 z.1.left × (length z.0 ≡ n)) (ok_is made (x, after) g.1)
       (record { parts = sym (take-append-drop n at.left); rest_fits = IsBytes-drop n at.left fits }, omega (arith, length-take n at.left));
-    again = λ at x rest fits e.
+  again = λ at x rest fits e.
       let long : ltb (length at.left) n ≡ false = le-ltb _ _ (omega (arith, ap length e, length-append x rest)) in
       let front : take n at.left ≡ x = ap (take n) e ∙ take_at x rest n fits in
       let back : drop n at.left ≡ rest = ap (drop n) e ∙ drop_at x rest n fits in
@@ -197,20 +197,21 @@ raw_spells n = record {
         is = ap (λ (b : Bool). cond b (Err at.place) (Ok (take n at.left, past n at))) long ∙ ap (λ (l : List ℕ). Ok (l, past n at)) front;
         left = back;
       };
-  }
+}
 
 pub number_spells : (w : Width) (limit : ℕ) → IsWide w limit → Spells (number_at w) (to_be_bytes w) (λ n. n < limit)
 number_spells w limit wide = record {
-    takes = λ at n after fits e.
+  takes = λ at n after fits e.
       let g = guard_else (ltb (length at.left) (byte_len w)) at.place (Ok (from_be_bytes w (take (byte_len w) at.left), past (byte_len w) at)) (n, after) e in
       let long : byte_len w ≤ length at.left = ltb-false _ _ g.0 in
       let front : to_be_bytes w (from_be_bytes w (take (byte_len w) at.left)) ≡ take (byte_len w) at.left =
-        wide.back (take (byte_len w) at.left) (omega (arith, length-take (byte_len w) at.left)) (IsBytes-take (byte_len w) at.left fits) in
+      wide.back (take (byte_len w) at.left) (omega (arith, length-take (byte_len w) at.left)) (IsBytes-take (byte_len w) at.left fits) in
       let made : ℕ × At = (from_be_bytes w (take (byte_len w) at.left), past (byte_len w) at) in
-      subst (λ (z : ℕ × At). Takes at.left (to_be_bytes w z.0) z.1.left × (z.0 < limit)) (ok_is made (n, after) g.1)
-      (record { parts = sym (take-append-drop (byte_len w) at.left) ∙ ap (λ (l : List ℕ). l ++ drop (byte_len w) at.left) (sym front); rest_fits = IsBytes-drop (byte_len w) at.left fits },
-        wide.below (take (byte_len w) at.left) (IsBytes-take (byte_len w) at.left fits));
-    again = λ at n rest lt e.
+      subst (λ (z : ℕ × At). Takes at.left (to_be_bytes w z.0) z.1.left × (z.0 < limit)) (ok_is made (n, after) g.1) (
+        record { parts = sym (take-append-drop (byte_len w) at.left) ∙ ap (λ (l : List ℕ). l ++ drop (byte_len w) at.left) (sym front); rest_fits = IsBytes-drop (byte_len w) at.left fits },
+        wide.below (take (byte_len w) at.left) (IsBytes-take (byte_len w) at.left fits),
+      );
+  again = λ at n rest lt e.
       let len = wide.len n in
       let long : ltb (length at.left) (byte_len w) ≡ false = le-ltb _ _ (omega (arith, ap length e, length-append (to_be_bytes w n) rest)) in
       let front : take (byte_len w) at.left ≡ to_be_bytes w n = ap (take (byte_len w)) e ∙ take_at (to_be_bytes w n) rest (byte_len w) len in
@@ -221,7 +222,7 @@ number_spells w limit wide = record {
             ∙ ap (λ (l : List ℕ). Ok (from_be_bytes w l, past (byte_len w) at)) front ∙ ap (λ (k : ℕ). Ok (k, past (byte_len w) at)) (wide.again n lt);
         left = back;
       };
-  }
+}
 
 byte_ok : (place b : ℕ) (left rest : List ℕ) → byte_in place left ≡ Ok (b, rest) → left ≡ b ∷ rest
 byte_ok place b [] rest e = absurd cc
@@ -232,15 +233,15 @@ byte_ok place b (c ∷ left) rest e =
 
 pub byte_spells : Spells byte_at (λ b. b ∷ []) (λ b. Unit {0})
 byte_spells = record {
-    takes = λ at b after fits e.
+  takes = λ at b after fits e.
       let a = bind_ok (byte_in at.place at.left) (λ x. Ok (x.0, record { place = at.place + 1; left = x.1 })) (b, after) e in
       let split = byte_ok at.place a.0.0 at.left a.0.1 a.1 in
       let made : ℕ × At = (a.0.0, record { place = at.place + 1; left = a.0.1 }) in
       subst (λ (z : ℕ × At). Takes at.left (z.0 ∷ []) z.1.left × Unit {0}) (ok_is made (b, after) a.2)
       (record { parts = split; rest_fits = IsBytes-rest a.0.0 a.0.1 (subst IsBytes split fits) }, tt);
-    again = λ at b rest fits e. record {
-        after = record { place = at.place + 1; left = rest };
-        is = ap (λ (l : List ℕ). byte_in at.place l >>= λ x. Ok (x.0, record { place = at.place + 1; left = x.1 })) e;
-        left = refl;
-      };
-  }
+  again = λ at b rest fits e. record {
+    after = record { place = at.place + 1; left = rest };
+    is = ap (λ (l : List ℕ). byte_in at.place l >>= λ x. Ok (x.0, record { place = at.place + 1; left = x.1 })) e;
+    left = refl;
+  };
+}

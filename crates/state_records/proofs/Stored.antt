@@ -88,17 +88,17 @@ unfolding run_at
 run_read before at run after e =
     let made = λ (f l : ℕ) (s : RowState) (c : ℕ). let r : Run = record { first = f; last = l; state = s; count = c } in r in
     let a = bind_ok (only_at (is_behind before) (below_at w64 (2 ^ 63)) at)
-        (λ first. below_at w64 (2 ^ 63) first.1 >>= λ last. cond (nat_lt last.0 first.0) (Err at.place) (row_state_at last.1 >>= λ state. below_at w16 (2 ^ 15) state.1 >>= λ count.
-          cond (could_join before (made first.0 last.0 state.0 count.0)) (Err at.place) (Ok (made first.0 last.0 state.0 count.0, count.1)))) (run, after) e in
+    (λ first. below_at w64 (2 ^ 63) first.1 >>= λ last. cond (nat_lt last.0 first.0) (Err at.place) (row_state_at last.1 >>= λ state. below_at w16 (2 ^ 15) state.1 >>= λ count.
+    cond (could_join before (made first.0 last.0 state.0 count.0)) (Err at.place) (Ok (made first.0 last.0 state.0 count.0, count.1)))) (run, after) e in
     let b = bind_ok (below_at w64 (2 ^ 63) a.0.1)
-        (λ last. cond (nat_lt last.0 a.0.0) (Err at.place) (row_state_at last.1 >>= λ state. below_at w16 (2 ^ 15) state.1 >>= λ count.
-          cond (could_join before (made a.0.0 last.0 state.0 count.0)) (Err at.place) (Ok (made a.0.0 last.0 state.0 count.0, count.1)))) (run, after) a.2 in
+    (λ last. cond (nat_lt last.0 a.0.0) (Err at.place) (row_state_at last.1 >>= λ state. below_at w16 (2 ^ 15) state.1 >>= λ count.
+    cond (could_join before (made a.0.0 last.0 state.0 count.0)) (Err at.place) (Ok (made a.0.0 last.0 state.0 count.0, count.1)))) (run, after) a.2 in
     let g = guard_else (nat_lt b.0.0 a.0.0) at.place (row_state_at b.0.1 >>= λ state. below_at w16 (2 ^ 15) state.1 >>= λ count.
-          cond (could_join before (made a.0.0 b.0.0 state.0 count.0)) (Err at.place) (Ok (made a.0.0 b.0.0 state.0 count.0, count.1))) (run, after) b.2 in
+    cond (could_join before (made a.0.0 b.0.0 state.0 count.0)) (Err at.place) (Ok (made a.0.0 b.0.0 state.0 count.0, count.1))) (run, after) b.2 in
     let c = bind_ok (row_state_at b.0.1) (λ state. below_at w16 (2 ^ 15) state.1 >>= λ count.
-          cond (could_join before (made a.0.0 b.0.0 state.0 count.0)) (Err at.place) (Ok (made a.0.0 b.0.0 state.0 count.0, count.1))) (run, after) g.1 in
+    cond (could_join before (made a.0.0 b.0.0 state.0 count.0)) (Err at.place) (Ok (made a.0.0 b.0.0 state.0 count.0, count.1))) (run, after) g.1 in
     let d = bind_ok (below_at w16 (2 ^ 15) c.0.1) (λ count.
-          cond (could_join before (made a.0.0 b.0.0 c.0.0 count.0)) (Err at.place) (Ok (made a.0.0 b.0.0 c.0.0 count.0, count.1))) (run, after) c.2 in
+    cond (could_join before (made a.0.0 b.0.0 c.0.0 count.0)) (Err at.place) (Ok (made a.0.0 b.0.0 c.0.0 count.0, count.1))) (run, after) c.2 in
     let h = guard_else (could_join before (made a.0.0 b.0.0 c.0.0 d.0.0)) at.place (Ok (made a.0.0 b.0.0 c.0.0 d.0.0, d.0.1)) (run, after) d.2 in
     let whole : Run × At = (made a.0.0 b.0.0 c.0.0 d.0.0, d.0.1) in
     subst (λ (z : Run × At). RunRead before at z.0 z.1) (ok_is whole (run, after) h.1)
@@ -144,33 +144,34 @@ pub run_spells : (before : Option Run) → Spells (run_at before) run_bytes (IsN
 unfolding run_at
 run_spells before =
     let first_spells = only_spells (is_behind before) (below_at w64 (2 ^ 63)) (to_be_bytes w64) (λ n. n < 2 ^ 63) (λ n. (n < 2 ^ 63) × (is_behind before n ≡ true))
-        (λ n fits e. (fits, e)) (λ n h. h) low64 in
+    (λ n fits e. (fits, e)) (λ n h. h) low64 in
     record {
       takes = λ at run after fits e.
-        let r = run_read before at run after e in
-        let t1 = first_spells.takes at run.first r.mid1 fits r.first in
-        let t2 = low64.takes r.mid1 run.last r.mid2 t1.0.rest_fits r.last in
-        let t3 = row_state_spells.takes r.mid2 run.state r.mid3 t2.0.rest_fits r.state in
-        let t4 = low16.takes r.mid3 run.count after t3.0.rest_fits r.count in
-        let e34 = Takes-then r.mid2.left (state_number run.state ∷ []) r.mid3.left (to_be_bytes w16 run.count) after.left t3.0 t4.0 in
-        let e24 = Takes-then r.mid1.left (to_be_bytes w64 run.last) r.mid2.left ((state_number run.state ∷ []) ++ to_be_bytes w16 run.count) after.left t2.0 e34 in
-        (Takes-then at.left (to_be_bytes w64 run.first) r.mid1.left (to_be_bytes w64 run.last ++ ((state_number run.state ∷ []) ++ to_be_bytes w16 run.count)) after.left t1.0 e24,
-          run_sound before at run after e);
+          let r = run_read before at run after e in
+          let t1 = first_spells.takes at run.first r.mid1 fits r.first in
+          let t2 = low64.takes r.mid1 run.last r.mid2 t1.0.rest_fits r.last in
+          let t3 = row_state_spells.takes r.mid2 run.state r.mid3 t2.0.rest_fits r.state in
+          let t4 = low16.takes r.mid3 run.count after t3.0.rest_fits r.count in
+          let e34 = Takes-then r.mid2.left (state_number run.state ∷ []) r.mid3.left (to_be_bytes w16 run.count) after.left t3.0 t4.0 in
+          let e24 = Takes-then r.mid1.left (to_be_bytes w64 run.last) r.mid2.left ((state_number run.state ∷ []) ++ to_be_bytes w16 run.count) after.left t2.0 e34 in (
+            Takes-then at.left (to_be_bytes w64 run.first) r.mid1.left (to_be_bytes w64 run.last ++ ((state_number run.state ∷ []) ++ to_be_bytes w16 run.count)) after.left t1.0 e24,
+            run_sound before at run after e,
+          );
       again = λ at run rest next e.
-        let s4 = to_be_bytes w16 run.count in
-        let s3 = (state_number run.state ∷ []) ++ s4 in
-        let s2 = to_be_bytes w64 run.last ++ s3 in
-        let g1 = first_spells.again at run.first (s2 ++ rest) (omega (arith, next.order, next.stored.0), behind_test before run next.behind) (e ∙ append_assoc (to_be_bytes w64 run.first) s2 rest) in
-        let g2 = low64.again g1.after run.last (s3 ++ rest) next.stored.0 (g1.left ∙ append_assoc (to_be_bytes w64 run.last) s3 rest) in
-        let g3 = row_state_spells.again g2.after run.state (s4 ++ rest) tt (g2.left ∙ append_assoc (state_number run.state ∷ []) s4 rest) in
-        let g4 = low16.again g3.after run.count rest next.stored.1 g3.left in
-        let order : nat_lt run.last run.first ≡ false = no_lt run.last run.first next.order in
-        let apart : could_join before run ≡ false = apart_test before run next.behind in
-        record {
-          after = g4.after;
-          is = rw (g1.is, g2.is, order, g3.is, g4.is, apart) refl;
-          left = g4.left;
-        };
+          let s4 = to_be_bytes w16 run.count in
+          let s3 = (state_number run.state ∷ []) ++ s4 in
+          let s2 = to_be_bytes w64 run.last ++ s3 in
+          let g1 = first_spells.again at run.first (s2 ++ rest) (omega (arith, next.order, next.stored.0), behind_test before run next.behind) (e ∙ append_assoc (to_be_bytes w64 run.first) s2 rest) in
+          let g2 = low64.again g1.after run.last (s3 ++ rest) next.stored.0 (g1.left ∙ append_assoc (to_be_bytes w64 run.last) s3 rest) in
+          let g3 = row_state_spells.again g2.after run.state (s4 ++ rest) tt (g2.left ∙ append_assoc (state_number run.state ∷ []) s4 rest) in
+          let g4 = low16.again g3.after run.count rest next.stored.1 g3.left in
+          let order : nat_lt run.last run.first ≡ false = no_lt run.last run.first next.order in
+          let apart : could_join before run ≡ false = apart_test before run next.behind in
+          record {
+            after = g4.after;
+            is = rw (g1.is, g2.is, order, g3.is, g4.is, apart) refl;
+            left = g4.left;
+          };
     }
 
 -- ---- runs one after the other
@@ -199,10 +200,10 @@ run_in_order (Some other) run runs behind = behind
 
 next_runs : (n : ℕ) (before : Option Run) (run : Run) (runs : List Run) → IsNext before run → AreNext n (Some run) runs → AreNext (suc n) before (run ∷ runs)
 next_runs n before run runs next rest = record {
-    count = ap suc rest.count;
-    behind = behind_run before run runs next.behind;
-    stored = ((next.order, rest.behind, rest.stored.0), (next.stored, rest.stored.1));
-  }
+  count = ap suc rest.count;
+  behind = behind_run before run runs next.behind;
+  stored = ((next.order, rest.behind, rest.stored.0), (next.stored, rest.stored.1));
+}
 
 no_runs : (before : Option Run) → AreNext 0 before []
 no_runs before = record { count = refl; behind = behind_none before; stored = (tt, tt) }
@@ -243,7 +244,7 @@ runs_again (suc n) before at (run ∷ runs) rest next e =
     let one : IsNext before run = record { order = canonical.0; stored = next.stored.1.0; behind = run_in_order before run runs next.behind } in
     let others : AreNext n (Some run) runs = record { count = let c = next.count in omega arith; behind = canonical.1; stored = (canonical.2, next.stored.1.1) } in
     let split : at.left ≡ run_bytes run ++ (flat_map run_bytes runs ++ rest) =
-      e ∙ ap (λ (l : List ℕ). l ++ rest) (flat_map-cons run_bytes run runs) ∙ append_assoc (run_bytes run) (flat_map run_bytes runs) rest in
+    e ∙ ap (λ (l : List ℕ). l ++ rest) (flat_map-cons run_bytes run runs) ∙ append_assoc (run_bytes run) (flat_map run_bytes runs) rest in
     let g1 = (run_spells before).again at run (flat_map run_bytes runs ++ rest) one split in
     let g2 = runs_again n (Some run) g1.after runs rest others g1.left in
     record {
@@ -267,20 +268,22 @@ all_runs_sound at runs after e =
 pub all_runs_spells : Spells all_runs_at runs_bytes AreAllRuns
 unfolding all_runs_at
 all_runs_spells = record {
-    takes = λ at runs after fits e.
+  takes = λ at runs after fits e.
       let a = bind_ok (below_at w32 (2 ^ 32 - 1) at) (λ n. runs_at n.0 None n.1) (runs, after) e in
       let t1 = (low32 (2 ^ 32 - 1) (omega arith)).takes at a.0.0 a.0.1 fits a.1 in
       let t2 = runs_take a.0.0 None a.0.1 runs after t1.0.rest_fits a.2 in
-      let next = runs_sound a.0.0 None a.0.1 runs after a.2 in
-      (subst (λ (n : ℕ). Takes at.left (to_be_bytes w32 n ++ flat_map run_bytes runs) after.left) (sym next.count)
-        (Takes-then at.left (to_be_bytes w32 a.0.0) a.0.1.left (flat_map run_bytes runs) after.left t1.0 t2), all_runs_sound at runs after e);
-    again = λ at runs rest all e.
+      let next = runs_sound a.0.0 None a.0.1 runs after a.2 in (
+        subst (λ (n : ℕ). Takes at.left (to_be_bytes w32 n ++ flat_map run_bytes runs) after.left) (sym next.count)
+            (Takes-then at.left (to_be_bytes w32 a.0.0) a.0.1.left (flat_map run_bytes runs) after.left t1.0 t2),
+        all_runs_sound at runs after e,
+      );
+  again = λ at runs rest all e.
       let g1 = (low32 (2 ^ 32 - 1) (omega arith)).again at (length runs) (flat_map run_bytes runs ++ rest) (omega (arith, all.few))
-          (e ∙ append_assoc (to_be_bytes w32 (length runs)) (flat_map run_bytes runs) rest) in
+      (e ∙ append_assoc (to_be_bytes w32 (length runs)) (flat_map run_bytes runs) rest) in
       let g2 = runs_again (length runs) None g1.after runs rest (record { count = refl; behind = tt; stored = all.stored }) g1.left in
       record {
         after = g2.after;
         is = rw (g1.is, g2.is) refl;
         left = g2.left;
       };
-  }
+}

@@ -79,7 +79,7 @@ record_takes bytes r fits e =
     let e23 = Takes-then a.0.1.left (b.0.0 ∷ []) b.0.1.left (body_of c.0.0) c.0.1.left t2.0 t3.takes in
     let e13 = (Takes-then bytes (a.0.0 ∷ []) a.0.1.left ((b.0.0 ∷ []) ++ body_of c.0.0) c.0.1.left t1.0 e23).parts in
     let whole : bytes ≡ a.0.0 ∷ b.0.0 ∷ body_of c.0.0 =
-      e13 ∙ ap (λ (l : List ℕ). (a.0.0 ∷ b.0.0 ∷ body_of c.0.0) ++ l) nothing ∙ append-nil (a.0.0 ∷ b.0.0 ∷ body_of c.0.0) in
+    e13 ∙ ap (λ (l : List ℕ). (a.0.0 ∷ b.0.0 ∷ body_of c.0.0) ++ l) nothing ∙ append-nil (a.0.0 ∷ b.0.0 ∷ body_of c.0.0) in
     let spelling : bytes ≡ record_bytes c.0.0 = whole ∙ (λ i. sym t3.kind_is i ∷ version i ∷ body_of c.0.0) ∙ sym (spelled c.0.0) in
     subst (λ (z : StateRecord). IsRecord z × (bytes ≡ record_bytes z)) (ok_is c.0.0 r g.1) (t3.good, spelling)
 
@@ -102,3 +102,7 @@ record_again r good =
 pub is_found : (bytes : List ℕ) (r : Result StateRecord RecordFault) → IsBytes bytes → Gives (λ x. x) r (record_at bytes) → IfOk r (λ x. IsRecord x × (bytes ≡ record_bytes x))
 is_found bytes (Ok r) fits given = record_takes bytes r fits given
 is_found bytes (Err e) fits given = tt
+
+-- records with the same bytes are one
+pub one_record : (r s : StateRecord) → IsRecord r → IsRecord s → record_bytes r ≡ record_bytes s → r ≡ s
+one_record r s good_r good_s same = ok_is r s (sym (record_again r good_r) ∙ ap record_at same ∙ record_again s good_s)

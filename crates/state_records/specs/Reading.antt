@@ -90,7 +90,7 @@ unfoldable pub name_at : At → Result (List ℕ × At) ℕ
 name_at at = do
   n ← number_at w16 at
   if nat_lt (length n.1.left) n.0 then Err at.place else
-    if is_name (take n.0 n.1.left) then Ok (take n.0 n.1.left, past n.0 n.1) else Err at.place
+      if is_name (take n.0 n.1.left) then Ok (take n.0 n.1.left, past n.0 n.1) else Err at.place
 
 abbrev pub key_of : List ℕ × (List ℕ × ℕ) → KeyParts
 key_of x = record { group = x.0; topic = x.1.0; part = x.1.1 }
@@ -138,7 +138,7 @@ run_at before at = do
     state ← row_state_at last.1
     count ← below_at w16 (2 ^ 15) state.1
     if could_join before (record { first = first.0; last = last.0; state = state.0; count = count.0 }) then Err at.place
-      else Ok (record { first = first.0; last = last.0; state = state.0; count = count.0 }, count.1)
+        else Ok (record { first = first.0; last = last.0; state = state.0; count = count.0 }, count.1)
 
 unfoldable pub runs_at : ℕ → Option Run → At → Result (List Run × At) ℕ
 runs_at zero before at = Ok ([], at)

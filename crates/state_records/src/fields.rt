@@ -1,6 +1,5 @@
 ghost use Rattle.std.specs.Prelude.{◌≡◌, ◌^◌, ◌<◌, nat_lt, IfOk};
 ghost use Rattle.std.specs.Int.{w16, w32, w64};
-
 ghost use Rattle.state_records.specs.Reading.{Moves, only_at, below_at, byte_at, name_at, key_at, epoch_at, start_at, row_state_at, run_at, raw_at, is_behind};
 ghost use Rattle.state_records.specs.States.{IsEpoch, IsStart};
 

@@ -3,12 +3,16 @@
 
 mod fault;
 mod fields;
+mod law;
 mod reader;
 mod reading;
 mod record;
+#[cfg(test)]
+mod tests;
 mod writing;
 
 pub use fault::RecordFault;
+pub use law::records_have_one_spelling;
 pub use reading::read_record;
 pub use record::{KeyState, StateRecord};
 pub use writing::write_record;

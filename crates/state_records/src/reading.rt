@@ -16,11 +16,7 @@ use std::alloc::Global;
 const RUN: usize = 19;
 
 // So many runs. The memory for them is found once, and no more than the bytes can hold.
-fn read_runs(
-    alloc: Global,
-    reader: &mut Reader<'_>,
-    count: u32,
-) -> Result<Vec<Run>, RecordFault>
+fn read_runs(alloc: Global, reader: &mut Reader<'_>, count: u32) -> Result<Vec<Run>, RecordFault>
     ensures read { Moves (λ v. v.items) reader.new result (runs_at count None reader.old) }
 {
     let room = (count as usize).min(reader.len() / RUN);
@@ -65,11 +61,7 @@ fn read_state(alloc: Global, reader: &mut Reader<'_>) -> Result<KeyState, Record
 }
 
 #[tactic(auto, unfolding(crate::specs::Reading::fields_at))]
-fn read_fields(
-    alloc: Global,
-    reader: &mut Reader<'_>,
-    kind: u8,
-) -> Result<StateRecord, RecordFault>
+fn read_fields(alloc: Global, reader: &mut Reader<'_>, kind: u8) -> Result<StateRecord, RecordFault>
     ensures { Moves (λ r. r) reader.new result (fields_at kind reader.old) }
 {
     match kind {

@@ -128,7 +128,10 @@ pub fn write_record(alloc: Global, record: &StateRecord) -> Result<Blob, NoMemor
     ensures valid { OnOk result (IsRecord «record».now) }
 {
     let mut out = match record {
-        StateRecord::Snapshot(state) | StateRecord::Update(state) => Vec::with_capacity(alloc, room(&state.runs))?,
+        StateRecord::Snapshot(state) | StateRecord::Update(state) => Vec::with_capacity(
+            alloc,
+            room(&state.runs),
+        )?,
         StateRecord::Removal { .. } => Vec::with_capacity(alloc, 279)?,
     };
     match record {

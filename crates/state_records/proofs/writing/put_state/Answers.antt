@@ -21,7 +21,7 @@ returns-clause-written c =
     let e5 : o5 ≡ o4 ++ to_be_bytes w64 (start_number s.start) = c.in_ok-put_u64-2.ensures.written ∙ ap (λ (n : ℕ). o4 ++ to_be_bytes w64 n) (c.start_bits.ensures ∙ ap start_number (start_same s.start c.state.invariant.2)) in
     subst (λ (state : StateParts). o6 ≡ o0 ++ state_bytes state) c.state.view_is
     (appended6 o0 o1 o2 o3 o4 o5 o6 (key_bytes s.key) (to_be_bytes w64 s.snapshot) (to_be_bytes w32 (epoch_number s.state_epoch)) (to_be_bytes w32 (epoch_number s.leader_epoch))
-      (to_be_bytes w64 (start_number s.start)) (runs_bytes s.runs) c.in_ok-put_key.ensures.written c.in_ok-put_u64.ensures.written e3 e4 e5 c.in_ok-put_runs.ensures.written)
+    (to_be_bytes w64 (start_number s.start)) (runs_bytes s.runs) c.in_ok-put_key.ensures.written c.in_ok-put_u64.ensures.written e3 e4 e5 c.in_ok-put_runs.ensures.written)
 
 pub returns-clause-state : goal.returns-clause-state
 returns-clause-state c =
