@@ -1,22 +1,18 @@
 -- State records: what is read is spelled so, and what is spelled so is read.
-use Rattle.std.proofs.Common.{◌≡◌, ℕ, ℤ, pos, negsuc, zero, suc, ◌+◌, ◌-◌, ◌^◌, ◌<◌, ◌≤◌, Bool, true, false, cond, List, [], ◌∷◌, ◌++◌, length, take, drop, Option, Some, None, Result, Ok, Err, refl, sym, ap, subst, ◌∙◌, append_assoc, append-nil, arith, inl, inr}
-use Rattle.std.specs.Prelude.{nat_lt, nat_le, ◌&&◌, ◌==◌, IfOk}
+use Rattle.std.proofs.Common.{◌≡◌, ℕ, ℤ, pos, negsuc, ◌-◌, ◌^◌, ◌<◌, ◌≤◌, Bool, true, false, cond, List, ◌++◌, length, take, drop, Some, None, Ok, Err, refl, sym, ap, subst, ◌∙◌, append_assoc, arith}
+use Rattle.std.specs.Prelude.{nat_lt, ◌==◌}
 use Rattle.std.specs.Int.{w16, w32, w64, to_be_bytes}
 use Rattle.std.specs.Str.{is_utf8}
-use Rattle.std.proofs.lemmas.Bool.{ltb-false, le-ltb}
 use Rattle.std.proofs.lemmas.Bool.Decides.{nat_tests}
-use Rattle.std.proofs.lemmas.List.{take_at, drop_at, take-append-drop, length-append, length-take, nil_from_length}
+use Rattle.std.proofs.lemmas.List.{take_at, drop_at, take-append-drop, length-append, length-take}
 use Rattle.share_model.specs.Keys.{KeyParts}
 use Rattle.share_model.specs.Names.{IsName}
 use Rattle.share_model.specs.declared.run.Run.{Run}
-use Rattle.state_records.specs.declared.fault.RecordFault.{RecordFault}
-use Rattle.state_records.specs.declared.record.StateRecord.{StateRecord}
-use Rattle.state_records.specs.declared.record.StateRecord.TheVariants.{Snapshot, Update, Removal}
 use Rattle.state_records.specs.States.{StateParts, IsEpoch, IsStart, IsKey, IsState}
-use Rattle.state_records.specs.Spelling.{name_bytes, key_bytes, epoch_number, start_number, runs_bytes, state_bytes, record_bytes, IsRecord}
-use Rattle.state_records.specs.Reading.{At, past, ◌>>=◌, Gives, as_at, then_at, only_at, byte_at, raw_at, number_at, below_at, is_name, name_at, key_of, key_at, epoch_at, start_of, found_at, start_at, all_runs_at, state_of_parts, state_at, fields_at, record_at}
-use Rattle.state_records.proofs.Spells.{IsBytes, IsBytes-drop, bind_ok, guard_else, guard_then, ok_is, Takes, Takes-then, Again, Spells, then_spells, as_spells, only_spells, found_spells, raw_spells, number_spells, byte_spells, wide16, wide32, wide64}
-use Rattle.state_records.proofs.Stored.{lt_yes, lt_no, yes_lt, no_lt, low32, AreAllRuns, all_runs_spells}
+use Rattle.state_records.specs.Spelling.{name_bytes, key_bytes, epoch_number, start_number, runs_bytes, state_bytes}
+use Rattle.state_records.specs.Reading.{At, past, then_at, raw_at, number_at, below_at, is_name, name_at, key_of, key_at, epoch_at, start_of, start_at, all_runs_at, state_of_parts, state_at}
+use Rattle.state_records.proofs.Spells.{IsBytes-drop, bind_ok, guard_else, guard_then, ok_is, Takes, Takes-then, Spells, then_spells, as_spells, found_spells, raw_spells, number_spells, wide16, wide64}
+use Rattle.state_records.proofs.Stored.{lt_no, yes_lt, no_lt, low32, AreAllRuns, all_runs_spells}
 
 named : (bytes : List ℕ) → is_name bytes ≡ true → IsName bytes
 named bytes e =

@@ -1,5 +1,5 @@
 -- Epochs and starts are what their bits stand for.
-use Rattle.std.proofs.Common.{◌≡◌, ℕ, ℤ, pos, negsuc, sym, ap, ◌∙◌, arith, to_z, of_z, w32, w64}
+use Rattle.std.proofs.Common.{◌≡◌, ℤ, pos, negsuc, arith, to_z, of_z, w32, w64}
 use Rattle.std.proofs.lemmas.Int.{to_z-of_z, fits_signed_from_abs}
 use Rattle.state_records.specs.States.{IsEpoch, IsStart}
 

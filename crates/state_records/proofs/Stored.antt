@@ -1,13 +1,12 @@
 -- The runs of a record: what each that is read keeps, and the bytes that it has.
-use Rattle.std.proofs.Common.{◌≡◌, ◌≢◌, ℕ, zero, suc, ◌+◌, ◌-◌, ◌^◌, ◌<◌, ◌≤◌, Bool, true, false, cond, List, [], ◌∷◌, ◌++◌, length, Option, Some, None, Result, Ok, Err, refl, sym, ap, subst, ◌∙◌, append_assoc, arith, inl, inr}
+use Rattle.std.proofs.Common.{◌≡◌, ◌≢◌, ℕ, zero, suc, ◌+◌, ◌-◌, ◌^◌, ◌<◌, ◌≤◌, Bool, true, false, cond, List, [], ◌∷◌, ◌++◌, length, Option, Some, None, Result, Ok, Err, refl, sym, ap, subst, ◌∙◌, append_assoc, arith}
 use Rattle.std.specs.Prelude.{nat_lt}
 use Rattle.std.specs.Int.{w16, w32, w64, to_be_bytes}
-use Rattle.std.specs.List.{flat_map, AllByRecursion}
+use Rattle.std.specs.List.{flat_map}
 use Rattle.std.proofs.lemmas.Bool.Decides.{nat_tests}
 use Rattle.std.proofs.lemmas.List.Concat.{flat_map-cons}
 use Rattle.share_model.specs.Rows.{state_number, state_of}
-use Rattle.share_model.specs.Runs.{row_of, Follows, IsCanonical}
-use Rattle.share_model.specs.declared.row.Row.{Row}
+use Rattle.share_model.specs.Runs.{row_of, Follows}
 use Rattle.share_model.specs.declared.row.RowState.{RowState}
 use Rattle.share_model.specs.declared.row.RowState.TheVariants.{Available, Acknowledged, Archived}
 use Rattle.share_model.specs.declared.run.Run.{Run}
@@ -15,7 +14,7 @@ use Rattle.offset_runs.specs.Parts.{touches}
 use Rattle.offset_runs.proofs.Joins.{touches_true, touches_false}
 use Rattle.state_records.specs.States.{IsStoredRun, AreStoredRuns}
 use Rattle.state_records.specs.Spelling.{run_bytes, runs_bytes}
-use Rattle.state_records.specs.Reading.{At, ◌>>=◌, only_at, byte_at, number_at, below_at, found_at, row_state_at, is_behind, could_join, run_at, runs_at, all_runs_at}
+use Rattle.state_records.specs.Reading.{At, ◌>>=◌, only_at, byte_at, number_at, below_at, row_state_at, is_behind, could_join, run_at, runs_at, all_runs_at}
 use Rattle.state_records.proofs.Spells.{IsBytes, bind_ok, guard_else, guard_then, ok_is, Takes, Takes-then, Again, Spells, only_spells, found_spells, number_spells, byte_spells, wide16, wide32, wide64}
 
 pub lt_yes : (m n : ℕ) → nat_lt m n ≡ true → m < n
