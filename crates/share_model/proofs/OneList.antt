@@ -14,11 +14,11 @@ other : (run : Run) (runs : List Run) → Follows run runs → IsCanonical runs 
 other run [] follows canonical is = absent (row_of run) None refl is
 other run (next ∷ runs) follows canonical is =
     elim (cases_lt (run.last + 1) next.first) [
-      inl below ↦ absent (row_of run) _ (row_at-first next runs (run.last + 1) canonical below) is
-    | inr from ↦
-        let touches : next.first ≡ run.last + 1 = omega (arith, follows.0) in
-        let same : Some (row_of next) ≡ Some (row_of run) = sym (row_at-here next runs (run.last + 1) from (omega (arith, canonical.0))) ∙ is in
-        follows.1 touches cc
+      | inl below ↦ absent (row_of run) _ (row_at-first next runs (run.last + 1) canonical below) is
+      | inr from ↦
+          let touches : next.first ≡ run.last + 1 = omega (arith, follows.0) in
+          let same : Some (row_of next) ≡ Some (row_of run) = sym (row_at-here next runs (run.last + 1) from (omega (arith, canonical.0))) ∙ is in
+          follows.1 touches cc
     ]
 
 -- one that begins earlier has a row where the other has none
@@ -31,15 +31,15 @@ ends : (x y : Run) (xs ys : List Run) → IsCanonical (x ∷ xs) → IsCanonical
     → x.first ≡ y.first → row_of x ≡ row_of y → x.last < y.last → ⊥
 ends x y xs ys cx cy same first row before =
     other x xs cx.1 cx.2 (
-      sym (row_at-beyond x xs (x.last + 1) (omega arith)) ∙ same (x.last + 1)
-      ∙ row_at-here y ys (x.last + 1) (omega (arith, cx.0)) (omega arith) ∙ ap (λ (r : Row). Some r) (sym row))
+    sym (row_at-beyond x xs (x.last + 1) (omega arith)) ∙ same (x.last + 1)
+    ∙ row_at-here y ys (x.last + 1) (omega (arith, cx.0)) (omega arith) ∙ ap (λ (r : Row). Some r) (sym row))
 
 rest : (x y : Run) (xs ys : List Run) → IsCanonical (x ∷ xs) → IsCanonical (y ∷ ys) → ((o : ℕ) → row_at (x ∷ xs) o ≡ row_at (y ∷ ys) o)
     → x.last ≡ y.last → (o : ℕ) → row_at xs o ≡ row_at ys o
 rest x y xs ys cx cy same last o =
     elim (cases_lt x.last o) [
-      inl beyond ↦ sym (row_at-beyond x xs o beyond) ∙ same o ∙ row_at-beyond y ys o (omega arith)
-    | inr upto ↦ row_at-none x xs o cx.1 cx.2 upto ∙ sym (row_at-none y ys o cy.1 cy.2 (omega arith))
+      | inl beyond ↦ sym (row_at-beyond x xs o beyond) ∙ same o ∙ row_at-beyond y ys o (omega arith)
+      | inr upto ↦ row_at-none x xs o cx.1 cx.2 upto ∙ sym (row_at-none y ys o cy.1 cy.2 (omega arith))
     ]
 
 alike : (x y : Run) → x.first ≡ y.first → x.last ≡ y.last → row_of x ≡ row_of y → x ≡ y
@@ -59,7 +59,7 @@ one_list (x ∷ xs) [] cx cy same = absurd (no_first x xs cx (λ o. sym (same o)
 one_list (x ∷ xs) (y ∷ ys) cx cy same =
     let first : x.first ≡ y.first = equal_from x.first y.first (begins x y xs ys cx cy same) (begins y x ys xs cy cx (λ o. sym (same o))) in
     let found : Some (row_of x) ≡ Some (row_of y) =
-      sym (row_at-here x xs x.first (omega arith) cx.0) ∙ same x.first ∙ row_at-here y ys x.first (omega arith) (omega (arith, cy.0)) in
+    sym (row_at-here x xs x.first (omega arith) cx.0) ∙ same x.first ∙ row_at-here y ys x.first (omega arith) (omega (arith, cy.0)) in
     let row : row_of x ≡ row_of y = cc in
     let last : x.last ≡ y.last = equal_from x.last y.last (ends x y xs ys cx cy same first row) (ends y x ys xs cy cx (λ o. sym (same o)) (sym first) (sym row)) in
     λ i. alike x y first last row i ∷ one_list xs ys cx.2 cy.2 (rest x y xs ys cx cy same last) i

@@ -6,8 +6,6 @@ use Rattle.std.specs.declared.cmp.Ordering.TheVariants.{Equal}
 use Rattle.share_model.specs.Keys.{KeyParts, key_cmp}
 use Rattle.share_model.specs.declared.fault.TheConstants.Code.{NONE, UNKNOWN_TOPIC_OR_PARTITION, FENCED_LEADER_EPOCH, FENCED_STATE_EPOCH}
 use Rattle.share_model.specs.declared.fault.Code.{Code}
-
-
 use Rattle.share_model.specs.declared.foreign.ForeignAnswer.{ForeignAnswer}
 
 -- what the last accepted calls on a key gave

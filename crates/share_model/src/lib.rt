@@ -12,6 +12,8 @@ mod name;
 mod room;
 mod row;
 mod run;
+#[cfg(test)]
+mod tests;
 
 pub use blob::Blob;
 pub use close_cause::CloseCause;

@@ -30,5 +30,4 @@ impl Run {
 /// A look-up has one canonical list of runs: two of them with the same look-up are equal.
 pub fn canonical_runs_are_unique()
     ensures { (xs ys : List Run) → IsCanonical xs → IsCanonical ys → ((offset : ℕ) → row_at xs offset ≡ row_at ys offset) → xs ≡ ys }
-{
-}
+{}
