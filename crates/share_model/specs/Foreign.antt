@@ -1,6 +1,6 @@
 -- Foreign state: the share-partition states of partitions that this broker doesn't host. Their coordinators keep them here
 -- by the share-group state calls of KIP-932.
-use Rattle.std.specs.Prelude.{ℕ, ℤ, pos, negsuc, Bool, true, false, List, [], ◌∷◌, Option, Some, None, int_lt, if◌then◌else◌}
+use Rattle.std.specs.Prelude.{ℤ, pos, negsuc, Bool, true, false, List, [], ◌∷◌, Option, Some, None, int_lt, if◌then◌else◌}
 use Rattle.std.specs.declared.cmp.Ordering.{Ordering}
 use Rattle.std.specs.declared.cmp.Ordering.TheVariants.{Equal}
 use Rattle.share_model.specs.Keys.{KeyParts, key_cmp}
