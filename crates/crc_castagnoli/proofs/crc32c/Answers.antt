@@ -1,0 +1,29 @@
+use Rattle.std.proofs.Common.{refl, ap, ◌∙◌, take, arith}
+use Rattle.std.specs.Int.Bits.{bit_xor}
+use Rattle.crc_castagnoli.specs.Division.{all_ones, crc_of, divided, bits_of}
+use Rattle.crc_castagnoli.proofs.Bytes.{divided-split}
+use Rattle.crc_castagnoli.proofs.Quotient.{remainder_of}
+use Rattle.crc_castagnoli.proofs.crc32c.Goals as goal
+
+pub loop-word-init : goal.loop-word-init
+unfolding all_ones
+loop-word-init c = refl
+
+pub loop-word-preserved : goal.loop-word-preserved
+loop-word-preserved c =
+    let rest = c.loop-word.rest.now in
+    let left = c.loop-word.left in
+    ap (λ x. divided x (bits_of c.in-Some.after.now)) c.by_word-left.ensures
+    ∙ ap (λ xs. divided (divided left (bits_of xs)) (bits_of c.in-Some.after.now)) c.in-Some.ensures.cases.0
+    ∙ ap (λ xs. divided (divided left (bits_of (take 8 rest))) (bits_of xs)) c.in-Some.ensures.cases.1
+    ∙ divided-split left 8 rest
+    ∙ c.loop-word.invariant
+
+pub returns-clause-value : goal.returns-clause-value
+unfolding crc_of all_ones
+returns-clause-value c = ap (λ x. bit_xor x 4294967295) (c.by_byte.ensures ∙ c.loop-word.invariant)
+
+pub returns-clause-remainder : goal.returns-clause-remainder
+unfolding all_ones
+returns-clause-remainder c =
+    remainder_of c.args.bytes.now c.by_byte.result (c.by_byte.ensures ∙ c.loop-word.invariant) (omega arith) (λ i. omega (arith, c.type_inv.bytes i))

@@ -1,0 +1,12 @@
+use Rattle.std.proofs.Common.{◌≡◌, ◌∙◌, true, refl, arith}
+use Rattle.crc_castagnoli.specs.Division.{castagnoli, step, steps}
+use Rattle.crc_castagnoli.specs.declared.tables.TheConstants.{STEPS_32}
+use Rattle.crc_castagnoli.proofs.TableCheck.{is_table, table_entry}
+use Rattle.crc_castagnoli.proofs.tables.steps_32.Goals as goal
+
+checked : is_table 32 0 STEPS_32 ≡ true
+unfolding is_table castagnoli step steps
+checked = refl
+
+pub returns : goal.returns
+returns c = c.entry.ensures ∙ table_entry 32 STEPS_32 c.args.byte checked (omega arith)
