@@ -1,0 +1,9 @@
+pub mod Contents
+pub mod Parts
+pub mod Numbers
+pub mod Passed
+pub mod FaultOrder
+pub mod Uniqueness
+pub mod Walking
+pub mod Contented
+pub mod ShortNumbers

@@ -1,0 +1,5 @@
+pub mod Fields
+pub mod Grammar
+pub mod Batches
+pub mod Passing
+pub mod Verdicts

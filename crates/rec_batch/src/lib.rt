@@ -1,0 +1,11 @@
+//! Record batches of version 2, as producers send them and as a log keeps them.
+#![tactic(auto)]
+
+mod form;
+mod header;
+mod passing;
+mod read;
+mod walk;
+
+pub use form::{BatchView, Form};
+pub use read::read_batch;
