@@ -6,4 +6,5 @@ pub mod FaultOrder
 pub mod Uniqueness
 pub mod Walking
 pub mod Contented
+pub mod Placed
 pub mod ShortNumbers

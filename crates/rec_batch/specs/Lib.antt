@@ -3,3 +3,4 @@ pub mod Grammar
 pub mod Batches
 pub mod Passing
 pub mod Verdicts
+pub mod Placing

@@ -4,8 +4,10 @@
 mod form;
 mod header;
 mod passing;
+mod place;
 mod read;
 mod walk;
 
 pub use form::{BatchView, Form};
+pub use place::place_batch;
 pub use read::read_batch;
