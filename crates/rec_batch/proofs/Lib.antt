@@ -7,4 +7,6 @@ pub mod Uniqueness
 pub mod Walking
 pub mod Contented
 pub mod Placed
+pub mod WrittenSizes
+pub mod Spelled
 pub mod ShortNumbers

@@ -4,3 +4,4 @@ pub mod Batches
 pub mod Passing
 pub mod Verdicts
 pub mod Placing
+pub mod Written

@@ -6,8 +6,15 @@ mod header;
 mod passing;
 mod place;
 mod read;
+mod rec;
 mod walk;
+mod write;
 
 pub use form::{BatchView, Form};
 pub use place::place_batch;
 pub use read::read_batch;
+pub use rec::Rec;
+pub use write::{fits_batch, write_batch};
+
+#[cfg(test)]
+mod tests;
