@@ -1,0 +1,129 @@
+-- The words of an event are read in one way.
+use Rattle.std.proofs.Common.{◌≡◌, ◌≢◌, ◌<◌, ◌≤◌, ◌*◌, ◌^◌, ◌⊎◌, inl, inr, ℕ, List, [], ◌∷◌, ◌++◌, length, codes, refl, sym, ap, ◌∙◌, arith, lit<}
+use Rattle.std.proofs.Common.{Bool, true, ◌&&◌, nat_lt}
+use Rattle.std.proofs.lemmas.Bool.{and_parts, ltb-true}
+use Rattle.std.specs.Fmt.{decimal}
+use Rattle.std.specs.Str.{IsAscii, IsUtf8}
+use Rattle.std.proofs.lemmas.Str.{IsAscii-append, IsUtf8-from_ascii}
+use Rattle.std.proofs.lemmas.Str.Ascii.{IsAscii-nil, IsAscii-cons}
+use Rattle.std.proofs.lemmas.Fmt.{IsAscii-decimal}
+use Rattle.hex.specs.Hex.{encode_lower, lower_digits}
+use Rattle.hex.proofs.HexLemmas.{length-encode_with, IsAscii-encode_with}
+use Rattle.session_script.specs.declared.event.Event.{Event}
+use Rattle.session_script.specs.declared.event.Event.TheVariants.{Open, Bytes, Step}
+use Rattle.session_script.specs.Script.{words_of, IsEvent}
+use Rattle.session_script.specs.Lines.{HasNone, IsCut, HasNoCut, IsNoNumber, IsNumbered, IsNotNumbered, IsHex, IsNoHex, Says, SaysNothing}
+use Rattle.session_script.proofs.Cuts.{one_cut, no_blank, lacks_none}
+
+pub same_head : (a b : ℕ) (x y : List ℕ) → a ∷ x ≡ b ∷ y → a ≡ b
+same_head a b x y e = cc
+
+pub same_rest : (word x y : List ℕ) → word ++ x ≡ word ++ y → x ≡ y
+same_rest [] x y e = e
+same_rest (w ∷ word) x y e = let t : word ++ x ≡ word ++ y = cc in same_rest word x y t
+
+-- a connection's number, and what follows it, are one
+pub numbered_same : (text : List ℕ) (c d : ℕ) (x y : List ℕ) → IsNumbered text c x → IsNumbered text d y → (decimal c ≡ decimal d) × (x ≡ y)
+numbered_same text c d x y p q = one_cut 32 (decimal c) (decimal d) x y (no_blank c (omega arith)) (no_blank d (omega arith)) (sym p.1 ∙ q.1)
+
+pub not_cut : (text : List ℕ) → HasNoCut text → IsNotNumbered text
+not_cut text h conn rest p = h (decimal conn) rest (no_blank conn (omega arith), p.1)
+
+pub not_number : (text word rest : List ℕ) → IsCut text word rest → IsNoNumber 4294967295 word → IsNotNumbered text
+not_number text word rest p h conn more q =
+    let s = one_cut 32 word (decimal conn) rest more p.0 (no_blank conn (omega arith)) (sym p.1 ∙ q.1) in
+    h conn (omega (arith, q.0), s.0)
+
+pub step_not_numbered : (rest : List ℕ) → IsNotNumbered rest → SaysNothing (codes "step" ++ 32 ∷ rest)
+step_not_numbered rest h (Open conn) s = absurd (omega (arith, same_head _ _ _ _ s.1))
+step_not_numbered rest h (Bytes conn bytes) s = absurd (omega (arith, same_head _ _ _ _ s.1))
+step_not_numbered rest h (Step conn now) s = h conn (decimal now) (s.0.0, same_rest (codes "step" ++ 32 ∷ []) _ _ s.1)
+
+pub step_no_moment : (rest word : List ℕ) (conn : ℕ) → IsNumbered rest conn word → IsNoNumber (2 ^ 62) word → SaysNothing (codes "step" ++ 32 ∷ rest)
+step_no_moment rest word conn p h (Open n) s = absurd (omega (arith, same_head _ _ _ _ s.1))
+step_no_moment rest word conn p h (Bytes n bytes) s = absurd (omega (arith, same_head _ _ _ _ s.1))
+step_no_moment rest word conn p h (Step n now) s =
+    let e : rest ≡ decimal n ++ 32 ∷ decimal now = same_rest (codes "step" ++ 32 ∷ []) _ _ s.1 in
+    let t = numbered_same rest conn n word (decimal now) p (s.0.0, e) in
+    h now (s.0.1, t.1)
+
+-- the digits of a line of bytes
+digits_of : (rest digits : List ℕ) (conn : ℕ) → IsNumbered rest conn digits → ((bytes : List ℕ) → 0 < length bytes → length bytes ≤ 65536 → IsHex digits bytes → ⊥) →
+    SaysNothing (codes "bytes" ++ 32 ∷ rest)
+digits_of rest digits conn p h (Open n) s = absurd (omega (arith, same_head _ _ _ _ s.1))
+digits_of rest digits conn p h (Step n now) s = absurd (omega (arith, same_head _ _ _ _ s.1))
+digits_of rest digits conn p h (Bytes n bytes) s =
+    let e : rest ≡ decimal n ++ 32 ∷ encode_lower bytes = same_rest (codes "bytes" ++ 32 ∷ []) _ _ s.1 in
+    let t = numbered_same rest conn n digits (encode_lower bytes) p (s.0.0, e) in
+    h bytes s.0.1 s.0.2 (s.0.3, t.1)
+
+hex_length : (digits bytes : List ℕ) → IsHex digits bytes → length digits ≡ 2 * length bytes
+hex_length digits bytes p = ap length p.1 ∙ length-encode_with lower_digits bytes
+
+pub bytes_too_few_or_many : (rest digits : List ℕ) (conn : ℕ) → IsNumbered rest conn digits → (length digits ≡ 0) ⊎ (2 * 65536 < length digits) → SaysNothing (codes "bytes" ++ 32 ∷ rest)
+bytes_too_few_or_many rest digits conn p (inl none) = digits_of rest digits conn p (λ bytes some few q. let e = hex_length digits bytes q in absurd (omega (arith, e)))
+bytes_too_few_or_many rest digits conn p (inr many) = digits_of rest digits conn p (λ bytes some few q. let e = hex_length digits bytes q in absurd (omega (arith, e)))
+
+pub bytes_no_hex : (rest digits : List ℕ) (conn : ℕ) → IsNumbered rest conn digits → IsNoHex digits → SaysNothing (codes "bytes" ++ 32 ∷ rest)
+bytes_no_hex rest digits conn p h = digits_of rest digits conn p (λ bytes some few q. h bytes q)
+
+pub bytes_say : (rest digits bytes : List ℕ) (conn : ℕ) → IsNumbered rest conn digits → IsHex digits bytes → 0 < length digits → length digits ≤ 2 * 65536 → Says (codes "bytes" ++ 32 ∷ rest) (Bytes conn bytes)
+bytes_say rest digits bytes conn p q some few =
+    let e = hex_length digits bytes q in (
+      (p.0, (let h : 0 < length bytes = omega (arith, e) in h), (let h : length bytes ≤ 65536 = omega (arith, e) in h), q.0),
+      (let d : rest ≡ decimal conn ++ 32 ∷ encode_lower bytes = p.1 ∙ ap (λ (l : List ℕ). decimal conn ++ 32 ∷ l) q.1 in ap (λ (l : List ℕ). codes "bytes" ++ 32 ∷ l) d),
+    )
+
+pub bytes_not_numbered : (rest : List ℕ) → IsNotNumbered rest → SaysNothing (codes "bytes" ++ 32 ∷ rest)
+bytes_not_numbered rest h (Open conn) s = absurd (omega (arith, same_head _ _ _ _ s.1))
+bytes_not_numbered rest h (Bytes conn bytes) s = h conn (encode_lower bytes) (s.0.0, same_rest (codes "bytes" ++ 32 ∷ []) _ _ s.1)
+bytes_not_numbered rest h (Step conn now) s = absurd (omega (arith, same_head _ _ _ _ s.1))
+
+-- the first word of an event, and the rest
+record FirstWord (event : Event) (word rest : List ℕ) : Type 0 where
+  parts : words_of event ≡ word ++ 32 ∷ rest
+  whole : HasNone 32 word
+  one : (word ≡ codes "open") ⊎ ((word ≡ codes "bytes") ⊎ (word ≡ codes "step"))
+
+first_word : (event : Event) → (word : List ℕ) × (rest : List ℕ) × FirstWord event word rest
+first_word (Open conn) = (codes "open", decimal conn, record { parts = refl; whole = lacks_none 32 (codes "open") refl; one = inl refl })
+first_word (Bytes conn bytes) = (codes "bytes", decimal conn ++ 32 ∷ encode_lower bytes, record { parts = refl; whole = lacks_none 32 (codes "bytes") refl; one = inr (inl refl) })
+first_word (Step conn now) = (codes "step", decimal conn ++ 32 ∷ decimal now, record { parts = refl; whole = lacks_none 32 (codes "step") refl; one = inr (inr refl) })
+
+abbrev all_small : List ℕ → Bool
+all_small [] = true
+all_small (b ∷ bs) = nat_lt b 128 && all_small bs
+
+small_ascii : (bs : List ℕ) → all_small bs ≡ true → IsAscii bs
+small_ascii [] h = IsAscii-nil
+small_ascii (b ∷ bs) h =
+    let p = and_parts (nat_lt b 128) (all_small bs) h in
+    IsAscii-cons b bs (ltb-true b 128 p.0) (small_ascii bs p.1)
+
+numbered_ascii : (conn : ℕ) (rest : List ℕ) → conn < 2 ^ 32 → IsAscii rest → IsAscii (decimal conn ++ 32 ∷ rest)
+numbered_ascii conn rest lt h = IsAscii-append (decimal conn) (32 ∷ rest) (IsAscii-decimal conn (omega arith)) (IsAscii-cons 32 rest (lit< tt) h)
+
+ascii_words : (event : Event) → IsEvent event → IsAscii (words_of event)
+ascii_words (Open conn) is = IsAscii-append (codes "open" ++ 32 ∷ []) (decimal conn) (small_ascii (codes "open" ++ 32 ∷ []) refl) (IsAscii-decimal conn (omega arith))
+ascii_words (Bytes conn bytes) is =
+    IsAscii-append (codes "bytes" ++ 32 ∷ []) (decimal conn ++ 32 ∷ encode_lower bytes) (small_ascii (codes "bytes" ++ 32 ∷ []) refl)
+    (numbered_ascii conn (encode_lower bytes) is.0 (IsAscii-encode_with lower_digits bytes (small_ascii lower_digits refl)))
+ascii_words (Step conn now) is =
+    IsAscii-append (codes "step" ++ 32 ∷ []) (decimal conn ++ 32 ∷ decimal now) (small_ascii (codes "step" ++ 32 ∷ []) refl)
+    (numbered_ascii conn (decimal now) is.0 (IsAscii-decimal now (omega (arith, is.1))))
+
+-- what isn't text, has no blank, or begins with another word, is no line of an event
+pub not_text : (line : List ℕ) → (IsUtf8 line → ⊥) → SaysNothing line
+not_text line h event s = h (rw (s.1) (IsUtf8-from_ascii (words_of event) (ascii_words event s.0)))
+
+pub not_words : (line : List ℕ) → HasNoCut line → SaysNothing line
+not_words line h event s = let f = first_word event in h f.0 f.1 (f.2.whole, s.1 ∙ f.2.parts)
+
+pub other_word : (line word rest : List ℕ) → IsCut line word rest → word ≢ codes "open" → word ≢ codes "bytes" → word ≢ codes "step" → SaysNothing line
+other_word line word rest p o b t event s =
+    let f = first_word event in
+    let e = one_cut 32 word f.0 rest f.1 p.0 f.2.whole (sym p.1 ∙ s.1 ∙ f.2.parts) in
+    elim f.2.one [
+      | inl k ↦ o (e.0 ∙ k)
+      | inr k ↦ elim k [ inl l ↦ b (e.0 ∙ l) | inr l ↦ t (e.0 ∙ l) ]
+    ]

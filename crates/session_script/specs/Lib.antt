@@ -1,0 +1,6 @@
+pub mod Script
+pub mod Output
+pub mod Lines
+pub mod Unread
+pub mod Reading
+pub mod Writing

@@ -1,0 +1,74 @@
+-- A recorded session as text: one line for each event, and the last line `end`. Words are parted by one blank, numbers
+-- are decimal without leading zeros, and bytes are lower-case hexadecimal digits. docs/SCRIPT.md shows the format.
+use Rattle.std.specs.Prelude.{◌≡◌, ◌<◌, ◌≤◌, ◌+◌, ◌^◌, ◌⊎◌, ℕ, List, [], ◌∷◌, ◌++◌, length, codes}
+use Rattle.std.specs.List.{flat_map, AllByRecursion}
+use Rattle.std.specs.Fmt.{decimal}
+use Rattle.hex.specs.Hex.{encode_lower, IsBytes}
+use Rattle.session_script.specs.declared.event.Event.{Event}
+use Rattle.session_script.specs.declared.event.Event.TheVariants.{Open, Bytes, Step}
+
+-- the words of an event's line; 32 is a blank
+abbrev pub words_of : Event → List ℕ
+words_of (Open conn) = codes "open" ++ 32 ∷ decimal conn
+words_of (Bytes conn bytes) = codes "bytes" ++ 32 ∷ (decimal conn ++ 32 ∷ encode_lower bytes)
+words_of (Step conn now) = codes "step" ++ 32 ∷ (decimal conn ++ 32 ∷ decimal now)
+
+-- the line with its line feed
+abbrev pub line_of : Event → List ℕ
+line_of event = words_of event ++ 10 ∷ []
+
+-- connections are u32, moments are milliseconds up to 2^62, and a line brings 1 to 65536 bytes
+abbrev pub IsEvent : Event → Type 0
+IsEvent (Open conn) = conn < 2 ^ 32
+IsEvent (Bytes conn bytes) = (conn < 2 ^ 32) × (0 < length bytes) × (length bytes ≤ 65536) × IsBytes bytes
+IsEvent (Step conn now) = (conn < 2 ^ 32) × (now ≤ 2 ^ 62)
+
+abbrev pub end_line : List ℕ
+end_line = codes "end" ++ 10 ∷ []
+
+-- a script is read up to this many bytes
+abbrev pub longest : ℕ
+longest = 2 ^ 62
+
+-- the text begins with the lines of these events, and this rest follows
+pub record Begins (text : List ℕ) (events : List Event) (rest : List ℕ) : Type 0 where
+  pub each : AllByRecursion IsEvent events
+  pub parts : text ≡ flat_map line_of events ++ rest
+  pub within : length (flat_map line_of events) ≤ longest
+
+-- the text is the script of these events
+abbrev pub IsScript : List ℕ → List Event → Type 0
+IsScript text events = Begins text events end_line × (length text ≤ longest)
+
+-- at this place of a script no line of an event stands whole at the front of the rest
+abbrev pub HasNoEvent : ℕ → List ℕ → Type 0
+HasNoEvent place rest = (event : Event) (more : List ℕ) → IsEvent event → rest ≡ line_of event ++ more → longest < place + length (line_of event)
+
+-- the events whose lines stand whole, one after another from the first
+abbrev pub StandWhole : List ℕ → List Event → Type 0
+StandWhole text events = (rest : List ℕ) × Begins text events rest × HasNoEvent (length (flat_map line_of events)) rest
+
+-- the last line stands at this place, and nothing behind it
+abbrev pub IsEnd : ℕ → List ℕ → Type 0
+IsEnd place rest = (rest ≡ end_line) × (place + 4 ≤ longest)
+
+-- where the fault of such a rest is: the first byte behind the last line where that stands whole, and else the rest's first byte
+abbrev pub IsFault : ℕ → List ℕ → ℕ → Type 0
+IsFault place rest fault = ((more : List ℕ) × (rest ≡ end_line ++ more) × (place + 4 ≤ longest) × (fault ≡ place + 4))
+    ⊎ (((more : List ℕ) → rest ≡ end_line ++ more → longest < place + 4) × (fault ≡ place))
+
+-- what follows at this place is neither a line of an event nor the end
+pub record IsRefused (place : ℕ) (rest : List ℕ) (fault : ℕ) : Type 0 where
+  pub no_event : HasNoEvent place rest
+  pub no_end : IsEnd place rest → ⊥
+  pub at : IsFault place rest fault
+
+-- the text isn't a script: these are the events before its first malformed line, and this is the place of its fault
+abbrev pub IsMalformed : List ℕ → List Event → ℕ → Type 0
+IsMalformed text events fault = (rest : List ℕ) × Begins text events rest × IsRefused (length (flat_map line_of events)) rest fault
+
+-- a text has one reading as lines of events and a rest that begins with none
+abbrev pub HasOneReading : List ℕ → Type 0
+HasOneReading text = (events others : List Event) (rest left : List ℕ) →
+    Begins text events rest → HasNoEvent (length (flat_map line_of events)) rest →
+    Begins text others left → HasNoEvent (length (flat_map line_of others)) left → (events ≡ others) × (rest ≡ left)

@@ -1,0 +1,21 @@
+use share_model::{Blob, CloseCause};
+
+/// One line of a recorded session: what happens to the broker.
+#[derive(Debug, Drop)]
+pub enum Event {
+    /// A client has connected. Connections are numbered by the script.
+    Open { conn: u32 },
+    /// These bytes have come from the client.
+    Bytes { conn: u32, bytes: Blob },
+    /// The broker does one step of the connection, at this moment in milliseconds.
+    Step { conn: u32, now: u64 },
+}
+
+/// What an event makes the broker do, as a client sees it.
+#[derive(Debug, Drop)]
+pub enum Outcome {
+    /// A reply is sent: the whole frame, its size included.
+    Reply { conn: u32, frame: Blob },
+    /// The connection is closed.
+    Closed { conn: u32, cause: CloseCause },
+}

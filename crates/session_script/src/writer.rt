@@ -1,0 +1,122 @@
+ghost use Rattle.std.specs.Prelude.{◌≡◌, ◌++◌, ◌∷◌, [], IfOk, string_bytes};
+ghost use Rattle.std.specs.Fmt.{decimal};
+ghost use Rattle.session_script.specs.Script.{line_of};
+ghost use Rattle.session_script.specs.Output.{outcome_line, cause_text};
+ghost use Rattle.session_script.specs.Writing.{WritesText};
+ghost use Rattle.session_script.specs.declared.writer.LineFault.TheVariants.{NoMemory as no_memory};
+
+use crate::event::{Event, Outcome};
+use edge_io::{Sink, write_all};
+use flex_fields::NoMemory;
+use share_model::CloseCause;
+use std::alloc::{AllocError, Global};
+use thiserror::Error;
+
+/// Why a line was not written.
+#[derive(Clone, Copy, Debug, PartialEq, Eq, Error)]
+pub enum LineFault {
+    /// The sink failed, and has taken a front of the line.
+    #[error("the line could not be written")]
+    Write,
+    /// No memory was found, and nothing was written.
+    #[error("out of memory")]
+    NoMemory,
+}
+
+impl From<AllocError> for LineFault {
+    ghost from_gives = { λ _ e. e ≡ no_memory };
+
+    fn from(_: AllocError) -> LineFault {
+        LineFault::NoMemory
+    }
+}
+
+// A line of a word, a connection's number and a rest.
+#[tactic(auto, using(crate::proofs::Joined::joined))]
+fn line(alloc: Global, word: &str, conn: u32, rest: &str) -> Result<String, AllocError>
+    ensures { IfOk result (λ text. string_bytes text ≡ word.now ++ 32 ∷ (decimal conn ++ 32 ∷ (rest.now ++ 10 ∷ []))) }
+{
+    let number = conn.to_string(alloc)?;
+    let size = (word.len() + number.len()).saturating_add(rest.len());
+    let mut line = String::with_capacity(alloc, size.saturating_add(3))?;
+    line.push_str(word)?;
+    line.push_str(" ")?;
+    line.push_str(&number)?;
+    line.push_str(" ")?;
+    line.push_str(rest)?;
+    line.push_str("\n")?;
+    Ok(line)
+}
+
+impl From<NoMemory> for LineFault {
+    ghost from_gives = { λ _ e. e ≡ no_memory };
+
+    fn from(_: NoMemory) -> LineFault {
+        LineFault::NoMemory
+    }
+}
+
+fn event_line(alloc: Global, event: &Event) -> Result<String, AllocError>
+    ensures { IfOk result (λ text. string_bytes text ≡ line_of event.now) }
+{
+    match event {
+        Event::Open { conn } => format!(in alloc; "open {conn}\n"),
+        Event::Bytes { conn, bytes } => {
+            let digits = hex::encode(alloc, bytes.as_slice())?;
+            line(alloc, "bytes", *conn, &digits)
+        }
+        Event::Step { conn, now } => {
+            let now = now.to_string(alloc)?;
+            line(alloc, "step", *conn, &now)
+        }
+    }
+}
+
+fn cause_text(cause: CloseCause) -> &'static str
+    ensures { result.now ≡ cause_text cause }
+{
+    match cause {
+        CloseCause::NotBuilt => "not-built",
+    }
+}
+
+fn outcome_line(alloc: Global, outcome: &Outcome) -> Result<String, AllocError>
+    ensures { IfOk result (λ text. string_bytes text ≡ outcome_line outcome.now) }
+{
+    match outcome {
+        Outcome::Reply { conn, frame } => {
+            let digits = hex::encode(alloc, frame.as_slice())?;
+            line(alloc, "reply", *conn, &digits)
+        }
+        Outcome::Closed { conn, cause } => line(alloc, "closed", *conn, cause_text(*cause)),
+    }
+}
+
+fn write_text<O: Sink>(text: &str, output: &mut O) -> Result<(), LineFault>
+    ensures { WritesText (O.held output.old) (O.held output.new) (O.faults output.old) (O.faults output.new) text.now result }
+{
+    match write_all(output, text.as_bytes()) {
+        Ok(()) => Ok(()),
+        Err(_) => Err(LineFault::Write),
+    }
+}
+
+/// Writes an event's line.
+pub fn write_event<O: Sink>(alloc: Global, event: &Event, output: &mut O) -> Result<(), LineFault>
+    ensures { WritesText (O.held output.old) (O.held output.new) (O.faults output.old) (O.faults output.new) (line_of event.now) result }
+{
+    let text = event_line(alloc, event)?;
+    write_text(text.as_str(), output)
+}
+
+/// Writes an outcome's line.
+pub fn write_outcome<O: Sink>(
+    alloc: Global,
+    outcome: &Outcome,
+    output: &mut O,
+) -> Result<(), LineFault>
+    ensures { WritesText (O.held output.old) (O.held output.new) (O.faults output.old) (O.faults output.new) (outcome_line outcome.now) result }
+{
+    let text = outcome_line(alloc, outcome)?;
+    write_text(text.as_str(), output)
+}
