@@ -1,0 +1,4 @@
+pub mod Judging
+pub mod Written
+pub mod Statuses
+pub mod Going

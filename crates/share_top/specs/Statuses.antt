@@ -1,0 +1,51 @@
+-- What each status of a replay says. `left` and `after` are what the input has left before and after, `old` and `new` what
+-- the output holds; each is `None` where the stream doesn't tell.
+use Rattle.std.specs.Prelude.{◌⊎◌, ◌≡◌, List, ℕ, [], ◌∷◌, codes, string_bytes, String, IfSome}
+use Rattle.std.specs.declared.option.Option.{Option}
+use Rattle.std.specs.declared.alloc.Global.{Global}
+use Rattle.std.specs.Io.KnownBytes.{Consumes, IsAtEnd}
+use Rattle.session_script.specs.declared.event.Event.{Event}
+use Rattle.session_script.specs.Script.{IsScript, IsMalformed, StandWhole, Begins}
+use Rattle.broker_model.specs.Machine.{Machine}
+use Rattle.share_top.specs.Written.{WritesRun, WritesFront}
+
+-- the words are the one word
+abbrev pub AreReplay : List (String Global) → Type 0
+AreReplay [] = ⊥
+AreReplay (word ∷ []) = string_bytes word ≡ codes "replay"
+AreReplay (word ∷ other ∷ words) = ⊥
+
+-- the statuses that come
+abbrev pub IsStatus : ℕ → Type 0
+IsStatus n = (n ≡ 0) ⊎ ((n ≡ 2) ⊎ ((n ≡ 3) ⊎ ((n ≡ 4) ⊎ ((n ≡ 5) ⊎ (n ≡ 8)))))
+
+-- 0: the input, read to its end, is a script, and what was written is the text of a run over its events
+pub record IsDone (left after old new : Option (List ℕ)) : Type 0 where
+  pub events : List Event
+  pub last : Machine
+  pub script : IfSome left (λ text. IsScript text events)
+  pub whole : IsAtEnd after
+  pub written : WritesRun old new events last
+
+-- 3: the input isn't a script, and what was written is the text of a run over the events before its first malformed line
+pub record IsRefusedScript (left old new : Option (List ℕ)) : Type 0 where
+  pub events : List Event
+  pub last : Machine
+  pub fault : ℕ
+  pub malformed : IfSome left (λ text. IsMalformed text events fault)
+  pub written : WritesRun old new events last
+
+-- 4: what was written is the text of a run over the events whose lines stand whole in the bytes that the input gave
+pub record IsCut (left after old new : Option (List ℕ)) : Type 0 where
+  pub given : List ℕ
+  pub events : List Event
+  pub last : Machine
+  pub consumed : Consumes left after given
+  pub whole : StandWhole given events
+  pub written : WritesRun old new events last
+
+-- 5 and 8: what was written is a front of the text of a run over the input's first events
+pub record IsStopped (left old new : Option (List ℕ)) : Type 0 where
+  pub events : List Event
+  pub begins : IfSome left (λ text. (rest : List ℕ) × Begins text events rest)
+  pub front : WritesFront old new events

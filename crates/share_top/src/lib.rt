@@ -1,0 +1,15 @@
+//! The top call of the broker: it does all that the program does, over what it is handed.
+#![tactic(auto)]
+
+mod client;
+mod core;
+mod foreign;
+mod replay;
+mod reply;
+mod request;
+mod top;
+
+pub use top::run;
+
+#[cfg(test)]
+mod tests;
