@@ -1,8 +1,8 @@
 //! The top call of the broker: it does all that the program does, over what it is handed.
 #![tactic(auto)]
 
+mod broker;
 mod client;
-mod core;
 mod foreign;
 mod replay;
 mod reply;

@@ -7,7 +7,7 @@ ghost use Rattle.session_script.specs.Output.{output_of};
 ghost use Rattle.share_top.specs.Written.{WritesStep, WritesStepFront};
 ghost use Rattle.share_top.specs.Statuses.{IsDone, IsRefusedScript, IsCut, IsStopped};
 
-use crate::core::Core;
+use crate::broker::Core;
 use edge_io::{Sink, Source};
 use session_script::{Event, LineFault, Outcome, ScriptFault, ScriptReader, Taken, write_outcome};
 use std::alloc::Global;
