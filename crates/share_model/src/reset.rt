@@ -1,0 +1,8 @@
+/// Where a group begins on a partition that it has not read before.
+#[derive(Clone, Copy, Debug, PartialEq, Eq)]
+pub enum Reset {
+    /// At the end of the log.
+    Latest,
+    /// At offset 0.
+    Earliest,
+}
