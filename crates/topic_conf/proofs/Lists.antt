@@ -1,0 +1,41 @@
+-- What the front topic adds to what is said of the others.
+use Rattle.std.proofs.Common.{◌≡◌, ◌≤◌, ◌<◌, ◌+◌, ◌-◌, ℕ, zero, suc, List, [], ◌∷◌, All, AllPairs, length, arith}
+use Rattle.std.specs.Prelude.{slice_index_or}
+use Rattle.std.proofs.lemmas.Grind.{common_steps}
+use Rattle.std.proofs.lemmas.List.Kept.{AllPairs-cons}
+use Rattle.topic_conf.specs.declared.topic.Topic.{Topic}
+use Rattle.topic_conf.specs.Topics.{partitions}
+
+-- each has a partition, and together they have no more than there is room for
+abbrev pub FitInto : ℕ → List Topic → Type 0
+FitInto room topics = All (λ topic. 1 ≤ topic.parts) topics × (partitions topics ≤ room)
+
+pub partitions_cons : (topic : Topic) (topics : List Topic) → partitions (topic ∷ topics) ≡ topic.parts + partitions topics
+partitions_cons topic topics = grind (arith, common_steps)
+
+pub all_front : {X : Type 0} (P : X → Type 0) (x : X) (xs : List X) → All P (x ∷ xs) → P x
+all_front P x xs all = all 0 x (omega arith)
+
+pub all_others : {X : Type 0} (P : X → Type 0) (x : X) (xs : List X) → All P (x ∷ xs) → All P xs
+all_others P x xs all = λ k d lt. all (suc k) d (omega arith)
+
+pub all_cons : {X : Type 0} (P : X → Type 0) (x : X) (xs : List X) → P x → All P xs → All P (x ∷ xs)
+all_cons P x xs here there zero d lt = here
+all_cons P x xs here there (suc k) d lt = there k d (omega arith)
+
+pub fit_down : (room : ℕ) (topic : Topic) (topics : List Topic) → FitInto room (topic ∷ topics) → (1 ≤ topic.parts) × (topic.parts ≤ room) × FitInto (room - topic.parts) topics
+fit_down room topic topics fit = (
+  all_front (λ (topic : Topic). 1 ≤ topic.parts) topic topics fit.0,
+  omega (arith, fit.1, partitions_cons topic topics),
+  (all_others (λ (topic : Topic). 1 ≤ topic.parts) topic topics fit.0, omega (arith, fit.1, partitions_cons topic topics)),
+)
+
+pub fit_up : (room : ℕ) (topic : Topic) (topics : List Topic) → 1 ≤ topic.parts → topic.parts ≤ room → FitInto (room - topic.parts) topics → FitInto room (topic ∷ topics)
+fit_up room topic topics some few fit =
+    (all_cons (λ (topic : Topic). 1 ≤ topic.parts) topic topics some fit.0, omega (arith, fit.1, partitions_cons topic topics))
+
+pub pairs_front : {X : Type 0} (R : X → X → Type 0) (x : X) (xs : List X) → AllPairs R (x ∷ xs) → All (R x) xs
+pairs_front R x xs pairs = λ k d lt. pairs 0 (suc k) d (omega arith) (omega arith)
+
+pub pairs_others : {X : Type 0} (R : X → X → Type 0) (x : X) (xs : List X) → AllPairs R (x ∷ xs) → AllPairs R xs
+pairs_others R x xs pairs = λ i j d lt within. pairs (suc i) (suc j) d (omega arith) (omega arith)

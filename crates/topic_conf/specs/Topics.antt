@@ -1,0 +1,51 @@
+-- The topics that a broker hosts, and the numbers of their partitions' shards. A topic is named by its name or by its id,
+-- which has 16 bytes.
+use Rattle.std.specs.Prelude.{◌≡◌, ◌≢◌, ◌≤◌, ◌+◌, ℕ, ℤ, pos, negsuc, List, [], ◌∷◌, Option, Some, None, length, All, AllPairs, sum_by, nat_lt, if◌then◌else◌}
+use Rattle.std.specs.List.{position}
+use Rattle.std.specs.Option.{option_map}
+use Rattle.std.specs.Str.{bytes_eq}
+use Rattle.uuid.specs.Parts.{zero_bytes}
+use Rattle.edge_io.specs.Names.{IsTopicName}
+use Rattle.topic_conf.specs.declared.topic.Topic.{Topic}
+
+-- a topic that may be hosted: it has a partition, and an id other than the nil UUID
+pub record IsTopic (topic : Topic) : Type 0 where
+  pub name : IsTopicName topic.name
+  pub parts : 1 ≤ topic.parts
+  pub id : topic.id ≢ zero_bytes
+
+-- neither the name nor the id tells one for the other
+pub record AreApart (topic other : Topic) : Type 0 where
+  pub names : topic.name ≢ other.name
+  pub ids : topic.id ≢ other.id
+
+-- how many partitions the topics have together
+abbrev pub partitions : List Topic → ℕ
+partitions topics = sum_by (λ topic. topic.parts) topics
+
+-- topics that one broker may host together
+pub record IsTopicList (topics : List Topic) : Type 0 where
+  pub some : 1 ≤ length topics
+  pub each : All IsTopic topics
+  pub apart : AllPairs AreApart topics
+  pub few : partitions topics ≤ 64
+
+-- Where the topic of this name stands, counted from 0. In `orders`, `audit` the name `audit` stands at 1.
+abbrev pub place_by_name : List ℕ → List Topic → Option ℕ
+place_by_name name topics = position (λ topic. bytes_eq topic.name name) topics
+
+-- where the topic of this id stands
+abbrev pub place_by_id : List ℕ → List Topic → Option ℕ
+place_by_id id topics = position (λ topic. bytes_eq topic.id id) topics
+
+-- a partition of a topic, whose partitions are numbered from 0
+abbrev pub partition_at : ℤ → ℕ → Option ℕ
+partition_at (pos part) parts = if nat_lt part parts then Some part else None
+partition_at (negsuc _) parts = None
+
+-- The number of a partition's shard. Shards are numbered from 0, topic by topic and partition by partition: with three
+-- partitions of `orders` and one of `audit` they are orders 0, orders 1, orders 2, audit 0.
+abbrev pub shard_at : List ℕ → ℤ → List Topic → Option ℕ
+shard_at id part [] = None
+shard_at id part (topic ∷ topics) =
+    if bytes_eq topic.id id then partition_at part topic.parts else option_map (λ shard. topic.parts + shard) (shard_at id part topics)

@@ -1,0 +1,108 @@
+ghost use Rattle.std.specs.Prelude.{◌≡◌, ◌≤◌, ◌<◌, IsTrue, length};
+ghost use Rattle.topic_conf.specs.Topics.{IsTopicList, partitions, place_by_name, place_by_id, shard_at};
+ghost use Rattle.topic_conf.specs.Configs.{IsConfig, IsLockTime, IsLimit};
+
+use crate::topic::{Topic, TopicList};
+use share_model::{Name, Reset};
+use std::marker::Model;
+use uuid::Uuid;
+
+/// What a broker is configured with.
+///
+/// - `topics` are the topics that it hosts.
+/// - `reset` says where a group begins on a partition that it has not read before.
+/// - `lock_ms` is how long an acquisition lock lasts, 1 to 3600000 milliseconds.
+/// - `limit` is the delivery count at which a released record is archived, 2 to 10.
+/// - `host` and `port` are what clients are told to connect to.
+///
+/// A contract sees the record of these parts.
+#[derive(Drop)]
+pub struct Config {
+    topics: TopicList,
+    reset: Reset,
+    lock_ms: u32,
+    limit: u16,
+    host: Name,
+    port: u16,
+}
+
+impl Model for Config {
+    ghost use Rattle.std.specs.Prelude.{◌<◌};
+    ghost use Rattle.topic_conf.specs.Configs.{ConfigParts, IsLockTime, IsLimit};
+
+    ghost Value = { ConfigParts };
+
+    ghost view = { λ c. record { topics = c.topics; reset = c.reset; lock_ms = c.lock_ms; limit = c.limit; host = c.host; port = c.port } };
+
+    ghost invariant = { λ c. IsLockTime c.lock_ms × IsLimit c.limit × (c.port < 65536) };
+}
+
+impl Config {
+    /// The configuration of these parts.
+    pub fn new(
+        topics: TopicList,
+        reset: Reset,
+        lock_ms: u32,
+        limit: u16,
+        host: Name,
+        port: u16,
+    ) -> Config
+        requires lock_time { IsLockTime lock_ms }
+        requires limit { IsLimit limit }
+        ensures { result ≡ record { topics = topics; reset = reset; lock_ms = lock_ms; limit = limit; host = host; port = port } }
+    {
+        Config {
+            topics,
+            reset,
+            lock_ms,
+            limit,
+            host,
+            port,
+        }
+    }
+
+    /// The hosted topics, in the order of their shards.
+    pub fn topics(&self) -> &[Topic]
+        ensures same { result.now ≡ self.now.topics }
+        ensures list { IsTopicList self.now.topics }
+    {
+        self.topics.as_slice()
+    }
+
+    /// Where a group begins on a partition that it has not read before.
+    pub fn reset(&self) -> Reset
+        ensures { result ≡ self.now.reset }
+    {
+        self.reset
+    }
+
+    /// How long an acquisition lock lasts, in milliseconds: 1 to 3600000.
+    pub fn lock_ms(&self) -> u32
+        ensures same { result ≡ self.now.lock_ms }
+        ensures range { IsLockTime result }
+    {
+        self.lock_ms
+    }
+
+    /// The delivery count at which a released record is archived: 2 to 10.
+    pub fn limit(&self) -> u16
+        ensures same { result ≡ self.now.limit }
+        ensures range { IsLimit result }
+    {
+        self.limit
+    }
+
+    /// The host that clients are told to connect to, 1 to 255 bytes of UTF-8.
+    pub fn host(&self) -> &Name
+        ensures { result.now ≡ self.now.host }
+    {
+        &self.host
+    }
+
+    /// The port that clients are told to connect to.
+    pub fn port(&self) -> u16
+        ensures { result ≡ self.now.port }
+    {
+        self.port
+    }
+}

@@ -1,0 +1,13 @@
+//! What a broker is configured with: the topics that it hosts, and a few numbers.
+//!
+//! It finds a topic by name or by id, and the shard of a partition.
+#![tactic(auto)]
+
+mod config;
+mod name;
+#[cfg(test)]
+mod tests;
+mod topic;
+
+pub use config::Config;
+pub use topic::{Topic, TopicList};
