@@ -1,10 +1,8 @@
 -- What the front topic adds to what is said of the others.
-use Rattle.std.proofs.Common.{◌≡◌, ◌≤◌, ◌<◌, ◌+◌, ◌-◌, ℕ, zero, suc, List, [], ◌∷◌, All, AllPairs, length, arith}
-use Rattle.std.specs.Prelude.{slice_index_or}
+use Rattle.std.proofs.Common.{◌≡◌, ◌≤◌, ◌+◌, ◌-◌, ℕ, zero, suc, List, [], ◌∷◌, All, AllPairs, length, arith}
 use Rattle.std.proofs.lemmas.Grind.{common_steps}
-use Rattle.std.proofs.lemmas.List.Kept.{AllPairs-cons}
 use Rattle.topic_conf.specs.declared.topic.Topic.{Topic}
-use Rattle.topic_conf.specs.Topics.{partitions}
+use Rattle.topic_conf.specs.Topics.{partitions, IsTopicList}
 
 -- each has a partition, and together they have no more than there is room for
 abbrev pub FitInto : ℕ → List Topic → Type 0
@@ -39,3 +37,13 @@ pairs_front R x xs pairs = λ k d lt. pairs 0 (suc k) d (omega arith) (omega ari
 
 pub pairs_others : {X : Type 0} (R : X → X → Type 0) (x : X) (xs : List X) → AllPairs R (x ∷ xs) → AllPairs R xs
 pairs_others R x xs pairs = λ i j d lt within. pairs (suc i) (suc j) d (omega arith) (omega arith)
+
+-- there are no more topics than partitions
+pub topics_few : (topics : List Topic) → All (λ topic. 1 ≤ topic.parts) topics → length topics ≤ partitions topics
+topics_few [] all = omega arith
+topics_few (topic ∷ topics) all =
+    let few = topics_few topics (all_others (λ (topic : Topic). 1 ≤ topic.parts) topic topics all) in
+    omega (arith, few, partitions_cons topic topics, all_front (λ (topic : Topic). 1 ≤ topic.parts) topic topics all)
+
+pub list_few : (topics : List Topic) → IsTopicList topics → length topics ≤ 64
+list_few topics list = omega (arith, topics_few topics (λ k d lt. (list.each k d lt).parts), list.few)

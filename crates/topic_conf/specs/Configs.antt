@@ -1,9 +1,7 @@
 -- What a broker is configured with (own).
-use Rattle.std.specs.Prelude.{◌≤◌, ◌<◌, ℕ, List}
+use Rattle.std.specs.Prelude.{◌≤◌, ℕ, List}
 use Rattle.share_model.specs.declared.reset.Reset.{Reset}
-use Rattle.share_model.specs.Names.{IsName}
 use Rattle.topic_conf.specs.declared.topic.Topic.{Topic}
-use Rattle.topic_conf.specs.Topics.{IsTopicList}
 
 -- The hosted topics; where a new group begins; how long an acquisition lock lasts, in milliseconds; at which delivery
 -- count a released record is archived; and the host and port that clients are told.
@@ -24,11 +22,3 @@ pub record IsLockTime (ms : ℕ) : Type 0 where
 pub record IsLimit (limit : ℕ) : Type 0 where
   pub some : 2 ≤ limit
   pub few : limit ≤ 10
-
--- the parts that a configuration may have
-pub record IsConfig (conf : ConfigParts) : Type 0 where
-  pub topics : IsTopicList conf.topics
-  pub lock_ms : IsLockTime conf.lock_ms
-  pub limit : IsLimit conf.limit
-  pub host : IsName conf.host
-  pub port : conf.port < 65536

@@ -1,6 +1,6 @@
 -- The topics that a broker hosts, and the numbers of their partitions' shards. A topic is named by its name or by its id,
 -- which has 16 bytes.
-use Rattle.std.specs.Prelude.{◌≡◌, ◌≢◌, ◌≤◌, ◌+◌, ℕ, ℤ, pos, negsuc, List, [], ◌∷◌, Option, Some, None, length, All, AllPairs, sum_by, nat_lt, if◌then◌else◌}
+use Rattle.std.specs.Prelude.{◌≢◌, ◌≤◌, ◌+◌, ℕ, ℤ, pos, negsuc, List, [], ◌∷◌, Option, Some, None, length, All, AllPairs, sum_by, nat_lt, if◌then◌else◌}
 use Rattle.std.specs.List.{position}
 use Rattle.std.specs.Option.{option_map}
 use Rattle.std.specs.Str.{bytes_eq}

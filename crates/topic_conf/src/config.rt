@@ -1,7 +1,8 @@
 ghost use Rattle.std.specs.Prelude.{◌≡◌, ◌≤◌, ◌<◌, IsTrue, length};
 ghost use Rattle.topic_conf.specs.Topics.{IsTopicList, partitions, place_by_name, place_by_id, shard_at};
-ghost use Rattle.topic_conf.specs.Configs.{IsConfig, IsLockTime, IsLimit};
+ghost use Rattle.topic_conf.specs.Configs.{IsLockTime, IsLimit};
 
+use crate::places::{place_by_id, place_by_name, shard_at};
 use crate::topic::{Topic, TopicList};
 use share_model::{Name, Reset};
 use std::marker::Model;
@@ -104,5 +105,29 @@ impl Config {
         ensures { result ≡ self.now.port }
     {
         self.port
+    }
+
+    /// Where the topic of this name stands among the topics, counted from 0. `None` where it isn't hosted.
+    pub fn by_name(&self, name: &str) -> Option<u32>
+        ensures { result ≡ place_by_name name.now self.now.topics }
+    {
+        let place = place_by_name(name, self.topics.as_slice())?;
+        Some(place as u32)
+    }
+
+    /// Where the topic of this id stands among the topics, counted from 0. `None` where it isn't hosted.
+    pub fn by_id(&self, topic: Uuid) -> Option<u32>
+        ensures { result ≡ place_by_id topic self.now.topics }
+    {
+        let place = place_by_id(topic, self.topics.as_slice())?;
+        Some(place as u32)
+    }
+
+    /// The number of the shard of a topic's partition. Shards are numbered from 0, topic by topic and
+    /// partition by partition. `None` where the topic or the partition isn't hosted.
+    pub fn find(&self, topic: Uuid, part: i32) -> Option<u32>
+        ensures { result ≡ shard_at topic part self.now.topics }
+    {
+        shard_at(topic, part, self.topics.as_slice())
     }
 }

@@ -5,6 +5,7 @@
 
 mod config;
 mod name;
+mod places;
 #[cfg(test)]
 mod tests;
 mod topic;

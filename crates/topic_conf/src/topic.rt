@@ -107,6 +107,7 @@ impl TopicList {
     pub fn as_slice(&self) -> &[Topic]
         ensures same { result.now ≡ self.now }
         ensures list { IsTopicList self.now }
+        ensures few { length self.now ≤ 64 }
     {
         &self.topics
     }

@@ -1,4 +1,4 @@
-use Rattle.std.proofs.Common.{rules, ◌≡◌, ◌∷◌, All, AllPairs}
+use Rattle.std.proofs.Common.{rules, ◌≡◌, ◌∷◌, All}
 use Rattle.std.proofs.lemmas.List.Kept.{AllPairs-cons}
 use Rattle.topic_conf.specs.Topics.{AreApart}
 use Rattle.topic_conf.proofs.Lists.{pairs_front, pairs_others}
