@@ -1,0 +1,12 @@
+pub mod Stream
+pub mod Served
+pub mod Told
+pub mod Planning
+pub mod Hands
+pub mod Replies
+pub mod Versions
+pub mod Metadata
+pub mod Coordinators
+pub mod Judging
+pub mod Links
+pub mod Turning

@@ -1,0 +1,19 @@
+-- What a reply tells of one partition's state (ReadShareGroupStateResponse.json): a code, and for a read that is granted the
+-- state epoch, the start offset and the batches.
+use Rattle.std.specs.Prelude.{ℤ, pos, negsuc, List, [], map}
+use Rattle.share_model.specs.Rows.{state_number}
+use Rattle.share_model.specs.declared.fault.Code.{Code}
+use Rattle.share_model.specs.declared.run.Run.{Run}
+use Rattle.share_model.specs.declared.foreign.ForeignAnswer.{ForeignAnswer}
+use Rattle.msgs_state.specs.declared.state_batch.StateBatch.{StateBatch}
+use Rattle.conn_core.specs.declared.told.Told.{Told}
+
+abbrev pub batch_of : Run → StateBatch
+batch_of run = record { first_offset = pos run.first; last_offset = pos run.last; delivery_state = pos (state_number run.state); delivery_count = pos run.count }
+
+abbrev pub told : ForeignAnswer → Told
+told answer = record { code = answer.code; state_epoch = answer.state_epoch; start = answer.start; batches = map batch_of answer.runs }
+
+-- a refusal tells nothing but its code
+abbrev pub told_code : Code → Told
+told_code code = record { code = code; state_epoch = pos 0; start = negsuc 0; batches = [] }
