@@ -12,6 +12,15 @@ pub enum Api {
 }
 
 impl Api {
+    /// Those that are served, by rising key.
+    pub const SERVED: [Api; 5] = [
+        Api::Metadata,
+        Api::FindCoordinator,
+        Api::ApiVersions,
+        Api::InitializeState,
+        Api::ReadState,
+    ];
+
     /// Its key in Kafka's protocol.
     pub fn key(self) -> i16
         ensures { result ≡ api_key self }

@@ -4,11 +4,13 @@
 
 mod api;
 mod ask;
-mod judge;
 mod hand;
+mod judge;
 mod next;
 mod plan;
+mod sending;
 mod stream;
 mod told;
+mod versions;
 
 pub use next::{Next, Part, PartAnswer};
