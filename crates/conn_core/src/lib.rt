@@ -6,6 +6,7 @@ mod api;
 mod ask;
 mod hand;
 mod judge;
+mod metadata;
 mod next;
 mod plan;
 mod sending;
