@@ -4,6 +4,7 @@
 
 mod api;
 mod ask;
+mod coordinators;
 mod hand;
 mod judge;
 mod metadata;
