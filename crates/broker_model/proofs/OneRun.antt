@@ -2,7 +2,7 @@
 use Rattle.std.proofs.Common.{◌≡◌, ℕ, ℤ, List, [], ◌∷◌, ◌++◌, Option, Some, None, inl, inr, refl, sym, ap, ◌∙◌, subst}
 use Rattle.edge_io.specs.Causes.{Rose}
 use Rattle.session_script.specs.declared.event.Event.{Event}
-use Rattle.session_script.specs.declared.event.Event.TheVariants.{Open, Bytes, Step}
+use Rattle.session_script.specs.declared.event.Event.TheVariants.{Open, Bytes, Close, Step}
 use Rattle.session_script.specs.declared.event.Outcome.{Outcome}
 use Rattle.session_script.specs.declared.event.Outcome.TheVariants.{Reply}
 use Rattle.share_model.specs.Foreign.{ForeignEntry}
@@ -54,6 +54,7 @@ one_service old one other conn (Some piece) first second (inr p) (inr q) = one_r
 one_step : (rose also : List ℕ → Type 0) (old one other : Machine) (event : Event) (first second : List Outcome) → StepsTo rose old event first one → StepsTo also old event second other → Same first second one other
 one_step rose also old one other (Open conn) first second p q = (p.0 ∙ sym q.0, p.1 ∙ sym q.1)
 one_step rose also old one other (Bytes conn bytes) first second p q = (p.0 ∙ sym q.0, p.1 ∙ sym q.1)
+one_step rose also old one other (Close conn) first second p q = (p.0 ∙ sym q.0, p.1 ∙ sym q.1)
 one_step rose also old one other (Step conn now) first second p q = one_service old one other conn (next_piece conn old.connections) first second p q
 
 runs_alike : (old also one other : Counted) (events : List Event) (first second : List Outcome) → old.machine ≡ also.machine →

@@ -30,6 +30,7 @@ at_connection conn change [] = []
 at_connection conn change (connection ∷ connections) =
     if nat_eq connection.id conn then change connection ∷ connections else connection ∷ at_connection conn change connections
 
+-- the connection is gone, with the pieces that wait; where none of this number is open, nothing changes
 abbrev pub closed : ℕ → List Connection → List Connection
 closed conn [] = []
 closed conn (connection ∷ connections) = if nat_eq connection.id conn then connections else connection ∷ closed conn connections

@@ -2,7 +2,7 @@
 -- refused, but only in a step in which that device's count of faults rose. No shard has a device yet.
 use Rattle.std.specs.Prelude.{◌≡◌, ◌⊎◌, ℕ, ℤ, List, [], ◌∷◌, Option, Some, None}
 use Rattle.session_script.specs.declared.event.Event.{Event}
-use Rattle.session_script.specs.declared.event.Event.TheVariants.{Open, Bytes, Step}
+use Rattle.session_script.specs.declared.event.Event.TheVariants.{Open, Bytes, Close, Step}
 use Rattle.session_script.specs.declared.event.Outcome.{Outcome}
 use Rattle.session_script.specs.declared.event.Outcome.TheVariants.{Reply, Closed}
 use Rattle.share_model.specs.declared.close_cause.CloseCause.TheVariants.{NotBuilt}
@@ -49,4 +49,6 @@ StepsTo rose old (Open conn) outcomes new =
     (outcomes ≡ []) × (new ≡ record { connections = opened conn old.connections; foreign = old.foreign })
 StepsTo rose old (Bytes conn bytes) outcomes new =
     (outcomes ≡ []) × (new ≡ record { connections = at_connection conn (with_piece bytes) old.connections; foreign = old.foreign })
+StepsTo rose old (Close conn) outcomes new =
+    (outcomes ≡ []) × (new ≡ record { connections = closed conn old.connections; foreign = old.foreign })
 StepsTo rose old (Step conn now) outcomes new = Serves old conn (next_piece conn old.connections) outcomes new

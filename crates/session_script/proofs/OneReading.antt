@@ -6,7 +6,7 @@ use Rattle.std.proofs.lemmas.Fmt.{decimal_injective}
 use Rattle.hex.specs.Hex.{encode_lower, decode_of, IsBytes}
 use Rattle.hex.proofs.HexLemmas.{decode_of-encode_lower}
 use Rattle.session_script.specs.declared.event.Event.{Event}
-use Rattle.session_script.specs.declared.event.Event.TheVariants.{Open, Bytes, Step}
+use Rattle.session_script.specs.declared.event.Event.TheVariants.{Open, Bytes, Close, Step}
 use Rattle.session_script.specs.Script.{words_of, line_of, IsEvent, end_line, longest, HasNoEvent, HasOneReading, IsScript, IsMalformed}
 use Rattle.session_script.proofs.Cuts.{one_cut, no_blank}
 use Rattle.session_script.proofs.Sayings.{same_head, same_rest}
@@ -26,15 +26,22 @@ same_numbered c d x y p q e =
 same_event : (a b : Event) → IsEvent a → IsEvent b → words_of a ≡ words_of b → a ≡ b
 same_event (Open c) (Open d) p q e = ap Open (same_number c d (omega arith) (omega arith) (same_rest (codes "open" ++ 32 ∷ []) _ _ e))
 same_event (Open c) (Bytes d y) p q e = absurd (omega (arith, same_head _ _ _ _ e))
+same_event (Open c) (Close d) p q e = absurd (omega (arith, same_head _ _ _ _ e))
 same_event (Open c) (Step d u) p q e = absurd (omega (arith, same_head _ _ _ _ e))
 same_event (Bytes c x) (Open d) p q e = absurd (omega (arith, same_head _ _ _ _ e))
 same_event (Bytes c x) (Bytes d y) p q e =
     let s = same_numbered c d (encode_lower x) (encode_lower y) p.0 q.0 (same_rest (codes "bytes" ++ 32 ∷ []) _ _ e) in
     let b = same_bytes x y p.3 q.3 s.1 in
     λ i. Bytes (s.0 i) (b i)
+same_event (Bytes c x) (Close d) p q e = absurd (omega (arith, same_head _ _ _ _ e))
 same_event (Bytes c x) (Step d u) p q e = absurd (omega (arith, same_head _ _ _ _ e))
+same_event (Close c) (Open d) p q e = absurd (omega (arith, same_head _ _ _ _ e))
+same_event (Close c) (Bytes d y) p q e = absurd (omega (arith, same_head _ _ _ _ e))
+same_event (Close c) (Close d) p q e = ap Close (same_number c d (omega arith) (omega arith) (same_rest (codes "close" ++ 32 ∷ []) _ _ e))
+same_event (Close c) (Step d u) p q e = absurd (omega (arith, same_head _ _ _ _ e))
 same_event (Step c t) (Open d) p q e = absurd (omega (arith, same_head _ _ _ _ e))
 same_event (Step c t) (Bytes d y) p q e = absurd (omega (arith, same_head _ _ _ _ e))
+same_event (Step c t) (Close d) p q e = absurd (omega (arith, same_head _ _ _ _ e))
 same_event (Step c t) (Step d u) p q e =
     let s = same_numbered c d (decimal t) (decimal u) p.0 q.0 (same_rest (codes "step" ++ 32 ∷ []) _ _ e) in
     let b = same_number t u (omega (arith, p.1)) (omega (arith, q.1)) s.1 in

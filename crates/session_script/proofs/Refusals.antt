@@ -6,7 +6,7 @@ use Rattle.std.specs.Fmt.{decimal}
 use Rattle.hex.specs.Hex.{encode_lower, lower_digits}
 use Rattle.hex.proofs.HexLemmas.{length-encode_with}
 use Rattle.session_script.specs.declared.event.Event.{Event}
-use Rattle.session_script.specs.declared.event.Event.TheVariants.{Open, Bytes, Step}
+use Rattle.session_script.specs.declared.event.Event.TheVariants.{Open, Bytes, Close, Step}
 use Rattle.session_script.specs.Script.{words_of, line_of, IsEvent, end_line, longest, HasNoEvent, IsRefused}
 use Rattle.session_script.specs.Lines.{HasNone, IsLine, IsUnfinished, SaysNothing, longest_line}
 use Rattle.session_script.proofs.Cuts.{one_cut, none_append, no_feed, lacks_none}
@@ -20,6 +20,7 @@ pub no_feed_words : (event : Event) → IsEvent event → HasNone 10 (words_of e
 no_feed_words (Open conn) is = none_append 10 (codes "open" ++ 32 ∷ []) (decimal conn) (lacks_none 10 (codes "open" ++ 32 ∷ []) refl) (no_feed conn (omega arith))
 no_feed_words (Bytes conn bytes) is =
     none_append 10 (codes "bytes" ++ 32 ∷ []) (decimal conn ++ 32 ∷ encode_lower bytes) (lacks_none 10 (codes "bytes" ++ 32 ∷ []) refl) (numbered_none conn (encode_lower bytes) is.0 (hex_no_feed bytes is.3))
+no_feed_words (Close conn) is = none_append 10 (codes "close" ++ 32 ∷ []) (decimal conn) (lacks_none 10 (codes "close" ++ 32 ∷ []) refl) (no_feed conn (omega arith))
 no_feed_words (Step conn now) is =
     none_append 10 (codes "step" ++ 32 ∷ []) (decimal conn ++ 32 ∷ decimal now) (lacks_none 10 (codes "step" ++ 32 ∷ []) refl) (numbered_none conn (decimal now) is.0 (no_feed now (omega (arith, is.1))))
 
@@ -50,6 +51,7 @@ end_has_none = lacks_none 10 end_word refl
 end_is_none : (event : Event) → end_word ≡ words_of event → ⊥
 end_is_none (Open conn) e = absurd (omega (arith, same_head _ _ _ _ e))
 end_is_none (Bytes conn bytes) e = absurd (omega (arith, same_head _ _ _ _ e))
+end_is_none (Close conn) e = absurd (omega (arith, same_head _ _ _ _ e))
 end_is_none (Step conn now) e = absurd (omega (arith, same_head _ _ _ _ e))
 
 -- a line that is the last one's
@@ -95,6 +97,7 @@ words_short (Bytes conn bytes) is =
     let h = length-encode_with lower_digits bytes in
     let a = length-append (decimal conn) (32 ∷ encode_lower bytes) in
     omega (arith, d, h, a, is.2)
+words_short (Close conn) is = let d = decimal_short conn is in omega (arith, d)
 words_short (Step conn now) is =
     let d = decimal_short conn is.0 in
     let n = length-decimal-le 19 now (omega arith) (omega (arith, is.1)) (omega (arith, is.1)) in

@@ -10,7 +10,7 @@ use Rattle.std.proofs.lemmas.Fmt.{IsAscii-decimal}
 use Rattle.hex.specs.Hex.{encode_lower, lower_digits}
 use Rattle.hex.proofs.HexLemmas.{length-encode_with, IsAscii-encode_with}
 use Rattle.session_script.specs.declared.event.Event.{Event}
-use Rattle.session_script.specs.declared.event.Event.TheVariants.{Open, Bytes, Step}
+use Rattle.session_script.specs.declared.event.Event.TheVariants.{Open, Bytes, Close, Step}
 use Rattle.session_script.specs.Script.{words_of, IsEvent}
 use Rattle.session_script.specs.Lines.{HasNone, IsCut, HasNoCut, IsNoNumber, IsNumbered, IsNotNumbered, IsHex, IsNoHex, Says, SaysNothing}
 use Rattle.session_script.proofs.Cuts.{one_cut, no_blank, lacks_none}
@@ -37,11 +37,13 @@ not_number text word rest p h conn more q =
 pub step_not_numbered : (rest : List ℕ) → IsNotNumbered rest → SaysNothing (codes "step" ++ 32 ∷ rest)
 step_not_numbered rest h (Open conn) s = absurd (omega (arith, same_head _ _ _ _ s.1))
 step_not_numbered rest h (Bytes conn bytes) s = absurd (omega (arith, same_head _ _ _ _ s.1))
+step_not_numbered rest h (Close conn) s = absurd (omega (arith, same_head _ _ _ _ s.1))
 step_not_numbered rest h (Step conn now) s = h conn (decimal now) (s.0.0, same_rest (codes "step" ++ 32 ∷ []) _ _ s.1)
 
 pub step_no_moment : (rest word : List ℕ) (conn : ℕ) → IsNumbered rest conn word → IsNoNumber (2 ^ 62) word → SaysNothing (codes "step" ++ 32 ∷ rest)
 step_no_moment rest word conn p h (Open n) s = absurd (omega (arith, same_head _ _ _ _ s.1))
 step_no_moment rest word conn p h (Bytes n bytes) s = absurd (omega (arith, same_head _ _ _ _ s.1))
+step_no_moment rest word conn p h (Close n) s = absurd (omega (arith, same_head _ _ _ _ s.1))
 step_no_moment rest word conn p h (Step n now) s =
     let e : rest ≡ decimal n ++ 32 ∷ decimal now = same_rest (codes "step" ++ 32 ∷ []) _ _ s.1 in
     let t = numbered_same rest conn n word (decimal now) p (s.0.0, e) in
@@ -51,6 +53,7 @@ step_no_moment rest word conn p h (Step n now) s =
 digits_of : (rest digits : List ℕ) (conn : ℕ) → IsNumbered rest conn digits → ((bytes : List ℕ) → 0 < length bytes → length bytes ≤ 65536 → IsHex digits bytes → ⊥) →
     SaysNothing (codes "bytes" ++ 32 ∷ rest)
 digits_of rest digits conn p h (Open n) s = absurd (omega (arith, same_head _ _ _ _ s.1))
+digits_of rest digits conn p h (Close n) s = absurd (omega (arith, same_head _ _ _ _ s.1))
 digits_of rest digits conn p h (Step n now) s = absurd (omega (arith, same_head _ _ _ _ s.1))
 digits_of rest digits conn p h (Bytes n bytes) s =
     let e : rest ≡ decimal n ++ 32 ∷ encode_lower bytes = same_rest (codes "bytes" ++ 32 ∷ []) _ _ s.1 in
@@ -77,18 +80,20 @@ bytes_say rest digits bytes conn p q some few =
 pub bytes_not_numbered : (rest : List ℕ) → IsNotNumbered rest → SaysNothing (codes "bytes" ++ 32 ∷ rest)
 bytes_not_numbered rest h (Open conn) s = absurd (omega (arith, same_head _ _ _ _ s.1))
 bytes_not_numbered rest h (Bytes conn bytes) s = h conn (encode_lower bytes) (s.0.0, same_rest (codes "bytes" ++ 32 ∷ []) _ _ s.1)
+bytes_not_numbered rest h (Close conn) s = absurd (omega (arith, same_head _ _ _ _ s.1))
 bytes_not_numbered rest h (Step conn now) s = absurd (omega (arith, same_head _ _ _ _ s.1))
 
 -- the first word of an event, and the rest
 record FirstWord (event : Event) (word rest : List ℕ) : Type 0 where
   parts : words_of event ≡ word ++ 32 ∷ rest
   whole : HasNone 32 word
-  one : (word ≡ codes "open") ⊎ ((word ≡ codes "bytes") ⊎ (word ≡ codes "step"))
+  one : (word ≡ codes "open") ⊎ ((word ≡ codes "bytes") ⊎ ((word ≡ codes "close") ⊎ (word ≡ codes "step")))
 
 first_word : (event : Event) → (word : List ℕ) × (rest : List ℕ) × FirstWord event word rest
 first_word (Open conn) = (codes "open", decimal conn, record { parts = refl; whole = lacks_none 32 (codes "open") refl; one = inl refl })
 first_word (Bytes conn bytes) = (codes "bytes", decimal conn ++ 32 ∷ encode_lower bytes, record { parts = refl; whole = lacks_none 32 (codes "bytes") refl; one = inr (inl refl) })
-first_word (Step conn now) = (codes "step", decimal conn ++ 32 ∷ decimal now, record { parts = refl; whole = lacks_none 32 (codes "step") refl; one = inr (inr refl) })
+first_word (Close conn) = (codes "close", decimal conn, record { parts = refl; whole = lacks_none 32 (codes "close") refl; one = inr (inr (inl refl)) })
+first_word (Step conn now) = (codes "step", decimal conn ++ 32 ∷ decimal now, record { parts = refl; whole = lacks_none 32 (codes "step") refl; one = inr (inr (inr refl)) })
 
 abbrev all_small : List ℕ → Bool
 all_small [] = true
@@ -108,6 +113,7 @@ ascii_words (Open conn) is = IsAscii-append (codes "open" ++ 32 ∷ []) (decimal
 ascii_words (Bytes conn bytes) is =
     IsAscii-append (codes "bytes" ++ 32 ∷ []) (decimal conn ++ 32 ∷ encode_lower bytes) (small_ascii (codes "bytes" ++ 32 ∷ []) refl)
     (numbered_ascii conn (encode_lower bytes) is.0 (IsAscii-encode_with lower_digits bytes (small_ascii lower_digits refl)))
+ascii_words (Close conn) is = IsAscii-append (codes "close" ++ 32 ∷ []) (decimal conn) (small_ascii (codes "close" ++ 32 ∷ []) refl) (IsAscii-decimal conn (omega arith))
 ascii_words (Step conn now) is =
     IsAscii-append (codes "step" ++ 32 ∷ []) (decimal conn ++ 32 ∷ decimal now) (small_ascii (codes "step" ++ 32 ∷ []) refl)
     (numbered_ascii conn (decimal now) is.0 (IsAscii-decimal now (omega (arith, is.1))))
@@ -119,11 +125,11 @@ not_text line h event s = h (rw (s.1) (IsUtf8-from_ascii (words_of event) (ascii
 pub not_words : (line : List ℕ) → HasNoCut line → SaysNothing line
 not_words line h event s = let f = first_word event in h f.0 f.1 (f.2.whole, s.1 ∙ f.2.parts)
 
-pub other_word : (line word rest : List ℕ) → IsCut line word rest → word ≢ codes "open" → word ≢ codes "bytes" → word ≢ codes "step" → SaysNothing line
-other_word line word rest p o b t event s =
+pub other_word : (line word rest : List ℕ) → IsCut line word rest → word ≢ codes "open" → word ≢ codes "bytes" → word ≢ codes "close" → word ≢ codes "step" → SaysNothing line
+other_word line word rest p o b x t event s =
     let f = first_word event in
     let e = one_cut 32 word f.0 rest f.1 p.0 f.2.whole (sym p.1 ∙ s.1 ∙ f.2.parts) in
     elim f.2.one [
       | inl k ↦ o (e.0 ∙ k)
-      | inr k ↦ elim k [ inl l ↦ b (e.0 ∙ l) | inr l ↦ t (e.0 ∙ l) ]
+      | inr k ↦ elim k [ inl l ↦ b (e.0 ∙ l) | inr l ↦ elim l [ inl m ↦ x (e.0 ∙ m) | inr m ↦ t (e.0 ∙ m) ] ]
     ]

@@ -1,20 +1,31 @@
--- The output of a replay: one line for each outcome.
+-- The output of a replay: one line for each outcome, and a last line where the script is malformed. The format is this
+-- project's own; docs/SCRIPT.md shows it.
 use Rattle.std.specs.Prelude.{List, ℕ, [], ◌∷◌, ◌++◌, codes}
 use Rattle.std.specs.List.{flat_map}
-use Rattle.std.specs.Fmt.{decimal}
+use Rattle.std.specs.Fmt.{decimal, signed_decimal}
 use Rattle.hex.specs.Hex.{encode_lower}
 use Rattle.share_model.specs.declared.close_cause.CloseCause.{CloseCause}
-use Rattle.share_model.specs.declared.close_cause.CloseCause.TheVariants.{NotBuilt}
+use Rattle.share_model.specs.declared.close_cause.CloseCause.TheVariants.{NotBuilt, TooLong, BadHeader, UnknownApi, BadBody, LongReply}
 use Rattle.session_script.specs.declared.event.Outcome.{Outcome}
 use Rattle.session_script.specs.declared.event.Outcome.TheVariants.{Reply, Closed}
 
+-- an api's key and version are signed numbers; 32 is a blank
 abbrev pub cause_text : CloseCause → List ℕ
 cause_text NotBuilt = codes "not-built"
+cause_text (TooLong size) = codes "too-long" ++ 32 ∷ decimal size
+cause_text BadHeader = codes "bad-header"
+cause_text (UnknownApi key version) = codes "unknown-api" ++ 32 ∷ (signed_decimal key ++ 32 ∷ signed_decimal version)
+cause_text (BadBody place) = codes "bad-body" ++ 32 ∷ decimal place
+cause_text LongReply = codes "long-reply"
 
--- the line of an outcome, with its line feed; 32 is a blank, and 10 a line feed
+-- the line of an outcome, with its line feed, which is 10
 abbrev pub outcome_line : Outcome → List ℕ
 outcome_line (Reply conn frame) = codes "reply" ++ 32 ∷ (decimal conn ++ 32 ∷ (encode_lower frame ++ 10 ∷ []))
 outcome_line (Closed conn cause) = codes "closed" ++ 32 ∷ (decimal conn ++ 32 ∷ (cause_text cause ++ 10 ∷ []))
 
 abbrev pub output_of : List Outcome → List ℕ
 output_of outcomes = flat_map outcome_line outcomes
+
+-- the last line of a script that is malformed at this place
+abbrev pub malformed_line : ℕ → List ℕ
+malformed_line place = codes "malformed" ++ 32 ∷ (decimal place ++ 10 ∷ [])

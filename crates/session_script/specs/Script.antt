@@ -5,12 +5,13 @@ use Rattle.std.specs.List.{flat_map, AllByRecursion}
 use Rattle.std.specs.Fmt.{decimal}
 use Rattle.hex.specs.Hex.{encode_lower, IsBytes}
 use Rattle.session_script.specs.declared.event.Event.{Event}
-use Rattle.session_script.specs.declared.event.Event.TheVariants.{Open, Bytes, Step}
+use Rattle.session_script.specs.declared.event.Event.TheVariants.{Open, Bytes, Close, Step}
 
 -- the words of an event's line; 32 is a blank
 abbrev pub words_of : Event → List ℕ
 words_of (Open conn) = codes "open" ++ 32 ∷ decimal conn
 words_of (Bytes conn bytes) = codes "bytes" ++ 32 ∷ (decimal conn ++ 32 ∷ encode_lower bytes)
+words_of (Close conn) = codes "close" ++ 32 ∷ decimal conn
 words_of (Step conn now) = codes "step" ++ 32 ∷ (decimal conn ++ 32 ∷ decimal now)
 
 -- the line with its line feed
@@ -21,6 +22,7 @@ line_of event = words_of event ++ 10 ∷ []
 abbrev pub IsEvent : Event → Type 0
 IsEvent (Open conn) = conn < 2 ^ 32
 IsEvent (Bytes conn bytes) = (conn < 2 ^ 32) × (0 < length bytes) × (length bytes ≤ 65536) × IsBytes bytes
+IsEvent (Close conn) = conn < 2 ^ 32
 IsEvent (Step conn now) = (conn < 2 ^ 32) × (now ≤ 2 ^ 62)
 
 abbrev pub end_line : List ℕ

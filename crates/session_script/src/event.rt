@@ -7,6 +7,8 @@ pub enum Event {
     Open { conn: u32 },
     /// These bytes have come from the client.
     Bytes { conn: u32, bytes: Blob },
+    /// The client has closed the connection.
+    Close { conn: u32 },
     /// The broker does one step of the connection, at this moment in milliseconds.
     Step { conn: u32, now: u64 },
 }

@@ -24,6 +24,15 @@ fn open(rest: &str) -> Option<Event>
     Some(Event::Open { conn: conn as u32 })
 }
 
+fn close(rest: &str) -> Option<Event>
+    ensures { MatchOption result (SaysNothing (codes "close" ++ 32 ∷ rest.now)) (Says (codes "close" ++ 32 ∷ rest.now)) }
+{
+    let Some(conn) = number(u32::MAX as u64, rest) else {
+        return None;
+    };
+    Some(Event::Close { conn: conn as u32 })
+}
+
 fn step(rest: &str) -> Option<Event>
     ensures { MatchOption result (SaysNothing (codes "step" ++ 32 ∷ rest.now)) (Says (codes "step" ++ 32 ∷ rest.now)) }
 {
@@ -67,6 +76,7 @@ pub fn event(alloc: Global, line: &[u8]) -> Result<Option<Event>, NoMemory>
     match word {
         "open" => Ok(open(rest)),
         "bytes" => bytes(alloc, rest),
+        "close" => Ok(close(rest)),
         "step" => Ok(step(rest)),
         _ => Ok(None),
     }

@@ -21,7 +21,8 @@ fn read(alloc: Global, text: &str) -> Result<(Vec<u8>, Result<(), ScriptFault>),
 
 #[test]
 fn events_are_read_and_written_line_by_line_up_to_the_end(rt: HostRuntime) -> Result<(), Fail> {
-    let text = "open 0\nopen 4294967295\nbytes 7 00ff1a\nstep 7 4611686018427387904\n";
+    let text =
+        "open 0\nopen 4294967295\nbytes 7 00ff1a\nstep 7 4611686018427387904\nclose 7\nclose 4294967295\n";
     let alloc = rt.alloc();
     let (lines, end) = read(alloc, &format!(in alloc; "{text}end\n")?)?;
     assert_eq!(rt; lines.as_slice(), text.as_bytes());
@@ -41,6 +42,9 @@ fn the_first_malformed_line_is_named_by_its_place(rt: HostRuntime) -> Result<(),
         ("open +1\nend\n", 0),
         ("open 4294967296\nend\n", 0),
         ("open  1\nend\n", 0),
+        ("close 4294967296\nend\n", 0),
+        ("close 1 0\nend\n", 0),
+        ("close\nend\n", 0),
         ("bytes 1 \nend\n", 0),
         ("bytes 1 0\nend\n", 0),
         ("bytes 1 0A\nend\n", 0),
@@ -59,11 +63,34 @@ fn outcomes_are_written_as_lines(rt: HostRuntime) -> Result<(), Fail> {
     let mut sink = MemSink::new(alloc, Vec::new(alloc));
     let frame = Blob::new([0, 255, 26].to_vec(alloc)?);
     write_outcome(alloc, &Outcome::Reply { conn: 1, frame }, &mut sink)?;
-    let cause = CloseCause::NotBuilt;
-    write_outcome(alloc, &Outcome::Closed { conn: 2, cause }, &mut sink)?;
-    assert_eq!(rt;
-        sink.bytes(),
-        b"reply 1 00ff1a\nclosed 2 not-built\n".as_slice()
-    );
+    write_malformed(alloc, 27, &mut sink)?;
+    assert_eq!(rt; sink.bytes(), b"reply 1 00ff1a\nmalformed 27\n".as_slice());
+    Ok(())
+}
+
+#[test]
+fn each_cause_of_a_close_has_its_line(rt: HostRuntime) -> Result<(), Fail> {
+    let alloc = rt.alloc();
+    for (cause, line) in [
+        (CloseCause::NotBuilt, "closed 2 not-built\n"),
+        (
+            CloseCause::TooLong { size: 16777217 },
+            "closed 2 too-long 16777217\n",
+        ),
+        (CloseCause::BadHeader, "closed 2 bad-header\n"),
+        (
+            CloseCause::UnknownApi {
+                key: 1,
+                version: -4,
+            },
+            "closed 2 unknown-api 1 -4\n",
+        ),
+        (CloseCause::BadBody { place: 11 }, "closed 2 bad-body 11\n"),
+        (CloseCause::LongReply, "closed 2 long-reply\n"),
+    ] {
+        let mut sink = MemSink::new(alloc, Vec::new(alloc));
+        write_outcome(alloc, &Outcome::Closed { conn: 2, cause }, &mut sink)?;
+        assert_eq!(rt; sink.bytes(), line.as_bytes(), "{line}");
+    }
     Ok(())
 }

@@ -1,7 +1,7 @@
 ghost use Rattle.std.specs.Prelude.{◌≡◌, ◌++◌, ◌∷◌, [], IfOk, string_bytes};
 ghost use Rattle.std.specs.Fmt.{decimal};
 ghost use Rattle.session_script.specs.Script.{line_of};
-ghost use Rattle.session_script.specs.Output.{outcome_line, cause_text};
+ghost use Rattle.session_script.specs.Output.{outcome_line, cause_text, malformed_line};
 ghost use Rattle.session_script.specs.Writing.{WritesText};
 ghost use Rattle.session_script.specs.declared.writer.LineFault.TheVariants.{NoMemory as no_memory};
 
@@ -65,6 +65,7 @@ fn event_line(alloc: Global, event: &Event) -> Result<String, AllocError>
             let digits = hex::encode(alloc, bytes.as_slice())?;
             line(alloc, "bytes", *conn, &digits)
         }
+        Event::Close { conn } => format!(in alloc; "close {conn}\n"),
         Event::Step { conn, now } => {
             let now = now.to_string(alloc)?;
             line(alloc, "step", *conn, &now)
@@ -72,11 +73,16 @@ fn event_line(alloc: Global, event: &Event) -> Result<String, AllocError>
     }
 }
 
-fn cause_text(cause: CloseCause) -> &'static str
-    ensures { result.now ≡ cause_text cause }
+fn cause_text(alloc: Global, cause: CloseCause) -> Result<String, AllocError>
+    ensures { IfOk result (λ text. string_bytes text ≡ cause_text cause) }
 {
     match cause {
-        CloseCause::NotBuilt => "not-built",
+        CloseCause::NotBuilt => String::from_str(alloc, "not-built"),
+        CloseCause::TooLong { size } => format!(in alloc; "too-long {size}"),
+        CloseCause::BadHeader => String::from_str(alloc, "bad-header"),
+        CloseCause::UnknownApi { key, version } => format!(in alloc; "unknown-api {key} {version}"),
+        CloseCause::BadBody { place } => format!(in alloc; "bad-body {place}"),
+        CloseCause::LongReply => String::from_str(alloc, "long-reply"),
     }
 }
 
@@ -88,7 +94,10 @@ fn outcome_line(alloc: Global, outcome: &Outcome) -> Result<String, AllocError>
             let digits = hex::encode(alloc, frame.as_slice())?;
             line(alloc, "reply", *conn, &digits)
         }
-        Outcome::Closed { conn, cause } => line(alloc, "closed", *conn, cause_text(*cause)),
+        Outcome::Closed { conn, cause } => {
+            let cause = cause_text(alloc, *cause)?;
+            line(alloc, "closed", *conn, &cause)
+        }
     }
 }
 
@@ -118,5 +127,13 @@ pub fn write_outcome<O: Sink>(
     ensures { WritesText (O.held output.old) (O.held output.new) (O.faults output.old) (O.faults output.new) (outcome_line outcome.now) result }
 {
     let text = outcome_line(alloc, outcome)?;
+    write_text(text.as_str(), output)
+}
+
+/// Writes the line that names the place of a script's fault.
+pub fn write_malformed<O: Sink>(alloc: Global, place: u64, output: &mut O) -> Result<(), LineFault>
+    ensures { WritesText (O.held output.old) (O.held output.new) (O.faults output.old) (O.faults output.new) (malformed_line place) result }
+{
+    let text = format!(in alloc; "malformed {place}\n")?;
     write_text(text.as_str(), output)
 }

@@ -87,6 +87,10 @@ impl Core {
                 send(conn, bytes, &mut self.clients)?;
                 Ok(Vec::new(alloc))
             }
+            Event::Close { conn } => {
+                disconnect(conn, &mut self.clients);
+                Ok(Vec::new(alloc))
+            }
             Event::Step { conn, .. } => self.step(alloc, conn),
         }
     }
