@@ -41,7 +41,7 @@ front_more a b text more rest p = record {
   grown = p.grown;
 }
 
-text_front : (a b : Held) (n m : ℕ) (text : List ℕ) (fault : LineFault) → WritesText {T = Unit {0}} a b n m text (Err fault) → (rest : List ℕ) × AppendsFront a b text rest
+pub text_front : (a b : Held) (n m : ℕ) (text : List ℕ) (fault : LineFault) → WritesText {T = Unit {0}} a b n m text (Err fault) → (rest : List ℕ) × AppendsFront a b text rest
 text_front a b n m text Write w = w.front refl
 text_front a b n m text NoMemory w = (text, front_nothing a b text (w.nothing refl))
 

@@ -1,22 +1,24 @@
 -- A replay goes on by one event, or ends.
-use Rattle.std.proofs.Common.{◌≡◌, ◌≤◌, ◌+◌, inl, inr, ℕ, List, [], ◌∷◌, ◌++◌, Option, Some, None, IfSome, length, length-append, refl, sym, ap, ◌∙◌, subst, arith, append_assoc, append-nil}
+use Rattle.std.proofs.Common.{◌≡◌, ◌≤◌, ◌+◌, inl, inr, ℕ, List, [], ◌∷◌, ◌++◌, Option, Some, None, Err, IfSome, length, length-append, refl, sym, ap, ◌∙◌, subst, arith, append_assoc, append-nil}
 use Rattle.std.specs.List.{flat_map, AllByRecursion}
 use Rattle.std.proofs.lemmas.List.Concat.{flat_map-append}
 use Rattle.std.specs.Io.KnownBytes.{Appends, Keeps, Consumes, IsAtEnd}
 use Rattle.std.proofs.KnownBytes.{Appends-trans, Consumes-trans}
 use Rattle.edge_io.specs.Streams.{AppendsFront}
 use Rattle.session_script.specs.declared.event.Event.{Event}
-use Rattle.session_script.specs.Output.{outcome_line, output_of}
+use Rattle.session_script.specs.Output.{outcome_line, output_of, malformed_line}
+use Rattle.session_script.specs.Writing.{WritesText}
+use Rattle.session_script.specs.declared.writer.LineFault.{LineFault}
 use Rattle.session_script.specs.Script.{Begins, IsEvent, IsScript, IsMalformed, IsRefused, HasNoEvent, line_of, end_line, longest}
 use Rattle.session_script.specs.Unread.{Unread}
 use Rattle.session_script.specs.Reading.{Takes}
 use Rattle.broker_model.specs.Machine.{Machine, idle}
 use Rattle.broker_model.specs.Counted.{CountedStep, diskless}
 use Rattle.broker_model.proofs.RunsOn.{run_then}
-use Rattle.share_top.specs.Written.{WritesRun, WritesFront, WritesStep, WritesStepPart, WritesStepFront}
+use Rattle.share_top.specs.Written.{WritesRun, WritesThen, WritesFront, WritesStep, WritesStepPart, WritesStepFront}
 use Rattle.share_top.specs.Going.{Going}
 use Rattle.share_top.specs.Statuses.{IsDone, IsRefusedScript, IsCut, IsStopped}
-use Rattle.share_top.proofs.Fronts.{appends_none, keeps_appends, front_behind}
+use Rattle.share_top.proofs.Fronts.{appends_none, keeps_appends, front_behind, text_front}
 
 abbrev Held : Type 0
 Held = Option (List ℕ)
@@ -128,19 +130,50 @@ begins_still left mid after old now u v m g t more = record {
 still_at : (left mid after old now : Held) (u v : Unread) (m : Machine) (g : Going left mid old now u m) → Takes u v mid after [] → v.place ≡ length (lines g.events)
 still_at left mid after old now u v m g t = omega (arith, t.place, g.place)
 
-pub malformed : (left mid after old now : Held) (u v : Unread) (m : Machine) (fault : ℕ) → Going left mid old now u m → Takes u v mid after [] → IfSome after (λ more. IsRefused v.place (v.pending ++ more) fault) → IsRefusedScript left old now
-malformed left mid after old now u v m fault g t h =
+-- what no line of an event and no end begins is the first malformed line
+is_malformed : (left mid after old now : Held) (u v : Unread) (m : Machine) (fault : ℕ) (g : Going left mid old now u m) → Takes u v mid after [] → IfSome after (λ more. IsRefused v.place (v.pending ++ more) fault) →
+    IfSome left (λ text. IsMalformed text g.events fault)
+is_malformed left mid after old now u v m fault g t h =
     let given = g.given ++ t.given in
     let at = still_at left mid after old now u v m g t in
-    record {
+    whole_text left after given (λ text. IsMalformed text g.events fault) (Consumes-trans left mid after g.given t.given g.consumed t.consumed)
+    (some_then after (λ more. IsRefused v.place (v.pending ++ more) fault) (λ more. IsMalformed (given ++ more) g.events fault)
+    (λ more r. (v.pending ++ more, begins_still left mid after old now u v m g t more, subst (λ (n : ℕ). IsRefused n (v.pending ++ more) fault) at r)) h)
+
+-- bytes behind the text of a run
+then_written : (a b c : Held) (events : List Event) (m : Machine) (more : List ℕ) → WritesRun a b events m → Appends b c more → WritesThen a c events m more
+then_written a b c events m more p q = record {
+  outcomes = p.outcomes;
+  run = p.run;
+  written = Appends-trans a b c (output_of p.outcomes) more p.written q;
+}
+
+-- the last line is written
+pub malformed : (left mid after old now new : Held) (u v : Unread) (m : Machine) (fault : ℕ) → Going left mid old now u m → Takes u v mid after [] → IfSome after (λ more. IsRefused v.place (v.pending ++ more) fault) →
+    Appends now new (malformed_line fault) → IsRefusedScript left old new
+malformed left mid after old now new u v m fault g t h a = record {
+  events = g.events;
+  last = m;
+  fault = fault;
+  malformed = is_malformed left mid after old now u v m fault g t h;
+  written = then_written old now new g.events m (malformed_line fault) g.written a;
+}
+
+-- a front of the last line is written
+pub stopped_last : (left mid after old now new : Held) (u v : Unread) (m : Machine) (place : ℕ) (n k : ℕ) (fault : LineFault) → Going left mid old now u m → Takes u v mid after [] → IfSome after (λ more. IsRefused v.place (v.pending ++ more) place) →
+    WritesText {T = Unit {0}} now new n k (malformed_line place) (Err fault) → IsStopped left old new
+stopped_last left mid after old now new u v m place n k fault g t h w =
+    let f = text_front now new n k (malformed_line place) fault w in
+    inr (record {
       events = g.events;
       last = m;
-      fault = fault;
-      written = g.written;
-      malformed = whole_text left after given (λ text. IsMalformed text g.events fault) (Consumes-trans left mid after g.given t.given g.consumed t.consumed)
-          (some_then after (λ more. IsRefused v.place (v.pending ++ more) fault) (λ more. IsMalformed (given ++ more) g.events fault)
-          (λ more r. (v.pending ++ more, begins_still left mid after old now u v m g t more, subst (λ (n : ℕ). IsRefused n (v.pending ++ more) fault) at r)) h);
-    }
+      fault = place;
+      front = f.1.front;
+      unwritten = f.0;
+      malformed = is_malformed left mid after old now u v m place g t h;
+      written = then_written old now new g.events m f.1.front g.written f.1.grown;
+      parts = f.1.parts;
+    })
 
 pub cut : (left mid after old now : Held) (u v : Unread) (m : Machine) → Going left mid old now u m → Takes u v mid after [] → HasNoEvent v.place v.pending → IsCut left after old now
 cut left mid after old now u v m g t none =
@@ -171,12 +204,12 @@ run_front a b events m p = record {
 pub stopped : (left mid after old now : Held) (u v : Unread) (m : Machine) → Going left mid old now u m → Takes u v mid after [] → IsStopped left old now
 stopped left mid after old now u v m g t =
     let given = g.given ++ t.given in
-    record {
+    inl (record {
       events = g.events;
       begins = whole_text left after given (λ text. (rest : List ℕ) × Begins text g.events rest) (Consumes-trans left mid after g.given t.given g.consumed t.consumed)
           (some_each after (λ more. (rest : List ℕ) × Begins (given ++ more) g.events rest) (λ more. (v.pending ++ more, begins_still left mid after old now u v m g t more)));
       front = run_front old now g.events m g.written;
-    }
+    })
 
 begins_some : (left mid after old now : Held) (u v : Unread) (m : Machine) (e : Event) (g : Going left mid old now u m) (t : Takes u v mid after (line_of e)) → IsEvent e → v.place ≤ longest →
     IfSome left (λ text. (rest : List ℕ) × Begins text (g.events ++ e ∷ []) rest)
@@ -220,13 +253,13 @@ kept_front a b c events m p k = run_front a c events m (record {
 })
 
 pub stopped_within : (left mid after old now new : Held) (u v : Unread) (m : Machine) (e : Event) → Going left mid old now u m → Takes u v mid after (line_of e) → IsEvent e → v.place ≤ longest → WritesStepFront now new m e → IsStopped left old new
-stopped_within left mid after old now new u v m e g t is le (inl kept) = record {
+stopped_within left mid after old now new u v m e g t is le (inl kept) = inl (record {
   events = g.events;
   begins = begins_less left g.events e (begins_some left mid after old now u v m e g t is le);
   front = kept_front old now new g.events m g.written kept;
-}
-stopped_within left mid after old now new u v m e g t is le (inr part) = record {
+})
+stopped_within left mid after old now new u v m e g t is le (inr part) = inl (record {
   events = g.events ++ e ∷ [];
   begins = begins_some left mid after old now u v m e g t is le;
   front = part_front old now new g.events m e g.written part;
-}
+})

@@ -1,13 +1,14 @@
 -- What each status of a replay says. `left` and `after` are what the input has left before and after, `old` and `new` what
 -- the output holds; each is `None` where the stream doesn't tell.
-use Rattle.std.specs.Prelude.{◌⊎◌, ◌≡◌, List, ℕ, [], ◌∷◌, codes, string_bytes, String, IfSome}
+use Rattle.std.specs.Prelude.{◌⊎◌, ◌≡◌, List, ℕ, [], ◌∷◌, ◌++◌, codes, string_bytes, String, IfSome}
 use Rattle.std.specs.declared.option.Option.{Option}
 use Rattle.std.specs.declared.alloc.Global.{Global}
 use Rattle.std.specs.Io.KnownBytes.{Consumes, IsAtEnd}
 use Rattle.session_script.specs.declared.event.Event.{Event}
 use Rattle.session_script.specs.Script.{IsScript, IsMalformed, StandWhole, Begins}
+use Rattle.session_script.specs.Output.{malformed_line}
 use Rattle.broker_model.specs.Machine.{Machine}
-use Rattle.share_top.specs.Written.{WritesRun, WritesFront}
+use Rattle.share_top.specs.Written.{WritesRun, WritesThen, WritesFront}
 
 -- the words are the one word
 abbrev pub AreReplay : List (String Global) → Type 0
@@ -27,13 +28,14 @@ pub record IsDone (left after old new : Option (List ℕ)) : Type 0 where
   pub whole : IsAtEnd after
   pub written : WritesRun old new events last
 
--- 3: the input isn't a script, and what was written is the text of a run over the events before its first malformed line
+-- 3: the input isn't a script, and what was written is the text of a run over the events before its first malformed line,
+-- and then the line that names the place of the fault
 pub record IsRefusedScript (left old new : Option (List ℕ)) : Type 0 where
   pub events : List Event
   pub last : Machine
   pub fault : ℕ
   pub malformed : IfSome left (λ text. IsMalformed text events fault)
-  pub written : WritesRun old new events last
+  pub written : WritesThen old new events last (malformed_line fault)
 
 -- 4: what was written is the text of a run over the events whose lines stand whole in the bytes that the input gave
 pub record IsCut (left after old new : Option (List ℕ)) : Type 0 where
@@ -44,8 +46,24 @@ pub record IsCut (left after old new : Option (List ℕ)) : Type 0 where
   pub whole : StandWhole given events
   pub written : WritesRun old new events last
 
--- 5 and 8: what was written is a front of the text of a run over the input's first events
-pub record IsStopped (left old new : Option (List ℕ)) : Type 0 where
+-- what was written is a front of the text of a run over the input's first events
+pub record IsStoppedInOutcomes (left old new : Option (List ℕ)) : Type 0 where
   pub events : List Event
   pub begins : IfSome left (λ text. (rest : List ℕ) × Begins text events rest)
   pub front : WritesFront old new events
+
+-- the input isn't a script, and what was written is the whole text of a run over the events before its first malformed
+-- line, and a front of the line that names the place of the fault
+pub record IsStoppedInLastLine (left old new : Option (List ℕ)) : Type 0 where
+  pub events : List Event
+  pub last : Machine
+  pub fault : ℕ
+  pub front : List ℕ
+  pub unwritten : List ℕ
+  pub malformed : IfSome left (λ text. IsMalformed text events fault)
+  pub written : WritesThen old new events last front
+  pub parts : front ++ unwritten ≡ malformed_line fault
+
+-- 5 and 8: the program stopped among the outcomes, or within the last line
+abbrev pub IsStopped : Option (List ℕ) → Option (List ℕ) → Option (List ℕ) → Type 0
+IsStopped left old new = IsStoppedInOutcomes left old new ⊎ IsStoppedInLastLine left old new

@@ -1,5 +1,5 @@
 -- What was written of a run of the broker, on a sink that held `old` and now holds `new`.
-use Rattle.std.specs.Prelude.{◌⊎◌, List, ℕ}
+use Rattle.std.specs.Prelude.{◌⊎◌, List, ℕ, ◌++◌}
 use Rattle.std.specs.declared.option.Option.{Option}
 use Rattle.std.specs.Io.KnownBytes.{Appends, Keeps}
 use Rattle.edge_io.specs.Streams.{AppendsFront}
@@ -16,7 +16,13 @@ pub record WritesRun (old new : Option (List ℕ)) (events : List Event) (last :
   pub run : Run CountedStep (diskless idle) events outcomes (diskless last)
   pub written : Appends old new (output_of outcomes)
 
--- a front of such a text
+-- such a text, and these bytes behind it
+pub record WritesThen (old new : Option (List ℕ)) (events : List Event) (last : Machine) (more : List ℕ) : Type 0 where
+  pub outcomes : List Outcome
+  pub run : Run CountedStep (diskless idle) events outcomes (diskless last)
+  pub written : Appends old new (output_of outcomes ++ more)
+
+-- a front of the text of such a run
 pub record WritesFront (old new : Option (List ℕ)) (events : List Event) : Type 0 where
   pub outcomes : List Outcome
   pub last : Machine

@@ -9,7 +9,9 @@ ghost use Rattle.share_top.specs.Statuses.{IsDone, IsRefusedScript, IsCut, IsSto
 
 use crate::broker::Core;
 use edge_io::{Sink, Source};
-use session_script::{Event, LineFault, Outcome, ScriptFault, ScriptReader, Taken, write_outcome};
+use session_script::{
+    Event, LineFault, Outcome, ScriptFault, ScriptReader, Taken, write_malformed, write_outcome,
+};
 use std::alloc::Global;
 
 /// How a replay came to its end.
@@ -17,7 +19,7 @@ use std::alloc::Global;
 pub enum Played {
     /// The script is done.
     Done,
-    /// The input isn't a script. The events before the malformed line are done.
+    /// The input isn't a script. The events before the malformed line are done, and its place is told.
     Malformed,
     /// The input failed. The events whose lines it gave whole are done.
     ReadFault,
@@ -61,7 +63,8 @@ fn play_event<O: Sink>(
     Ok(())
 }
 
-/// Replays a script. Each outcome is written before the next event is read.
+/// Replays a script. Each outcome is written before the next event is read. Where the input isn't a script, the last
+/// line that is written names the place of its fault.
 pub fn play<I: Source, O: Sink>(alloc: Global, input: &mut I, output: &mut O) -> Played
     ensures done { result ≡ Played.Done → IsDone (I.left input.old) (I.left input.new) (O.held output.old) (O.held output.new) × (I.ended input.new ≡ true) }
     ensures malformed { result ≡ Played.Malformed → IsRefusedScript (I.left input.old) (O.held output.old) (O.held output.new) }
@@ -76,7 +79,11 @@ pub fn play<I: Source, O: Sink>(alloc: Global, input: &mut I, output: &mut O) ->
         let event = match reader.take_event(alloc, input) {
             Ok(Taken::Event(event)) => event,
             Ok(Taken::End) => return Played::Done,
-            Err(ScriptFault::Malformed { .. }) => return Played::Malformed,
+            Err(ScriptFault::Malformed { place }) => match write_malformed(alloc, place, output) {
+                Ok(()) => return Played::Malformed,
+                Err(LineFault::Write) => return Played::WriteFault,
+                Err(LineFault::NoMemory) => return Played::NoMemory,
+            },
             Err(ScriptFault::Read) => return Played::ReadFault,
             Err(ScriptFault::NoMemory) => return Played::NoMemory,
         };

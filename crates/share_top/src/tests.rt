@@ -51,9 +51,20 @@ fn scripts_are_replayed_up_to_their_first_malformed_line(rt: HostRuntime) -> Res
             0,
             "closed 1 not-built\n",
         ),
-        ("open 1\nopne 2\nend\n", 3, ""),
-        ("open 1\nbytes 1 00\nstep 1 0\n", 3, "closed 1 not-built\n"),
+        ("open 1\nopne 2\nend\n", 3, "malformed 7\n"),
+        ("end\nx", 3, "malformed 4\n"),
+        ("", 3, "malformed 0\n"),
+        (
+            "open 1\nbytes 1 00\nstep 1 0\n",
+            3,
+            "closed 1 not-built\nmalformed 27\n",
+        ),
         ("step 1 0\nbytes 1 00\nopen 1\nstep 1 0\nend\n", 0, ""),
+        (
+            "close 1\nopen 1\nbytes 1 00\nclose 1\nstep 1 0\nopen 1\nstep 1 0\nend\n",
+            0,
+            "",
+        ),
     ] {
         let (got, text) = replayed(&rt, script)?;
         assert_eq!(rt; got, status, "{script}");
@@ -137,6 +148,18 @@ fn a_failing_stream_is_told_by_the_status(rt: HostRuntime) -> Result<(), Fail> {
         ),
         5
     );
+    Ok(())
+}
+
+#[test]
+fn a_failing_last_line_stands_behind_the_outcomes(rt: HostRuntime) -> Result<(), Fail> {
+    let alloc = rt.alloc();
+    let script = b"open 1\nbytes 1 00\nstep 1 0\nend\nx";
+    let mut input = MemSource::new(script.to_vec(alloc)?, Vec::new(alloc));
+    let mut output = MemSink::new(alloc, [1].to_vec(alloc)?);
+    let words = words(&rt, &["replay"])?;
+    assert_eq!(rt; run(&rt, alloc, &words, &mut input, &mut output), 5);
+    assert_eq!(rt; output.bytes(), b"closed 1 not-built\n".as_slice());
     Ok(())
 }
 

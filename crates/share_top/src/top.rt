@@ -33,7 +33,8 @@ fn are_replay(words: &[String]) -> bool
 ///
 /// `replay` reads a script of a recorded session from `input` and writes a line to `output` for each outcome, as it
 /// comes. The status is 0 where all is done, 2 where the words are no command, 3 where the input isn't a script, 4
-/// where the input failed, 5 where the output failed, and 8 where no memory was found.
+/// where the input failed, 5 where the output failed, and 8 where no memory was found. With 3 the last line of `output`
+/// is `malformed PLACE`, the place of the script's fault in bytes from 0.
 ///
 /// The clauses on what was read and written speak of an input and an output that tell their bytes, as those in
 /// memory do.
@@ -54,7 +55,7 @@ pub fn run<I: Source, O: Sink>(
     ensures done { result ≡ 0 → IsDone (I.left input.old) (I.left input.new) (O.held output.old) (O.held output.new) }
     ensures ended { result ≡ 0 → I.ended input.new ≡ true }
 
-    // The input isn't a script; the events before its first malformed line were done.
+    // The input isn't a script; the events before its first malformed line were done, and the last line names its place.
     ensures malformed { result ≡ 3 → IsRefusedScript (I.left input.old) (O.held output.old) (O.held output.new) }
     ensures no_script { result ≡ 3 → IfSome (I.left input.old) (λ text. (events : List Event) → IsScript text events → ⊥) }
 
@@ -62,7 +63,7 @@ pub fn run<I: Source, O: Sink>(
     ensures read { result ≡ 4 → Rose (I.faults input.old) (I.faults input.new) }
     ensures cut { result ≡ 4 → IsCut (I.left input.old) (I.left input.new) (O.held output.old) (O.held output.new) }
 
-    // The output failed, or memory ran out; what was written is a front of the text of such a run.
+    // The output failed, or memory ran out; what was written is a front of the text of such a run, or of its last line.
     ensures write { result ≡ 5 → Rose (O.faults output.old) (O.faults output.new) }
     ensures stopped { (result ≡ 5) ⊎ (result ≡ 8) → IsStopped (I.left input.old) (O.held output.old) (O.held output.new) }
 
