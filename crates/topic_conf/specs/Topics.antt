@@ -1,6 +1,6 @@
 -- The topics that a broker hosts, and the numbers of their partitions' shards. A topic is named by its name or by its id,
 -- which has 16 bytes.
-use Rattle.std.specs.Prelude.{◌≢◌, ◌≤◌, ◌+◌, ℕ, ℤ, pos, negsuc, List, [], ◌∷◌, Option, Some, None, length, All, AllPairs, sum_by, nat_lt, if◌then◌else◌}
+use Rattle.std.specs.Prelude.{◌≡◌, ◌≢◌, ◌≤◌, ◌+◌, ℕ, ℤ, pos, negsuc, List, [], ◌∷◌, Option, Some, None, length, All, AllPairs, sum_by, nat_lt, if◌then◌else◌}
 use Rattle.std.specs.List.{position}
 use Rattle.std.specs.Option.{option_map}
 use Rattle.std.specs.Str.{bytes_eq}
@@ -49,3 +49,9 @@ abbrev pub shard_at : List ℕ → ℤ → List Topic → Option ℕ
 shard_at id part [] = None
 shard_at id part (topic ∷ topics) =
     if bytes_eq topic.id id then partition_at part topic.parts else option_map (λ shard. topic.parts + shard) (shard_at id part topics)
+
+-- the shard of this number is that of a partition
+pub record IsShard (topics : List Topic) (shard : ℕ) : Type 0 where
+  pub id : List ℕ
+  pub part : ℤ
+  pub found : shard_at id part topics ≡ Some shard

@@ -4,6 +4,7 @@
 #![tactic(auto)]
 
 mod config;
+mod law;
 mod name;
 mod places;
 #[cfg(test)]
@@ -11,4 +12,5 @@ mod tests;
 mod topic;
 
 pub use config::Config;
+pub use law::each_shard_is_of_one_partition;
 pub use topic::{Topic, TopicList};
