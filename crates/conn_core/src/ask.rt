@@ -1,5 +1,8 @@
+// Parts of state calls.
 ghost use Rattle.std.specs.Prelude.{◌≡◌, ◌<◌, ◌^◌};
+ghost use Rattle.conn_core.specs.Hands.{op_of};
 
+use share_model::{ForeignOp, Key, Name};
 use std::marker::Model;
 use uuid::Uuid;
 
@@ -36,4 +39,23 @@ impl Model for Ask {
     ghost invariant = { λ a. a.part < 2 ^ 31 };
 
     ghost inverse = { λ v. record { topic = v.topic; part = v.part; wish = v.wish } };
+}
+
+/// The call on the state of a partition that does what is asked, for this group.
+pub fn op_of(group: &Name, ask: &Ask) -> ForeignOp
+    ensures { result ≡ op_of group.now ask.now }
+{
+    let key = Key {
+        group: *group,
+        topic: ask.topic,
+        part: ask.part,
+    };
+    match ask.wish {
+        Wish::Initialize { state_epoch, start } => ForeignOp::Init {
+            key,
+            state_epoch,
+            start,
+        },
+        Wish::Read { leader_epoch } => ForeignOp::Read { key, leader_epoch },
+    }
 }
