@@ -68,8 +68,11 @@ abbrev pub ask_unless : Option Code → List ℕ → Entry → List AskParts
 ask_unless None topic entry = record { topic = topic; part = nat_abs entry.partition; wish = entry.wish } ∷ []
 ask_unless (Some code) topic entry = []
 
+abbrev pub entry_asks : Bool → Bool → List ℕ → Entry → List AskParts
+entry_asks fits hosted topic entry = ask_unless (known fits hosted entry) topic entry
+
 abbrev pub topic_asks : List Topic → Bool → TopicEntries → List AskParts
-topic_asks topics fits t = flat_map (λ entry. ask_unless (known fits (is_hosted topics t.topic) entry) t.topic entry) t.entries
+topic_asks topics fits t = flat_map (entry_asks fits (is_hosted topics t.topic) t.topic) t.entries
 
 -- the parts of the request, in order
 abbrev pub asks_of : List Topic → Bool → List TopicEntries → List AskParts
