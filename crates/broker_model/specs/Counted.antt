@@ -3,6 +3,7 @@ use Rattle.std.specs.Prelude.{◌≤◌, ℕ, List}
 use Rattle.edge_io.specs.Causes.{Rose}
 use Rattle.session_script.specs.declared.event.Event.{Event}
 use Rattle.session_script.specs.declared.event.Outcome.{Outcome}
+use Rattle.topic_conf.specs.Configs.{ConfigParts}
 use Rattle.broker_model.specs.Machine.{Machine}
 use Rattle.broker_model.specs.Steps.{StepsTo}
 
@@ -12,9 +13,9 @@ pub record Counted : Type 0 where
   pub faults : List ℕ → ℕ
 
 -- a step, over which no count falls
-pub record CountedStep (old : Counted) (event : Event) (outcomes : List Outcome) (new : Counted) : Type 0 where
+pub record CountedStep (conf : ConfigParts) (old : Counted) (event : Event) (outcomes : List Outcome) (new : Counted) : Type 0 where
   pub later : (disk : List ℕ) → old.faults disk ≤ new.faults disk
-  pub step : StepsTo (λ disk. Rose (old.faults disk) (new.faults disk)) old.machine event outcomes new.machine
+  pub step : StepsTo conf (λ disk. Rose (old.faults disk) (new.faults disk)) old.machine event outcomes new.machine
 
 -- a broker with no disk
 abbrev pub diskless : Machine → Counted

@@ -1,11 +1,13 @@
--- The broker as a state: its connections, and its shards. Foreign state is one shard.
+-- The broker as a state: its connections, and its shards. Foreign state is one shard. The model is this project's own.
 use Rattle.std.specs.Prelude.{ℕ, List, [], ◌∷◌, ◌++◌, Bool, false, ◌||◌, nat_eq, Option, Some, None, if◌then◌else◌}
 use Rattle.share_model.specs.Foreign.{ForeignEntry}
+use Rattle.conn_core.specs.declared.work.Work.TheVariants.{Free}
+use Rattle.conn_core.specs.Links.{Link}
 
--- a connection by its number, and the pieces of bytes that it has not taken yet, the oldest first
+-- a connection by its number: what its client has sent and no request has taken, in one piece, and the request in hand
 pub record Connection : Type 0 where
   pub id : ℕ
-  pub waiting : List (List ℕ)
+  pub link : Link
 
 -- connections stand in the order of their opening
 pub record Machine : Type 0 where
@@ -20,9 +22,12 @@ abbrev pub is_open : ℕ → List Connection → Bool
 is_open conn [] = false
 is_open conn (connection ∷ connections) = nat_eq connection.id conn || is_open conn connections
 
+abbrev pub arrived : ℕ → Connection
+arrived conn = record { id = conn; link = record { unread = []; work = Free } }
+
 -- an open of a connection that is open changes nothing
 abbrev pub opened : ℕ → List Connection → List Connection
-opened conn connections = if is_open conn connections then connections else connections ++ record { id = conn; waiting = [] } ∷ []
+opened conn connections = if is_open conn connections then connections else connections ++ arrived conn ∷ []
 
 -- the connection of this number changes, where it is open
 abbrev pub at_connection : ℕ → (Connection → Connection) → List Connection → List Connection
@@ -30,28 +35,20 @@ at_connection conn change [] = []
 at_connection conn change (connection ∷ connections) =
     if nat_eq connection.id conn then change connection ∷ connections else connection ∷ at_connection conn change connections
 
--- the connection is gone, with the pieces that wait; where none of this number is open, nothing changes
+-- the connection is gone; where none of this number is open, nothing changes
 abbrev pub closed : ℕ → List Connection → List Connection
 closed conn [] = []
 closed conn (connection ∷ connections) = if nat_eq connection.id conn then connections else connection ∷ closed conn connections
 
--- a piece has come
-abbrev pub with_piece : List ℕ → Connection → Connection
-with_piece bytes connection = record { id = connection.id; waiting = connection.waiting ++ bytes ∷ [] }
+-- bytes have come
+abbrev pub with_bytes : List ℕ → Connection → Connection
+with_bytes bytes connection = record { id = connection.id; link = record { unread = connection.link.unread ++ bytes; work = connection.link.work } }
 
-abbrev pub first_piece : List (List ℕ) → Option (List ℕ)
-first_piece [] = None
-first_piece (piece ∷ pieces) = Some piece
+-- it stands like this now
+abbrev pub with_link : Link → Connection → Connection
+with_link link connection = record { id = connection.id; link = link }
 
-abbrev pub other_pieces : List (List ℕ) → List (List ℕ)
-other_pieces [] = []
-other_pieces (piece ∷ pieces) = pieces
-
--- the oldest piece of an open connection
-abbrev pub next_piece : ℕ → List Connection → Option (List ℕ)
-next_piece conn [] = None
-next_piece conn (connection ∷ connections) = if nat_eq connection.id conn then first_piece connection.waiting else next_piece conn connections
-
--- the oldest piece is taken
-abbrev pub without_first : Connection → Connection
-without_first connection = record { id = connection.id; waiting = other_pieces connection.waiting }
+-- an open connection as it stands
+abbrev pub link_at : ℕ → List Connection → Option Link
+link_at conn [] = None
+link_at conn (connection ∷ connections) = if nat_eq connection.id conn then Some connection.link else link_at conn connections

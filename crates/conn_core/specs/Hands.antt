@@ -1,5 +1,5 @@
 -- A state call that is being answered, part by part.
-use Rattle.std.specs.Prelude.{ℕ, ℤ, List, [], ◌∷◌, ◌++◌}
+use Rattle.std.specs.Prelude.{ℕ, ℤ, List, [], ◌∷◌, ◌++◌, Option, Some, None}
 use Rattle.share_model.specs.Keys.{KeyParts}
 use Rattle.share_model.specs.declared.foreign.ForeignOp.{ForeignOp}
 use Rattle.share_model.specs.declared.foreign.ForeignOp.TheVariants.{Init, Read}
@@ -33,7 +33,15 @@ pub record HandParts : Type 0 where
   pub left : List AskParts
   pub done : List Told
 
--- the next part that is left is done
+-- the next part that is left
+abbrev pub first_of : List ℕ → List AskParts → Option ForeignOp
+first_of group [] = None
+first_of group (ask ∷ asks) = Some (op_of group ask)
+
+abbrev pub first_part : HandParts → Option ForeignOp
+first_part hand = first_of hand.group hand.left
+
+-- it is done, and told this
 abbrev pub rest_of : List AskParts → List AskParts
 rest_of [] = []
 rest_of (ask ∷ asks) = asks

@@ -1,10 +1,11 @@
 -- What becomes of a whole frame, without its size: it closes the connection, is answered at once, or begins a request that asks
--- parts. The first row that applies decides. Placing of the header: request header version 2 (KIP-482, RequestHeader.json).
-use Rattle.std.specs.Prelude.{◌+◌, ℕ, ℤ, pos, Bool, true, false, not, ◌&&◌, List, [], map, drop, Option, Some, None, Result, Ok, Err, if◌then◌else◌}
+-- parts. The tests stand in the order in which they are made; the first that decides, decides. A request has a header of
+-- version 2 (KIP-482, RequestHeader.json) and a body.
+use Rattle.std.specs.Prelude.{◌≡◌, ℕ, ℤ, pos, Bool, true, false, not, ◌&&◌, List, [], map, drop, length, ◌==◌, Option, Some, None, Result, Ok, Err, if◌then◌else◌}
 use Rattle.std.specs.Ordering.{int_eq}
 use Rattle.flex_fields.specs.declared.fault.WireFault.{WireFault}
 use Rattle.flex_fields.specs.declared.fault.WireFault.TheVariants.{Short, BadVarint, BadLength, NotUtf8, Trailing, NoMemory}
-use Rattle.flex_fields.specs.Reading.{whole_at}
+use Rattle.flex_fields.specs.Reading.{At}
 use Rattle.flex_fields.specs.Formats.{Format, front_at, ◌▹◌, int16, int32}
 use Rattle.share_model.specs.declared.close_cause.CloseCause.{CloseCause}
 use Rattle.share_model.specs.declared.close_cause.CloseCause.TheVariants.{BadHeader, UnknownApi, BadBody}
@@ -40,10 +41,27 @@ place_of (NotUtf8 place) = place
 place_of (Trailing place) = place
 place_of NoMemory = 0
 
--- what a body asks for, behind a header of so many bytes
-abbrev pub from_body : {A : Type 0} → ℕ → (A → Judged) → Result A WireFault → Judged
-from_body head asks (Ok message) = asks message
-from_body head asks (Err fault) = Refused (BadBody (head + place_of fault))
+-- all bytes from this place on are one message, or the place of the first fault
+abbrev pub placed : {A : Type 0} → Result (A × At) WireFault → Result A ℕ
+placed (Ok x) = if length x.1.left == 0 then Ok x.0 else Err x.1.place
+placed (Err fault) = Err (place_of fault)
+
+abbrev pub message_at : {A : Type 0} → Format A → ℕ → List ℕ → Result A ℕ
+message_at f place bytes = placed (f.read (record { place = place; left = bytes }))
+
+-- what a reader of such a message answers; want of memory says nothing
+abbrev pub IsFaultAt : {A : Type 0} → WireFault → Result A ℕ → Type 0
+IsFaultAt NoMemory read = Unit {0}
+IsFaultAt fault read = read ≡ Err (place_of fault)
+
+abbrev pub Fetches : {A : Type 0} → Result A WireFault → Result A ℕ → Type 0
+Fetches (Ok x) read = read ≡ Ok x
+Fetches (Err fault) read = IsFaultAt fault read
+
+-- a body that can't be read closes the connection
+abbrev pub from_body : {A : Type 0} → (A → Judged) → Result A ℕ → Judged
+from_body asks (Ok message) = asks message
+from_body asks (Err place) = Refused (BadBody place)
 
 -- a group that is none has each entry refused
 abbrev pub state_call : ConfigParts → ℤ → Call → List ℕ → List TopicEntries → Judged
@@ -52,18 +70,22 @@ state_call conf correlation call group entries =
     then Begun (record { correlation = correlation; call = call; group = group; topics = planned_topics conf.topics true entries; left = asks_of conf.topics true entries; done = [] })
     else Answered true correlation (reply_body call (fill_topics (planned_topics conf.topics false entries) []))
 
--- the body of a call's version
+-- the reply to ApiVersions has a response header of version 0, which each client reads
+abbrev pub versions_asked : ℤ → ℕ → List ℕ → Judged
+versions_asked correlation head body =
+    from_body (λ m. Answered false correlation (api_versions_reply.bytes versions_answer)) (message_at api_versions_request head body)
+
+-- The body of a call's version. Places count from the frame's first byte, and the header before the body has `head` bytes.
 abbrev pub asked : ConfigParts → Api → ℤ → ℕ → List ℕ → Judged
-asked conf ApiVersions correlation head body =
-    from_body head (λ m. Answered false correlation (api_versions_reply.bytes versions_answer)) (whole_at api_versions_request.read body)
+asked conf ApiVersions correlation head body = versions_asked correlation head body
 asked conf Metadata correlation head body =
-    from_body head (λ m. Answered true correlation (metadata_reply.bytes (metadata_answer conf m))) (whole_at metadata_request.read body)
+    from_body (λ m. Answered true correlation (metadata_reply.bytes (metadata_answer conf m))) (message_at metadata_request head body)
 asked conf FindCoordinator correlation head body =
-    from_body head (λ m. Answered true correlation (find_coordinator_reply.bytes (coordinator_answer conf m))) (whole_at find_coordinator_request.read body)
+    from_body (λ m. Answered true correlation (find_coordinator_reply.bytes (coordinator_answer conf m))) (message_at find_coordinator_request head body)
 asked conf InitializeState correlation head body =
-    from_body head (λ m. state_call conf correlation Initialize m.group_id (map initialize_entries m.topics)) (whole_at initialize_share_group_state_request.read body)
+    from_body (λ m. state_call conf correlation Initialize m.group_id (map initialize_entries m.topics)) (message_at initialize_share_group_state_request head body)
 asked conf ReadState correlation head body =
-    from_body head (λ m. state_call conf correlation Read m.group_id (map read_entries m.topics)) (whole_at read_share_group_state_request.read body)
+    from_body (λ m. state_call conf correlation Read m.group_id (map read_entries m.topics)) (message_at read_share_group_state_request head body)
 
 abbrev pub headed : ConfigParts → List ℕ → Api → Result (HeadParts × ℕ) WireFault → Judged
 headed conf frame api (Ok x) = asked conf api x.0.correlation x.1 (drop x.1 frame)

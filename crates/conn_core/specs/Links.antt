@@ -1,13 +1,6 @@
 -- A connection as the broker keeps it.
 use Rattle.std.specs.Prelude.{ℕ, List, Bool}
-use Rattle.conn_core.specs.Hands.{HandParts}
-
--- what a connection does: it waits for a frame, it answers a request part by part, or the reply to its request was found too
--- long when the last part was done
-pub data Work : Type 0 where
-  free : Work
-  busy : HandParts → Work
-  overlong : Work
+use Rattle.conn_core.specs.declared.work.Work.{Work}
 
 -- what the client has sent and no request has taken, and the request in hand
 pub record Link : Type 0 where

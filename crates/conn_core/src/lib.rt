@@ -4,18 +4,19 @@
 
 mod api;
 mod ask;
+mod conn;
 mod coordinators;
-mod hand;
-mod judge;
-mod metadata;
 mod fill;
 mod hand;
 mod judge;
+mod metadata;
 mod next;
 mod plan;
 mod sending;
 mod stream;
 mod told;
 mod versions;
+mod work;
 
+pub use conn::Conn;
 pub use next::{Next, Part, PartAnswer};
