@@ -1,5 +1,5 @@
 -- The reply to FindCoordinator of version 4 (KIP-699, FindCoordinatorResponse.json): this broker coordinates every group.
-use Rattle.std.specs.Prelude.{ℕ, ℤ, pos, negsuc, Bool, List, [], map, None, if◌then◌else◌}
+use Rattle.std.specs.Prelude.{ℕ, pos, negsuc, List, [], map, None, if◌then◌else◌}
 use Rattle.std.specs.Ordering.{int_eq}
 use Rattle.share_model.specs.declared.fault.TheConstants.Code.{INVALID_REQUEST}
 use Rattle.topic_conf.specs.Configs.{ConfigParts}

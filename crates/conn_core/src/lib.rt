@@ -14,6 +14,8 @@ mod next;
 mod plan;
 mod sending;
 mod stream;
+#[cfg(test)]
+mod tests_answers;
 mod told;
 mod versions;
 mod work;
