@@ -1,3 +1,4 @@
-pub mod Requests
 pub mod OneRun
 pub mod RunsOn
+pub mod Others
+pub mod Recut

@@ -12,9 +12,9 @@ conn_of (Step conn now) = conn
 -- One piece stands for two that follow one another; a piece may come before or after an event of another connection; and
 -- so on, any number of times, in both directions.
 pub data AreRecut : List Event → List Event → Type 0 where
-  cut : (before after events others : List Event) (conn : ℕ) (front rest : List ℕ) →
+  cut : {events others : List Event} (before after : List Event) (conn : ℕ) (front rest : List ℕ) →
       events ≡ before ++ Bytes conn (front ++ rest) ∷ after → others ≡ before ++ Bytes conn front ∷ Bytes conn rest ∷ after → AreRecut events others
-  moved : (before after events others : List Event) (conn : ℕ) (bytes : List ℕ) (event : Event) → conn_of event ≢ conn →
+  moved : {events others : List Event} (before after : List Event) (conn : ℕ) (bytes : List ℕ) (event : Event) → conn_of event ≢ conn →
       events ≡ before ++ Bytes conn bytes ∷ event ∷ after → others ≡ before ++ event ∷ Bytes conn bytes ∷ after → AreRecut events others
-  back : (events others : List Event) → AreRecut others events → AreRecut events others
-  along : (events middle others : List Event) → AreRecut events middle → AreRecut middle others → AreRecut events others
+  back : {events others : List Event} → AreRecut others events → AreRecut events others
+  along : {events middle others : List Event} → AreRecut events middle → AreRecut middle others → AreRecut events others
