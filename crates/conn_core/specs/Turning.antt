@@ -125,6 +125,11 @@ GoesOn conf old next new = TurnsUnless old.gone (turn conf old.link) old next ne
 abbrev pub IsAsking : ConnParts → Type 0
 IsAsking conn = (hand : HandParts) × (op : ForeignOp) × (conn.gone ≡ false) × (conn.link.work ≡ Busy hand) × (first_part hand ≡ Some op)
 
+-- a part that is asked is awaited
+abbrev pub Awaits : Next → ConnParts → Type 0
+Awaits (Ask part) conn = IsAsking conn
+Awaits _ conn = Unit {0}
+
 -- a reply counts offsets below 2^63 and deliveries below 2^15
 abbrev pub IsFair : PartAnswer → Type 0
 IsFair (AnswerForeign answer) = All IsTellable answer.runs

@@ -1,7 +1,7 @@
 ghost use Rattle.std.specs.Prelude.{◌≡◌, ◌≤◌, ◌+◌, ◌∷◌, [], false, length, OnOk, OnErr, IfOk, IfSome, IfNone, None};
 ghost use Rattle.conn_core.specs.Hands.{first_part};
 ghost use Rattle.conn_core.specs.Stream.{front_of, behind_frame, frame_at};
-ghost use Rattle.conn_core.specs.Turning.{Turns, Asks, GoesOn, IsAsking, IsFair, Settles, told_by, settled, opened, ended, fed, given, sent, begun, after, at_front};
+ghost use Rattle.conn_core.specs.Turning.{Turns, Asks, Awaits, GoesOn, IsAsking, IsFair, Settles, told_by, settled, opened, ended, fed, given, sent, begun, after, at_front};
 ghost use Rattle.conn_core.specs.Turning.Turn.{closes};
 
 use crate::hand::Hand;
@@ -113,6 +113,7 @@ impl Conn {
         requires there { self.old.gone ≡ false }
         requires idle { self.old.link.work ≡ Work.Free }
         ensures next { IfOk result (λ next. Turns (sent (behind_frame size self.old.link.unread) tags correlation body.now) self.old next self.new) }
+        ensures asking { IfOk result (λ next. Awaits next self.new) }
         ensures kept { OnErr result (self.new ≡ self.old) }
     {
         match framed(alloc, tags, correlation, body)? {
@@ -131,6 +132,7 @@ impl Conn {
         requires there { self.old.gone ≡ false }
         requires idle { self.old.link.work ≡ Work.Free }
         ensures next { IfOk result (λ next. Turns (begun (behind_frame size self.old.link.unread) hand (first_part hand)) self.old next self.new) }
+        ensures asking { IfOk result (λ next. Awaits next self.new) }
         ensures kept { OnErr result (self.new ≡ self.old) }
     {
         match hand.asked() {
@@ -153,6 +155,7 @@ impl Conn {
         requires there { self.old.gone ≡ false }
         requires idle { self.old.link.work ≡ Work.Free }
         ensures next { IfOk result (λ next. Turns (after (behind_frame size self.old.link.unread) judged) self.old next self.new) }
+        ensures asking { IfOk result (λ next. Awaits next self.new) }
         ensures kept { OnErr result (self.new ≡ self.old) }
     {
         match judged {
@@ -171,6 +174,7 @@ impl Conn {
         requires there { self.old.gone ≡ false }
         requires idle { self.old.link.work ≡ Work.Free }
         ensures next { IfOk result (λ next. Turns (at_front conf.now self.old.link.unread (front_of self.old.link.unread)) self.old next self.new) }
+        ensures asking { IfOk result (λ next. Awaits next self.new) }
         ensures kept { OnErr result (self.new ≡ self.old) }
     {
         match front_of(self.stream.as_slice()) {
@@ -187,6 +191,7 @@ impl Conn {
     /// is gone. Until a `give` or an `end` it answers the same part. After want of memory all is as before.
     pub fn next_part(&mut self, alloc: Global, conf: &Config) -> Result<Next, NoMemory>
         ensures next { IfOk result (λ next. GoesOn conf.now self.old next self.new) }
+        ensures asking { IfOk result (λ next. Awaits next self.new) }
         ensures kept { OnErr result (self.new ≡ self.old) }
     {
         if self.gone {
