@@ -16,6 +16,8 @@ mod sending;
 mod stream;
 #[cfg(test)]
 mod tests_answers;
+#[cfg(test)]
+mod tests_state;
 mod told;
 mod versions;
 mod work;
