@@ -1,6 +1,6 @@
 -- A loop's step over a list, whose items become rows and parts.
-use Rattle.std.proofs.Common.{◌≡◌, ◌+◌, ◌<◌, ℕ, List, [], ◌∷◌, ◌++◌, map, take, drop, get_or, length, sym, ap, ◌∙◌, append_assoc}
-use Rattle.std.proofs.lemmas.List.{take_more, drop_more, map_push, flat_map_more}
+use Rattle.std.proofs.Common.{◌≡◌, ◌+◌, ◌<◌, ℕ, List, [], ◌∷◌, ◌++◌, map, take, get_or, length}
+use Rattle.std.proofs.lemmas.List.{take_more, map_push, flat_map_more}
 use Rattle.std.specs.List.{flat_map}
 
 -- one more item was put behind those that the items before gave

@@ -1,6 +1,6 @@
 -- Which entries of a state call are answered at once, and which ask a part of the foreign shard (KIP-932, the share-group
 -- state calls; the codes for a partition that this broker hosts are its own).
-use Rattle.std.specs.Prelude.{ℕ, ℤ, pos, nat_abs, Bool, List, [], ◌∷◌, map, flat_map, Option, Some, None, option_to_list, is_some, int_lt, ◌&&◌, nat_le, length, if◌then◌else◌}
+use Rattle.std.specs.Prelude.{ℕ, ℤ, pos, nat_abs, Bool, List, [], ◌∷◌, map, flat_map, Option, Some, None, is_some, int_lt, ◌&&◌, nat_le, length, if◌then◌else◌}
 use Rattle.share_model.specs.declared.fault.TheConstants.Code.{INVALID_GROUP_ID, INVALID_REQUEST, UNKNOWN_TOPIC_OR_PARTITION}
 use Rattle.share_model.specs.declared.fault.Code.{Code}
 use Rattle.topic_conf.specs.declared.topic.Topic.{Topic}

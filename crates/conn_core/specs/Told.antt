@@ -1,6 +1,6 @@
 -- What a reply tells of one partition's state (ReadShareGroupStateResponse.json): a code, and for a read that is granted the
 -- state epoch, the start offset and the batches.
-use Rattle.std.specs.Prelude.{◌<◌, ◌^◌, ℤ, pos, negsuc, List, [], map}
+use Rattle.std.specs.Prelude.{◌<◌, ◌^◌, pos, negsuc, [], map}
 use Rattle.share_model.specs.Rows.{state_number}
 use Rattle.share_model.specs.declared.fault.Code.{Code}
 use Rattle.share_model.specs.declared.run.Run.{Run}

@@ -1,11 +1,9 @@
-use Rattle.std.proofs.Common.{◌≡◌, ◌+◌, ◌++◌, ◌∷◌, [], ◌∙◌, List, ap, rules, get_or, pos, None, ℤ}
+use Rattle.std.proofs.Common.{◌≡◌, ◌+◌, ◌++◌, ◌∷◌, [], ◌∙◌, ap, rules, get_or, pos, None}
 use Rattle.std.proofs.lemmas.Int.{to_z-of_z}
 use Rattle.std.proofs.lemmas.List.{get_or_default}
 use Rattle.std.specs.Int.{w32}
 use Rattle.std.specs.Int.RustNames.{FitsSigned}
-use Rattle.conn_core.specs.declared.plan.PlannedPartition.{PlannedPartition}
-use Rattle.conn_core.specs.declared.told.Told.{Told}
-use Rattle.conn_core.specs.Replies.{Filled, told_at, told_after}
+use Rattle.conn_core.specs.Replies.{told_at}
 use Rattle.conn_core.proofs.Filling.{rows_more, rest_more}
 use Rattle.conn_core.proofs.fill.fill.Goals as goal
 

@@ -1,7 +1,5 @@
-use Rattle.std.proofs.Common.{◌≡◌, ◌+◌, ◌++◌, ◌∷◌, [], ◌∙◌, ap, map, rules}
-use Rattle.conn_core.specs.Planning.{TopicEntries, read_entry, read_entries, is_hosted, planned_partition, planned_topic, entry_asks, topic_asks}
-use Rattle.conn_core.specs.declared.plan.PlannedPartition.{PlannedPartition}
-use Rattle.conn_core.specs.declared.plan.PlannedTopic.{PlannedTopic}
+use Rattle.std.proofs.Common.{◌≡◌, ◌+◌, ◌++◌, ◌∷◌, [], ◌∙◌, ap, rules}
+use Rattle.conn_core.specs.Planning.{read_entries, is_hosted, planned_topic, topic_asks}
 use Rattle.conn_core.proofs.Steps.{mapped_more, joined_more}
 use Rattle.conn_core.proofs.plan.plan_read.Goals as goal
 
