@@ -49,7 +49,7 @@ one_cut c (a ∷ front) (b ∷ bs) x y p q e =
 no_digit : (c b : ℕ) → 36 ≤ digit_value c → digit_value b < 10 → b ≢ c
 no_digit c b p q e = let s : digit_value b ≡ digit_value c = ap digit_value e in omega (arith, s)
 
-none_digits : (c : ℕ) (ds : List ℕ) → 36 ≤ digit_value c → AllDigits 10 ds → HasNone c ds
+pub none_digits : (c : ℕ) (ds : List ℕ) → 36 ≤ digit_value c → AllDigits 10 ds → HasNone c ds
 none_digits c [] p h = tt
 none_digits c (d ∷ ds) p h = (no_digit c d p h.0, none_digits c ds p h.1)
 

@@ -5,3 +5,7 @@ pub mod Lengths
 pub mod Fronts
 pub mod Played
 pub mod Refused
+pub mod OptionWords
+pub mod GivenSettings
+pub mod TopicWords
+pub mod OneCommand

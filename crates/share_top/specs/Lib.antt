@@ -2,3 +2,5 @@ pub mod Judging
 pub mod Written
 pub mod Statuses
 pub mod Going
+pub mod Words
+pub mod WordReading

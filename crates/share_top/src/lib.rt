@@ -8,8 +8,10 @@ mod replay;
 mod reply;
 mod request;
 mod top;
+mod words;
 
 pub use top::run;
+pub use words::{Words, WordsFault, words_are_one_command};
 
 #[cfg(test)]
 mod tests;

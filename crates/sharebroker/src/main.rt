@@ -1,11 +1,14 @@
 //! The program: it hands the real streams to the top call and ends with its status.
 #![tactic(auto)]
 
+mod usage;
+
 use edge_real::{ReaderSource, WriterSink};
 use share_top::run;
 use std::env;
 use std::io::{ErrorKind, Result};
 use std::process::ExitCode;
+use usage::usage_text;
 
 /// The status where the words are no command, and where one of them isn't UTF-8.
 const USAGE: u8 = 2;
@@ -32,6 +35,9 @@ fn main(rt: HostRuntime) -> ExitCode {
     };
     if status == USAGE {
         let _ = eprintln!(rt; "sharebroker: bad words");
+        if let Ok(text) = usage_text(rt.alloc()) {
+            let _ = eprint!(rt; "{text}");
+        }
     }
     ExitCode::from(status)
 }

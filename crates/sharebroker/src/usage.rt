@@ -1,0 +1,49 @@
+// The usage text, which is shown where the words are no command. `clap` renders it, and reads no words: the grammar that
+// `share_top` reads them by is the only one.
+use clap::{Arg, Command};
+use std::alloc::{AllocError, Global};
+
+// What stands behind the list of options.
+const ABOUT_TOPICS: &str = "\
+A name has 1 to 249 ASCII letters, digits, '.', '_' and '-', and is neither '.' nor '..'. Names differ, and so do ids.
+There are at most 64 partitions in all. For example: orders:3:6ba7b810-9dad-11d1-80b4-00c04fd430c8";
+
+// What `replay` takes.
+fn replay<'a>(alloc: Global) -> Result<Command<'a>, AllocError> {
+    let reset = Arg::new(alloc, "reset")
+        .long("reset")
+        .value_name("latest|earliest")
+        .default_value("latest")
+        .help("Where a group begins on a partition that it has not read before");
+    let lock_ms = Arg::new(alloc, "lock-ms")
+        .long("lock-ms")
+        .value_name("N")
+        .default_value("30000")
+        .help("How long a record stays locked, 1 to 3600000 milliseconds");
+    let limit = Arg::new(alloc, "limit")
+        .long("limit")
+        .value_name("N")
+        .default_value("5")
+        .help("How often a record is delivered at most, 2 to 10");
+    let topics = Arg::new(alloc, "topics")
+        .value_name("TOPIC")
+        .required(true)
+        .num_args(1..)
+        .help("A topic, as NAME:N:ID: its name, its number of partitions, and its id, a UUID");
+    Command::new(alloc, "replay")
+        .bin_name("sharebroker replay")?
+        .about(
+            "Replays a recorded session from standard input, and writes its outcomes to standard output",
+        )
+        .after_help(ABOUT_TOPICS)
+        .disable_help_flag(true)
+        .arg(reset)?
+        .arg(lock_ms)?
+        .arg(limit)?
+        .arg(topics)
+}
+
+/// The usage text: each command with its options and the words behind them.
+pub fn usage_text(alloc: Global) -> Result<String, AllocError> {
+    replay(alloc)?.render_help()
+}
