@@ -15,8 +15,8 @@ use flex_fields::Bytes;
 use share_model::{Blob, CloseCause, NoMemory};
 use std::alloc::Global;
 use std::collections::VecDeque;
-use std::mem;
 use std::marker::Model;
+use std::mem;
 use topic_conf::Config;
 
 /// One connection: what a client has sent, the request that is being answered, and the replies that are finished.

@@ -71,7 +71,10 @@ impl Hand {
         ensures { IfOk result (λ body. body ≡ body_of self) }
     {
         let Hand {
-            call, topics, done, ..
+            call,
+            topics,
+            done,
+            ..
         } = self;
         reply_body(alloc, call, &topics, done)
     }

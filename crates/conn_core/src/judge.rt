@@ -56,11 +56,7 @@ fn take_message<T: Wire>(alloc: Global, place: u64, bytes: &[u8]) -> Result<T, W
 }
 
 // The same, or the place of the first fault.
-fn message<T: Wire>(
-    alloc: Global,
-    place: u64,
-    bytes: &[u8],
-) -> Result<Result<T, u64>, NoMemory>
+fn message<T: Wire>(alloc: Global, place: u64, bytes: &[u8]) -> Result<Result<T, u64>, NoMemory>
     requires { place + length bytes.now < 2 ^ 64 }
     ensures { IfOk result (λ read. read ≡ message_at T.format place bytes.now) }
 {
@@ -107,12 +103,7 @@ fn begun(alloc: Global, correlation: i32, call: Call, group: Name, plan: Plan) -
 }
 
 // The reply to a call for a group that is none.
-fn no_group(
-    alloc: Global,
-    correlation: i32,
-    call: Call,
-    plan: Plan,
-) -> Result<Judged, NoMemory>
+fn no_group(alloc: Global, correlation: i32, call: Call, plan: Plan) -> Result<Judged, NoMemory>
     ensures { IfOk result (λ j. j ≡ Judged.Answered true correlation (reply_body call (fill_topics plan.topics []))) }
 {
     let body = reply_body(alloc, call, &plan.topics, VecDeque::new(alloc))?;
@@ -193,12 +184,7 @@ fn read(
     }
 }
 
-fn versions(
-    alloc: Global,
-    correlation: i32,
-    place: u64,
-    body: &[u8],
-) -> Result<Judged, NoMemory>
+fn versions(alloc: Global, correlation: i32, place: u64, body: &[u8]) -> Result<Judged, NoMemory>
     requires { place + length body.now < 2 ^ 64 }
     ensures { IfOk result (λ j. j ≡ versions_asked correlation place body.now) }
 {

@@ -5,13 +5,12 @@ use Rattle.std.specs.List.{flat_map}
 use Rattle.std.specs.Fmt.{decimal, signed_decimal}
 use Rattle.hex.specs.Hex.{encode_lower}
 use Rattle.share_model.specs.declared.close_cause.CloseCause.{CloseCause}
-use Rattle.share_model.specs.declared.close_cause.CloseCause.TheVariants.{NotBuilt, TooLong, BadHeader, UnknownApi, BadBody, LongReply}
+use Rattle.share_model.specs.declared.close_cause.CloseCause.TheVariants.{TooLong, BadHeader, UnknownApi, BadBody, LongReply}
 use Rattle.session_script.specs.declared.event.Outcome.{Outcome}
 use Rattle.session_script.specs.declared.event.Outcome.TheVariants.{Reply, Closed}
 
 -- an api's key and version are signed numbers; 32 is a blank
 abbrev pub cause_text : CloseCause → List ℕ
-cause_text NotBuilt = codes "not-built"
 cause_text (TooLong size) = codes "too-long" ++ 32 ∷ decimal size
 cause_text BadHeader = codes "bad-header"
 cause_text (UnknownApi key version) = codes "unknown-api" ++ 32 ∷ (signed_decimal key ++ 32 ∷ signed_decimal version)

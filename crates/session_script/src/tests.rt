@@ -72,7 +72,6 @@ fn outcomes_are_written_as_lines(rt: HostRuntime) -> Result<(), Fail> {
 fn each_cause_of_a_close_has_its_line(rt: HostRuntime) -> Result<(), Fail> {
     let alloc = rt.alloc();
     for (cause, line) in [
-        (CloseCause::NotBuilt, "closed 2 not-built\n"),
         (
             CloseCause::TooLong { size: 16777217 },
             "closed 2 too-long 16777217\n",

@@ -77,7 +77,6 @@ fn cause_text(alloc: Global, cause: CloseCause) -> Result<String, AllocError>
     ensures { IfOk result (λ text. string_bytes text ≡ cause_text cause) }
 {
     match cause {
-        CloseCause::NotBuilt => String::from_str(alloc, "not-built"),
         CloseCause::TooLong { size } => format!(in alloc; "too-long {size}"),
         CloseCause::BadHeader => String::from_str(alloc, "bad-header"),
         CloseCause::UnknownApi { key, version } => format!(in alloc; "unknown-api {key} {version}"),

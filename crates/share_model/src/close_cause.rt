@@ -1,8 +1,6 @@
 /// Why the broker closed a connection.
 #[derive(Clone, Copy, Debug, PartialEq, Eq)]
 pub enum CloseCause {
-    /// The bytes are no request that this broker serves.
-    NotBuilt,
     /// The size of a frame, as an unsigned number, is above 16777216.
     TooLong { size: u32 },
     /// A frame's header isn't a request header of version 2.

@@ -4,7 +4,7 @@ use Rattle.std.specs.Prelude.{slice_set, slice_index_or}
 use Rattle.std.specs.List.{position, position_or_len}
 use Rattle.std.proofs.lemmas.Bool.Decides.{nat_tests}
 use Rattle.std.proofs.lemmas.Grind.{common_steps}
-use Rattle.broker_model.specs.Machine.{Connection, is_open, opened, at_connection, closed, first_piece, next_piece}
+use Rattle.broker_model.specs.Machine.{Connection, is_open, arrived, opened, at_connection, closed, link_at}
 
 abbrev pub named : ℕ → Connection → Bool
 named id client = nat_eq client.id id
@@ -37,13 +37,13 @@ pub closed_none : (id : ℕ) (xs : List Connection) → length xs ≤ position_o
 closed_none id [] le = refl
 closed_none id (x ∷ xs) le = grind (arith, nat_tests, common_steps, closed_none id xs)
 
-pub next_found : (id : ℕ) (xs : List Connection) (d : Connection) → position_or_len (named id) xs < length xs → next_piece id xs ≡ first_piece (slice_index_or xs (position_or_len (named id) xs) d).waiting
-next_found id [] d lt = absurd (omega arith)
-next_found id (x ∷ xs) d lt = grind (arith, nat_tests, common_steps, next_found id xs d)
+pub link_found : (id : ℕ) (xs : List Connection) (d : Connection) → position_or_len (named id) xs < length xs → link_at id xs ≡ Some (slice_index_or xs (position_or_len (named id) xs) d).link
+link_found id [] d lt = absurd (omega arith)
+link_found id (x ∷ xs) d lt = grind (arith, nat_tests, common_steps, link_found id xs d)
 
-pub next_none : (id : ℕ) (xs : List Connection) → length xs ≤ position_or_len (named id) xs → next_piece id xs ≡ None
-next_none id [] le = refl
-next_none id (x ∷ xs) le = grind (arith, nat_tests, common_steps, next_none id xs)
+pub link_none : (id : ℕ) (xs : List Connection) → length xs ≤ position_or_len (named id) xs → link_at id xs ≡ None
+link_none id [] le = refl
+link_none id (x ∷ xs) le = grind (arith, nat_tests, common_steps, link_none id xs)
 
 pub open_found : (id : ℕ) (xs : List Connection) → position_or_len (named id) xs < length xs → is_open id xs ≡ true
 open_found id [] lt = absurd (omega arith)
@@ -55,7 +55,7 @@ open_none id (x ∷ xs) le = grind (arith, nat_tests, common_steps, open_none id
 
 -- the same, by what a search answered
 
-abbrev Search : ℕ → List Connection → Option ℕ
+abbrev pub Search : ℕ → List Connection → Option ℕ
 Search id xs = position (named id) xs
 
 pub changed_at : (id : ℕ) (change : Connection → Connection) (xs : List Connection) (i : ℕ) (d : Connection) → Some i ≡ Search id xs → at_connection id change xs ≡ slice_set xs i (change (slice_index_or xs i d))
@@ -70,16 +70,16 @@ gone_at id xs i e = let f = found_at (named id) xs i (sym e) in rw (← f.is) (c
 pub gone_none : (id : ℕ) (xs : List Connection) → None ≡ Search id xs → closed id xs ≡ xs
 gone_none id xs e = closed_none id xs (none_at (named id) xs (sym e))
 
-pub piece_at : (id : ℕ) (xs : List Connection) (i : ℕ) (d : Connection) → Some i ≡ Search id xs → next_piece id xs ≡ first_piece (slice_index_or xs i d).waiting
-piece_at id xs i d e = let f = found_at (named id) xs i (sym e) in rw (← f.is) (next_found id xs d (omega (arith, f.within, f.is)))
+pub standing_at : (id : ℕ) (xs : List Connection) (i : ℕ) (d : Connection) → Some i ≡ Search id xs → link_at id xs ≡ Some (slice_index_or xs i d).link
+standing_at id xs i d e = let f = found_at (named id) xs i (sym e) in rw (← f.is) (link_found id xs d (omega (arith, f.within, f.is)))
 
-pub piece_none : (id : ℕ) (xs : List Connection) → None ≡ Search id xs → next_piece id xs ≡ None
-piece_none id xs e = next_none id xs (none_at (named id) xs (sym e))
+pub standing_none : (id : ℕ) (xs : List Connection) → None ≡ Search id xs → link_at id xs ≡ None
+standing_none id xs e = link_none id xs (none_at (named id) xs (sym e))
 
 pub opened_there : (id : ℕ) (xs : List Connection) (i : ℕ) → Some i ≡ Search id xs → opened id xs ≡ xs
 opened_there id xs i e = let f = found_at (named id) xs i (sym e) in rw (open_found id xs (omega (arith, f.within, f.is))) refl
 
-pub opened_new : (id : ℕ) (xs : List Connection) → None ≡ Search id xs → opened id xs ≡ xs ++ record { id = id; waiting = [] } ∷ []
+pub opened_new : (id : ℕ) (xs : List Connection) → None ≡ Search id xs → opened id xs ≡ xs ++ arrived id ∷ []
 opened_new id xs e = rw (open_none id xs (none_at (named id) xs (sym e))) refl
 
 pub within_at : (id : ℕ) (xs : List Connection) (i : ℕ) → Some i ≡ Search id xs → i < length xs

@@ -6,14 +6,15 @@ use Rattle.std.specs.Io.KnownBytes.{Consumes}
 use Rattle.session_script.specs.declared.event.Event.{Event}
 use Rattle.session_script.specs.Script.{Begins, line_of}
 use Rattle.session_script.specs.Unread.{Unread}
+use Rattle.topic_conf.specs.Configs.{ConfigParts}
 use Rattle.broker_model.specs.Machine.{Machine}
 use Rattle.share_top.specs.Written.{WritesRun}
 
 -- these bytes were given; of them the lines of these events are done and written, and the rest is unread
-pub record Going (left now old new : Option (List ℕ)) (unread : Unread) (machine : Machine) : Type 0 where
+pub record Going (conf : ConfigParts) (left now old new : Option (List ℕ)) (unread : Unread) (machine : Machine) : Type 0 where
   pub given : List ℕ
   pub events : List Event
   pub consumed : Consumes left now given
   pub begins : Begins given events unread.pending
   pub place : unread.place ≡ length (flat_map line_of events)
-  pub written : WritesRun old new events machine
+  pub written : WritesRun conf old new events machine

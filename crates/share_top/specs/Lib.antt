@@ -1,4 +1,4 @@
-pub mod Judging
+pub mod Stepping
 pub mod Written
 pub mod Statuses
 pub mod Going

@@ -1,16 +1,15 @@
 ghost use Rattle.std.specs.Prelude.{◌≡◌, ◌∷◌, [], IfOk};
-ghost use Rattle.broker_model.specs.Machine.{idle, next_piece};
+ghost use Rattle.broker_model.specs.Machine.{idle, link_at};
 ghost use Rattle.broker_model.specs.Steps.{Serves};
 ghost use Rattle.broker_model.specs.Counted.{CountedStep, diskless};
 
-use crate::client::{Client, connect, disconnect, drop_first, next_piece, send};
-use crate::foreign::{Entry, act};
-use crate::reply::reply;
-use crate::request::read_request;
+use crate::client::{Client, Stepped, connect, disconnect, place_of, send};
+use crate::foreign::Entry;
 use session_script::{Event, Outcome};
-use share_model::{CloseCause, NoMemory};
+use share_model::NoMemory;
 use std::alloc::Global;
 use std::marker::Model;
+use topic_conf::Config;
 
 /// The broker: who is connected, and what is known of foreign state. A contract sees it as the machine that
 /// it is.
@@ -47,36 +46,31 @@ impl Core {
         }
     }
 
-    // The connection takes its oldest piece, and answers it or is closed.
-    fn step(&mut self, alloc: Global, conn: u32) -> Result<Vec<Outcome>, NoMemory>
-        ensures { IfOk result (λ outcomes. Serves self.old conn (next_piece conn self.old.connections) outcomes.items self.new) }
+    // The connection does one step, if it is open.
+    fn step(&mut self, alloc: Global, conf: &Config, conn: u32) -> Result<Vec<Outcome>, NoMemory>
+        ensures { IfOk result (λ outcomes. Serves conf.now self.old conn (link_at conn self.old.connections) outcomes.items self.new) }
     {
-        let Some(piece) = next_piece(conn, &self.clients) else {
+        let Some(place) = place_of(conn, &self.clients) else {
             return Ok(Vec::new(alloc));
         };
-        match read_request(alloc, piece)? {
-            None => {
-                disconnect(conn, &mut self.clients);
-                one(
-                    alloc,
-                    Outcome::Closed {
-                        conn,
-                        cause: CloseCause::NotBuilt,
-                    },
-                )
-            }
-            Some(request) => {
-                let answer = act(alloc, &request.call, &mut self.foreign)?;
-                let frame = reply(alloc, request.correlation, &request.call, &answer)?;
-                drop_first(conn, &mut self.clients);
-                one(alloc, Outcome::Reply { conn, frame })
+        match self.clients[place].step(alloc, conf, &mut self.foreign)? {
+            Stepped::Stays => Ok(Vec::new(alloc)),
+            Stepped::Replies(frame) => Ok(one(alloc, Outcome::Reply { conn, frame })?),
+            Stepped::Goes(cause) => {
+                self.clients.remove(place);
+                Ok(one(alloc, Outcome::Closed { conn, cause })?)
             }
         }
     }
 
     /// Does one event, and gives what comes of it in order.
-    pub fn event(&mut self, alloc: Global, event: Event) -> Result<Vec<Outcome>, NoMemory>
-        ensures { IfOk result (λ outcomes. CountedStep (diskless self.old) event outcomes.items (diskless self.new)) }
+    pub fn event(
+        &mut self,
+        alloc: Global,
+        conf: &Config,
+        event: Event,
+    ) -> Result<Vec<Outcome>, NoMemory>
+        ensures { IfOk result (λ outcomes. CountedStep conf.now (diskless self.old) event outcomes.items (diskless self.new)) }
     {
         match event {
             Event::Open { conn } => {
@@ -84,14 +78,14 @@ impl Core {
                 Ok(Vec::new(alloc))
             }
             Event::Bytes { conn, bytes } => {
-                send(conn, bytes, &mut self.clients)?;
+                send(conn, bytes.as_slice(), &mut self.clients)?;
                 Ok(Vec::new(alloc))
             }
             Event::Close { conn } => {
                 disconnect(conn, &mut self.clients);
                 Ok(Vec::new(alloc))
             }
-            Event::Step { conn, .. } => self.step(alloc, conn),
+            Event::Step { conn, .. } => self.step(alloc, conf, conn),
         }
     }
 }

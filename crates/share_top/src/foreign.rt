@@ -1,8 +1,7 @@
 // The states of share partitions that other brokers host.
-ghost use Rattle.std.specs.Prelude.{◌≡◌, IfOk, OnOk, Some, int_lt, pos, position};
+ghost use Rattle.std.specs.Prelude.{◌≡◌, [], IfOk, OnOk, Some, int_lt, pos, position};
 ghost use Rattle.share_model.specs.Foreign.{same_key, known_at, code_alone, initialize_answer, initialized, read_answer};
-ghost use Rattle.broker_model.specs.Steps.{ForeignStep};
-ghost use Rattle.broker_model.specs.Requests.{IsServed};
+ghost use Rattle.broker_model.specs.Steps.{ForeignStep, is_fair};
 
 use share_model::{Code, ForeignAnswer, ForeignOp, Key, NoMemory, RunList};
 use std::alloc::Global;
@@ -58,7 +57,8 @@ impl Entry {
 
     // The answer to a read under this leader epoch.
     fn read(&self, alloc: Global, leader_epoch: i32) -> ForeignAnswer
-        ensures { result ≡ read_answer (Some self.now.state) leader_epoch }
+        ensures answer { result ≡ read_answer (Some self.now.state) leader_epoch }
+        ensures runs { result.runs ≡ [] }
     {
         if leader_epoch < self.leader_epoch {
             return code_alone(alloc, Code::FENCED_LEADER_EPOCH);
@@ -100,6 +100,7 @@ fn initialize(
 ) -> Result<ForeignAnswer, NoMemory>
     ensures answer { IfOk result (λ answer. answer ≡ initialize_answer (known_at key.now entries.old.items) state_epoch) }
     ensures after { OnOk result (entries.new.items ≡ initialized key.now state_epoch start entries.old.items) }
+    ensures runs { IfOk result (λ answer. answer.runs ≡ []) }
 {
     let entry = Entry::new(key, state_epoch, start);
     match place_of(key, entries) {
@@ -119,11 +120,47 @@ fn initialize(
 
 /// Reads a key's state.
 fn read(alloc: Global, key: &Key, leader_epoch: i32, entries: &[Entry]) -> ForeignAnswer
-    ensures { result ≡ read_answer (known_at key.now entries.now) leader_epoch }
+    ensures answer { result ≡ read_answer (known_at key.now entries.now) leader_epoch }
+    ensures runs { result.runs ≡ [] }
 {
     match place_of(key, entries) {
         None => code_alone(alloc, Code::UNKNOWN_TOPIC_OR_PARTITION),
         Some(place) => entries[place].read(alloc, leader_epoch),
+    }
+}
+
+// Whether an epoch begins at 0 and a start at -1.
+fn is_fair(epoch: i32, start: i64) -> bool
+    ensures { result ≡ is_fair epoch start }
+{
+    epoch >= 0 && start >= -1
+}
+
+fn initialize_fair(
+    alloc: Global,
+    key: &Key,
+    state_epoch: i32,
+    start: i64,
+    entries: &mut Vec<Entry>,
+) -> Result<ForeignAnswer, NoMemory>
+    ensures step { IfOk result (λ answer. ForeignStep entries.old.items (ForeignOp.Init key.now state_epoch start) answer entries.new.items) }
+    ensures runs { IfOk result (λ answer. answer.runs ≡ []) }
+{
+    if is_fair(state_epoch, start) {
+        initialize(alloc, key, state_epoch, start, entries)
+    } else {
+        Ok(code_alone(alloc, Code::INVALID_REQUEST))
+    }
+}
+
+fn read_fair(alloc: Global, key: &Key, leader_epoch: i32, entries: &[Entry]) -> ForeignAnswer
+    ensures step { ForeignStep entries.now (ForeignOp.Read key.now leader_epoch) result entries.now }
+    ensures runs { result.runs ≡ [] }
+{
+    if is_fair(leader_epoch, 0) {
+        read(alloc, key, leader_epoch, entries)
+    } else {
+        code_alone(alloc, Code::INVALID_REQUEST)
     }
 }
 
@@ -133,16 +170,18 @@ pub fn act(
     call: &ForeignOp,
     entries: &mut Vec<Entry>,
 ) -> Result<ForeignAnswer, NoMemory>
-    requires { IsServed call.now }
-    ensures { IfOk result (λ answer. ForeignStep entries.old.items call.now answer entries.new.items) }
+    ensures step { IfOk result (λ answer. ForeignStep entries.old.items call.now answer entries.new.items) }
+    ensures runs { IfOk result (λ answer. answer.runs ≡ []) }
 {
     match call {
         ForeignOp::Init {
             key,
             state_epoch,
             start,
-        } => initialize(alloc, key, *state_epoch, *start, entries),
-        ForeignOp::Read { key, leader_epoch } => Ok(read(alloc, key, *leader_epoch, entries)),
-        ForeignOp::Write { .. } | ForeignOp::Delete { .. } => unreachable!(),
+        } => initialize_fair(alloc, key, *state_epoch, *start, entries),
+        ForeignOp::Read { key, leader_epoch } => Ok(read_fair(alloc, key, *leader_epoch, entries)),
+        ForeignOp::Write { .. } | ForeignOp::Delete { .. } => {
+            Ok(code_alone(alloc, Code::INVALID_REQUEST))
+        }
     }
 }

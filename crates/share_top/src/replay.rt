@@ -13,6 +13,7 @@ use session_script::{
     Event, LineFault, Outcome, ScriptFault, ScriptReader, Taken, write_malformed, write_outcome,
 };
 use std::alloc::Global;
+use topic_conf::Config;
 
 /// How a replay came to its end.
 #[derive(Clone, Copy, Debug, PartialEq, Eq)]
@@ -49,27 +50,33 @@ fn write_outcomes<O: Sink>(
 // Does one event, and writes what comes of it.
 fn play_event<O: Sink>(
     alloc: Global,
+    conf: &Config,
     core: &mut Core,
     event: Event,
     output: &mut O,
 ) -> Result<(), LineFault>
-    ensures done { OnOk result (WritesStep (O.held output.old) (O.held output.new) core.old event core.new) }
-    ensures front { OnErr result (WritesStepFront (O.held output.old) (O.held output.new) core.old event) }
+    ensures done { OnOk result (WritesStep conf.now (O.held output.old) (O.held output.new) core.old event core.new) }
+    ensures front { OnErr result (WritesStepFront conf.now (O.held output.old) (O.held output.new) core.old event) }
     ensures write { result ≡ Err LineFault.Write → Rose (O.faults output.old) (O.faults output.new) }
     ensures later { O.faults output.old ≤ O.faults output.new }
 {
-    let outcomes = core.event(alloc, event)?;
+    let outcomes = core.event(alloc, conf, event)?;
     write_outcomes(alloc, &outcomes, output)?;
     Ok(())
 }
 
 /// Replays a script. Each outcome is written before the next event is read. Where the input isn't a script, the last
 /// line that is written names the place of its fault.
-pub fn play<I: Source, O: Sink>(alloc: Global, input: &mut I, output: &mut O) -> Played
-    ensures done { result ≡ Played.Done → IsDone (I.left input.old) (I.left input.new) (O.held output.old) (O.held output.new) × (I.ended input.new ≡ true) }
-    ensures malformed { result ≡ Played.Malformed → IsRefusedScript (I.left input.old) (O.held output.old) (O.held output.new) }
-    ensures cut { result ≡ Played.ReadFault → IsCut (I.left input.old) (I.left input.new) (O.held output.old) (O.held output.new) }
-    ensures stopped { (result ≡ Played.WriteFault) ⊎ (result ≡ Played.NoMemory) → IsStopped (I.left input.old) (O.held output.old) (O.held output.new) }
+pub fn play<I: Source, O: Sink>(
+    alloc: Global,
+    conf: &Config,
+    input: &mut I,
+    output: &mut O,
+) -> Played
+    ensures done { result ≡ Played.Done → IsDone conf.now (I.left input.old) (I.left input.new) (O.held output.old) (O.held output.new) × (I.ended input.new ≡ true) }
+    ensures malformed { result ≡ Played.Malformed → IsRefusedScript conf.now (I.left input.old) (O.held output.old) (O.held output.new) }
+    ensures cut { result ≡ Played.ReadFault → IsCut conf.now (I.left input.old) (I.left input.new) (O.held output.old) (O.held output.new) }
+    ensures stopped { (result ≡ Played.WriteFault) ⊎ (result ≡ Played.NoMemory) → IsStopped conf.now (I.left input.old) (O.held output.old) (O.held output.new) }
     ensures read { result ≡ Played.ReadFault → Rose (I.faults input.old) (I.faults input.new) }
     ensures write { result ≡ Played.WriteFault → Rose (O.faults output.old) (O.faults output.new) }
 {
@@ -87,7 +94,7 @@ pub fn play<I: Source, O: Sink>(alloc: Global, input: &mut I, output: &mut O) ->
             Err(ScriptFault::Read) => return Played::ReadFault,
             Err(ScriptFault::NoMemory) => return Played::NoMemory,
         };
-        match play_event(alloc, &mut core, event, output) {
+        match play_event(alloc, conf, &mut core, event, output) {
             Ok(()) => {}
             Err(LineFault::Write) => return Played::WriteFault,
             Err(LineFault::NoMemory) => return Played::NoMemory,

@@ -13,12 +13,19 @@ fn words(rt: &HostRuntime, words: &[&str]) -> Result<Vec<String>, Fail> {
     Ok(all)
 }
 
+const ORDERS: &str = "orders:3:22222222-2222-2222-2222-222222222222";
+
+// The words of a replay that hosts three partitions of `orders`.
+fn replay(rt: &HostRuntime) -> Result<Vec<String>, Fail> {
+    words(rt, &["replay", ORDERS])
+}
+
 // The status of a replay and what it writes.
 fn replayed(rt: &HostRuntime, script: &str) -> Result<(u8, Vec<u8>), Fail> {
     let alloc = rt.alloc();
     let mut input = MemSource::new(script.as_bytes().to_vec(alloc)?, Vec::new(alloc));
     let mut output = MemSink::new(alloc, Vec::new(alloc));
-    let status = run(rt, alloc, &words(rt, &["replay"])?, &mut input, &mut output);
+    let status = run(rt, alloc, &replay(rt)?, &mut input, &mut output);
     Ok((status, output.bytes().to_vec(alloc)?))
 }
 
@@ -46,22 +53,17 @@ const UNKNOWN: &str =
 fn scripts_are_replayed_up_to_their_first_malformed_line(rt: HostRuntime) -> Result<(), Fail> {
     for (script, status, output) in [
         ("end\n", 0, ""),
-        (
-            "open 1\nbytes 1 00\nstep 1 0\nend\n",
-            0,
-            "closed 1 not-built\n",
-        ),
         ("open 1\nopne 2\nend\n", 3, "malformed 7\n"),
         ("end\nx", 3, "malformed 4\n"),
         ("", 3, "malformed 0\n"),
         (
-            "open 1\nbytes 1 00\nstep 1 0\n",
+            "open 1\nbytes 1 0000000100\nstep 1 0\n",
             3,
-            "closed 1 not-built\nmalformed 27\n",
+            "closed 1 bad-header\nmalformed 35\n",
         ),
         ("step 1 0\nbytes 1 00\nopen 1\nstep 1 0\nend\n", 0, ""),
         (
-            "close 1\nopen 1\nbytes 1 00\nclose 1\nstep 1 0\nopen 1\nstep 1 0\nend\n",
+            "close 1\nopen 1\nbytes 1 0000000100\nclose 1\nstep 1 0\nopen 1\nstep 1 0\nend\n",
             0,
             "",
         ),
@@ -69,6 +71,113 @@ fn scripts_are_replayed_up_to_their_first_malformed_line(rt: HostRuntime) -> Res
         let (got, text) = replayed(&rt, script)?;
         assert_eq!(rt; got, status, "{script}");
         assert_eq!(rt; text.as_slice(), output.as_bytes(), "{script}");
+    }
+    Ok(())
+}
+
+// A script in which one connection sends these bytes and does these steps.
+fn session(rt: &HostRuntime, bytes: &[&str], steps: usize) -> Result<String, Fail> {
+    let mut script = String::from_str(rt.alloc(), "open 1\n")?;
+    for piece in bytes {
+        script.push_str("bytes 1 ")?;
+        script.push_str(piece)?;
+        script.push_str("\n")?;
+    }
+    for _ in 0..steps {
+        script.push_str("step 1 1000\n")?;
+    }
+    script.push_str("end\n")?;
+    Ok(script)
+}
+
+#[test]
+fn a_frame_that_is_none_closes_its_connection(rt: HostRuntime) -> Result<(), Fail> {
+    for (bytes, output) in [
+        ("01000000", ""),
+        ("01000001", "closed 1 too-long 16777217\n"),
+        ("000000080003000c00000001", "closed 1 bad-header\n"),
+        (
+            "0000000b0001000400000001ffff00",
+            "closed 1 unknown-api 1 4\n",
+        ),
+        ("0000000b0054000000000001ffff00", "closed 1 bad-body 11\n"),
+    ] {
+        let (status, text) = replayed(&rt, session(&rt, &[bytes], 2)?.as_str())?;
+        assert_eq!(rt; status, 0, "{bytes}");
+        assert_eq!(rt; text.as_slice(), output.as_bytes(), "{bytes}");
+    }
+    Ok(())
+}
+
+// The bytes of each pair of digits, as pieces of their own.
+fn singly<'a>(rt: &HostRuntime, digits: &'a str) -> Result<Vec<&'a str>, Fail> {
+    let mut pieces = Vec::new(rt.alloc());
+    let mut rest = digits;
+    for _ in 0..digits.len() / 2 {
+        let Some((piece, more)) = rest.split_at_checked(2) else {
+            return Err(Fail::from("digits come in pairs"));
+        };
+        pieces.push(piece)?;
+        rest = more;
+    }
+    Ok(pieces)
+}
+
+#[test]
+fn frames_in_any_pieces_have_the_same_replies(rt: HostRuntime) -> Result<(), Fail> {
+    let both = format!(in rt.alloc(); "{INITIALIZE}{READ}")?;
+    let replies = format!(in rt.alloc(); "reply 1 {DONE}\nreply 1 {STATE}\n")?;
+    let single = singly(&rt, &both)?;
+    for pieces in [
+        [INITIALIZE, READ].as_slice(),
+        [both.as_str()].as_slice(),
+        single.as_slice(),
+    ] {
+        let (status, text) = replayed(&rt, session(&rt, pieces, 3)?.as_str())?;
+        assert_eq!(rt; status, 0);
+        assert_eq!(rt; text.as_slice(), replies.as_bytes());
+    }
+    Ok(())
+}
+
+#[test]
+fn a_client_is_told_what_is_served_and_where(rt: HostRuntime) -> Result<(), Fail> {
+    for (request, reply) in [
+        (
+            "000000100012000400000001ffff00026b023100",
+            "0000001000000001002300000001001200030003",
+        ),
+        (
+            "000000100012000300000002ffff00026b023100",
+            "0000002f000000020000060003000c000c00000a00040004000012000300030000530000000000005400000000000000000000",
+        ),
+        (
+            "0000000f0003000c00000003ffff0000010000",
+            "0000009e00000003000000000002000000010a6c6f63616c686f73740000238400000c736861726562726f6b657200000001020000076f7264657273222222222222222222222222222222220004000000000000000000010000000002000000010200000001010000000000000100000001000000000200000001020000000101000000000000020000000100000000020000000102000000010100800000000000",
+        ),
+        (
+            "00000010000a000400000004ffff000002026700",
+            "00000023000000040000000000020267000000010a6c6f63616c686f7374000023840000000000",
+        ),
+        (
+            "00000010000a000400000005ffff000102026700",
+            "0000001a000000050000000000020267ffffffff01ffffffff002a000000",
+        ),
+        // An initialize of a hosted partition, of a negative one, and under a negative epoch.
+        (
+            "000000670053000000000006ffff000367310322222222222222222222222222222222020000000000000000000000000000000000001111111111111111111111111111111103ffffffff0000000000000000000000000000000005ffffffff0000000000000000000000",
+            "00000043000000060003222222222222222222222222222222220200000000002a0000001111111111111111111111111111111103ffffffff002a000000000005002a00000000",
+        ),
+        // A read for a group without a name.
+        (
+            "000000290054000000000007ffff00010211111111111111111111111111111111020000000000000000000000",
+            "0000002e00000007000211111111111111111111111111111111020000000000180000000000ffffffffffffffff01000000",
+        ),
+    ] {
+        let (status, text) = replayed(&rt, session(&rt, &[request], 1 + 2)?.as_str())?;
+        assert_eq!(rt; status, 0);
+        let want = format!(in rt.alloc(); "reply 1 {reply}\n")?;
+        assert_eq!(rt; text.as_slice(), want.as_bytes());
     }
     Ok(())
 }
@@ -102,7 +211,10 @@ fn a_key_is_unknown_until_it_is_initialized_and_a_lower_epoch_is_fenced(
 #[test]
 fn other_words_are_refused_and_nothing_is_read(rt: HostRuntime) -> Result<(), Fail> {
     let alloc = rt.alloc();
-    for wrong in [["replay", "now"], ["repaly", ""]] {
+    for wrong in [
+        ["replay", "orders:65:22222222-2222-2222-2222-222222222222"],
+        ["repaly", ORDERS],
+    ] {
         let mut input = MemSource::new(b"end\n".to_vec(alloc)?, [0].to_vec(alloc)?);
         let mut output = MemSink::new(alloc, Vec::new(alloc));
         assert_eq!(rt;
@@ -110,56 +222,40 @@ fn other_words_are_refused_and_nothing_is_read(rt: HostRuntime) -> Result<(), Fa
             2
         );
     }
-    let mut input = MemSource::new(Vec::new(alloc), Vec::new(alloc));
-    let mut output = MemSink::new(alloc, Vec::new(alloc));
-    assert_eq!(rt;
-        run(&rt, alloc, &words(&rt, &[])?, &mut input, &mut output),
-        2
-    );
+    for few in [[].as_slice(), ["replay"].as_slice()] {
+        let mut input = MemSource::new(Vec::new(alloc), [0].to_vec(alloc)?);
+        let mut output = MemSink::new(alloc, Vec::new(alloc));
+        assert_eq!(rt;
+            run(&rt, alloc, &words(&rt, few)?, &mut input, &mut output),
+            2
+        );
+    }
     Ok(())
 }
 
 #[test]
 fn a_failing_stream_is_told_by_the_status(rt: HostRuntime) -> Result<(), Fail> {
     let alloc = rt.alloc();
-    let script = b"open 1\nbytes 1 00\nstep 1 0\nend\n";
+    let script = b"open 1\nbytes 1 0000000100\nstep 1 0\nend\n";
     let mut input = MemSource::new(script.to_vec(alloc)?, [0].to_vec(alloc)?);
     let mut output = MemSink::new(alloc, Vec::new(alloc));
-    assert_eq!(rt;
-        run(
-            &rt,
-            alloc,
-            &words(&rt, &["replay"])?,
-            &mut input,
-            &mut output
-        ),
-        4
-    );
+    assert_eq!(rt; run(&rt, alloc, &replay(&rt)?, &mut input, &mut output), 4);
     assert!(rt; output.bytes().is_empty());
     let mut input = MemSource::new(script.to_vec(alloc)?, Vec::new(alloc));
     let mut output = MemSink::new(alloc, [0].to_vec(alloc)?);
-    assert_eq!(rt;
-        run(
-            &rt,
-            alloc,
-            &words(&rt, &["replay"])?,
-            &mut input,
-            &mut output
-        ),
-        5
-    );
+    assert_eq!(rt; run(&rt, alloc, &replay(&rt)?, &mut input, &mut output), 5);
     Ok(())
 }
 
 #[test]
 fn a_failing_last_line_stands_behind_the_outcomes(rt: HostRuntime) -> Result<(), Fail> {
     let alloc = rt.alloc();
-    let script = b"open 1\nbytes 1 00\nstep 1 0\nend\nx";
+    let script = b"open 1\nbytes 1 0000000100\nstep 1 0\nend\nx";
     let mut input = MemSource::new(script.to_vec(alloc)?, Vec::new(alloc));
     let mut output = MemSink::new(alloc, [1].to_vec(alloc)?);
-    let words = words(&rt, &["replay"])?;
+    let words = replay(&rt)?;
     assert_eq!(rt; run(&rt, alloc, &words, &mut input, &mut output), 5);
-    assert_eq!(rt; output.bytes(), b"closed 1 not-built\n".as_slice());
+    assert_eq!(rt; output.bytes(), b"closed 1 bad-header\n".as_slice());
     Ok(())
 }
 
@@ -193,7 +289,7 @@ fn line(begun: bool) -> &'static [u8]
     if begun {
         b"step 2 0\n"
     } else {
-        b"open 1\nbytes 1 00\nstep 1 0\n"
+        b"open 1\nbytes 1 0000000100\nstep 1 0\n"
     }
 }
 
@@ -204,7 +300,7 @@ fn replies_come_out_as_their_steps_are_done(rt: HostRuntime) -> Result<(), Fail>
     let status = run(
         &rt,
         alloc,
-        &words(&rt, &["replay"])?,
+        &replay(&rt)?,
         &mut Endless { begun: false },
         &mut output,
     );
