@@ -17,6 +17,8 @@ mod stream;
 #[cfg(test)]
 mod tests_answers;
 #[cfg(test)]
+mod tests_conn;
+#[cfg(test)]
 mod tests_state;
 mod told;
 mod versions;

@@ -18,7 +18,7 @@ const CLUSTER: &[u8] =
     b"\0\0\0\0\x02\0\0\0\x01\x0alocalhost\0\0\x23\x84\0\0\x0csharebroker\0\0\0\x01";
 
 /// A broker with one topic of three partitions, whose id is of bytes 1.
-fn orders(alloc: Global) -> Result<Config, Fail> {
+pub fn orders(alloc: Global) -> Result<Config, Fail> {
     let mut topics = Vec::new(alloc);
     topics.push(Topic {
         name: Name::new("orders").ok_or("a name")?,
