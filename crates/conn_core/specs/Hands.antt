@@ -1,4 +1,6 @@
--- A state call that is being answered, part by part.
+-- A state call that is being answered, part by part (this project's own).
+-- For example a Read of partitions 5 and 6 has the part of 5, and once that is done the part of 6 (the test
+-- parts_are_asked_and_told_in_the_order_of_the_request).
 use Rattle.std.specs.Prelude.{ℕ, ℤ, List, [], ◌∷◌, ◌++◌, Option, Some, None}
 use Rattle.share_model.specs.Keys.{KeyParts}
 use Rattle.share_model.specs.declared.foreign.ForeignOp.{ForeignOp}

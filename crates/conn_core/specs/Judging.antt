@@ -1,6 +1,8 @@
 -- What becomes of a whole frame, without its size: it closes the connection, is answered at once, or begins a request that asks
 -- parts. The tests stand in the order in which they are made; the first that decides, decides. A request has a header of
--- version 2 (KIP-482, RequestHeader.json) and a body.
+-- version 2 (KIP-482, RequestHeader.json) and a body. The order and the causes are this project's own.
+-- For example `0001 0004 00000001 ffff 00` closes with an unknown call, key 1 and version 4, and `0054 0000 00000001 ffff 00`
+-- with a bad body at place 11 (the test a_connection_closes_for_the_first_fault_of_a_frame).
 use Rattle.std.specs.Prelude.{◌≡◌, ℕ, ℤ, pos, Bool, true, false, not, ◌&&◌, List, [], map, drop, length, ◌==◌, Option, Some, None, Result, Ok, Err, if◌then◌else◌}
 use Rattle.std.specs.Ordering.{int_eq}
 use Rattle.flex_fields.specs.declared.fault.WireFault.{WireFault}
@@ -33,6 +35,7 @@ use Rattle.conn_core.specs.Coordinators.{coordinator_answer}
 use Rattle.conn_core.specs.Planning.{TopicEntries, initialize_entries, read_entries, is_group, planned_topics, asks_of}
 use Rattle.conn_core.specs.Replies.{reply_body, fill_topics}
 
+-- the place of a fault; bytes alone have one, and no want of memory
 abbrev pub place_of : WireFault → ℕ
 place_of (Short place) = place
 place_of (BadVarint place) = place

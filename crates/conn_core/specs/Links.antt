@@ -1,4 +1,6 @@
--- A connection as the broker keeps it.
+-- A connection as the broker keeps it (this project's own).
+-- For example one that has sent a whole frame and 3 bytes of the next has these 3 unread once the first is taken up (the test
+-- however_bytes_are_cut_the_parts_and_the_replies_are_the_same).
 use Rattle.std.specs.Prelude.{ℕ, List, Bool}
 use Rattle.conn_core.specs.declared.work.Work.{Work}
 

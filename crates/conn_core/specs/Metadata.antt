@@ -1,4 +1,6 @@
 -- The reply to Metadata of version 12 (MetadataResponse.json): one broker, which leads every partition that it hosts.
+-- For example a topic of 3 partitions has the partitions 0, 1 and 2, each led by 1 (the test
+-- all_topics_are_told_with_their_partitions).
 use Rattle.std.specs.Prelude.{ℕ, ℤ, pos, negsuc, false, List, [], ◌∷◌, map, Option, Some, None, codes, slice_get}
 use Rattle.std.specs.List.{range_with_len}
 use Rattle.share_model.specs.declared.fault.TheConstants.Code.{UNKNOWN_TOPIC_OR_PARTITION, UNKNOWN_TOPIC_ID}

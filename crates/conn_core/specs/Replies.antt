@@ -1,5 +1,7 @@
 -- The replies to state calls, composed from what is known at once and from the answers of the parts, and the frame of a reply:
 -- its size, a response header and the body (Kafka protocol guide; response header version 1 of KIP-482, or 0).
+-- For example the body `07` under correlation id -2 and with tags has the frame `00000006 fffffffe 00 07` (the test
+-- a_reply_with_tags_has_them_behind_its_correlation_id).
 use Rattle.std.specs.Prelude.{◌+◌, ℕ, ℤ, Bool, true, List, [], ◌∷◌, ◌++◌, length, map, Option, Some, None, nat_lt}
 use Rattle.std.specs.Int.{w32, to_be_bytes}
 use Rattle.share_model.specs.declared.fault.TheConstants.Code.{NONE}

@@ -1,5 +1,7 @@
--- What a reply tells of one partition's state (ReadShareGroupStateResponse.json): a code, and for a read that is granted the
--- state epoch, the start offset and the batches.
+-- What a reply tells of one partition's state (ReadShareGroupStateResponse.json): a code, and for a read the state epoch, the
+-- start offset and the batches.
+-- For example a place with code 24 alone has state epoch 0, start -1 and no batches (the test
+-- entries_that_need_no_shard_have_no_part).
 use Rattle.std.specs.Prelude.{◌<◌, ◌^◌, pos, negsuc, [], map}
 use Rattle.share_model.specs.Rows.{state_number}
 use Rattle.share_model.specs.declared.fault.Code.{Code}

@@ -1,4 +1,7 @@
--- The next turn of a connection: what it does next with the bytes that it has, and with the answer of a part.
+-- The next turn of a connection: what it does next with the bytes that it has, and with the answer of a part
+-- (this project's own).
+-- For example an Initialize and a Read of one partition each, in any pieces, ask one part each and have one reply each, in
+-- order (the test however_bytes_are_cut_the_parts_and_the_replies_are_the_same).
 use Rattle.std.specs.Prelude.{◌≡◌, ℕ, ℤ, Bool, true, false, List, [], ◌∷◌, ◌++◌, Option, Some, None, All, if◌then◌else◌}
 use Rattle.share_model.specs.declared.close_cause.CloseCause.{CloseCause}
 use Rattle.share_model.specs.declared.close_cause.CloseCause.TheVariants.{TooLong as CauseTooLong, LongReply}
@@ -121,7 +124,7 @@ Asks (Some op) next = next ≡ Ask (Foreign op)
 abbrev pub GoesOn : ConfigParts → ConnParts → Next → ConnParts → Type 0
 GoesOn conf old next new = TurnsUnless old.gone (turn conf old.link) old next new
 
--- a part is asked, and its answer is awaited
+-- a part is left to be done, so that its answer can be given
 abbrev pub IsAsking : ConnParts → Type 0
 IsAsking conn = (hand : HandParts) × (op : ForeignOp) × (conn.gone ≡ false) × (conn.link.work ≡ Busy hand) × (first_part hand ≡ Some op)
 

@@ -1,4 +1,6 @@
 -- The replies to ApiVersions (KIP-511, ApiVersionsResponse.json): the calls that are served, by rising key.
+-- For example version 4 with correlation id 1 has the reply `00000010 00000001 0023 00000001 0012 0003 0003` (the test
+-- requests_without_parts_are_answered_in_order).
 use Rattle.std.specs.Prelude.{pos, ◌∷◌, [], map}
 use Rattle.msgs_base.specs.declared.api_versions_reply.ApiVersion.{ApiVersion}
 use Rattle.msgs_base.specs.declared.api_versions_reply.ApiVersionsReply.{ApiVersionsReply}
