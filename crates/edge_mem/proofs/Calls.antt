@@ -6,7 +6,10 @@ use Rattle.edge_io.specs.Moments.{Elapses}
 use Rattle.edge_mem.specs.Events.{Event, Wrote, CutTo, Kept, Lost, State, done, replay, LeavesBy, IsImage, base, content_of, image_of, loss_of, changed, next, run, begun}
 use Rattle.edge_io.specs.declared.fault.FaultMode.{FaultMode}
 use Rattle.edge_io.specs.declared.fault.FaultMode.TheVariants.{Once, Torn, Dead}
-use Rattle.edge_mem.specs.Past.{Past, state, content, image, since, with_event, broken_write, after_write}
+use Rattle.edge_mem.specs.Past.{Past, state, content, image, since, with_event, broken_write, failed_write}
+use Rattle.edge_mem.specs.Refusals.{Leaves}
+use Rattle.edge_mem.specs.declared.faulty.Refusal.{Refusal}
+use Rattle.edge_mem.specs.declared.faulty.Refusal.TheVariants.{Broken, NoMemory}
 use Rattle.edge_mem.specs.Laws.{run_push, replay_join, image_join, image_split, image_same, torn_same, next_wrote, content_there, length_written, Fits, fits_front, replay_is_image, run_fits}
 use Rattle.edge_mem.specs.Steps.{EndsKept}
 use Rattle.edge_mem.proofs.Sounds.{ended}
@@ -185,16 +188,17 @@ broken_part Once h g at bytes is = inl is
 broken_part Torn h g at bytes is = half_part h g at bytes is
 broken_part Dead h g at bytes is = half_part h g at bytes is
 
-left_part : (how : Option FaultMode) (h g : Past) (at : ℕ) (bytes : List ℕ) → g ≡ after_write how at bytes h → IsPart h g at bytes
-left_part None h g at bytes is = inr (bytes, omega arith, is)
-left_part (Some mode) h g at bytes is = broken_part mode h g at bytes is
+failed_part : (how : Option FaultMode) (h g : Past) (at : ℕ) (bytes : List ℕ) → g ≡ failed_write how at bytes h → IsPart h g at bytes
+failed_part None h g at bytes is = inl is
+failed_part (Some mode) h g at bytes is = broken_part mode h g at bytes is
 
-some_part : (how : Option FaultMode) (h g : Past) (at : ℕ) (bytes : List ℕ) {R : Type 0} → (g ≡ after_write how at bytes h) ⊎ (R × (g ≡ h)) → IsPart h g at bytes
-some_part how h g at bytes left = ⊎_elim (λ is. left_part how h g at bytes is) (λ p. inl p.1) left
+some_part : (e : Refusal) (how : Option FaultMode) (h g : Past) (at : ℕ) (bytes : List ℕ) → Leaves e (failed_write how at bytes h) h g → IsPart h g at bytes
+some_part Broken how h g at bytes left = failed_part how h g at bytes left
+some_part NoMemory how h g at bytes left = inl left
 
 -- what a refused write left, of a past that is this one
-pub refused_part : (how : Option FaultMode) (h k g l : Past) (at : ℕ) (bytes : List ℕ) {R : Type 0} → k ≡ h → l ≡ g → (g ≡ after_write how at bytes k) ⊎ (R × (g ≡ k)) → IsPart h l at bytes
-refused_part how h k g l at bytes same is left = subst (λ (m : Past). IsPart h m at bytes) (sym is) (subst (λ (m : Past). IsPart m g at bytes) same (some_part how k g at bytes left))
+pub refused_part : (e : Refusal) (how : Option FaultMode) (h k g l : Past) (at : ℕ) (bytes : List ℕ) → k ≡ h → l ≡ g → Leaves e (failed_write how at bytes k) k g → IsPart h l at bytes
+refused_part e how h k g l at bytes same is left = subst (λ (m : Past). IsPart h m at bytes) (sym is) (subst (λ (m : Past). IsPart m g at bytes) same (some_part e how k g at bytes left))
 
 module _ (h g : Past) (at : ℕ) (bytes : List ℕ) (le : at ≤ length (content h)) (part : IsPart h g at bytes) where
   pub part_crash : Follows (UnfinishedWrite at (length bytes)) (image h) (image g)

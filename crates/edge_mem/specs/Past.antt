@@ -42,15 +42,10 @@ broken_by Nothing = None
 broken_by (After passes mode) = if passes == 0 then Some mode else None
 broken_by Broken = Some Once
 
--- what a write leaves, by how it is broken
-abbrev pub after_write : Option FaultMode → ℕ → List ℕ → Past → Past
-after_write None at bytes h = with_event h (Wrote at bytes)
-after_write (Some mode) at bytes h = broken_write mode at bytes h
-
--- what any other call leaves
-abbrev pub after_change : Option FaultMode → Event → Past → Past
-after_change None e h = with_event h e
-after_change (Some mode) e h = h
+-- what a write that failed leaves, by how it is broken; one that isn't broken finds no memory
+abbrev pub failed_write : Option FaultMode → ℕ → List ℕ → Past → Past
+failed_write None at bytes h = h
+failed_write (Some mode) at bytes h = broken_write mode at bytes h
 
 -- what contracts see of a disk in memory
 pub record DiskState : Type 0 where

@@ -5,10 +5,10 @@ ghost use Rattle.edge_io.specs.Causes.{FailsBy, HasCause, Rose};
 ghost use Rattle.edge_io.specs.Disk.{written, IsTold, WhereTold, Changes, UnfinishedWrite, UnfinishedCut, StepsBy, Within};
 ghost use Rattle.edge_io.specs.Disk.{SameImages, Synced, SameContent, IsUneventful, GrowsTo, ShrinksTo, LosesPower, KeepsPower};
 ghost use Rattle.edge_io.specs.Moments.{Elapses};
-ghost use Rattle.edge_mem.specs.Events.{CutTo, Kept, Lost, loss_of};
+ghost use Rattle.edge_mem.specs.Events.{Wrote, CutTo, Kept, Lost, loss_of};
 ghost use Rattle.edge_mem.specs.Steps.{EndsKept};
 ghost use Rattle.edge_mem.specs.Streams.{CountsFault, raised};
-ghost use Rattle.edge_mem.specs.Past.{state, content, image, since, with_event, broken_by, after_write};
+ghost use Rattle.edge_mem.specs.Past.{state, content, image, since, with_event, broken_by, failed_write};
 ghost use Rattle.edge_mem.specs.Laws.{content_is_image, counts_now, only_now};
 ghost use Rattle.edge_mem.specs.declared.faulty.Refusal.TheVariants.{NoMemory};
 
@@ -161,8 +161,11 @@ impl Disk for MemDisk {
         ensures fails { IsTold (Some (content self.old.past)) → RunsAsArmed self.old.armed self.new.armed self.old.starved self.new.starved self.old.faults self.new.faults result }
         ensures cause { HasCause self.old.faults self.new.faults result }
 
-        // A broken one leaves nothing, or the first half, by the mode of the fault. Without memory it changes nothing.
-        ensures past { (self.new.past ≡ after_write (broken_by self.old.armed) place bytes.now self.old.past) ⊎ ((self.new.starved ≡ true) × (self.new.past ≡ self.old.past)) }
+        // One that is done is the event that happened. A broken one leaves nothing, or the first half, by the mode of the
+        // fault. Without memory it changes nothing.
+        ensures past { MatchResult result (λ _. self.new.past ≡ with_event self.old.past (Wrote place bytes.now))
+            (λ _. (self.new.past ≡ failed_write (broken_by self.old.armed) place bytes.now self.old.past) ⊎ ((self.new.starved ≡ true) × (self.new.past ≡ self.old.past))) }
+        ensures no_memory { self.old.starved ≡ false → self.new.starved ≡ true → self.new.past ≡ self.old.past }
         ensures faults { CountsFault self.old.faults self.new.faults result }
     {
         match write(&mut self.history, &mut self.armed, place as usize, bytes) {
@@ -242,7 +245,19 @@ impl Disk for MemDisk {
         }
     }
 
-    fn arm(&mut self, after: u64, mode: FaultMode) {
+    fn arm(&mut self, after: u64, mode: FaultMode)
+        ensures armed { IsTold (Some (content self.old.past)) → self.new.armed ≡ After after mode }
+        ensures arms { IsTold (Some (content self.old.past)) → self.new.arms ≡ raised self.old.arms }
+        ensures losses { (state self.new.past).losses ≡ (state self.old.past).losses }
+        ensures stays { SameContent (Some (content self.old.past)) (Some (content self.new.past)) (length (content self.old.past)) (length (content self.new.past)) }
+        ensures images { SameImages (image self.old.past) (image self.new.past) }
+        ensures time { Elapses (length self.old.past.events) (length self.new.past.events) (since self.old.past) (since self.new.past) (image self.new.past) }
+        ensures starved { self.new.starved ≡ self.old.starved }
+        ensures faults { self.new.faults ≡ self.old.faults }
+
+        // Nothing happens to the content.
+        ensures past { self.new.past ≡ self.old.past }
+    {
         self.armed = Armed::After {
             passes: after,
             mode,

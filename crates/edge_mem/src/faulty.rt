@@ -1,8 +1,9 @@
 // The calls that an armed fault may break, over a history.
-ghost use Rattle.std.specs.Prelude.{◌≡◌, ◌⊎◌, ◌≤◌, ◌/◌, Err, length, take, true, IfErr, OnOk, OnErr, IsErr};
+ghost use Rattle.std.specs.Prelude.{◌≡◌, ◌⊎◌, ◌≤◌, ◌/◌, length, take, true, IfErr, OnOk, OnErr, IsErr};
 ghost use Rattle.edge_io.specs.Armed.{breaks, next_armed, spent};
 ghost use Rattle.edge_mem.specs.Events.{Wrote, CutTo};
-ghost use Rattle.edge_mem.specs.Past.{content, with_event, broken_by, broken_write, after_write, after_change};
+ghost use Rattle.edge_mem.specs.Past.{content, with_event, broken_by, broken_write, failed_write};
+ghost use Rattle.edge_mem.specs.Refusals.{Leaves};
 ghost use Rattle.edge_mem.specs.declared.faulty.Refusal.TheVariants.{NoMemory};
 
 use crate::history::History;
@@ -52,7 +53,7 @@ pub fn count_call(armed: &mut Armed) -> Option<FaultMode>
 // Writes the first half, and answers why the whole was not written.
 fn write_half(history: &mut History, place: usize, bytes: &[u8]) -> Refusal
     requires { place ≤ length (content history.old) }
-    ensures { (history.new ≡ with_event history.old (Wrote place (take (length bytes.now / 2) bytes.now))) ⊎ ((result ≡ NoMemory) × (history.new ≡ history.old)) }
+    ensures { Leaves result (with_event history.old (Wrote place (take (length bytes.now / 2) bytes.now))) history.old history.new }
 {
     let (half, _) = bytes.split_at(bytes.len() / 2);
     match history.write(place, half) {
@@ -64,7 +65,7 @@ fn write_half(history: &mut History, place: usize, bytes: &[u8]) -> Refusal
 // What a broken write leaves, and why the whole was not written.
 fn tear(history: &mut History, mode: FaultMode, place: usize, bytes: &[u8]) -> Refusal
     requires { place ≤ length (content history.old) }
-    ensures { (history.new ≡ broken_write mode place bytes.now history.old) ⊎ ((result ≡ NoMemory) × (history.new ≡ history.old)) }
+    ensures { Leaves result (broken_write mode place bytes.now history.old) history.old history.new }
 {
     match mode {
         FaultMode::Once => Refusal::Broken,
@@ -82,7 +83,7 @@ pub fn write(
 ) -> Result<(), Refusal>
     requires { place ≤ length (content history.old) }
     ensures done { OnOk result (history.new ≡ with_event history.old (Wrote place bytes.now)) }
-    ensures left { (history.new ≡ after_write (broken_by armed.old) place bytes.now history.old) ⊎ ((result ≡ Err NoMemory) × (history.new ≡ history.old)) }
+    ensures left { IfErr result (λ e. Leaves e (failed_write (broken_by armed.old) place bytes.now history.old) history.old history.new) }
     ensures armed { armed.new ≡ next_armed armed.old }
     ensures broken { breaks armed.old ≡ true → IsErr result }
     ensures only { IfErr result (λ e. (breaks armed.old ≡ true) ⊎ (e ≡ NoMemory)) }
@@ -100,7 +101,6 @@ pub fn write(
 pub fn cut(history: &mut History, armed: &mut Armed, to: usize) -> Result<(), Refusal>
     requires { to ≤ length (content history.old) }
     ensures done { OnOk result (history.new ≡ with_event history.old (CutTo to)) }
-    ensures left { (history.new ≡ after_change (broken_by armed.old) (CutTo to) history.old) ⊎ ((result ≡ Err NoMemory) × (history.new ≡ history.old)) }
     ensures err { OnErr result (history.new ≡ history.old) }
     ensures armed { armed.new ≡ next_armed armed.old }
     ensures broken { breaks armed.old ≡ true → IsErr result }

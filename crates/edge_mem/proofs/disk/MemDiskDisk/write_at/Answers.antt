@@ -10,7 +10,7 @@ wrote c = done_to _ c.self.inside.history _ _ (ap (λ (d : DiskState). d.past) c
 
 -- a part was written
 part : (c : goal.After-refuse) → IsPart c.args.self.now.past c.refuse.new.self.past c.args.place c.args.bytes.now
-part c = refused_part (broken_by c.self.inside.armed) _ c.self.inside.history c.write.new.history _ _ _ (ap (λ (d : DiskState). d.past) c.self.view_is) c.refuse.ensures.past c.write.ensures.left
+part c = refused_part _ (broken_by c.self.inside.armed) _ c.self.inside.history c.write.new.history _ _ _ (ap (λ (d : DiskState). d.past) c.self.view_is) c.refuse.ensures.past c.in-Err.ensures.left
 
 pub returns-in-Ok-clause-content : goal.returns-in-Ok-clause-content
 returns-in-Ok-clause-content c = record { done = wrote_becomes _ _ _ _ c.requires.begins (wrote c); told = refl }
