@@ -10,7 +10,7 @@ ghost use Rattle.edge_mem.specs.Steps.{EndsKept};
 ghost use Rattle.edge_mem.specs.Streams.{CountsFault, raised};
 ghost use Rattle.edge_mem.specs.Past.{state, content, image, since, with_event, broken_by, failed_write};
 ghost use Rattle.edge_mem.specs.Laws.{content_is_image, counts_now, only_now};
-ghost use Rattle.edge_mem.specs.declared.faulty.Refusal.TheVariants.{NoMemory};
+ghost use Rattle.edge_mem.specs.declared.faulty.Refusal.TheVariants.{Broken, NoMemory};
 
 use crate::faulty::{Refusal, count_call, cut, write};
 use crate::history::History;
@@ -81,6 +81,7 @@ impl MemDisk {
         ensures rose { Rose self.old.faults self.new.faults }
         ensures faults { self.new.faults ≡ raised self.old.faults }
         ensures only { self.new.starved ≡ true → (self.old.starved ≡ true) ⊎ (refusal ≡ NoMemory) }
+        ensures same { refusal ≡ Broken → self.new.starved ≡ self.old.starved }
     {
         self.starved = self.starved | (refusal == Refusal::NoMemory);
         self.faults = self.faults.saturating_add(1);
@@ -184,8 +185,9 @@ impl Disk for MemDisk {
         ensures fails { IsTold (Some (content self.old.past)) → RunsAsArmed self.old.armed self.new.armed self.old.starved self.new.starved self.old.faults self.new.faults result }
         ensures cause { HasCause self.old.faults self.new.faults result }
 
-        // One that fails changes nothing.
+        // One that fails changes nothing, and one that is broken finds memory.
         ensures past { MatchResult result (λ _. self.new.past ≡ with_event self.old.past (CutTo to)) (λ _. self.new.past ≡ self.old.past) }
+        ensures memory { breaks self.old.armed ≡ true → self.new.starved ≡ self.old.starved }
         ensures faults { CountsFault self.old.faults self.new.faults result }
     {
         match cut(&mut self.history, &mut self.armed, to as usize) {

@@ -1,10 +1,10 @@
 // The calls that an armed fault may break, over a history.
-ghost use Rattle.std.specs.Prelude.{◌≡◌, ◌⊎◌, ◌≤◌, ◌/◌, length, take, true, IfErr, OnOk, OnErr, IsErr};
+ghost use Rattle.std.specs.Prelude.{◌≡◌, ◌⊎◌, ◌≤◌, ◌/◌, Err, length, take, true, IfErr, OnOk, OnErr, IsErr};
 ghost use Rattle.edge_io.specs.Armed.{breaks, next_armed, spent};
 ghost use Rattle.edge_mem.specs.Events.{Wrote, CutTo};
 ghost use Rattle.edge_mem.specs.Past.{content, with_event, broken_by, broken_write, failed_write};
 ghost use Rattle.edge_mem.specs.Refusals.{Leaves};
-ghost use Rattle.edge_mem.specs.declared.faulty.Refusal.TheVariants.{NoMemory};
+ghost use Rattle.edge_mem.specs.declared.faulty.Refusal.TheVariants.{Broken, NoMemory};
 
 use crate::history::History;
 use edge_io::{Armed, FaultMode};
@@ -103,7 +103,7 @@ pub fn cut(history: &mut History, armed: &mut Armed, to: usize) -> Result<(), Re
     ensures done { OnOk result (history.new ≡ with_event history.old (CutTo to)) }
     ensures err { OnErr result (history.new ≡ history.old) }
     ensures armed { armed.new ≡ next_armed armed.old }
-    ensures broken { breaks armed.old ≡ true → IsErr result }
+    ensures broken { breaks armed.old ≡ true → result ≡ Err Broken }
     ensures only { IfErr result (λ e. (breaks armed.old ≡ true) ⊎ (e ≡ NoMemory)) }
 {
     match count_call(armed) {
