@@ -127,13 +127,11 @@ fn singly<'a>(rt: &HostRuntime, digits: &'a str) -> Result<Vec<&'a str>, Fail> {
 fn frames_in_any_pieces_have_the_same_replies(rt: HostRuntime) -> Result<(), Fail> {
     let both = format!(in rt.alloc(); "{INITIALIZE}{READ}")?;
     let replies = format!(in rt.alloc(); "reply 1 {DONE}\nreply 1 {STATE}\n")?;
-    let single = singly(&rt, &both)?;
-    for pieces in [
-        [INITIALIZE, READ].as_slice(),
-        [both.as_str()].as_slice(),
-        single.as_slice(),
-    ] {
-        let (status, text) = replayed(&rt, session(&rt, pieces, 3)?.as_str())?;
+    let whole = session(&rt, &[INITIALIZE, READ], 3)?;
+    let at_once = session(&rt, &[both.as_str()], 3)?;
+    let single = session(&rt, &singly(&rt, &both)?, 3)?;
+    for script in [whole, at_once, single] {
+        let (status, text) = replayed(&rt, script.as_str())?;
         assert_eq!(rt; status, 0);
         assert_eq!(rt; text.as_slice(), replies.as_bytes());
     }
@@ -208,28 +206,25 @@ fn a_key_is_unknown_until_it_is_initialized_and_a_lower_epoch_is_fenced(
     Ok(())
 }
 
+// The status with these words, over an input that fails at its first read.
+fn status_of(rt: &HostRuntime, words: &[String]) -> Result<u8, Fail> {
+    let alloc = rt.alloc();
+    let mut input = MemSource::new(b"end\n".to_vec(alloc)?, [0].to_vec(alloc)?);
+    let mut output = MemSink::new(alloc, Vec::new(alloc));
+    Ok(run(rt, alloc, words, &mut input, &mut output))
+}
+
 #[test]
 fn other_words_are_refused_and_nothing_is_read(rt: HostRuntime) -> Result<(), Fail> {
-    let alloc = rt.alloc();
+    assert_eq!(rt; status_of(&rt, &words(&rt, &[])?)?, 2);
+    assert_eq!(rt; status_of(&rt, &words(&rt, &["replay"])?)?, 2);
     for wrong in [
         ["replay", "orders:65:22222222-2222-2222-2222-222222222222"],
         ["repaly", ORDERS],
     ] {
-        let mut input = MemSource::new(b"end\n".to_vec(alloc)?, [0].to_vec(alloc)?);
-        let mut output = MemSink::new(alloc, Vec::new(alloc));
-        assert_eq!(rt;
-            run(&rt, alloc, &words(&rt, &wrong)?, &mut input, &mut output),
-            2
-        );
+        assert_eq!(rt; status_of(&rt, &words(&rt, &wrong)?)?, 2);
     }
-    for few in [[].as_slice(), ["replay"].as_slice()] {
-        let mut input = MemSource::new(Vec::new(alloc), [0].to_vec(alloc)?);
-        let mut output = MemSink::new(alloc, Vec::new(alloc));
-        assert_eq!(rt;
-            run(&rt, alloc, &words(&rt, few)?, &mut input, &mut output),
-            2
-        );
-    }
+    assert_eq!(rt; status_of(&rt, &replay(&rt)?)?, 4);
     Ok(())
 }
 
