@@ -1,5 +1,7 @@
 -- Foreign state: the share-partition states of partitions that this broker doesn't host. Their coordinators keep them here
 -- by the share-group state calls of KIP-932.
+-- For example a key is unknown until it is initialized, and once it has state epoch 3 one with 2 is fenced (the test
+-- a_key_is_unknown_until_it_is_initialized_and_a_lower_epoch_is_fenced of share_top).
 use Rattle.std.specs.Prelude.{ℤ, pos, negsuc, Bool, true, false, List, [], ◌∷◌, Option, Some, None, int_lt, if◌then◌else◌}
 use Rattle.std.specs.declared.cmp.Ordering.{Ordering}
 use Rattle.std.specs.declared.cmp.Ordering.TheVariants.{Equal}
@@ -49,7 +51,8 @@ initialize_answer state epoch = if is_fenced_state state epoch then code_alone F
 
 abbrev pub initialized : KeyParts → ℤ → ℤ → List ForeignEntry → List ForeignEntry
 initialized key epoch start entries =
-    if is_fenced_state (known_at key entries) epoch then entries else with_state key (record { state_epoch = epoch; leader_epoch = pos 0; start = start }) entries
+    if is_fenced_state (known_at key entries) epoch then entries
+    else with_state key (record { state_epoch = epoch; leader_epoch = pos 0; start = start }) entries
 
 abbrev pub read_answer : Option ForeignState → ℤ → ForeignAnswer
 read_answer None leader_epoch = code_alone UNKNOWN_TOPIC_OR_PARTITION

@@ -1,4 +1,4 @@
-/// An error code of the Kafka protocol.
+/// An error code of the Kafka protocol. The constants have the names of Kafka's own list.
 #[derive(Clone, Copy, Debug, PartialEq, Eq)]
 pub struct Code(pub i16);
 
@@ -21,7 +21,7 @@ impl Code {
 
     pub const INVALID_REQUEST: Code = Code(42);
 
-    pub const STORAGE_ERROR: Code = Code(56);
+    pub const KAFKA_STORAGE_ERROR: Code = Code(56);
 
     pub const FENCED_LEADER_EPOCH: Code = Code(74);
 

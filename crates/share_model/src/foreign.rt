@@ -11,7 +11,9 @@ pub struct StateBatch {
     pub count: i16,
 }
 
-/// A call on the state of a partition that this broker doesn't host.
+/// A call on the state of a partition that this broker doesn't host. Its numbers are not yet judged.
+///
+/// `start` is an offset, or -1: no start is given in an `Init`, and the start stays in a `Write`.
 #[derive(Debug, Drop)]
 pub enum ForeignOp {
     /// InitializeShareGroupState.

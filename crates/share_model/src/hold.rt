@@ -1,7 +1,7 @@
 use crate::name::Name;
 
-/// Who holds a record: the member, the moment at which its acquisition lock ends, and how often the
-/// record was delivered, this time with them.
+/// Who holds a record: the member, the moment in milliseconds at which its acquisition lock ends, and
+/// how often the record was delivered, this time with them.
 #[derive(Clone, Copy, Debug, PartialEq, Eq)]
 pub struct Hold {
     pub member: Name,

@@ -82,7 +82,8 @@ impl Name {
 
     /// Its text.
     pub fn as_str(&self) -> &str
-        ensures { result.now ≡ self.now }
+        ensures same { result.now ≡ self.now }
+        ensures name { IsName self.now }
     {
         match str::from_utf8(self.as_bytes()) {
             Ok(text) => text,

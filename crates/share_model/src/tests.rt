@@ -65,6 +65,11 @@ fn a_room_takes_what_was_set_aside(rt: HostRuntime) -> Result<(), Fail> {
         room.into_blob().into_vec().as_slice(),
         [1, 2, 3].as_slice()
     );
+    Ok(())
+}
+
+#[test]
+fn the_states_of_stored_rows_have_the_numbers_0_2_and_4(rt: HostRuntime) {
     for (state, number) in [
         (RowState::Available, 0),
         (RowState::Acknowledged, 2),
@@ -73,5 +78,7 @@ fn a_room_takes_what_was_set_aside(rt: HostRuntime) -> Result<(), Fail> {
         assert_eq!(rt; state.number(), number);
         assert_eq!(rt; RowState::from_number(number), Some(state));
     }
-    Ok(())
+    for number in [1, 3, 5, 255] {
+        assert_eq!(rt; RowState::from_number(number), None, "{}", number);
+    }
 }
