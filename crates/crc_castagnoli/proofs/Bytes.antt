@@ -78,7 +78,8 @@ divided-bytes left (b ∷ bytes) h =
 part : (k y low high : ℕ) → y % 256 ≡ low → y / 256 ≡ high → steps (8 + k) y ≡ bit_xor (steps (8 + k) low) (steps k high)
 part k y low high e f =
     let parts : y ≡ y % 256 + 256 * (y / 256) = omega arith in
-    ap (steps (8 + k)) parts ∙ steps-byte k (y % 256) (y / 256) (omega arith) ∙ ap (λ (x : ℕ). bit_xor (steps (8 + k) x) (steps k (y / 256))) e ∙ ap (λ (x : ℕ). bit_xor (steps (8 + k) low) (steps k x)) f
+    ap (steps (8 + k)) parts ∙ steps-byte k (y % 256) (y / 256) (omega arith)
+    ∙ ap (λ (x : ℕ). bit_xor (steps (8 + k) x) (steps k (y / 256))) e ∙ ap (λ (x : ℕ). bit_xor (steps (8 + k) low) (steps k x)) f
 
 -- the eight bytes of a number, each divided by itself
 pub steps-word : (x : ℕ) → x < 2 ^ 64 →

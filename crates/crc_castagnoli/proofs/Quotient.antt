@@ -29,7 +29,9 @@ step-whole n =
   where
     odd : (n half : ℕ) → n ≡ half * 2 ^ 1 + 1 → bit_xor (1 * (1 + 2 * castagnoli)) (2 * bit_xor half (1 * castagnoli)) ≡ n
     odd n half e =
-        let whole : 1 * (1 + 2 * castagnoli) ≡ bit_xor 1 (2 * castagnoli) = let f : 2 * castagnoli ≡ castagnoli * 2 ^ 1 = omega arith in rw f (omega (arith, xor_comm 1 (castagnoli * 2 ^ 1), xor_shifted castagnoli 1 1 (omega arith))) in
+        let whole : 1 * (1 + 2 * castagnoli) ≡ bit_xor 1 (2 * castagnoli) =
+        let f : 2 * castagnoli ≡ castagnoli * 2 ^ 1 = omega arith in
+        rw f (omega (arith, xor_comm 1 (castagnoli * 2 ^ 1), xor_shifted castagnoli 1 1 (omega arith))) in
         let one : 1 * castagnoli ≡ castagnoli = omega arith in
         rw (whole, one, double_xor half castagnoli)
         (xor_assoc 1 (2 * castagnoli) (bit_xor (2 * half) (2 * castagnoli)) ∙ ap (bit_xor 1) (xor_twice (2 * castagnoli) (2 * half))
