@@ -33,7 +33,8 @@ before-row_at (x ∷ xs) f o canonical =
     elim (cases_lt o x.first) [
       | inl early ↦ row_at-below (run_before x f) (before xs f) o early ∙ before-row_at xs f o canonical.2 ∙ ap (λ (b : Bool). cond b (row_at xs o) None) below ∙ sym (row_at-below x xs o early)
       | inr from ↦ elim (cases_lt x.last o) [
-        | inl beyond ↦ row_at-beyond (run_before x f) (before xs f) o (omega arith) ∙ before-row_at xs f o canonical.2 ∙ ap (λ (b : Bool). cond b (row_at xs o) None) below ∙ sym (row_at-beyond x xs o beyond)
+        | inl beyond ↦ row_at-beyond (run_before x f) (before xs f) o (omega arith) ∙ before-row_at xs f o canonical.2
+            ∙ ap (λ (b : Bool). cond b (row_at xs o) None) below ∙ sym (row_at-beyond x xs o beyond)
         | inr upto ↦ row_at-here (run_before x f) (before xs f) o from (omega arith) ∙ sym (row_at-here x xs o from upto)
       ]
     ])

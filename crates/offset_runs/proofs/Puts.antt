@@ -1,5 +1,6 @@
 -- A range that is put over runs.
-use Rattle.std.proofs.Common.{◌≡◌, ℕ, length, take, drop, IfNone, subst, ◌+◌, ◌≤◌, Bool, true, false, cond, List, [], ◌∷◌, ◌++◌, append-nil, Option, Some, None, refl, ap, ◌∙◌, sym, arith}
+use Rattle.std.proofs.Common.{◌≡◌, ℕ, length, take, drop, IfNone, subst, ◌+◌, ◌≤◌, Bool, true, false, cond, List}
+use Rattle.std.proofs.Common.{[], ◌∷◌, ◌++◌, append-nil, Option, Some, None, refl, ap, ◌∙◌, sym, arith}
 use Rattle.std.proofs.lemmas.Bool.Decides.{nat_tests}
 use Rattle.std.specs.Prelude.{nat_le, nat_lt, ◌&&◌, not}
 use Rattle.std.specs.Option.{option_or}

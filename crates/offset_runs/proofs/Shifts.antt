@@ -1,5 +1,6 @@
 -- Runs that are moved within their list.
-use Rattle.std.proofs.Common.{◌≡◌, ℕ, suc, ◌+◌, ◌-◌, ◌<◌, ◌≤◌, max, true, false, cond, set, List, [], ◌∷◌, length, get_or, take, drop, refl, ap, ◌∙◌, sym, arith}
+use Rattle.std.proofs.Common.{◌≡◌, ℕ, suc, ◌+◌, ◌-◌, ◌<◌, ◌≤◌, max, true, false, cond, set, List}
+use Rattle.std.proofs.Common.{[], ◌∷◌, length, get_or, take, drop, refl, ap, ◌∙◌, sym, arith}
 use Rattle.std.proofs.lemmas.List.{ext_get_or, get_or-drop, get_or-take, length-drop, length-take, nil_from_length}
 use Rattle.std.specs.Prelude.{None, nat_lt}
 use Rattle.std.specs.Iterator.{Yields}
