@@ -1,5 +1,6 @@
 -- Reading runs one after the other, as a loop does.
-use Rattle.std.proofs.Common.{◌≡◌, ℕ, suc, ◌-◌, ◌+◌, ◌≤◌, ◌<◌, List, [], ◌∷◌, ◌++◌, Option, Some, Result, Ok, Err, refl, sym, ap, ◌∙◌, append_assoc, append-nil, arith}
+use Rattle.std.proofs.Common.{◌≡◌, ℕ, suc, ◌-◌, ◌+◌, ◌≤◌, ◌<◌, List, [], ◌∷◌, ◌++◌, Option, Some, Result}
+use Rattle.std.proofs.Common.{Ok, Err, refl, sym, ap, ◌∙◌, append_assoc, append-nil, arith}
 use Rattle.share_model.specs.declared.run.Run.{Run}
 use Rattle.state_records.specs.declared.fault.RecordFault.{RecordFault}
 use Rattle.state_records.specs.declared.fault.RecordFault.TheVariants as faults
@@ -18,7 +19,8 @@ pub goes_on : (front : List Run) (count i : ℕ) (before : Option Run) (at : At)
 unfolding runs_at
 goes_on front count i before at run after total lt h so_far =
     let k : count - i ≡ suc (count - (i + 1)) = omega arith in
-    let one : with_front front (runs_at (count - i) before at) ≡ with_front (front ++ run ∷ []) (runs_at (count - (i + 1)) (Some run) after) = rw (k, h) (regroup front run (runs_at (count - (i + 1)) (Some run) after)) in
+    let one : with_front front (runs_at (count - i) before at) ≡ with_front (front ++ run ∷ []) (runs_at (count - (i + 1)) (Some run) after) =
+    rw (k, h) (regroup front run (runs_at (count - (i + 1)) (Some run) after)) in
     sym one ∙ so_far
 
 pub ends : (e : RecordFault) (front : List Run) (count i : ℕ) (before : Option Run) (at : At) (total : Result (List Run × At) ℕ) → i < count → Fails e (run_at before at)
@@ -30,7 +32,8 @@ ends (faults.BadState f) front count i before at total lt h so_far =
     let one : with_front front (runs_at (count - i) before at) ≡ Err f = rw (k, h) refl in
     sym so_far ∙ one
 
-pub is_done : (front : List Run) (count i : ℕ) (before : Option Run) (at : At) (total : Result (List Run × At) ℕ) → count ≤ i → with_front front (runs_at (count - i) before at) ≡ total → total ≡ Ok (front, at)
+pub is_done : (front : List Run) (count i : ℕ) (before : Option Run) (at : At) (total : Result (List Run × At) ℕ) → count ≤ i →
+    with_front front (runs_at (count - i) before at) ≡ total → total ≡ Ok (front, at)
 unfolding runs_at
 is_done front count i before at total le so_far =
     let k : count - i ≡ 0 = omega arith in

@@ -1,5 +1,6 @@
 -- State records: what is read is spelled so, and what is spelled so is read.
-use Rattle.std.proofs.Common.{◌≡◌, ℕ, ℤ, pos, negsuc, ◌-◌, ◌^◌, ◌<◌, ◌≤◌, Bool, true, false, cond, List, ◌++◌, length, take, drop, Some, None, Ok, Err, refl, sym, ap, subst, ◌∙◌, append_assoc, arith}
+use Rattle.std.proofs.Common.{◌≡◌, ℕ, ℤ, pos, negsuc, ◌-◌, ◌^◌, ◌<◌, ◌≤◌, Bool, true, false, cond, List, ◌++◌, length}
+use Rattle.std.proofs.Common.{take, drop, Some, None, Ok, Err, refl, sym, ap, subst, ◌∙◌, append_assoc, arith}
 use Rattle.std.specs.Prelude.{nat_lt, ◌==◌}
 use Rattle.std.specs.Int.{w16, w32, w64, to_be_bytes}
 use Rattle.std.specs.Str.{is_utf8}
@@ -10,8 +11,10 @@ use Rattle.share_model.specs.Names.{IsName}
 use Rattle.share_model.specs.declared.run.Run.{Run}
 use Rattle.state_records.specs.States.{StateParts, IsEpoch, IsStart, IsKey, IsState}
 use Rattle.state_records.specs.Spelling.{name_bytes, key_bytes, epoch_number, start_number, runs_bytes, state_bytes}
-use Rattle.state_records.specs.Reading.{At, past, then_at, raw_at, number_at, below_at, is_name, name_at, key_of, key_at, epoch_at, start_of, start_at, all_runs_at, state_of_parts, state_at}
-use Rattle.state_records.proofs.Spells.{IsBytes-drop, bind_ok, guard_else, guard_then, ok_is, Takes, Takes-then, Spells, then_spells, as_spells, found_spells, raw_spells, number_spells, wide16, wide64}
+use Rattle.state_records.specs.Reading.{At, past, then_at, raw_at, number_at, below_at, is_name, name_at, key_of, key_at}
+use Rattle.state_records.specs.Reading.{epoch_at, start_of, start_at, all_runs_at, state_of_parts, state_at}
+use Rattle.state_records.proofs.Spells.{IsBytes-drop, bind_ok, guard_else, guard_then, ok_is, Takes, Takes-then, Spells}
+use Rattle.state_records.proofs.Spells.{then_spells, as_spells, found_spells, raw_spells, number_spells, wide16, wide64}
 use Rattle.state_records.proofs.Stored.{lt_no, yes_lt, no_lt, low32, AreAllRuns, all_runs_spells}
 
 named : (bytes : List ℕ) → is_name bytes ≡ true → IsName bytes
@@ -30,7 +33,8 @@ name_spells : Spells name_at name_bytes IsName
 unfolding name_at
 name_spells = record {
   takes = λ at x after fits e.
-      let a = bind_ok (number_at w16 at) (λ n. cond (nat_lt (length n.1.left) n.0) (Err at.place) (cond (is_name (take n.0 n.1.left)) (Ok (take n.0 n.1.left, past n.0 n.1)) (Err at.place))) (x, after) e in
+      let a = bind_ok (number_at w16 at)
+      (λ n. cond (nat_lt (length n.1.left) n.0) (Err at.place) (cond (is_name (take n.0 n.1.left)) (Ok (take n.0 n.1.left, past n.0 n.1)) (Err at.place))) (x, after) e in
       let n = a.0.0 in
       let rest = a.0.1 in
       let g = guard_else (nat_lt (length rest.left) n) at.place (cond (is_name (take n rest.left)) (Ok (take n rest.left, past n rest)) (Err at.place)) (x, after) a.2 in
@@ -110,7 +114,8 @@ state_spells =
     (λ x. to_be_bytes w64 x.0 ++ (to_be_bytes w32 (epoch_number x.1.0) ++ (to_be_bytes w32 (epoch_number x.1.1.0) ++ (to_be_bytes w64 (start_number x.1.1.1.0) ++ runs_bytes x.1.1.1.1))))
     IsKey (λ x. (x.0 < 2 ^ 64) × (IsEpoch x.1.0 × (IsEpoch x.1.1.0 × (IsStart x.1.1.1.0 × AreAllRuns x.1.1.1.1)))) key_spells s2 in
     as_spells state_of_parts parts_of (then_at key_at (then_at (number_at w64) (then_at epoch_at (then_at epoch_at (then_at start_at all_runs_at)))))
-    (λ x. key_bytes x.0 ++ (to_be_bytes w64 x.1.0 ++ (to_be_bytes w32 (epoch_number x.1.1.0) ++ (to_be_bytes w32 (epoch_number x.1.1.1.0) ++ (to_be_bytes w64 (start_number x.1.1.1.1.0) ++ runs_bytes x.1.1.1.1.1)))))
+    (λ x. key_bytes x.0 ++ (to_be_bytes w64 x.1.0 ++
+    (to_be_bytes w32 (epoch_number x.1.1.0) ++ (to_be_bytes w32 (epoch_number x.1.1.1.0) ++ (to_be_bytes w64 (start_number x.1.1.1.1.0) ++ runs_bytes x.1.1.1.1.1)))))
     state_bytes
     (λ x. IsKey x.0 × ((x.1.0 < 2 ^ 64) × (IsEpoch x.1.1.0 × (IsEpoch x.1.1.1.0 × (IsStart x.1.1.1.1.0 × AreAllRuns x.1.1.1.1.1))))) IsState
     (λ x. refl)

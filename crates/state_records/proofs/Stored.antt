@@ -1,5 +1,6 @@
 -- The runs of a record: what each that is read keeps, and the bytes that it has.
-use Rattle.std.proofs.Common.{◌≡◌, ◌≢◌, ℕ, zero, suc, ◌+◌, ◌-◌, ◌^◌, ◌<◌, ◌≤◌, Bool, true, false, cond, List, [], ◌∷◌, ◌++◌, length, Option, Some, None, Result, Ok, Err, refl, sym, ap, subst, ◌∙◌, append_assoc, arith}
+use Rattle.std.proofs.Common.{◌≡◌, ◌≢◌, ℕ, zero, suc, ◌+◌, ◌-◌, ◌^◌, ◌<◌, ◌≤◌, Bool, true, false, cond, List, [], ◌∷◌, ◌++◌}
+use Rattle.std.proofs.Common.{length, Option, Some, None, Result, Ok, Err, refl, sym, ap, subst, ◌∙◌, append_assoc, arith}
 use Rattle.std.specs.Prelude.{nat_lt}
 use Rattle.std.specs.Int.{w16, w32, w64, to_be_bytes}
 use Rattle.std.specs.List.{flat_map}
@@ -15,7 +16,8 @@ use Rattle.offset_runs.proofs.Joins.{touches_true, touches_false}
 use Rattle.state_records.specs.States.{IsStoredRun, AreStoredRuns}
 use Rattle.state_records.specs.Spelling.{run_bytes, runs_bytes}
 use Rattle.state_records.specs.Reading.{At, ◌>>=◌, only_at, byte_at, number_at, below_at, row_state_at, is_behind, could_join, run_at, runs_at, all_runs_at}
-use Rattle.state_records.proofs.Spells.{IsBytes, bind_ok, guard_else, guard_then, ok_is, Takes, Takes-then, Again, Spells, only_spells, found_spells, number_spells, byte_spells, wide16, wide32, wide64}
+use Rattle.state_records.proofs.Spells.{IsBytes, bind_ok, guard_else, guard_then, ok_is, Takes, Takes-then, Again, Spells}
+use Rattle.state_records.proofs.Spells.{only_spells, found_spells, number_spells, byte_spells, wide16, wide32, wide64}
 
 pub lt_yes : (m n : ℕ) → nat_lt m n ≡ true → m < n
 lt_yes m n e = grind (arith, nat_tests)

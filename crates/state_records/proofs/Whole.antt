@@ -67,7 +67,8 @@ pub record_takes : (bytes : List ℕ) (r : StateRecord) → IsBytes bytes → re
 unfolding record_at
 record_takes bytes r fits e =
     let start : At = record { place = 0; left = bytes } in
-    let a = bind_ok (only_at (λ n. nat_lt n 3) byte_at start) (λ kind. only_at (λ n. nat_lt n 1) byte_at kind.1 >>= λ version. fields_at kind.0 version.1 >>= λ x. cond (length x.1.left == 0) (Ok x.0) (Err x.1.place)) r e in
+    let a = bind_ok (only_at (λ n. nat_lt n 3) byte_at start)
+    (λ kind. only_at (λ n. nat_lt n 1) byte_at kind.1 >>= λ version. fields_at kind.0 version.1 >>= λ x. cond (length x.1.left == 0) (Ok x.0) (Err x.1.place)) r e in
     let b = bind_ok (only_at (λ n. nat_lt n 1) byte_at a.0.1) (λ version. fields_at a.0.0 version.1 >>= λ x. cond (length x.1.left == 0) (Ok x.0) (Err x.1.place)) r a.2 in
     let c = bind_ok (fields_at a.0.0 b.0.1) (λ x. cond (length x.1.left == 0) (Ok x.0) (Err x.1.place)) r b.2 in
     let g = guard_then (length c.0.1.left == 0) c.0.1.place (Ok c.0.0) r c.2 in

@@ -1,4 +1,6 @@
--- The bytes of a state record, of which each record has just these.
+-- The bytes of a state record, of which each record has just these (this project's own). Numbers have their high byte first.
+-- For example the snapshot of the state in `States.antt` has 54 bytes, of which 00 00 0002 67 31 are the first (the test
+-- a_snapshot_is_written_and_read_again).
 use Rattle.std.specs.Prelude.{◌-◌, ◌^◌, ℕ, ℤ, pos, negsuc, List, [], ◌∷◌, ◌++◌, length}
 use Rattle.std.specs.Int.{w16, w32, w64, to_be_bytes}
 use Rattle.std.specs.List.{flat_map}
@@ -17,11 +19,12 @@ name_bytes name = to_be_bytes w16 (length name) ++ name
 abbrev pub key_bytes : KeyParts → List ℕ
 key_bytes key = name_bytes key.group ++ (key.topic ++ to_be_bytes w32 key.part)
 
--- a signed number that is not negative, or -1, in two's complement of 64 bits
+-- an epoch, which isn't negative
 abbrev pub epoch_number : ℤ → ℕ
 epoch_number (pos n) = n
 epoch_number (negsuc n) = 0
 
+-- a start, which isn't negative or is -1, in two's complement of 64 bits
 abbrev pub start_number : ℤ → ℕ
 start_number (pos n) = n
 start_number (negsuc n) = 2 ^ 64 - 1
@@ -34,6 +37,7 @@ run_bytes run = to_be_bytes w64 run.first ++ (to_be_bytes w64 run.last ++ ((stat
 abbrev pub runs_bytes : List Run → List ℕ
 runs_bytes runs = to_be_bytes w32 (length runs) ++ flat_map run_bytes runs
 
+-- the key, the snapshot epoch, the state and leader epochs, the start, and the runs
 abbrev pub state_bytes : StateParts → List ℕ
 state_bytes state =
     key_bytes state.key ++ (to_be_bytes w64 state.snapshot ++ (to_be_bytes w32 (epoch_number state.state_epoch)

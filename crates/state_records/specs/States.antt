@@ -1,4 +1,6 @@
 -- The state of a share partition, as a record of the state journal carries it (KIP-932, share-partition state).
+-- For example the group `g1` on partition 0 of a topic has state epoch 3, leader epoch 0, start 7 and no runs (the test
+-- a_snapshot_is_written_and_read_again).
 use Rattle.std.specs.Prelude.{◌≡◌, ◌<◌, ◌+◌, ◌^◌, ℕ, ℤ, pos, negsuc, List, length}
 use Rattle.std.specs.List.{AllByRecursion}
 use Rattle.share_model.specs.Keys.{KeyParts}
@@ -33,11 +35,13 @@ IsStoredRun run = (run.last < 2 ^ 63) × (run.count < 2 ^ 15)
 abbrev pub AreStoredRuns : List Run → Type 0
 AreStoredRuns runs = IsCanonical runs × AllByRecursion IsStoredRun runs
 
+-- the ranges of a key
 pub record IsKey (key : KeyParts) : Type 0 where
   pub group : IsName key.group
   pub topic : length key.topic ≡ 16
   pub part : key.part < 2 ^ 31
 
+-- the ranges of a state; its runs are few enough for a list of messages
 pub record IsState (state : StateParts) : Type 0 where
   pub key : IsKey state.key
   pub snapshot : state.snapshot < 2 ^ 64

@@ -3,8 +3,9 @@ use std::marker::Model;
 
 /// The state of a share partition, as a journal keeps it.
 ///
-/// The epochs are at least 0, `start` is at least -1, and the runs are canonical, with offsets below
-/// 2^63 and counts below 2^15. A contract sees the record of the fields.
+/// `snapshot` counts the key's snapshots. The epochs are at least 0, `start` is an offset or -1, and
+/// the runs are canonical, with offsets below 2^63 and counts below 2^15. A contract sees the record of
+/// the fields.
 #[derive(Debug, Drop)]
 pub struct KeyState {
     pub key: Key,
@@ -20,7 +21,14 @@ impl Model for KeyState {
 
     ghost Value = { StateParts };
 
-    ghost view = { λ s. record { key = s.key; snapshot = s.snapshot; state_epoch = s.state_epoch; leader_epoch = s.leader_epoch; start = s.start; runs = s.runs } };
+    ghost view = { λ s. record {
+      key = s.key;
+      snapshot = s.snapshot;
+      state_epoch = s.state_epoch;
+      leader_epoch = s.leader_epoch;
+      start = s.start;
+      runs = s.runs;
+    } };
 
     ghost invariant = { λ s. IsEpoch s.state_epoch × IsEpoch s.leader_epoch × IsStart s.start × AreStoredRuns s.runs };
 }

@@ -7,7 +7,10 @@ use Rattle.state_records.proofs.reading.read_runs.Goals as goal
 pub returns-in_err-run : goal.returns-in_err-run
 returns-in_err-run c =
     let p = err_from_is_err_and c.from_residual-in_err-run.result c.from_residual-in_err-run.ensures.1 in
-    record { read = rw (p.1, p.2) (ends c.in_err-run.field-0.0 c.loop.runs.items c.args.count c.loop.counter c.loop.before c.loop.reader (runs_at c.args.count None c.args.reader.now) c.loop-test.true c.in_err-run.ensures c.loop.invariant) }
+    record {
+      read = rw (p.1, p.2) (ends c.in_err-run.field-0.0 c.loop.runs.items c.args.count c.loop.counter c.loop.before c.loop.reader
+          (runs_at c.args.count None c.args.reader.now) c.loop-test.true c.in_err-run.ensures c.loop.invariant);
+    }
 
 pub loop-preserved : goal.loop-preserved
 loop-preserved c =

@@ -16,9 +16,12 @@ returns-clause-written c =
     let o4 = c.put_u32-2.new.out.items in
     let o5 = c.put_u64-2.new.out.items in
     let o6 = c.put_runs.new.out.items in
-    let e3 : o3 ≡ o2 ++ to_be_bytes w32 (epoch_number s.state_epoch) = c.in_ok-put_u32.ensures ∙ ap (λ (n : ℕ). o2 ++ to_be_bytes w32 n) (c.epoch_bits.ensures ∙ ap epoch_number (epoch_same s.state_epoch c.state.invariant.0)) in
-    let e4 : o4 ≡ o3 ++ to_be_bytes w32 (epoch_number s.leader_epoch) = c.in_ok-put_u32-2.ensures ∙ ap (λ (n : ℕ). o3 ++ to_be_bytes w32 n) (c.epoch_bits-2.ensures ∙ ap epoch_number (epoch_same s.leader_epoch c.state.invariant.1)) in
-    let e5 : o5 ≡ o4 ++ to_be_bytes w64 (start_number s.start) = c.in_ok-put_u64-2.ensures.written ∙ ap (λ (n : ℕ). o4 ++ to_be_bytes w64 n) (c.start_bits.ensures ∙ ap start_number (start_same s.start c.state.invariant.2)) in
+    let e3 : o3 ≡ o2 ++ to_be_bytes w32 (epoch_number s.state_epoch) = c.in_ok-put_u32.ensures
+    ∙ ap (λ (n : ℕ). o2 ++ to_be_bytes w32 n) (c.epoch_bits.ensures ∙ ap epoch_number (epoch_same s.state_epoch c.state.invariant.0)) in
+    let e4 : o4 ≡ o3 ++ to_be_bytes w32 (epoch_number s.leader_epoch) = c.in_ok-put_u32-2.ensures
+    ∙ ap (λ (n : ℕ). o3 ++ to_be_bytes w32 n) (c.epoch_bits-2.ensures ∙ ap epoch_number (epoch_same s.leader_epoch c.state.invariant.1)) in
+    let e5 : o5 ≡ o4 ++ to_be_bytes w64 (start_number s.start) = c.in_ok-put_u64-2.ensures.written
+    ∙ ap (λ (n : ℕ). o4 ++ to_be_bytes w64 n) (c.start_bits.ensures ∙ ap start_number (start_same s.start c.state.invariant.2)) in
     subst (λ (state : StateParts). o6 ≡ o0 ++ state_bytes state) c.state.view_is
     (appended6 o0 o1 o2 o3 o4 o5 o6 (key_bytes s.key) (to_be_bytes w64 s.snapshot) (to_be_bytes w32 (epoch_number s.state_epoch)) (to_be_bytes w32 (epoch_number s.leader_epoch))
     (to_be_bytes w64 (start_number s.start)) (runs_bytes s.runs) c.in_ok-put_key.ensures.written c.in_ok-put_u64.ensures.written e3 e4 e5 c.in_ok-put_runs.ensures.written)
