@@ -18,17 +18,21 @@ use Rattle.rec_batch.proofs.Uniqueness.{batch_clear, none_bad}
 pub count_below : (form : Form) (bytes : List ℕ) → HasSize bytes → HasFields bytes → record_count bytes <ℤ pos 0 → IsFirstFault form bytes (BadRecord 0)
 count_below form bytes s f h = record_fault_first form bytes 0 s f (inl (h, refl))
 
-pub record_bad : (form : Form) (bytes : List ℕ) (count index : ℕ) → HasSize bytes → HasFields bytes → record_count bytes ≡ pos count → IsBadRecord (records_part bytes) count index → IsFirstFault form bytes (BadRecord index)
+pub record_bad : (form : Form) (bytes : List ℕ) (count index : ℕ) → HasSize bytes → HasFields bytes → record_count bytes ≡ pos count →
+    IsBadRecord (records_part bytes) count index → IsFirstFault form bytes (BadRecord index)
 record_bad form bytes count index s f e h = record_fault_first form bytes index s f (inr (count, e, h))
 
-abbrev are : (form : Form) (bytes : List ℕ) (count : ℕ) (follow : Bool) → record_count bytes ≡ pos count → (w : Walks form (last_offset_delta bytes) (records_part bytes) count follow) → AreRecords bytes w.0
+abbrev are : (form : Form) (bytes : List ℕ) (count : ℕ) (follow : Bool) → record_count bytes ≡ pos count →
+    (w : Walks form (last_offset_delta bytes) (records_part bytes) count follow) → AreRecords bytes w.0
 are form bytes count follow e w = (e ∙ ap pos (sym w.1), w.2)
 
-pub deltas_bad : (form : Form) (bytes : List ℕ) (count : ℕ) → HasSize bytes → HasFields bytes → record_count bytes ≡ pos count → Walks form (last_offset_delta bytes) (records_part bytes) count false → IsFirstFault form bytes BadDeltas
+pub deltas_bad : (form : Form) (bytes : List ℕ) (count : ℕ) → HasSize bytes → HasFields bytes → record_count bytes ≡ pos count →
+    Walks form (last_offset_delta bytes) (records_part bytes) count false → IsFirstFault form bytes BadDeltas
 deltas_bad form bytes count s f e w =
     let r = are form bytes count false e w in delta_fault_first form bytes s f (none_bad form bytes w.0 r) (w.0, r, λ h. w.3 h.1)
 
-pub header_bad : (form : Form) (bytes : List ℕ) (count : ℕ) (follow : Bool) → HasSize bytes → HasFields bytes → record_count bytes ≡ pos count → Walks form (last_offset_delta bytes) (records_part bytes) count follow → (OffsetsAgree form bytes count → ⊥)
+pub header_bad : (form : Form) (bytes : List ℕ) (count : ℕ) (follow : Bool) → HasSize bytes → HasFields bytes → record_count bytes ≡ pos count →
+    Walks form (last_offset_delta bytes) (records_part bytes) count follow → (OffsetsAgree form bytes count → ⊥)
     → IsFirstFault form bytes BadDeltas
 header_bad form bytes count follow s f e w none =
     let r = are form bytes count follow e w in
@@ -46,7 +50,8 @@ zero_or_more (negsuc n) h = absurd (omega (arith, ints, h))
 pub last_delta_is : (form : Form) (bytes : List ℕ) (count : ℕ) → OffsetsAgree form bytes count → pos (at_least_zero (last_offset_delta bytes)) ≡ last_offset_delta bytes
 last_delta_is form bytes count agree = zero_or_more (last_offset_delta bytes) (last_from_zero form bytes count agree)
 
-pub all_good : (form : Form) (bytes : List ℕ) (count : ℕ) (view : BatchView) → HasSize bytes → HasFields bytes → record_count bytes ≡ pos count → Walks form (last_offset_delta bytes) (records_part bytes) count true → OffsetsAgree form bytes count → IsViewOf bytes view → Accepts form bytes view
+pub all_good : (form : Form) (bytes : List ℕ) (count : ℕ) (view : BatchView) → HasSize bytes → HasFields bytes → record_count bytes ≡ pos count →
+    Walks form (last_offset_delta bytes) (records_part bytes) count true → OffsetsAgree form bytes count → IsViewOf bytes view → Accepts form bytes view
 all_good form bytes count view s f e w agree v = (
   v,
   (

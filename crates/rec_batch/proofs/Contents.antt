@@ -10,7 +10,8 @@ content_other (pos n) bytes h = refl
 content_other (negsuc zero) bytes h = absurd (h refl)
 content_other (negsuc (suc n)) bytes h = refl
 
-pub headers_next : (count counter : ℕ) (bytes : List ℕ) → counter < count → headers_in (count - counter) bytes ≡ (counted_in bytes >>= λ key. nullable_in key >>= λ value. headers_in (count - (counter + 1)) value)
+pub headers_next : (count counter : ℕ) (bytes : List ℕ) → counter < count →
+    headers_in (count - counter) bytes ≡ (counted_in bytes >>= λ key. nullable_in key >>= λ value. headers_in (count - (counter + 1)) value)
 unfolding headers_in
 headers_next count counter bytes h =
     let e : count - counter ≡ suc (count - (counter + 1)) = omega arith in rw e refl

@@ -4,7 +4,8 @@ use Rattle.std.proofs.lemmas.Bool.{cases_lt}
 use Rattle.std.specs.Prelude.{pos, bit_and}
 use Rattle.crc_castagnoli.specs.Division.{crc_of}
 use Rattle.share_model.specs.declared.fault.BatchFault.{BatchFault}
-use Rattle.share_model.specs.declared.fault.BatchFault.TheVariants.{TooLarge, Short, BadMagic, BadCrc, Compressed, Transactional, Control, HasProducer, BadRecord, BadDeltas}
+use Rattle.share_model.specs.declared.fault.BatchFault.TheVariants.{TooLarge, Short, BadMagic, BadCrc, Compressed, Transactional}
+use Rattle.share_model.specs.declared.fault.BatchFault.TheVariants.{Control, HasProducer, BadRecord, BadDeltas}
 use Rattle.rec_batch.specs.declared.form.Form.{Form}
 use Rattle.rec_batch.specs.Batches.{Applies, IsFirstFault, max_size, row}
 use Rattle.rec_batch.specs.Fields.{attributes, checked_part, checksum, magic}
@@ -70,10 +71,12 @@ clear_crc form bytes h m c = clears_next form bytes 3 (omega arith) (clear_magic
 clear_compressed : (form : Form) (bytes : List ℕ) → HasSize bytes → magic bytes ≡ pos 2 → checksum bytes ≡ crc_of (checked_part bytes) → bit_and (attributes bytes) 0x7 ≡ 0 → Clears form bytes 5
 clear_compressed form bytes h m c z = clears_next form bytes 4 (omega arith) (clear_crc form bytes h m c) (λ a. a z)
 
-clear_transactional : (form : Form) (bytes : List ℕ) → HasSize bytes → magic bytes ≡ pos 2 → checksum bytes ≡ crc_of (checked_part bytes) → bit_and (attributes bytes) 0x7 ≡ 0 → bit_and (attributes bytes) 0x10 ≡ 0 → Clears form bytes 6
+clear_transactional : (form : Form) (bytes : List ℕ) → HasSize bytes → magic bytes ≡ pos 2 → checksum bytes ≡ crc_of (checked_part bytes) →
+    bit_and (attributes bytes) 0x7 ≡ 0 → bit_and (attributes bytes) 0x10 ≡ 0 → Clears form bytes 6
 clear_transactional form bytes h m c z t = clears_next form bytes 5 (omega arith) (clear_compressed form bytes h m c z) (λ a. a t)
 
-clear_control : (form : Form) (bytes : List ℕ) → HasSize bytes → magic bytes ≡ pos 2 → checksum bytes ≡ crc_of (checked_part bytes) → bit_and (attributes bytes) 0x7 ≡ 0 → bit_and (attributes bytes) 0x10 ≡ 0
+clear_control : (form : Form) (bytes : List ℕ) → HasSize bytes → magic bytes ≡ pos 2 → checksum bytes ≡ crc_of (checked_part bytes) →
+    bit_and (attributes bytes) 0x7 ≡ 0 → bit_and (attributes bytes) 0x10 ≡ 0
     → bit_and (attributes bytes) 0x20 ≡ 0 → Clears form bytes 7
 clear_control form bytes h m c z t k = clears_next form bytes 6 (omega arith) (clear_transactional form bytes h m c z t) (λ a. a k)
 
@@ -126,5 +129,6 @@ clear_records form bytes s f none = record { none = go }
     go Control h a = before.none Control (omega arith) a
     go HasProducer h a = before.none HasProducer (omega arith) a
 
-pub delta_fault_first : (form : Form) (bytes : List ℕ) → HasSize bytes → HasFields bytes → ((i : ℕ) → Applies form bytes (BadRecord i) → ⊥) → Applies form bytes BadDeltas → IsFirstFault form bytes BadDeltas
+pub delta_fault_first : (form : Form) (bytes : List ℕ) → HasSize bytes → HasFields bytes → ((i : ℕ) → Applies form bytes (BadRecord i) → ⊥) →
+    Applies form bytes BadDeltas → IsFirstFault form bytes BadDeltas
 delta_fault_first form bytes s f none a = (a, (clear_records form bytes s f none).none)

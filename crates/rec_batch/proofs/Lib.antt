@@ -10,3 +10,4 @@ pub mod Placed
 pub mod WrittenSizes
 pub mod Spelled
 pub mod ShortNumbers
+pub mod OneFault

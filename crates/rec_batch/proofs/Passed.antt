@@ -1,12 +1,14 @@
 -- Going past the parts of a record goes past just what stands for them.
-use Rattle.std.proofs.Common.{◌≡◌, ℕ, zero, suc, ◌≤◌, List, [], ◌∷◌, ◌++◌, length, take, drop, refl, sym, ap, ◌∙◌, append_assoc, append-nil, subst, arith, length-append, ltb-false, inl, inr, ◌⊎◌}
+use Rattle.std.proofs.Common.{◌≡◌, ℕ, zero, suc, ◌≤◌, List, [], ◌∷◌, ◌++◌, length, take, drop, refl, sym, ap, ◌∙◌}
+use Rattle.std.proofs.Common.{append_assoc, append-nil, subst, arith, length-append, ltb-false, inl, inr, ◌⊎◌}
 use Rattle.std.specs.Prelude.{ℤ, pos, negsuc, Option, Some, None, nat_lt, ◌==◌, Bool, true, false, cond}
 use Rattle.std.specs.Int.{w8, from_be_bytes, cast_signed}
 use Rattle.std.proofs.lemmas.Bool.{cond-false, le-ltb, ne_eqb}
 use Rattle.std.proofs.lemmas.List.{take-append-drop, drop_at, take_at, length-take}
 use Rattle.flex_fields.specs.Grammar.{AreMany, IsBytes, IsInt, IsVarint, Then}
 use Rattle.rec_batch.specs.Grammar.{AreHeaders, IsBody, IsCounted, IsNullable, IsRecord, Record}
-use Rattle.rec_batch.specs.Passing.{◌>>=◌, all_headers_in, body_in, byte_in, content_in, counted_in, headers_in, nullable_in, record_in, some_headers_in, split_in, varint_in, varlong_in}
+use Rattle.rec_batch.specs.Passing.{◌>>=◌, all_headers_in, body_in, byte_in, content_in, counted_in, headers_in}
+use Rattle.rec_batch.specs.Passing.{nullable_in, record_in, some_headers_in, split_in, varint_in, varlong_in}
 use Rattle.rec_batch.proofs.Parts.{Front, Drops, bind_some, some_is, rest_fits, IsBytes-front, Front-then}
 use Rattle.rec_batch.proofs.Numbers.{varint_passes, varlong_passes}
 
@@ -107,7 +109,8 @@ nullable_drops = record { takes = nullable_goes; gives = nullable_comes }
 abbrev Headers : Type 0
 Headers = List (List ℕ × Option (List ℕ))
 
-headers_goes : (n : ℕ) (bytes rest : List ℕ) → IsBytes bytes → headers_in n bytes ≡ Some rest → (hs : Headers) × (length hs ≡ n) × Front bytes rest (λ front. AreMany (Then IsCounted IsNullable) front hs)
+headers_goes : (n : ℕ) (bytes rest : List ℕ) → IsBytes bytes → headers_in n bytes ≡ Some rest →
+    (hs : Headers) × (length hs ≡ n) × Front bytes rest (λ front. AreMany (Then IsCounted IsNullable) front hs)
 unfolding headers_in
 headers_goes zero bytes rest fits e = ([], refl, record { front = []; parts = some_is bytes rest e; stands = refl })
 headers_goes (suc n) bytes rest fits e =
@@ -131,7 +134,8 @@ headers_comes (h ∷ hs) front tail c =
     ap (headers_in (suc (length hs))) regrouped
     ∙ rw (counted_comes f (g ++ (c.1 ++ tail)) h.0 c.2.2, nullable_comes g (c.1 ++ tail) h.1 c.2.3) (headers_comes hs c.1 tail c.3)
 
-some_headers_goes : (n : ℤ) (bytes rest : List ℕ) → IsBytes bytes → some_headers_in n bytes ≡ Some rest → (hs : Headers) × (n ≡ pos (length hs)) × Front bytes rest (λ front. AreMany (Then IsCounted IsNullable) front hs)
+some_headers_goes : (n : ℤ) (bytes rest : List ℕ) → IsBytes bytes → some_headers_in n bytes ≡ Some rest →
+    (hs : Headers) × (n ≡ pos (length hs)) × Front bytes rest (λ front. AreMany (Then IsCounted IsNullable) front hs)
 unfolding some_headers_in
 some_headers_goes (pos n) bytes rest fits e = let h = headers_goes n bytes rest fits e in (h.0, ap pos (sym h.1), h.2)
 some_headers_goes (negsuc n) bytes rest fits e = cc
@@ -175,7 +179,19 @@ body_goes bytes d fits e =
     let last : AreHeaders v.0 h'.0 = subst (λ l. AreHeaders l h'.0) (sym (h'.1.parts ∙ ap (λ l. h'.1.front ++ l) done.0 ∙ append-nil h'.1.front)) h'.1.stands in (
       record { attributes = a'.0; timestamp_delta = b.0.0; offset_delta = c.0.0; key = k'.0; value = v'.0; headers = h'.0 },
       done.1,
-      (a'.1.front, a.0, a'.1.stands, (b'.front, b.0.1, b'.stands, (c'.front, c.0.1, c'.stands, (k'.1.front, k.0, k'.1.stands, (v'.1.front, v.0, v'.1.stands, last, v'.1.parts), k'.1.parts), c'.parts), b'.parts), a'.1.parts),
+      (
+        a'.1.front,
+        a.0,
+        a'.1.stands,
+        (
+          b'.front,
+          b.0.1,
+          b'.stands,
+          (c'.front, c.0.1, c'.stands, (k'.1.front, k.0, k'.1.stands, (v'.1.front, v.0, v'.1.stands, last, v'.1.parts), k'.1.parts), c'.parts),
+          b'.parts,
+        ),
+        a'.1.parts,
+      ),
     )
 
 body_comes : (bytes : List ℕ) (r : Record) → IsBody bytes r → body_in bytes ≡ Some r.offset_delta

@@ -1,5 +1,6 @@
 -- A batch at its place is a batch that a log keeps.
-use Rattle.std.proofs.Common.{◌≡◌, ℕ, ◌+◌, ◌-◌, ◌^◌, ◌<◌, ◌≤◌, List, [], ◌∷◌, ◌++◌, length, take, drop, replicate, refl, sym, ap, subst, ◌∙◌, append_assoc, length-append, length-drop, arith}
+use Rattle.std.proofs.Common.{◌≡◌, ℕ, ◌+◌, ◌-◌, ◌^◌, ◌<◌, ◌≤◌, List, [], ◌∷◌, ◌++◌, length, take, drop, replicate}
+use Rattle.std.proofs.Common.{refl, sym, ap, subst, ◌∙◌, append_assoc, length-append, length-drop, arith}
 use Rattle.std.specs.Prelude.{ℤ, pos, ◌+ℤ◌, ◌≤ℤ◌, ◌<ℤ◌, bit_and}
 use Rattle.std.specs.Int.{Width, w8, w16, w32, w64, byte_len, from_be_bytes, to_be_bytes, cast_signed}
 use Rattle.std.proofs.lemmas.Int.{ints}
@@ -24,12 +25,19 @@ head base bytes = to_be_bytes w64 base ++ (take 4 (drop 8 bytes) ++ replicate 4 
 length-head : (base : ℕ) (bytes : List ℕ) → 16 ≤ length bytes → length (head base bytes) ≡ 16
 unfolding head
 length-head base bytes h =
-    omega (arith, length-append (to_be_bytes w64 base) (take 4 (drop 8 bytes) ++ replicate 4 0), length-append (take 4 (drop 8 bytes)) (replicate 4 0), length-take 4 (drop 8 bytes), length-drop 8 bytes)
+    omega (
+      arith,
+      length-append (to_be_bytes w64 base) (take 4 (drop 8 bytes) ++ replicate 4 0),
+      length-append (take 4 (drop 8 bytes)) (replicate 4 0),
+      length-take 4 (drop 8 bytes),
+      length-drop 8 bytes,
+    )
 
 placed-head : (base : ℕ) (bytes : List ℕ) → placed base bytes ≡ head base bytes ++ drop 16 bytes
 unfolding head placed
 placed-head base bytes =
-    sym (append_assoc (to_be_bytes w64 base) (take 4 (drop 8 bytes) ++ replicate 4 0) (drop 16 bytes) ∙ ap (λ l. to_be_bytes w64 base ++ l) (append_assoc (take 4 (drop 8 bytes)) (replicate 4 0) (drop 16 bytes)))
+    sym (append_assoc (to_be_bytes w64 base) (take 4 (drop 8 bytes) ++ replicate 4 0) (drop 16 bytes)
+    ∙ ap (λ l. to_be_bytes w64 base ++ l) (append_assoc (take 4 (drop 8 bytes)) (replicate 4 0) (drop 16 bytes)))
 
 pub length-placed : (base : ℕ) (bytes : List ℕ) → 16 ≤ length bytes → length (placed base bytes) ≡ length bytes
 length-placed base bytes h = ap length (placed-head base bytes) ∙ omega (arith, length-append (head base bytes) (drop 16 bytes), length-head base bytes h, length-drop 16 bytes)
@@ -38,7 +46,8 @@ length-placed base bytes h = ap length (placed-head base bytes) ∙ omega (arith
 drop-placed : (p base : ℕ) (bytes : List ℕ) → 16 ≤ length bytes → 16 ≤ p → drop p (placed base bytes) ≡ drop p bytes
 drop-placed p base bytes h k =
     let at : p ≡ length (head base bytes) + (p - 16) = omega (arith, length-head base bytes h) in
-    ap (drop p) (placed-head base bytes) ∙ ap (λ n. drop n (head base bytes ++ drop 16 bytes)) at ∙ drop-append-add (head base bytes) (drop 16 bytes) (p - 16) ∙ drop-drop (p - 16) 16 bytes ∙ ap (λ n. drop n bytes) (let e : 16 + (p - 16) ≡ p = omega arith in e)
+    ap (drop p) (placed-head base bytes) ∙ ap (λ n. drop n (head base bytes ++ drop 16 bytes)) at
+    ∙ drop-append-add (head base bytes) (drop 16 bytes) (p - 16) ∙ drop-drop (p - 16) 16 bytes ∙ ap (λ n. drop n bytes) (let e : 16 + (p - 16) ≡ p = omega arith in e)
 
 unsigned-placed : (w : Width) (p base : ℕ) (bytes : List ℕ) → 16 ≤ length bytes → 16 ≤ p → unsigned_at w p (placed base bytes) ≡ unsigned_at w p bytes
 unsigned-placed w p base bytes h k = ap (λ l. from_be_bytes w (take (byte_len w) l)) (drop-placed p base bytes h k)
@@ -67,11 +76,13 @@ counts_rise [] next last e f = tt
 counts_rise (r ∷ records) next last e f =
     ((omega (arith, ints, f.0), omega (arith, ints, f.0, e)), counts_rise records (r.offset_delta +ℤ pos 1) last (omega (arith, ints, f.0, e)) f.1)
 
-rises : (form : Form) (bytes : List ℕ) (records : List Record) → OffsetsAgree form bytes (length records) → Follow form (last_offset_delta bytes) (pos 0) records → Follow Stored (last_offset_delta bytes) (pos 0) records
+rises : (form : Form) (bytes : List ℕ) (records : List Record) → OffsetsAgree form bytes (length records) →
+    Follow form (last_offset_delta bytes) (pos 0) records → Follow Stored (last_offset_delta bytes) (pos 0) records
 rises Produced bytes records agree f = counts_rise records (pos 0) (last_offset_delta bytes) (omega (arith, ints, agree.1)) f
 rises Stored bytes records agree f = f
 
-pub placed_batch : (form : Form) (base : ℕ) (bytes : List ℕ) (records : List Record) → base < 2 ^ 62 → IsBatch form bytes records → (pos base +ℤ last_offset_delta bytes) <ℤ pos (2 ^ 62) → IsBatch Stored (placed base bytes) records
+pub placed_batch : (form : Form) (base : ℕ) (bytes : List ℕ) (records : List Record) → base < 2 ^ 62 → IsBatch form bytes records →
+    (pos base +ℤ last_offset_delta bytes) <ℤ pos (2 ^ 62) → IsBatch Stored (placed base bytes) records
 placed_batch form base bytes records below b end =
     let h : 16 ≤ length bytes = omega (arith, b.header) in
     let len = length-placed base bytes h in

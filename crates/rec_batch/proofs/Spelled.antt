@@ -44,7 +44,14 @@ body_spells delta r few small =
     let key : length (nullable_bytes r.key) < 2 ^ 31 =
     omega (arith, length-append (int_bytes w8 (pos 0)) t, length-append (varlong_bytes (pos 0)) d, length-append (varint_bytes (pos delta)) k, length-append (nullable_bytes r.key) v) in
     let value : length (nullable_bytes r.value) < 2 ^ 31 =
-    omega (arith, length-append (int_bytes w8 (pos 0)) t, length-append (varlong_bytes (pos 0)) d, length-append (varint_bytes (pos delta)) k, length-append (nullable_bytes r.key) v, length-append (nullable_bytes r.value) e) in (
+    omega (
+      arith,
+      length-append (int_bytes w8 (pos 0)) t,
+      length-append (varlong_bytes (pos 0)) d,
+      length-append (varint_bytes (pos delta)) k,
+      length-append (nullable_bytes r.key) v,
+      length-append (nullable_bytes r.value) e,
+    ) in (
       int_bytes w8 (pos 0),
       t,
       (refl, refl),
@@ -78,7 +85,8 @@ record_spells delta r few small =
     let below : length body < 2 ^ 31 = omega (arith, length-append front body) in
     (front, body, small_spells (length body) below, body_spells delta r few below, refl)
 
-pub records_spell : (delta : ℕ) (records : List Rec) → delta + length records < 2 ^ 31 → length (records_bytes delta records) < 2 ^ 31 → AreMany IsRecord (records_bytes delta records) (recorded_from delta records)
+pub records_spell : (delta : ℕ) (records : List Rec) → delta + length records < 2 ^ 31 → length (records_bytes delta records) < 2 ^ 31 →
+    AreMany IsRecord (records_bytes delta records) (recorded_from delta records)
 unfolding records_bytes
 records_spell delta [] few small = refl
 records_spell delta (r ∷ records) few small =
@@ -136,7 +144,8 @@ offsets_written Stored records some few =
       counts_rise (recorded_from 0 records) (pos 0) last (ap (λ n. pos n) none ∙ sym (last-next records some few)) (counts last 0 records),
     )
 
-pub batch_spells : (form : Form) (records : List Rec) → 0 < length records → length (batch_bytes records) ≤ max_size → crc_of (checked_bytes records) < 2 ^ 32 → IsBatch form (batch_bytes records) (recorded_from 0 records)
+pub batch_spells : (form : Form) (records : List Rec) → 0 < length records → length (batch_bytes records) ≤ max_size →
+    crc_of (checked_bytes records) < 2 ^ 32 → IsBatch form (batch_bytes records) (recorded_from 0 records)
 unfolding batch_bytes checked_bytes
 batch_spells form records some size crc =
     let small : length (records_bytes 0 records) < 2 ^ 30 = omega (arith, length-batch records) in
@@ -163,7 +172,8 @@ few_records records h = omega (arith, length-batch records, records_many 0 recor
 pub few_bytes : (records : List Rec) → length (batch_bytes records) ≤ max_size → length (records_bytes 0 records) < 2 ^ 31
 few_bytes records h = omega (arith, length-batch records)
 
-pub stands_from : (records : List Rec) (result : Result (List ℕ) NoMemory) → 0 < length records → length (batch_bytes records) ≤ max_size → IfOk result (λ batch. batch ≡ batch_bytes records) → IfOk result (λ batch. crc_of (checked_bytes records) < 2 ^ 32)
+pub stands_from : (records : List Rec) (result : Result (List ℕ) NoMemory) → 0 < length records → length (batch_bytes records) ≤ max_size →
+    IfOk result (λ batch. batch ≡ batch_bytes records) → IfOk result (λ batch. crc_of (checked_bytes records) < 2 ^ 32)
     → IfOk result (λ batch. (form : Form) → IsBatch form batch (recorded_from 0 records))
 stands_from records (Ok batch) some size value crc = λ form. subst (λ l. IsBatch form l (recorded_from 0 records)) (sym value) (batch_spells form records some size crc)
 stands_from records (Err e) some size value crc = tt

@@ -3,7 +3,8 @@ use Rattle.std.proofs.Common.{◌≡◌, ℕ, ◌+◌, ◌<◌, List, [], ◌∷
 use Rattle.std.specs.Prelude.{ℤ, pos, ◌+ℤ◌}
 use Rattle.std.proofs.lemmas.Int.{ints}
 use Rattle.share_model.specs.declared.fault.BatchFault.{BatchFault}
-use Rattle.share_model.specs.declared.fault.BatchFault.TheVariants.{TooLarge, Short, BadMagic, BadCrc, Compressed, Transactional, Control, HasProducer, BadRecord, BadDeltas}
+use Rattle.share_model.specs.declared.fault.BatchFault.TheVariants.{TooLarge, Short, BadMagic, BadCrc, Compressed, Transactional}
+use Rattle.share_model.specs.declared.fault.BatchFault.TheVariants.{Control, HasProducer, BadRecord, BadDeltas}
 use Rattle.flex_fields.specs.Grammar.{AreMany, IsVarint}
 use Rattle.rec_batch.specs.declared.form.Form.{Form}
 use Rattle.rec_batch.specs.Fields.{last_offset_delta, records_part}
@@ -28,7 +29,8 @@ pub record_some : (front : List ℕ) (r : Record) → IsRecord front r → 0 < l
 record_some front r s = omega (arith, ap length s.4, length-append s.0 s.1, varint_some s.0 (pos (length s.1)) s.2)
 
 -- what follows a front of records is the other records
-pub many_behind : (qs rs : List Record) (whole front rest : List ℕ) → whole ≡ front ++ rest → AreMany IsRecord front qs → AreMany IsRecord whole rs → (ss : List Record) × (length rs ≡ length qs + length ss) × AreMany IsRecord rest ss
+pub many_behind : (qs rs : List Record) (whole front rest : List ℕ) → whole ≡ front ++ rest → AreMany IsRecord front qs → AreMany IsRecord whole rs →
+    (ss : List Record) × (length rs ≡ length qs + length ss) × AreMany IsRecord rest ss
 many_behind [] rs whole front rest e q r = (rs, omega arith, subst (λ l. AreMany IsRecord l rs) (e ∙ ap (λ l. l ++ rest) q) r)
 many_behind (q ∷ qs) [] whole front rest e s r = absurd (omega (arith, ap length r, ap length e, length-append front rest, ap length s.4, length-append s.0 s.1, record_some s.0 q s.2))
 many_behind (q ∷ qs) (r ∷ rs) whole front rest e s t =
@@ -37,7 +39,8 @@ many_behind (q ∷ qs) (r ∷ rs) whole front rest e s t =
     let more = many_behind qs rs t.1 s.1 rest (sym same.1) s.3 t.3 in
     (more.0, omega (arith, more.1), more.2)
 
-pub follow_same : (form : Form) (last next : ℤ) (qs rs : List Record) (content : List ℕ) → AreMany IsRecord content qs → AreMany IsRecord content rs → length qs ≡ length rs → Follow form last next rs → Follow form last next qs
+pub follow_same : (form : Form) (last next : ℤ) (qs rs : List Record) (content : List ℕ) → AreMany IsRecord content qs → AreMany IsRecord content rs →
+    length qs ≡ length rs → Follow form last next rs → Follow form last next qs
 follow_same form last next [] rs content s t e f = tt
 follow_same form last next (q ∷ qs) [] content s t e f = absurd (omega arith)
 follow_same form last next (q ∷ qs) (r ∷ rs) content s t e f =

@@ -1,5 +1,6 @@
 -- What the pass over the records keeps: so many stand in front, and what is due behind them.
-use Rattle.std.proofs.Common.{◌≡◌, ◌≢◌, ℕ, ◌+◌, ◌<◌, List, [], ◌∷◌, ◌++◌, length, inl, inr, refl, sym, ap, subst, ◌∙◌, append_assoc, append-nil, length-append, arith}
+use Rattle.std.proofs.Common.{◌≡◌, ◌≢◌, ℕ, ◌+◌, ◌<◌, List, [], ◌∷◌, ◌++◌, length, inl, inr, refl, sym}
+use Rattle.std.proofs.Common.{ap, subst, ◌∙◌, append_assoc, append-nil, length-append, arith}
 use Rattle.std.specs.Prelude.{ℤ, pos, ◌+ℤ◌, Option, Some, None, MatchBool, is_some}
 use Rattle.flex_fields.specs.Grammar.{AreMany, IsBytes}
 use Rattle.rec_batch.specs.declared.form.Form.{Form}
@@ -30,15 +31,18 @@ next_due-more : (next : ℤ) (records : List Record) (r : Record) → next_due n
 next_due-more next [] r = refl
 next_due-more next (q ∷ records) r = next_due-more (q.offset_delta +ℤ pos 1) records r
 
-follow_more : (form : Form) (last next : ℤ) (records : List Record) (r : Record) → Follow form last next records → MayFollow form last (next_due next records) r.offset_delta → Follow form last next (records ++ (r ∷ []))
+follow_more : (form : Form) (last next : ℤ) (records : List Record) (r : Record) → Follow form last next records →
+    MayFollow form last (next_due next records) r.offset_delta → Follow form last next (records ++ (r ∷ []))
 follow_more form last next [] r f m = (m, tt)
 follow_more form last next (q ∷ records) r f m = (f.0, follow_more form last (q.offset_delta +ℤ pos 1) records r f.1 m)
 
-follow_less : (form : Form) (last next : ℤ) (records : List Record) (r : Record) → Follow form last next (records ++ (r ∷ [])) → Follow form last next records × MayFollow form last (next_due next records) r.offset_delta
+follow_less : (form : Form) (last next : ℤ) (records : List Record) (r : Record) → Follow form last next (records ++ (r ∷ [])) →
+    Follow form last next records × MayFollow form last (next_due next records) r.offset_delta
 follow_less form last next [] r f = (tt, f.0)
 follow_less form last next (q ∷ records) r f = let g = follow_less form last (q.offset_delta +ℤ pos 1) records r f.1 in ((f.0, g.0), g.1)
 
-due_more : (form : Form) (last : ℤ) (records : List Record) (r : Record) (due after : Option ℤ) → IsDue form last records due → DueAfter form last due r.offset_delta after → IsDue form last (records ++ (r ∷ [])) after
+due_more : (form : Form) (last : ℤ) (records : List Record) (r : Record) (due after : Option ℤ) → IsDue form last records due →
+    DueAfter form last due r.offset_delta after → IsDue form last (records ++ (r ∷ [])) after
 due_more form last records r None None i d = λ f. i (follow_less form last (pos 0) records r f).0
 due_more form last records r None (Some n) i d = cc
 due_more form last records r (Some next) None i d = λ f. d (subst (λ z. MayFollow form last z r.offset_delta) (sym i.1) (follow_less form last (pos 0) records r f).1)
@@ -59,7 +63,8 @@ walked_more form last content index due after rest tail delta fits w e d =
     }
 
 -- no record stands where one is due
-pub walked_bad : (form : Form) (last : ℤ) (content : List ℕ) (count index : ℕ) (due : Option ℤ) (rest : List ℕ) → index < count → Walked form last content index due rest → record_in rest ≡ None → IsBadRecord content count index
+pub walked_bad : (form : Form) (last : ℤ) (content : List ℕ) (count index : ℕ) (due : Option ℤ) (rest : List ℕ) → index < count →
+    Walked form last content index due rest → record_in rest ≡ None → IsBadRecord content count index
 walked_bad form last content count index due rest h w e = record {
   front = w.front;
   rest = rest;
@@ -71,7 +76,8 @@ walked_bad form last content count index due rest h w e = record {
 }
 
 -- something stands behind the last one
-pub walked_past : (form : Form) (last : ℤ) (content : List ℕ) (count index : ℕ) (due : Option ℤ) (rest : List ℕ) → index ≡ count → Walked form last content index due rest → (rest ≢ []) → IsBadRecord content count count
+pub walked_past : (form : Form) (last : ℤ) (content : List ℕ) (count index : ℕ) (due : Option ℤ) (rest : List ℕ) → index ≡ count →
+    Walked form last content index due rest → (rest ≢ []) → IsBadRecord content count count
 walked_past form last content count index due rest e w h = record {
   front = w.front;
   rest = rest;
@@ -83,7 +89,8 @@ walked_past form last content count index due rest e w h = record {
 }
 
 -- nothing does
-pub walked_all : (form : Form) (last : ℤ) (content : List ℕ) (count index : ℕ) (due : Option ℤ) (rest : List ℕ) → index ≡ count → Walked form last content index due rest → rest ≡ [] → Walks form last content count (is_some due)
+pub walked_all : (form : Form) (last : ℤ) (content : List ℕ) (count index : ℕ) (due : Option ℤ) (rest : List ℕ) → index ≡ count →
+    Walked form last content index due rest → rest ≡ [] → Walks form last content count (is_some due)
 walked_all form last content count index due rest e w h =
     (w.records, w.number ∙ e, subst (λ l. AreMany IsRecord l w.records) (sym (w.parts ∙ ap (λ l. w.front ++ l) h ∙ append-nil w.front)) w.before, follows due w.is_due)
   where

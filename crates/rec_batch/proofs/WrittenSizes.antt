@@ -39,7 +39,13 @@ parts_more out start all delta rest others first e whole =
 pub part_small : (out start all : List ℕ) (delta : ℕ) (rest others : List Rec) (first : Rec) → rest ≡ first ∷ others → out ++ records_bytes delta rest ≡ start ++ all → length start ≤ length out
     → length (record_bytes delta first) ≤ length all
 part_small out start all delta rest others first e whole grown =
-    omega (arith, ap length (parts_more out start all delta rest others first e whole), length-append (out ++ record_bytes delta first) (records_bytes (delta + 1) others), length-append out (record_bytes delta first), length-append start all)
+    omega (
+      arith,
+      ap length (parts_more out start all delta rest others first e whole),
+      length-append (out ++ record_bytes delta first) (records_bytes (delta + 1) others),
+      length-append out (record_bytes delta first),
+      length-append start all,
+    )
 
 pub no_length : (records : List Rec) → length records ≡ 0 → records ≡ []
 no_length [] e = refl
@@ -52,7 +58,9 @@ varlong_few : length (varlong_bytes (pos 0)) ≤ 10
 varlong_few = (varlong_spells (pos 0) (omega arith)).1.1
 
 -- a body is its key and its value, and few bytes more
-pub body_size : (delta : ℕ) (r : Rec) → delta < 2 ^ 31 → (length (nullable_bytes r.key) + length (nullable_bytes r.value) ≤ length (body_bytes delta r)) × (length (body_bytes delta r) ≤ 21 + length (nullable_bytes r.key) + length (nullable_bytes r.value))
+pub body_size : (delta : ℕ) (r : Rec) → delta < 2 ^ 31 →
+    (length (nullable_bytes r.key) + length (nullable_bytes r.value) ≤ length (body_bytes delta r)) ×
+    (length (body_bytes delta r) ≤ 21 + length (nullable_bytes r.key) + length (nullable_bytes r.value))
 unfolding body_bytes
 body_size delta r h =
     let e = varint_bytes (pos 0) in
@@ -60,12 +68,23 @@ body_size delta r h =
     let k = nullable_bytes r.key ++ v in
     let d = varint_bytes (pos delta) ++ k in (
       omega (arith, length-append (varlong_bytes (pos 0)) d, length-append (varint_bytes (pos delta)) k, length-append (nullable_bytes r.key) v, length-append (nullable_bytes r.value) e),
-      omega (arith, varint_few delta h, varint_few 0 (omega arith), varlong_few, length-append (varlong_bytes (pos 0)) d, length-append (varint_bytes (pos delta)) k, length-append (nullable_bytes r.key) v, length-append (nullable_bytes r.value) e),
+      omega (
+        arith,
+        varint_few delta h,
+        varint_few 0 (omega arith),
+        varlong_few,
+        length-append (varlong_bytes (pos 0)) d,
+        length-append (varint_bytes (pos delta)) k,
+        length-append (nullable_bytes r.key) v,
+        length-append (nullable_bytes r.value) e,
+      ),
     )
 
 pub record_length : (delta : ℕ) (r : Rec) → length (record_bytes delta r) ≡ length (varint_bytes (pos (length (body_bytes delta r)))) + length (body_bytes delta r)
 unfolding record_bytes
 record_length delta r = length-append (varint_bytes (pos (length (body_bytes delta r)))) (body_bytes delta r)
 
-pub records_length : (delta : ℕ) (rest others : List Rec) (first : Rec) → rest ≡ first ∷ others → length (records_bytes delta rest) ≡ length (record_bytes delta first) + length (records_bytes (delta + 1) others)
-records_length delta rest others first e = ap (λ l. length (records_bytes delta l)) e ∙ ap length (records-cons delta first others) ∙ length-append (record_bytes delta first) (records_bytes (delta + 1) others)
+pub records_length : (delta : ℕ) (rest others : List Rec) (first : Rec) → rest ≡ first ∷ others →
+    length (records_bytes delta rest) ≡ length (record_bytes delta first) + length (records_bytes (delta + 1) others)
+records_length delta rest others first e = ap (λ l. length (records_bytes delta l)) e ∙ ap length (records-cons delta first others)
+    ∙ length-append (record_bytes delta first) (records_bytes (delta + 1) others)

@@ -4,13 +4,15 @@
 -- offsets 0, 1 and 2.
 use Rattle.std.specs.Prelude.{◌≡◌, ◌≢◌, ℕ, ℤ, pos, negsuc, ◌+ℤ◌, ◌≤ℤ◌, ◌<ℤ◌, ◌<◌, ◌≤◌, ◌^◌, ◌⊎◌, List, [], ◌∷◌, ◌++◌, length, bit_and}
 use Rattle.share_model.specs.declared.fault.BatchFault.{BatchFault}
-use Rattle.share_model.specs.declared.fault.BatchFault.TheVariants.{TooLarge, Short, BadMagic, BadCrc, Compressed, Transactional, Control, HasProducer, BadRecord, BadDeltas}
+use Rattle.share_model.specs.declared.fault.BatchFault.TheVariants.{TooLarge, Short, BadMagic, BadCrc, Compressed, Transactional}
+use Rattle.share_model.specs.declared.fault.BatchFault.TheVariants.{Control, HasProducer, BadRecord, BadDeltas}
 use Rattle.flex_fields.specs.Grammar.{AreMany}
 use Rattle.crc_castagnoli.specs.Division.{crc_of}
 use Rattle.rec_batch.specs.declared.form.Form.{Form}
 use Rattle.rec_batch.specs.declared.form.Form.TheVariants.{Produced, Stored}
 use Rattle.rec_batch.specs.declared.form.BatchView.{BatchView}
-use Rattle.rec_batch.specs.Fields.{base_offset, batch_length, magic, checksum, checked_part, attributes, last_offset_delta, producer_id, record_count, records_part}
+use Rattle.rec_batch.specs.Fields.{base_offset, batch_length, magic, checksum, checked_part, attributes}
+use Rattle.rec_batch.specs.Fields.{last_offset_delta, producer_id, record_count, records_part}
 use Rattle.rec_batch.specs.Grammar.{Record, IsRecord}
 
 -- the most bytes of a batch
@@ -95,7 +97,8 @@ row HasProducer = 7
 row (BadRecord index) = 8
 row BadDeltas = 9
 
--- The fault applies, and none above it in the table does.
+-- The fault applies, and none above it in the table does. Bytes have one such fault at most, by the law
+-- bytes_have_one_first_fault.
 abbrev pub IsFirstFault : Form → List ℕ → BatchFault → Type 0
 IsFirstFault form bytes fault = Applies form bytes fault × ((other : BatchFault) → row other < row fault → Applies form bytes other → ⊥)
 

@@ -25,7 +25,8 @@ IsNullable bytes (Some content) = IsCounted bytes content
 
 -- their number, and the headers, each a key and a value
 abbrev pub AreHeaders : List ℕ → List (List ℕ × Option (List ℕ)) → Type 0
-AreHeaders bytes headers = (front rest : List ℕ) × IsVarint front (pos (length headers)) × AreMany (Then IsCounted IsNullable) rest headers × (bytes ≡ front ++ rest)
+AreHeaders bytes headers = (front rest : List ℕ) × IsVarint front (pos (length headers))
+    × AreMany (Then IsCounted IsNullable) rest headers × (bytes ≡ front ++ rest)
 
 -- what stands behind a record's length
 abbrev pub IsBody : List ℕ → Record → Type 0

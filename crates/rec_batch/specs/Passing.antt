@@ -1,6 +1,8 @@
--- Going past the parts of a record, from left to right: what is left behind a part, or nothing where no such part stands
--- in front. The relations of `Grammar.antt` say what the parts are. The clauses of private functions cite what stands here,
--- and no public one does.
+-- Going past the parts of a record (Apache Kafka documentation, "Record"), from left to right: what is left behind a part,
+-- or nothing where no such part stands in front. The relations of `Grammar.antt` say what the parts are. The clauses of
+-- private functions cite what stands here, and no public one does.
+--
+-- Worked example: 0e 00 00 04 01 02 63 00 is passed whole, with the offset delta 2 (the test three_records).
 use Rattle.std.specs.Prelude.{ℕ, ℤ, pos, negsuc, zero, suc, List, [], ◌∷◌, length, take, drop, Option, Some, None, Result, Ok, Err, nat_lt, ◌==◌, if◌then◌else◌}
 use Rattle.flex_fields.specs.declared.fault.WireFault.{WireFault}
 use Rattle.flex_fields.specs.Reading.{At, varint_at, varlong_at}

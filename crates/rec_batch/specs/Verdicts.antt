@@ -1,5 +1,9 @@
--- What the steps of the reader find out. The clauses of private functions cite it, and no public one does.
-use Rattle.std.specs.Prelude.{◌≡◌, ◌≢◌, ℕ, ℤ, pos, negsuc, ◌+ℤ◌, ◌<◌, ◌≤◌, ◌⊎◌, List, [], ◌∷◌, length, Option, Some, None, MatchOption, MatchBool, Bool, bit_and}
+-- What the steps of the reader find out of a batch (Apache Kafka documentation, "Record Batch"). The clauses of private
+-- functions cite it, and no public one does.
+--
+-- Worked example: 1048589 bytes have the size fault TooLarge, and 60 have Short (the test faults_of_the_size).
+use Rattle.std.specs.Prelude.{◌≡◌, ◌≢◌, ℕ, ℤ, pos, negsuc, ◌+ℤ◌, ◌<◌, ◌≤◌, ◌⊎◌, List, [], ◌∷◌, length}
+use Rattle.std.specs.Prelude.{Option, Some, None, MatchOption, MatchBool, Bool, bit_and}
 use Rattle.share_model.specs.declared.fault.BatchFault.{BatchFault}
 use Rattle.share_model.specs.declared.fault.BatchFault.TheVariants.{TooLarge, Short, BadMagic, BadCrc, Compressed, Transactional, Control, HasProducer}
 use Rattle.flex_fields.specs.Grammar.{AreMany}
@@ -46,12 +50,14 @@ next_due next (r ∷ records) = next_due (r.offset_delta +ℤ pos 1) records
 
 -- The delta that is due behind the records, or nothing where one of them didn't follow.
 abbrev pub IsDue : Form → ℤ → List Record → Option ℤ → Type 0
-IsDue form last records due = MatchOption due (Follow form last (pos 0) records → ⊥) (λ next. Follow form last (pos 0) records × (next ≡ next_due (pos 0) records))
+IsDue form last records due = MatchOption due (Follow form last (pos 0) records → ⊥)
+    (λ next. Follow form last (pos 0) records × (next ≡ next_due (pos 0) records))
 
 -- What is due behind one more delta.
 abbrev pub DueAfter : Form → ℤ → Option ℤ → ℤ → Option ℤ → Type 0
 DueAfter form last None delta after = after ≡ None
-DueAfter form last (Some next) delta after = MatchOption after (MayFollow form last next delta → ⊥) (λ n. MayFollow form last next delta × (n ≡ delta +ℤ pos 1))
+DueAfter form last (Some next) delta after = MatchOption after (MayFollow form last next delta → ⊥)
+    (λ n. MayFollow form last next delta × (n ≡ delta +ℤ pos 1))
 
 -- All of the content is these records, and whether their deltas follow.
 abbrev pub Walks : Form → ℤ → List ℕ → ℕ → Bool → Type 0

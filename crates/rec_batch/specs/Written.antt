@@ -1,4 +1,7 @@
--- The one spelling of a batch that is written: its offsets count up from 0, and all that it doesn't say is 0 or -1.
+-- The one spelling of a batch that is written: its offsets count up from 0, and all that it doesn't say is 0 or -1. The
+-- layout is Kafka's (Apache Kafka documentation, "Record Batch" and "Record"); these values are this project's own.
+--
+-- Worked example: the records a, b and c without keys are written as the 85 bytes of the test three_records.
 use Rattle.std.specs.Prelude.{ℕ, pos, negsuc, ◌+◌, ◌-◌, List, [], ◌∷◌, ◌++◌, length, Option, Some, None}
 use Rattle.std.specs.Int.{w8, w16, w32, w64, to_be_bytes}
 use Rattle.flex_fields.specs.Writing.{int_bytes, varint_bytes, varlong_bytes}
@@ -8,7 +11,8 @@ use Rattle.rec_batch.specs.Grammar.{Record}
 
 -- what the record at this offset delta holds
 abbrev pub recorded : ℕ → Rec → Record
-recorded delta r = record { attributes = pos 0; timestamp_delta = pos 0; offset_delta = pos delta; key = r.key; value = r.value; headers = [] }
+recorded delta r =
+    record { attributes = pos 0; timestamp_delta = pos 0; offset_delta = pos delta; key = r.key; value = r.value; headers = [] }
 
 abbrev pub recorded_from : ℕ → List Rec → List Record
 recorded_from delta [] = []
@@ -20,7 +24,8 @@ nullable_bytes None = varint_bytes (negsuc 0)
 nullable_bytes (Some content) = varint_bytes (pos (length content)) ++ content
 
 unfoldable pub body_bytes : ℕ → Rec → List ℕ
-body_bytes delta r = int_bytes w8 (pos 0) ++ (varlong_bytes (pos 0) ++ (varint_bytes (pos delta) ++ (nullable_bytes r.key ++ (nullable_bytes r.value ++ varint_bytes (pos 0)))))
+body_bytes delta r = int_bytes w8 (pos 0) ++ (varlong_bytes (pos 0) ++ (varint_bytes (pos delta)
+    ++ (nullable_bytes r.key ++ (nullable_bytes r.value ++ varint_bytes (pos 0)))))
 
 unfoldable pub record_bytes : ℕ → Rec → List ℕ
 record_bytes delta r = varint_bytes (pos (length (body_bytes delta r))) ++ body_bytes delta r
@@ -39,4 +44,5 @@ checked_bytes records = int_bytes w16 (pos 0) ++ (int_bytes w32 (pos (length rec
 -- base offset, length, leader epoch, magic and checksum, and what the checksum is over
 unfoldable pub batch_bytes : List Rec → List ℕ
 batch_bytes records = let checked = checked_bytes records in
-    int_bytes w64 (pos 0) ++ (int_bytes w32 (pos (9 + length checked)) ++ (int_bytes w32 (pos 0) ++ (int_bytes w8 (pos 2) ++ (to_be_bytes w32 (crc_of checked) ++ checked))))
+    int_bytes w64 (pos 0) ++ (int_bytes w32 (pos (9 + length checked)) ++ (int_bytes w32 (pos 0)
+    ++ (int_bytes w8 (pos 2) ++ (to_be_bytes w32 (crc_of checked) ++ checked))))

@@ -2,7 +2,8 @@
 ghost use Rattle.std.specs.Prelude.{◌≡◌};
 ghost use Rattle.std.specs.Option.{option_copied, option_map};
 ghost use Rattle.flex_fields.specs.Reading.{unzigzag};
-ghost use Rattle.rec_batch.specs.Passing.{all_headers_in, body_in, byte_in, content_in, counted_in, headers_in, nullable_in, record_in, some_headers_in, split_in, varint_in, varlong_in};
+ghost use Rattle.rec_batch.specs.Passing.{all_headers_in, body_in, byte_in, content_in, counted_in, headers_in};
+ghost use Rattle.rec_batch.specs.Passing.{nullable_in, record_in, some_headers_in, split_in, varint_in, varlong_in};
 
 use flex_fields::Cursor;
 

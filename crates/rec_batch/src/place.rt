@@ -18,7 +18,8 @@ fn set_place(bytes: &mut [u8], base: u64)
     epoch.copy_from_slice(&[0; 4]);
 }
 
-/// Gives a batch its place in a log: sets its base offset, and its leader epoch to 0.
+/// Gives a batch of at least 61 bytes its place in a log: sets its base offset, which is below 2^62,
+/// and its leader epoch to 0.
 ///
 /// The checksum is over neither field, so it stands as it is.
 pub fn place_batch(bytes: &mut [u8], base: u64)

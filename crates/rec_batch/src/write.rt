@@ -212,7 +212,8 @@ fn whole(alloc: Global, records: &[Rec]) -> Result<Blob, NoMemory>
 /// Writes one batch with these records, at the offset deltas from 0 on.
 ///
 /// Its base offset, leader epoch, attributes and timestamps are 0; its producer's id, epoch and first
-/// sequence number are -1; its records have no headers.
+/// sequence number are -1; its records have no headers. There is at least one record, and they fit one
+/// batch, which `fits_batch` tells.
 pub fn write_batch(alloc: Global, records: &[Rec]) -> Result<Blob, NoMemory>
     requires some { 0 < length records.now }
     requires size { length (batch_bytes records.now) ≤ max_size }

@@ -15,7 +15,8 @@ returns-then-not-follow-clause-refused c =
 
 pub returns-then-not-offsets_agree-clause-refused : goal.returns-then-not-offsets_agree-clause-refused
 returns-then-not-offsets_agree-clause-refused c =
-    header_bad c.args.form c.args.bytes.now c.in-Some.count c.in-Ok.follow c.requires.size c.requires.fields c.in-Some.ensures c.in-Ok.ensures.ok (iff_false c.offsets_agree.ensures c.if-not-offsets_agree.true)
+    header_bad c.args.form c.args.bytes.now c.in-Some.count c.in-Ok.follow c.requires.size c.requires.fields c.in-Some.ensures c.in-Ok.ensures.ok
+    (iff_false c.offsets_agree.ensures c.if-not-offsets_agree.true)
 
 pub returns-clause-accepted : goal.returns-clause-accepted
 returns-clause-accepted c =
@@ -23,4 +24,10 @@ returns-clause-accepted c =
     all_good c.args.form c.args.bytes.now c.in-Some.count _ c.requires.size c.requires.fields c.in-Some.ensures
     (subst (λ b. Walks c.args.form (last_offset_delta c.args.bytes.now) (records_part c.args.bytes.now) c.in-Some.count b) c.if-not-follow.false c.in-Ok.ensures.ok)
     agree
-    (record { base = c.base_of.ensures; last_delta = ap (λ n. pos n) c.last_delta_of.ensures ∙ last_delta_is c.args.form c.args.bytes.now c.in-Some.count agree; count = sym c.in-Some.ensures; size = refl })
+    (record {
+      base = c.base_of.ensures;
+      last_delta = ap (λ n. pos n) c.last_delta_of.ensures
+          ∙ last_delta_is c.args.form c.args.bytes.now c.in-Some.count agree;
+      count = sym c.in-Some.ensures;
+      size = refl;
+    })

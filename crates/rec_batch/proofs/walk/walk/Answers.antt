@@ -9,7 +9,8 @@ loop-index-init c = walked_none c.args.form (to_z w32 (of_z w32 c.args.last)) c.
 
 pub returns-in_default-clause-err : goal.returns-in_default-clause-err
 returns-in_default-clause-err c =
-    walked_bad c.args.form (to_z w32 (of_z w32 c.args.last)) c.args.content.now c.args.count c.loop-index.index c.loop-index.due c.loop-index.rest.now (omega arith) c.loop-index.invariant (sym c.in_default.ensures)
+    walked_bad c.args.form (to_z w32 (of_z w32 c.args.last)) c.args.content.now c.args.count c.loop-index.index c.loop-index.due c.loop-index.rest.now
+    (omega arith) c.loop-index.invariant (sym c.in_default.ensures)
 
 pub loop-index-preserved : goal.loop-index-preserved
 loop-index-preserved c =

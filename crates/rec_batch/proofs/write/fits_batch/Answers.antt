@@ -20,5 +20,6 @@ loop-first-preserved c =
 
 pub returns : goal.returns
 returns c =
-    let none : length (records_bytes c.loop-first.delta c.loop-first.rest.now) ≡ 0 = ap (λ l. length (records_bytes c.loop-first.delta l)) (no_length c.loop-first.rest.now c.in_default.ensures.cases) ∙ ap length (records-nil c.loop-first.delta) in
+    let none : length (records_bytes c.loop-first.delta c.loop-first.rest.now) ≡ 0 =
+    ap (λ l. length (records_bytes c.loop-first.delta l)) (no_length c.loop-first.rest.now c.in_default.ensures.cases) ∙ ap length (records-nil c.loop-first.delta) in
     (λ h. omega (arith, none, c.loop-first.invariant.whole, length-batch c.args.records.now), λ h. refl)
