@@ -3,8 +3,7 @@
 -- For example a key is unknown until it is initialized, and once it has state epoch 3 one with 2 is fenced (the test
 -- a_key_is_unknown_until_it_is_initialized_and_a_lower_epoch_is_fenced of share_top).
 use Rattle.std.specs.Prelude.{ℤ, pos, negsuc, Bool, true, false, List, [], ◌∷◌, Option, Some, None, int_lt, if◌then◌else◌}
-use Rattle.std.specs.declared.cmp.Ordering.{Ordering}
-use Rattle.std.specs.declared.cmp.Ordering.TheVariants.{Equal}
+use Rattle.std.specs.Ordering.{is_eq}
 use Rattle.share_model.specs.Keys.{KeyParts, key_cmp}
 use Rattle.share_model.specs.declared.fault.TheConstants.Code.{NONE, UNKNOWN_TOPIC_OR_PARTITION, FENCED_LEADER_EPOCH, FENCED_STATE_EPOCH}
 use Rattle.share_model.specs.declared.fault.Code.{Code}
@@ -20,12 +19,8 @@ pub record ForeignEntry : Type 0 where
   pub key : KeyParts
   pub state : ForeignState
 
-abbrev pub is_equal : Ordering → Bool
-is_equal Equal = true
-is_equal _ = false
-
 abbrev pub same_key : KeyParts → KeyParts → Bool
-same_key a b = is_equal (key_cmp a b)
+same_key a b = is_eq (key_cmp a b)
 
 -- the state of a key that is there
 abbrev pub known_at : KeyParts → List ForeignEntry → Option ForeignState
