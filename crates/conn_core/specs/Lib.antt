@@ -10,3 +10,4 @@ pub mod Coordinators
 pub mod Judging
 pub mod Links
 pub mod Turning
+pub mod Laws

@@ -9,6 +9,7 @@ mod coordinators;
 mod fill;
 mod hand;
 mod judge;
+mod law;
 mod metadata;
 mod next;
 mod plan;
@@ -25,4 +26,5 @@ mod versions;
 mod work;
 
 pub use conn::Conn;
+pub use law::each_entry_is_told_by_its_own_part;
 pub use next::{Next, Part, PartAnswer};
