@@ -1,8 +1,14 @@
--- What holds of all runs.
-use Rattle.std.specs.Prelude.{◌≡◌, ℕ, List}
+-- What holds of all runs, and of foreign state.
+use Rattle.std.specs.Prelude.{◌≡◌, ◌≢◌, ◌≤ℤ◌, ℕ, ℤ, pos, List, []}
 use Rattle.session_script.specs.declared.event.Event.{Event}
 use Rattle.session_script.specs.declared.event.Outcome.{Outcome}
+use Rattle.share_model.specs.declared.fault.TheConstants.Code.{NONE}
+use Rattle.share_model.specs.declared.foreign.ForeignOp.TheVariants.{Init, Read}
+use Rattle.share_model.specs.declared.foreign.ForeignAnswer.{ForeignAnswer}
+use Rattle.share_model.specs.Keys.{KeyParts}
+use Rattle.share_model.specs.Foreign.{ForeignEntry}
 use Rattle.topic_conf.specs.Configs.{ConfigParts}
+use Rattle.broker_model.specs.Steps.{ForeignStep}
 use Rattle.broker_model.specs.Counted.{Counted, CountedStep}
 use Rattle.broker_model.specs.Runs.{Run}
 use Rattle.broker_model.specs.Cutting.{AreRecut}
@@ -22,3 +28,16 @@ HasOneRun conf old events = (first second : List Outcome) (one other : Counted) 
 abbrev pub HasCutRuns : ConfigParts → Counted → List Event → List Event → Type 0
 HasCutRuns conf old events others = (outcomes : List Outcome) (new : Counted) → AreRecut events others →
     Run (CountedStep conf) old events outcomes new → Run (CountedStep conf) old others outcomes new
+
+-- Foreign state is kept by key. An Initialize that is answered with code 0 is what a Read of its key tells from then on, a
+-- refused one changes nothing, and neither changes what a Read of another key tells.
+pub record KeepsByKey (old : List ForeignEntry) (key : KeyParts) (epoch start : ℤ) (answer : ForeignAnswer) (new : List ForeignEntry) : Type 0 where
+  pub own : answer.code ≡ NONE → (leader : ℤ) → pos 0 ≤ℤ leader →
+      ForeignStep new (Read key leader) (record { code = NONE; state_epoch = epoch; start = start; runs = [] }) new
+  pub refused : answer.code ≢ NONE → new ≡ old
+  pub others : (other : KeyParts) (leader : ℤ) (told : ForeignAnswer) → other ≢ key →
+      ForeignStep old (Read other leader) told old → ForeignStep new (Read other leader) told new
+
+abbrev pub IsKeptByKey : List ForeignEntry → Type 0
+IsKeptByKey old = (key : KeyParts) (epoch start : ℤ) (answer : ForeignAnswer) (new : List ForeignEntry) →
+    ForeignStep old (Init key epoch start) answer new → KeepsByKey old key epoch start answer new
