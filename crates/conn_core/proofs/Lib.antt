@@ -1,3 +1,5 @@
 pub mod Steps
 pub mod Filling
 pub mod Owns
+pub mod Places
+pub mod Soundness

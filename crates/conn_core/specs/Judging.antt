@@ -3,7 +3,8 @@
 -- version 2 (KIP-482, RequestHeader.json) and a body. The order and the causes are this project's own.
 -- For example `0001 0004 00000001 ffff 00` closes with an unknown call, key 1 and version 4, and `0054 0000 00000001 ffff 00`
 -- with a bad body at place 11 (the test a_connection_closes_for_the_first_fault_of_a_frame).
-use Rattle.std.specs.Prelude.{◌≡◌, ℕ, ℤ, pos, Bool, true, false, not, ◌&&◌, List, [], map, drop, length, ◌==◌, Option, Some, None, Result, Ok, Err, if◌then◌else◌}
+use Rattle.std.specs.Prelude.{◌≡◌, ℕ, ℤ, Bool, true, false, not, ◌&&◌, List, [], map, drop, length, ◌==◌}
+use Rattle.std.specs.Prelude.{Option, Some, None, Result, Ok, Err, if◌then◌else◌}
 use Rattle.std.specs.Ordering.{int_eq}
 use Rattle.flex_fields.specs.declared.fault.WireFault.{WireFault}
 use Rattle.flex_fields.specs.declared.fault.WireFault.TheVariants.{Short, BadVarint, BadLength, NotUtf8, Trailing, NoMemory}
@@ -28,7 +29,7 @@ use Rattle.conn_core.specs.declared.ask.Call.{Call}
 use Rattle.conn_core.specs.declared.ask.Call.TheVariants.{Initialize, Read}
 use Rattle.conn_core.specs.declared.judge.Judged.{Judged}
 use Rattle.conn_core.specs.declared.judge.Judged.TheVariants.{Refused, Answered, Begun}
-use Rattle.conn_core.specs.Served.{api_at}
+use Rattle.conn_core.specs.Served.{api_key, api_version, api_at}
 use Rattle.conn_core.specs.Versions.{versions_answer, old_versions_answer}
 use Rattle.conn_core.specs.Metadata.{metadata_answer}
 use Rattle.conn_core.specs.Coordinators.{coordinator_answer}
@@ -70,7 +71,15 @@ from_body asks (Err place) = Refused (BadBody place)
 abbrev pub state_call : ConfigParts → ℤ → Call → List ℕ → List TopicEntries → Judged
 state_call conf correlation call group entries =
     if is_group group
-    then Begun (record { correlation = correlation; call = call; group = group; topics = planned_topics conf.topics true entries; left = asks_of conf.topics true entries; done = [] })
+    then
+    Begun (record {
+      correlation = correlation;
+      call = call;
+      group = group;
+      topics = planned_topics conf.topics true entries;
+      left = asks_of conf.topics true entries;
+      done = [];
+    })
     else Answered true correlation (reply_body call (fill_topics (planned_topics conf.topics false entries) []))
 
 -- the reply to ApiVersions has a response header of version 0, which each client reads
@@ -84,9 +93,11 @@ asked conf ApiVersions correlation head body = versions_asked correlation head b
 asked conf Metadata correlation head body =
     from_body (λ m. Answered true correlation (metadata_reply.bytes (metadata_answer conf m))) (message_at metadata_request head body)
 asked conf FindCoordinator correlation head body =
-    from_body (λ m. Answered true correlation (find_coordinator_reply.bytes (coordinator_answer conf m))) (message_at find_coordinator_request head body)
+    from_body (λ m. Answered true correlation (find_coordinator_reply.bytes (coordinator_answer conf m)))
+    (message_at find_coordinator_request head body)
 asked conf InitializeState correlation head body =
-    from_body (λ m. state_call conf correlation Initialize m.group_id (map initialize_entries m.topics)) (message_at initialize_share_group_state_request head body)
+    from_body (λ m. state_call conf correlation Initialize m.group_id (map initialize_entries m.topics))
+    (message_at initialize_share_group_state_request head body)
 asked conf ReadState correlation head body =
     from_body (λ m. state_call conf correlation Read m.group_id (map read_entries m.topics)) (message_at read_share_group_state_request head body)
 
@@ -101,7 +112,8 @@ called conf frame key version None = Refused (UnknownApi key version)
 -- a client whose version of ApiVersions isn't served is told which one is, in a form that each client reads (KIP-511)
 abbrev pub routed : ConfigParts → List ℕ → ℤ → ℤ → ℤ → Judged
 routed conf frame key version correlation =
-    if int_eq key (pos 18) && not (int_eq version (pos 3)) then Answered false correlation (api_versions_old_reply.bytes old_versions_answer)
+    if int_eq key (api_key ApiVersions) && not (int_eq version (api_version ApiVersions))
+    then Answered false correlation (api_versions_old_reply.bytes old_versions_answer)
     else called conf frame key version (api_at key version)
 
 -- each header begins with the key, the version and the correlation id, in eight bytes

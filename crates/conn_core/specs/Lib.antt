@@ -11,3 +11,4 @@ pub mod Judging
 pub mod Links
 pub mod Turning
 pub mod Laws
+pub mod Sound

@@ -2,7 +2,8 @@
 -- state calls; the codes of those that are answered at once are this project's own).
 -- For example a Read of partition 0 of a hosted topic and of partitions -1, 5 and 6 of another has the codes 3 and 42 at once,
 -- and asks 5 and then 6 (the test parts_are_asked_and_told_in_the_order_of_the_request).
-use Rattle.std.specs.Prelude.{ℕ, ℤ, pos, nat_abs, Bool, List, [], ◌∷◌, map, flat_map, Option, Some, None, is_some, int_lt, ◌&&◌, nat_le, length, if◌then◌else◌}
+use Rattle.std.specs.Prelude.{ℕ, ℤ, pos, nat_abs, int_lt, nat_le, Bool, ◌&&◌, if◌then◌else◌, Option, Some, None, is_some}
+use Rattle.std.specs.Prelude.{List, [], ◌∷◌, map, flat_map, length}
 use Rattle.share_model.specs.declared.fault.TheConstants.Code.{INVALID_GROUP_ID, INVALID_REQUEST, UNKNOWN_TOPIC_OR_PARTITION}
 use Rattle.share_model.specs.declared.fault.Code.{Code}
 use Rattle.topic_conf.specs.declared.topic.Topic.{Topic}

@@ -29,7 +29,7 @@ pub record FilledTopic : Type 0 where
   pub topic : List ℕ
   pub partitions : List Filled
 
--- the first answer that no place has taken; a whole plan has one for each place
+-- the first answer that no place has taken; `Sound` says that there is one for each place that waits for one
 abbrev pub first_told : List Told → Told
 first_told [] = told_code NONE
 first_told (told ∷ answers) = told
@@ -49,12 +49,15 @@ told_after (Some code) answers = answers
 -- each place that isn't known takes the next answer; the answers that are left come second
 abbrev pub fill : List PlannedPartition → List Told → List Filled × List Told
 fill [] answers = ([], answers)
-fill (p ∷ places) answers =
-    (record { partition = p.partition; told = told_at p.known answers } ∷ (fill places (told_after p.known answers)).0, (fill places (told_after p.known answers)).1)
+fill (p ∷ places) answers = (
+  record { partition = p.partition; told = told_at p.known answers } ∷ (fill places (told_after p.known answers)).0,
+  (fill places (told_after p.known answers)).1,
+)
 
 abbrev pub fill_topics : List PlannedTopic → List Told → List FilledTopic
 fill_topics [] answers = []
-fill_topics (t ∷ topics) answers = record { topic = t.topic_id; partitions = (fill t.partitions answers).0 } ∷ fill_topics topics (fill t.partitions answers).1
+fill_topics (t ∷ topics) answers =
+    record { topic = t.topic_id; partitions = (fill t.partitions answers).0 } ∷ fill_topics topics (fill t.partitions answers).1
 
 abbrev pub state_result : Filled → PartitionResult
 state_result p = record { partition = p.partition; error_code = p.told.code.0; error_message = None }

@@ -17,7 +17,12 @@ pub record IsTellable (run : Run) : Type 0 where
   pub count : run.count < 2 ^ 15
 
 abbrev pub batch_of : Run → StateBatch
-batch_of run = record { first_offset = pos run.first; last_offset = pos run.last; delivery_state = pos (state_number run.state); delivery_count = pos run.count }
+batch_of run = record {
+  first_offset = pos run.first;
+  last_offset = pos run.last;
+  delivery_state = pos (state_number run.state);
+  delivery_count = pos run.count;
+}
 
 abbrev pub told : ForeignAnswer → Told
 told answer = record { code = answer.code; state_epoch = answer.state_epoch; start = answer.start; batches = map batch_of answer.runs }

@@ -54,7 +54,7 @@ at_front conf unread Partial = idle
 at_front conf unread (TooLong size) = closes (CauseTooLong size)
 at_front conf unread (Whole size) = after (behind_frame size unread) (judged conf (frame_at size unread))
 
--- the request in hand goes on with its next part
+-- the request in hand goes on with its next part; `Sound` says that it has one
 abbrev pub in_hand : Link → Option ForeignOp → Turn
 in_hand link None = idle
 in_hand link (Some op) = asks op link
@@ -79,7 +79,7 @@ settled unread hand None =
     else record { link = record { unread = unread; work = Free }; reply = frame_of true hand.correlation (body_of hand) ∷ [] }
 settled unread hand (Some op) = record { link = record { unread = unread; work = Busy hand }; reply = [] }
 
--- a part of the request in hand is done, and told this
+-- a part of the request in hand is done, and told this; with no request in hand nothing is awaited, and nothing changes
 abbrev pub answered_by : Told → Link → Work → Settled
 answered_by told link (Busy hand) = settled link.unread (goes_on told hand) (first_part (goes_on told hand))
 answered_by told link Free = record { link = link; reply = [] }

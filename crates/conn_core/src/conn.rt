@@ -1,7 +1,8 @@
 ghost use Rattle.std.specs.Prelude.{◌≡◌, ◌≤◌, ◌+◌, ◌∷◌, [], false, length, OnOk, OnErr, IfOk, IfSome, IfNone, None};
 ghost use Rattle.conn_core.specs.Hands.{first_part};
 ghost use Rattle.conn_core.specs.Stream.{front_of, behind_frame, frame_at};
-ghost use Rattle.conn_core.specs.Turning.{Turns, Asks, Awaits, GoesOn, IsAsking, IsFair, Settles, told_by, settled, opened, ended, fed, given, sent, begun, after, at_front};
+ghost use Rattle.conn_core.specs.Turning.{Turns, Asks, Awaits, GoesOn, IsAsking, IsFair, Settles, told_by, settled, opened, ended, fed};
+ghost use Rattle.conn_core.specs.Turning.{given, sent, begun, after, at_front};
 ghost use Rattle.conn_core.specs.Turning.Turn.{closes};
 
 use crate::hand::Hand;

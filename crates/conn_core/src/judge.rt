@@ -6,7 +6,8 @@ ghost use Rattle.msgs_base.specs.ApiVersionsOldReply.{api_versions_old_reply};
 ghost use Rattle.conn_core.specs.Versions.{old_versions_answer};
 ghost use Rattle.conn_core.specs.Planning.{initialize_entries, read_entries};
 ghost use Rattle.conn_core.specs.Replies.{reply_body, fill_topics};
-ghost use Rattle.conn_core.specs.Judging.{Fetches, message_at, state_call, versions_asked, asked as asked_for, called, routed as routed_to, head_start as starts, judged};
+ghost use Rattle.conn_core.specs.Judging.{Fetches, message_at, state_call, versions_asked, asked as asked_for, called, routed as routed_to};
+ghost use Rattle.conn_core.specs.Judging.{head_start as starts, judged};
 
 use crate::api::Api;
 use crate::ask::Call;
@@ -90,7 +91,8 @@ fn answered(tags: bool, correlation: i32, body: Bytes) -> Judged
 }
 
 fn begun(alloc: Global, correlation: i32, call: Call, group: Name, plan: Plan) -> Judged
-    ensures { result ≡ Judged.Begun (record { correlation = correlation; call = call; group = group; topics = plan.topics; left = plan.left.items; done = [] }) }
+    ensures { result ≡ Judged.Begun
+        (record { correlation = correlation; call = call; group = group; topics = plan.topics; left = plan.left.items; done = [] }) }
 {
     Judged::Begun(Hand {
         correlation,
@@ -294,7 +296,7 @@ fn routed(
     requires { length frame.now < 2 ^ 32 }
     ensures { IfOk result (λ j. j ≡ routed_to conf.now frame.now key version correlation) }
 {
-    if key == 18 && version != 3 {
+    if key == Api::ApiVersions.key() && version != Api::ApiVersions.version() {
         return old_versions(alloc, correlation);
     }
     match Api::of(key, version) {

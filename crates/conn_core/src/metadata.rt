@@ -3,7 +3,8 @@ ghost use Rattle.std.specs.Prelude.{◌≡◌, ◌≤◌, ◌<◌, ◌+◌, ◌^
 ghost use Rattle.std.specs.Option.{option_copied};
 ghost use Rattle.std.specs.List.{range_with_len};
 ghost use Rattle.topic_conf.specs.Topics.{IsTopicList};
-ghost use Rattle.conn_core.specs.Metadata.{broker_of, partition_of, topic_of, place_asked, unknown_code, unknown_topic, asked_topic, topics_answer, metadata_answer};
+ghost use Rattle.conn_core.specs.Metadata.{broker_of, partition_of, topic_of, place_asked, unknown_code, unknown_topic, asked_topic};
+ghost use Rattle.conn_core.specs.Metadata.{topics_answer, metadata_answer};
 
 use flex_fields::{Items, Text};
 use msgs_base::{

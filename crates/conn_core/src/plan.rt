@@ -1,6 +1,7 @@
 // Planning a state call: which of its entries are answered at once, and which ask a part.
 ghost use Rattle.std.specs.Prelude.{◌≡◌, ◌+◌, ◌^◌, ◌<◌, ◌++◌, pos, ◌≤ℤ◌, map, flat_map, IfOk, OnOk, IfNone, length};
-ghost use Rattle.conn_core.specs.Planning.{Entry, initialize_entry, initialize_entries, read_entry, read_entries, hosted_code, known, planned_partition, planned_topics, entry_asks, asks_of};
+ghost use Rattle.conn_core.specs.Planning.{Entry, initialize_entry, initialize_entries, read_entry, read_entries, hosted_code, known};
+ghost use Rattle.conn_core.specs.Planning.{planned_partition, planned_topics, entry_asks, asks_of};
 
 use crate::ask::{Ask, Wish};
 use flex_fields::Items;

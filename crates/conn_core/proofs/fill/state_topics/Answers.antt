@@ -11,6 +11,7 @@ loop-topic-preserved c =
     let row : List TopicResult = state_topic (record { topic = topic.topic_id; partitions = filled }) ∷ [] in
     let put : c.push.new.self.items ≡ c.loop-topic.results.items ++ row = search rules in
     record {
-      results = topics_more state_topic _ _ _ _ _ _ _ _ c.loop-topic-test.true c.topic-item.is put c.in_ok-partitions.ensures.rest c.loop-topic.invariant.results;
+      results = topics_more state_topic _ _ _ _ _ _ _ _ c.loop-topic-test.true c.topic-item.is put c.in_ok-partitions.ensures.rest
+          c.loop-topic.invariant.results;
       count = c.in_ok-push.ensures.len ∙ ap (λ n. n + 1) c.loop-topic.invariant.count;
     }
