@@ -1,5 +1,6 @@
 -- No spelling of a number is shorter than the one that is written.
-use Rattle.std.proofs.Common.{◌≡◌, ℕ, ℤ, pos, negsuc, zero, suc, ◌/◌, ◌%◌, ◌≤◌, Bool, true, false, cond, eqb, ltb, List, [], ◌∷◌, length, refl, ap, sym, subst, arith, inl, inr, ◌∙◌}
+use Rattle.std.proofs.Common.{◌≡◌, ℕ, ℤ, pos, negsuc, zero, suc, ◌/◌, ◌%◌, ◌≤◌, Bool, true, false, cond, eqb, ltb, List, [], ◌∷◌, length}
+use Rattle.std.proofs.Common.{refl, ap, sym, subst, arith, inl, inr, ◌∙◌}
 use Rattle.std.proofs.lemmas.Bool.{le-ltb, lt-ltb, cases_lt, eqb-true, eqb-false}
 use Rattle.flex_fields.specs.Reading.{unzigzag}
 use Rattle.flex_fields.specs.Grammar.{IsBytes, IsGroups, IsUvarint, IsVarint, IsVarlong}
@@ -34,7 +35,11 @@ pub uvarint_short : (n : ℕ) (bytes : List ℕ) → IsBytes bytes → IsUvarint
 uvarint_short n bytes fits s = groups_short 4 n bytes fits s.0
 
 pub varint_short : (z : ℤ) (bytes : List ℕ) → IsBytes bytes → IsVarint bytes z → length (varint_bytes z) ≤ length bytes
-varint_short z bytes fits s = subst (λ (n : ℕ). length (groups_of 4 n) ≤ length bytes) (sym (zigzag_unzigzag s.0) ∙ ap zigzag s.2) (groups_short 4 s.0 bytes fits s.1.0)
+varint_short z bytes fits s =
+    subst (λ (n : ℕ). length (groups_of 4 n) ≤ length bytes) (sym (zigzag_unzigzag s.0) ∙ ap zigzag s.2)
+    (groups_short 4 s.0 bytes fits s.1.0)
 
 pub varlong_short : (z : ℤ) (bytes : List ℕ) → IsBytes bytes → IsVarlong bytes z → length (varlong_bytes z) ≤ length bytes
-varlong_short z bytes fits s = subst (λ (n : ℕ). length (groups_of 9 n) ≤ length bytes) (sym (zigzag_unzigzag s.0) ∙ ap zigzag s.2) (groups_short 9 s.0 bytes fits s.1.0)
+varlong_short z bytes fits s =
+    subst (λ (n : ℕ). length (groups_of 9 n) ≤ length bytes) (sym (zigzag_unzigzag s.0) ∙ ap zigzag s.2)
+    (groups_short 9 s.0 bytes fits s.1.0)

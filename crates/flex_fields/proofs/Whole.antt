@@ -1,5 +1,6 @@
 -- Reading all of the bytes finds just what they stand for.
-use Rattle.std.proofs.Common.{◌≡◌, ◌≤◌, ◌+◌, ℕ, List, [], ◌++◌, length, take, length-append, arith, eqb, cond, Result, Ok, Err, refl, sym, ap, subst, ◌∙◌}
+use Rattle.std.proofs.Common.{◌≡◌, ◌≤◌, ◌+◌, ℕ, List, [], ◌++◌, length, take, length-append, arith, eqb, cond, Result, Ok, Err, refl, sym}
+use Rattle.std.proofs.Common.{ap, subst, ◌∙◌}
 use Rattle.std.specs.Prelude.{IfOk}
 use Rattle.std.proofs.lemmas.Bool.{eqb-true}
 use Rattle.std.proofs.lemmas.List.{append-nil, nil_from_length, take_at}
@@ -50,7 +51,8 @@ module _ {A : Type 0} (f : Format A) where
       let m = bind_ok (f.read (record { place = 0; left = all })) (λ a. Ok (a.0, a.1.place)) (x, n) e in
       let t = f.sound.takes (record { place = 0; left = all }) m.0.0 m.0.1 fits m.1 in
       let moved : m.0.1.place ≡ length t.front = omega (arith, t.moved) in
-      let same : take m.0.1.place all ≡ t.front = ap (λ (l : List ℕ). take m.0.1.place l) t.parts ∙ take_at t.front m.0.1.left m.0.1.place (sym moved) in
+      let same : take m.0.1.place all ≡ t.front =
+      ap (λ (l : List ℕ). take m.0.1.place l) t.parts ∙ take_at t.front m.0.1.left m.0.1.place (sym moved) in
       subst (λ (y : A × ℕ). f.is (take y.1 all) y.0 × (y.1 ≤ length all)) (ok_is (m.0.0, m.0.1.place) (x, n) m.2)
       (subst (λ (l : List ℕ). f.is l m.0.0) (sym same) t.spelled, omega (arith, moved, ap length t.parts, length-append t.front m.0.1.left))
 
@@ -60,11 +62,13 @@ module _ {A : Type 0} (f : Format A) where
       let len : 0 + length front ≡ length front = omega arith in
       ap (λ (l : List ℕ). front_at f.read l) parts ∙ rw e (λ i. Ok (x, len i))
 
-  front_found : (all : List ℕ) (result : Result (A × ℕ) WireFault) → IsBytes all → Gives (λ y. y) result (front_at f.read all) → IfOk result (λ x. f.is (take x.1 all) x.0 × (x.1 ≤ length all))
+  front_found : (all : List ℕ) (result : Result (A × ℕ) WireFault) → IsBytes all → Gives (λ y. y) result (front_at f.read all)
+      → IfOk result (λ x. f.is (take x.1 all) x.0 × (x.1 ≤ length all))
   front_found all (Ok x) fits given = front_takes all x.0 x.1 fits given
   front_found all (Err e) fits given = tt
 
-  pub reads_front : (all : List ℕ) (result : Result (A × ℕ) WireFault) → IsBytes all → Gives (λ y. y) result (front_at f.read all) → ReadsFront f all result
+  pub reads_front : (all : List ℕ) (result : Result (A × ℕ) WireFault) → IsBytes all → Gives (λ y. y) result (front_at f.read all)
+      → ReadsFront f all result
   reads_front all result fits given = record {
     found = front_found all result fits given;
     only = λ x front rest parts c. subst (λ (s : Result (A × ℕ) WireFault). Gives (λ y. y) result s) (front_gives all front rest x parts c) given;

@@ -1,5 +1,6 @@
 -- What is written stands for what was to be written.
-use Rattle.std.proofs.Common.{◌≡◌, ℕ, ℤ, pos, negsuc, zero, suc, ◌+◌, ◌-◌, ◌*◌, ◌/◌, ◌%◌, ◌^◌, ◌<◌, ◌≤◌, true, false, ltb, List, [], ◌∷◌, length, refl, arith, inl, inr}
+use Rattle.std.proofs.Common.{◌≡◌, ℕ, ℤ, pos, negsuc, zero, suc, ◌+◌, ◌-◌, ◌*◌, ◌/◌, ◌%◌, ◌^◌, ◌<◌, ◌≤◌, true, false, ltb, List, [], ◌∷◌}
+use Rattle.std.proofs.Common.{length, refl, arith, inl, inr}
 use Rattle.std.proofs.lemmas.Bool.{le-ltb, lt-ltb, cases_lt}
 use Rattle.std.specs.Str.{IsUtf8}
 use Rattle.std.proofs.lemmas.Str.{is_utf8-from_IsUtf8}
@@ -33,7 +34,12 @@ groups_spell (suc more) n small = elim (cases_lt n 128) [
   | inr high ↦
       let is_high : ltb n 128 ≡ false = le-ltb _ _ high in
       let rest = groups_spell more (n / 128) (omega arith) in
-      rw is_high (record { groups = groups_more (n % 128 + 128) (groups_of more (n / 128)) n (n / 128) (omega arith) (omega arith) rest.groups; few = omega (arith, rest.few) })
+      rw is_high (record {
+        groups =
+            groups_more (n % 128 + 128) (groups_of more (n / 128)) n (n / 128) (omega arith) (omega arith) rest.groups;
+        few =
+            omega (arith, rest.few);
+      })
 ]
 
 pub uvarint_spells : (n : ℕ) → n < 2 ^ 32 → IsUvarint (uvarint_bytes n) n

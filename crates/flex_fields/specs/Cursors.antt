@@ -1,5 +1,6 @@
--- What the readers of a cursor answer, beside what reading gives.
+-- What the readers of a cursor answer, beside what reading gives (this project's own).
 use Rattle.std.specs.Prelude.{◌≡◌, Result, Ok, Err}
+use Rattle.std.specs.Result.{IsOk}
 use Rattle.flex_fields.specs.declared.fault.WireFault.{WireFault}
 use Rattle.flex_fields.specs.declared.fault.WireFault.TheVariants.{NoMemory}
 use Rattle.flex_fields.specs.Reading.{At}
@@ -32,6 +33,16 @@ IsOfBytes f = Unit {0}
 abbrev pub TakesNoMemory : {X : Type 0} → Result X WireFault → Type 0
 TakesNoMemory (Ok x) = Unit {0}
 TakesNoMemory (Err e) = IsOfBytes e
+
+-- the fault, where it is want of memory, comes only where reading gives a value
+abbrev pub IsMemoryFor : {Y : Type 0} → WireFault → Result Y WireFault → Type 0
+IsMemoryFor NoMemory read = IsOk read
+IsMemoryFor f read = Unit {0}
+
+-- the answer is want of memory only where reading gives a value
+abbrev pub TakesMemoryFor : {X Y : Type 0} → Result X WireFault → Result Y WireFault → Type 0
+TakesMemoryFor (Ok x) read = Unit {0}
+TakesMemoryFor (Err e) read = IsMemoryFor e read
 
 -- a place alone, as a reading of no value
 abbrev pub no_value : Result At WireFault → Result (Unit {0} × At) WireFault

@@ -1,9 +1,11 @@
--- A message is described once, as its schema: fields one after the other, structures and arrays of them. From that
--- follow which bytes stand for which value, what reading gives, and which bytes are written.
+-- A message is described once, as its schema: fields one after the other, structures and arrays of them, as Kafka's
+-- message schemas have them (KIP-482 for the tags). From that follow which bytes stand for which value, what reading
+-- gives, and which bytes are written.
 use Rattle.std.specs.Prelude.{◌≡◌, ◌≤◌, ℕ, ℤ, Bool, List, ◌++◌, length, take, Option, Result, Ok, IfOk}
 use Rattle.std.specs.Int.{w8, w16, w32, w64}
 use Rattle.flex_fields.specs.declared.fault.WireFault.{WireFault}
-use Rattle.flex_fields.specs.Reading.{At, ◌>>=◌, raw_at, int_at, bool_at, str_at, bytes_at, nullable_at, array_at, then_at, tagged_at, as_at, whole_at}
+use Rattle.flex_fields.specs.Reading.{At, ◌>>=◌, raw_at, int_at, bool_at, str_at, bytes_at, nullable_at, array_at, then_at, tagged_at}
+use Rattle.flex_fields.specs.Reading.{as_at, whole_at}
 use Rattle.flex_fields.specs.Grammar.{IsInt, IsRaw, IsBool, IsStr, IsSized, OrNull, IsArray, IsTags, Then, Tagged}
 use Rattle.flex_fields.specs.Writing.{int_bytes, bool_bytes, sized_bytes, nullable_bytes, array_bytes, uvarint_bytes}
 use Rattle.flex_fields.specs.Cursors.{Gives}
@@ -60,12 +62,22 @@ abbrev pub array : {A : Type 0} → Format A → Format (List A)
 array f = record { is = IsArray f.is; read = array_at f.read; bytes = array_bytes f.bytes; sound = array_reads f.is f.read f.sound }
 
 abbrev pub null_array : {A : Type 0} → Format A → Format (Option (List A))
-null_array f = record { is = OrNull (IsArray f.is); read = nullable_at (array_at f.read); bytes = nullable_bytes (array_bytes f.bytes); sound = null_array_reads f.is f.read f.sound }
+null_array f = record {
+  is = OrNull (IsArray f.is);
+  read = nullable_at (array_at f.read);
+  bytes = nullable_bytes (array_bytes f.bytes);
+  sound = null_array_reads f.is f.read f.sound;
+}
 
 -- the one, and then the other
 infixr 30 ◌▹◌
 abbrev pub ◌▹◌ : {A B : Type 0} → Format A → Format B → Format (A × B)
-f ▹ g = record { is = Then f.is g.is; read = then_at f.read g.read; bytes = λ x. f.bytes x.0 ++ g.bytes x.1; sound = then_reads f.is g.is f.read g.read f.sound g.sound }
+f ▹ g = record {
+  is = Then f.is g.is;
+  read = then_at f.read g.read;
+  bytes = λ x. f.bytes x.0 ++ g.bytes x.1;
+  sound = then_reads f.is g.is f.read g.read f.sound g.sound;
+}
 
 -- a struct is its fields
 pub record Shape (S T : Type 0) : Type 0 where
@@ -108,6 +120,10 @@ pub record ReadsFront {A : Type 0} (f : Format A) (bytes : List ℕ) (result : R
 pub record Writes {A : Type 0} (f : Format A) (old new : List ℕ) (x : A) : Type 0 where
   pub appended : new ≡ old ++ f.bytes x
   pub stands : f.is (f.bytes x) x
+
+-- what was there stands, and anything may follow it
+abbrev pub StartsWith : List ℕ → List ℕ → Type 0
+StartsWith old new = take (length old) new ≡ old
 
 -- the bytes are the one spelling of the value, and stand for it again
 pub record IsSpelling {A : Type 0} (f : Format A) (x : A) (bytes : List ℕ) : Type 0 where

@@ -1,7 +1,8 @@
 -- Reading fields from left to right: the value and what follows it, or the first fault with its place.
 -- The fields are those of the Kafka protocol guide ("Protocol primitive types") in the flexible encoding (KIP-482).
 -- Each function here is joined to the relation of `Grammar.antt` by the law `IsReader` of `Formats.antt`.
-use Rattle.std.specs.Prelude.{◌+◌, ◌-◌, ◌*◌, ◌/◌, ◌%◌, ℕ, ℤ, pos, negsuc, zero, suc, Bool, true, false, not, List, [], ◌∷◌, length, take, drop, slice_index_or, Option, Some, None, Result, Ok, Err, nat_lt, ◌==◌, if◌then◌else◌}
+use Rattle.std.specs.Prelude.{◌+◌, ◌-◌, ◌*◌, ◌/◌, ◌%◌, ℕ, ℤ, pos, negsuc, zero, suc, Bool, true, false, not, List, [], ◌∷◌, length, take}
+use Rattle.std.specs.Prelude.{drop, slice_index_or, Option, Some, None, Result, Ok, Err, nat_lt, ◌==◌, if◌then◌else◌}
 use Rattle.std.specs.Int.{Width, byte_len, from_be_bytes, cast_signed}
 use Rattle.std.specs.Str.{is_utf8}
 use Rattle.flex_fields.specs.declared.fault.WireFault.{WireFault}
@@ -34,7 +35,8 @@ raw_at n at = if nat_lt (length at.left) n then Err (Short at.place) else Ok (ta
 
 -- a signed number of this width, high byte first: ff fe is -2 in two bytes
 abbrev pub int_at : Width → At → Result (ℤ × At) WireFault
-int_at w at = if nat_lt (length at.left) (byte_len w) then Err (Short at.place) else Ok (cast_signed w (from_be_bytes w (take (byte_len w) at.left)), past (byte_len w) at)
+int_at w at = if nat_lt (length at.left) (byte_len w) then Err (Short at.place)
+    else Ok (cast_signed w (from_be_bytes w (take (byte_len w) at.left)), past (byte_len w) at)
 
 -- 0 is false, and any other byte is true
 abbrev pub bool_of : List ℕ → Bool

@@ -1,3 +1,4 @@
+-- What the code goes along, as the definitions of reading see it (this project's own).
 use Rattle.flex_fields.specs.Reading.{At}
 use Rattle.flex_fields.specs.declared.spot.Spot.{Spot}
 

@@ -1,7 +1,9 @@
--- The one spelling that is written: the shortest, and no tags.
+-- The one spelling that is written: the shortest, and no tags. The fields are those of the Kafka protocol guide
+-- ("Protocol primitive types") in the flexible encoding (KIP-482).
 use Rattle.std.specs.Int.{Width, to_be_bytes, cast_unsigned}
 use Rattle.std.specs.List.{flat_map}
-use Rattle.std.specs.Prelude.{ℤ, pos, negsuc, ℕ, zero, suc, ◌+◌, ◌*◌, ◌/◌, ◌%◌, Bool, List, [], ◌∷◌, ◌++◌, length, Option, Some, None, nat_lt, if◌then◌else◌}
+use Rattle.std.specs.Prelude.{ℤ, pos, negsuc, ℕ, zero, suc, ◌+◌, ◌*◌, ◌/◌, ◌%◌, Bool, List, [], ◌∷◌, ◌++◌, length, Option, Some, None}
+use Rattle.std.specs.Prelude.{nat_lt, if◌then◌else◌}
 
 -- a number in groups of seven bits, of which so many may follow the first: 300 is ac 02
 unfoldable pub groups_of : ℕ → ℕ → List ℕ

@@ -25,6 +25,7 @@ impl Bytes {
         Bytes { bytes }
     }
 
+    /// The bytes, lent.
     pub fn as_slice(&self) -> &[u8]
         ensures { result.now ≡ self.now }
     {

@@ -1,7 +1,8 @@
 ghost use Rattle.std.specs.Prelude.{◌≡◌, ◌≢◌, ◌+◌, ◌^◌, ◌<◌, [], length, MatchResult, IfOk, OnErr};
 ghost use Rattle.std.specs.Int.{w8, w16, w32, w64};
-ghost use Rattle.flex_fields.specs.Reading.{raw_at, int_at, bool_at, uvarint_at, varint_at, varlong_at, array_len_at, bytes_at, str_at, null_at, nullable_at, tags_at};
-ghost use Rattle.flex_fields.specs.Cursors.{no_value, Gives, Reads, TakesNoMemory};
+ghost use Rattle.flex_fields.specs.Reading.{raw_at, int_at, bool_at, uvarint_at, varint_at, varlong_at, array_len_at, bytes_at, str_at};
+ghost use Rattle.flex_fields.specs.Reading.{null_at, nullable_at, tags_at};
+ghost use Rattle.flex_fields.specs.Cursors.{no_value, Gives, Reads, TakesNoMemory, TakesMemoryFor};
 
 use crate::bytes::Bytes;
 use crate::fault::WireFault;
@@ -13,10 +14,12 @@ use std::alloc::Global;
 use std::marker::Model;
 use uuid::Uuid;
 
-/// Reads the fields of a message one after the other. Places count from its first byte.
+/// Reads the fields of a message one after the other, in the flexible encoding (KIP-482). Places
+/// count from its first byte.
 ///
 /// A reader either takes its field or refuses it with the place where the field begins; the cursor
-/// then stands where it stood. Only strings and bytes take memory.
+/// then stands where it stood. Any refuses as `Short` a field that the bytes end within. Only
+/// strings and bytes take memory, and they answer `NoMemory` only where the field stands.
 #[derive(Drop)]
 pub struct Cursor<'a> {
     at: Spot<'a>,
@@ -33,6 +36,7 @@ impl<'a> Model for Cursor<'a> {
 }
 
 impl<'a> Cursor<'a> {
+    /// A cursor at the first of these bytes, whose place is 0.
     pub fn new(bytes: &'a [u8]) -> Cursor<'a>
         ensures { result ≡ record { place = 0; left = bytes.now } }
     {
@@ -54,7 +58,7 @@ impl<'a> Cursor<'a> {
         }
     }
 
-    /// The place of the next byte: how many bytes were taken.
+    /// The place of the next byte; for a cursor made by `new`, how many bytes were taken.
     pub fn place(&self) -> u64
         ensures { result ≡ self.now.place }
     {
@@ -81,6 +85,7 @@ impl<'a> Cursor<'a> {
         }
     }
 
+    /// A signed number in one byte.
     pub fn take_i8(&mut self) -> Result<i8, WireFault>
         ensures read { Reads self.old self.new result (int_at w8 self.old) }
         ensures memory { TakesNoMemory result }
@@ -90,6 +95,7 @@ impl<'a> Cursor<'a> {
         Ok(value)
     }
 
+    /// A signed number in two bytes, the high one first.
     pub fn take_i16(&mut self) -> Result<i16, WireFault>
         ensures read { Reads self.old self.new result (int_at w16 self.old) }
         ensures memory { TakesNoMemory result }
@@ -99,6 +105,7 @@ impl<'a> Cursor<'a> {
         Ok(value)
     }
 
+    /// A signed number in four bytes, the high one first.
     pub fn take_i32(&mut self) -> Result<i32, WireFault>
         ensures read { Reads self.old self.new result (int_at w32 self.old) }
         ensures memory { TakesNoMemory result }
@@ -108,6 +115,7 @@ impl<'a> Cursor<'a> {
         Ok(value)
     }
 
+    /// A signed number in eight bytes, the high one first.
     pub fn take_i64(&mut self) -> Result<i64, WireFault>
         ensures read { Reads self.old self.new result (int_at w64 self.old) }
         ensures memory { TakesNoMemory result }
@@ -127,6 +135,7 @@ impl<'a> Cursor<'a> {
         Ok(value)
     }
 
+    /// Sixteen bytes, in the order of the text form.
     pub fn take_uuid(&mut self) -> Result<Uuid, WireFault>
         ensures read { Reads self.old self.new result (raw_at 16 self.old) }
         ensures memory { TakesNoMemory result }
@@ -140,7 +149,8 @@ impl<'a> Cursor<'a> {
         }
     }
 
-    /// An unsigned number in at most five bytes. A longer spelling than the shortest is read.
+    /// An unsigned number below 2^32 in at most five bytes. A longer spelling than the shortest is
+    /// read; a fifth byte above 15 is refused as `BadVarint`.
     pub fn take_uvarint(&mut self) -> Result<u32, WireFault>
         ensures read { Reads self.old self.new result (uvarint_at self.old) }
         ensures memory { TakesNoMemory result }
@@ -150,7 +160,8 @@ impl<'a> Cursor<'a> {
         Ok(value)
     }
 
-    /// A signed number, zigzag, in at most five bytes.
+    /// A signed number, zigzag, in at most five bytes; a fifth byte above 15 is refused as
+    /// `BadVarint`.
     pub fn take_varint(&mut self) -> Result<i32, WireFault>
         ensures read { Reads self.old self.new result (varint_at self.old) }
         ensures memory { TakesNoMemory result }
@@ -160,7 +171,8 @@ impl<'a> Cursor<'a> {
         Ok(value)
     }
 
-    /// A signed number, zigzag, in at most ten bytes.
+    /// A signed number, zigzag, in at most ten bytes; a tenth byte above 1 is refused as
+    /// `BadVarint`.
     pub fn take_varlong(&mut self) -> Result<i64, WireFault>
         ensures read { Reads self.old self.new result (varlong_at self.old) }
         ensures memory { TakesNoMemory result }
@@ -170,34 +182,41 @@ impl<'a> Cursor<'a> {
         Ok(value)
     }
 
-    /// A string, which can't be null here.
+    /// A string: a length plus one, and that many bytes of UTF-8. Null is refused as `BadLength`,
+    /// and what isn't UTF-8 as `NotUtf8`.
     pub fn take_str(&mut self, alloc: Global) -> Result<Text, WireFault>
-        ensures { Reads self.old self.new result (str_at self.old) }
+        ensures read { Reads self.old self.new result (str_at self.old) }
+        ensures memory { TakesMemoryFor result (str_at self.old) }
     {
         let (value, after) = text(alloc, self.at)?;
         self.at = after;
         Ok(value)
     }
 
+    /// A string or null, which stands as the length 0.
     pub fn take_null_str(&mut self, alloc: Global) -> Result<Option<Text>, WireFault>
-        ensures { Reads self.old self.new result (nullable_at str_at self.old) }
+        ensures read { Reads self.old self.new result (nullable_at str_at self.old) }
+        ensures memory { TakesMemoryFor result (nullable_at str_at self.old) }
     {
         let (value, after) = null_text(alloc, self.at)?;
         self.at = after;
         Ok(value)
     }
 
-    /// Bytes, which can't be null here.
+    /// Bytes: a length plus one, and that many. Null is refused as `BadLength`.
     pub fn take_bytes(&mut self, alloc: Global) -> Result<Bytes, WireFault>
-        ensures { Reads self.old self.new result (bytes_at self.old) }
+        ensures read { Reads self.old self.new result (bytes_at self.old) }
+        ensures memory { TakesMemoryFor result (bytes_at self.old) }
     {
         let (value, after) = bytes(alloc, self.at)?;
         self.at = after;
         Ok(value)
     }
 
+    /// Bytes or null, which stands as the length 0.
     pub fn take_null_bytes(&mut self, alloc: Global) -> Result<Option<Bytes>, WireFault>
-        ensures { Reads self.old self.new result (nullable_at bytes_at self.old) }
+        ensures read { Reads self.old self.new result (nullable_at bytes_at self.old) }
+        ensures memory { TakesMemoryFor result (nullable_at bytes_at self.old) }
     {
         let (value, after) = null_bytes(alloc, self.at)?;
         self.at = after;
@@ -219,7 +238,8 @@ impl<'a> Cursor<'a> {
         Ok(bytes)
     }
 
-    /// The number of elements of an array, at most the number of bytes that are left.
+    /// The number of elements of an array, which stands with one added. Null, and more elements than
+    /// bytes are left behind their number, are refused as `BadLength`.
     pub fn take_array_len(&mut self) -> Result<u32, WireFault>
         ensures read { Reads self.old self.new result (array_len_at self.old) }
         ensures memory { TakesNoMemory result }
@@ -230,6 +250,7 @@ impl<'a> Cursor<'a> {
         Ok(value)
     }
 
+    /// The number of elements of an array, or null, which stands as 0.
     pub fn take_null_array_len(&mut self) -> Result<Option<u32>, WireFault>
         ensures read { Reads self.old self.new result (nullable_at array_len_at self.old) }
         ensures memory { TakesNoMemory result }
@@ -252,7 +273,8 @@ impl<'a> Cursor<'a> {
         Ok(false)
     }
 
-    /// The tagged fields that end a structure, none of which says anything here.
+    /// The tagged fields that end a structure, none of which says anything here. A fault is at the
+    /// count, the tag or the size that can't be read, and at a size where its bytes aren't all there.
     pub fn skip_tags(&mut self) -> Result<(), WireFault>
         ensures read { Reads self.old self.new result (no_value (tags_at self.old)) }
         ensures memory { TakesNoMemory result }

@@ -29,6 +29,7 @@ impl<T> Items<T> {
         Items { list }
     }
 
+    /// The items, lent.
     pub fn as_slice(&self) -> &[T]
         ensures items { result.now ≡ self.now }
         ensures few { length self.now + 1 < 2 ^ 32 }

@@ -1,10 +1,10 @@
 // What holds of all fields, whatever the bytes.
-ghost use Rattle.std.specs.Prelude.{◌≡◌, ◌≤◌, ◌+◌, ℕ, ℤ, List, ◌++◌, length, Ok};
+ghost use Rattle.std.specs.Prelude.{◌≡◌, ◌≤◌, ℕ, ℤ, List, length, Ok};
 ghost use Rattle.flex_fields.specs.Reading.{At, array_len_at, uvarint_at, varint_at, varlong_at, tags_at};
 ghost use Rattle.flex_fields.specs.Grammar.{IsBytes, IsUvarint, IsVarint, IsVarlong, IsTags};
 ghost use Rattle.flex_fields.specs.Writing.{uvarint_bytes, varint_bytes, varlong_bytes};
 ghost use Rattle.flex_fields.specs.Cursors.{no_value};
-ghost use Rattle.flex_fields.specs.Laws.{IsReader, LenTakes};
+ghost use Rattle.flex_fields.specs.Laws.{IsReader, LenTakes, LenGives};
 
 /// A number of variable length, and tags, are read exactly where bytes stand for them, whatever
 /// follows. Each `Format` carries the same of itself.
@@ -19,7 +19,7 @@ pub fn numbers_are_read_where_they_stand()
 /// many bytes behind it.
 pub fn array_lengths_are_read_where_they_stand()
     ensures takes { (at : At) (n : ℕ) (after : At) → IsBytes at.left → array_len_at at ≡ Ok (n, after) → LenTakes at n after }
-    ensures gives { (front tail : List ℕ) (place n : ℕ) → IsUvarint front (n + 1) → n ≤ length tail → array_len_at (record { place = place; left = front ++ tail }) ≡ Ok (n, record { place = place + length front; left = tail }) }
+    ensures gives { LenGives }
 {}
 
 /// No spelling of a number is shorter than the one that is written.

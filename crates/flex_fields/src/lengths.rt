@@ -1,15 +1,14 @@
 // Lengths with what they count, and tags, from one place to the next.
-ghost use Rattle.std.specs.Prelude.{◌≡◌, ◌+◌, ◌-◌, ◌^◌, ◌<◌, ◌≤◌, length, true, false, MatchOption, IfOk};
-ghost use Rattle.std.specs.Str.{is_utf8};
+ghost use Rattle.std.specs.Prelude.{◌≡◌, ◌+◌, ◌-◌, ◌^◌, ◌<◌, ◌≤◌, length, IfOk};
 ghost use Rattle.flex_fields.specs.Reading.{len_at, array_len_at, bytes_at, str_at, nullable_at, tag_at, some_tags_at, tags_at};
-ghost use Rattle.flex_fields.specs.Cursors.{Gives, IsOfBytes, TakesNoMemory};
+ghost use Rattle.flex_fields.specs.Cursors.{Gives, IsOfBytes, TakesNoMemory, TakesMemoryFor};
 ghost use Rattle.flex_fields.specs.Spots.{at_of};
 
 use crate::bytes::Bytes;
 use crate::fault::{NoMemory, WireFault};
 use crate::numbers::{skip, uvarint};
 use crate::spot::Spot;
-use crate::text::Text;
+use crate::text::{Text, as_text};
 use std::alloc::Global;
 
 // A number that is one more than a length; `beyond` where so much isn't there.
@@ -53,25 +52,17 @@ fn slice(at: Spot<'_>) -> Result<(&[u8], Spot<'_>), WireFault>
 }
 
 pub fn bytes(alloc: Global, at: Spot<'_>) -> Result<(Bytes, Spot<'_>), WireFault>
-    ensures { Gives (λ x. (x.0, at_of x.1)) result (bytes_at (at_of at.entry)) }
+    ensures read { Gives (λ x. (x.0, at_of x.1)) result (bytes_at (at_of at.entry)) }
+    ensures memory { TakesMemoryFor result (bytes_at (at_of at.entry)) }
 {
     let (bytes, after) = slice(at)?;
     Ok((Bytes::new(bytes.to_vec(alloc)?), after))
 }
 
-#[tactic(auto, using(crate::proofs::Utf8::utf8_true, crate::proofs::Utf8::utf8_false))]
-fn as_text(bytes: &[u8]) -> Option<&str>
-    ensures { MatchOption result (is_utf8 bytes.now ≡ false) (λ s. (s.now ≡ bytes.now) × (is_utf8 bytes.now ≡ true)) }
-{
-    match std::str::from_utf8(bytes) {
-        Err(_) => None,
-        Ok(text) => Some(text),
-    }
-}
-
 #[tactic(auto, unfolding(crate::specs::Reading::str_at))]
 pub fn text(alloc: Global, at: Spot<'_>) -> Result<(Text, Spot<'_>), WireFault>
-    ensures { Gives (λ x. (x.0, at_of x.1)) result (str_at (at_of at.entry)) }
+    ensures read { Gives (λ x. (x.0, at_of x.1)) result (str_at (at_of at.entry)) }
+    ensures memory { TakesMemoryFor result (str_at (at_of at.entry)) }
 {
     let (bytes, after) = slice(at)?;
     match as_text(bytes) {
@@ -98,7 +89,8 @@ pub fn null_array_len(at: Spot<'_>) -> Result<(Option<u32>, Spot<'_>), WireFault
 
 #[tactic(auto, unfolding(crate::specs::Reading::nullable_at))]
 pub fn null_bytes(alloc: Global, at: Spot<'_>) -> Result<(Option<Bytes>, Spot<'_>), WireFault>
-    ensures { Gives (λ x. (x.0, at_of x.1)) result (nullable_at bytes_at (at_of at.entry)) }
+    ensures read { Gives (λ x. (x.0, at_of x.1)) result (nullable_at bytes_at (at_of at.entry)) }
+    ensures memory { TakesMemoryFor result (nullable_at bytes_at (at_of at.entry)) }
 {
     let (number, after) = uvarint(at)?;
     if number == 0 {
@@ -110,7 +102,8 @@ pub fn null_bytes(alloc: Global, at: Spot<'_>) -> Result<(Option<Bytes>, Spot<'_
 
 #[tactic(auto, unfolding(crate::specs::Reading::nullable_at))]
 pub fn null_text(alloc: Global, at: Spot<'_>) -> Result<(Option<Text>, Spot<'_>), WireFault>
-    ensures { Gives (λ x. (x.0, at_of x.1)) result (nullable_at str_at (at_of at.entry)) }
+    ensures read { Gives (λ x. (x.0, at_of x.1)) result (nullable_at str_at (at_of at.entry)) }
+    ensures memory { TakesMemoryFor result (nullable_at str_at (at_of at.entry)) }
 {
     let (number, after) = uvarint(at)?;
     if number == 0 {

@@ -23,10 +23,10 @@ pub use laws::{
     numbers_are_written_shortest,
 };
 pub use out::Out;
-pub use text::Text;
+pub use text::{Text, as_text};
 pub use wire::{
-    Wire, put_array, put_null_array, read_front, read_whole, stand_for_one, take_array,
-    take_null_array, write_whole,
+    Wire, put_array, put_many, put_null_array, read_front, read_whole, stand_for_one, take_array,
+    take_many, take_null_array, write_whole,
 };
 
 #[cfg(test)]

@@ -1,7 +1,8 @@
 // Numbers, from one place to the next.
 ghost use Rattle.std.specs.Prelude.{◌≡◌, ◌+◌, ◌^◌, ◌<◌, ◌≤◌, length, IfOk};
 ghost use Rattle.std.specs.Int.{w8, w16, w32, w64};
-ghost use Rattle.flex_fields.specs.Reading.{past, int_at, raw_at, bool_at, groups_at, uvarint_at, long_uvarint_at, unzigzag, varint_at, varlong_at, limit};
+ghost use Rattle.flex_fields.specs.Reading.{past, int_at, raw_at, bool_at, groups_at, uvarint_at, long_uvarint_at, unzigzag, varint_at};
+ghost use Rattle.flex_fields.specs.Reading.{varlong_at, limit};
 ghost use Rattle.flex_fields.specs.Cursors.{Gives, TakesNoMemory};
 ghost use Rattle.flex_fields.specs.Spots.{at_of};
 

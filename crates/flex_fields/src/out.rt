@@ -1,8 +1,9 @@
-ghost use Rattle.std.specs.Prelude.{◌≡◌, ◌+◌, ◌^◌, ◌<◌, ◌++◌, [], ℕ, List, length, take, Some, None, OnOk, OnErr, IfSome};
+ghost use Rattle.std.specs.Prelude.{◌≡◌, ◌+◌, ◌^◌, ◌<◌, ◌++◌, [], ℕ, List, length, Some, None, OnOk, OnErr, IfSome};
 ghost use Rattle.std.specs.Option.{option_copied};
 ghost use Rattle.flex_fields.specs.Reading.{limit};
 ghost use Rattle.flex_fields.specs.Grammar.{IsUvarint, IsVarint, IsVarlong};
-ghost use Rattle.flex_fields.specs.Formats.{Writes, WritesNoTags, int8, int16, int32, int64, boolean, uuid as uuid_field, string, null_string, byte_string, null_byte_string};
+ghost use Rattle.flex_fields.specs.Formats.{Writes, WritesNoTags, StartsWith, int8, int16, int32, int64, boolean, uuid as uuid_field};
+ghost use Rattle.flex_fields.specs.Formats.{string, null_string, byte_string, null_byte_string};
 ghost use Rattle.flex_fields.specs.Writing.{groups_of, uvarint_bytes, zigzag, varint_bytes, varlong_bytes, nullable_bytes};
 
 use crate::bytes::Bytes;
@@ -11,9 +12,11 @@ use std::alloc::Global;
 use std::marker::Model;
 use uuid::Uuid;
 
-/// Writes the fields of a message one after the other, each in its shortest form.
+/// Writes the fields of a message one after the other, in the flexible encoding (KIP-482), each in
+/// its shortest form.
 ///
-/// A writer that finds no memory leaves what was written before, and nothing of its own.
+/// A writer that finds no memory answers `NoMemory`, and leaves what was written before and nothing
+/// of its own.
 #[derive(Drop)]
 pub struct Out {
     bytes: Vec<u8>,
@@ -32,8 +35,7 @@ impl Model for Out {
 fn put_groups(out: &mut Vec<u8>, more: u32, value: u64) -> Result<(), NoMemory>
     requires { value < limit 127 more }
     ensures ok { OnOk result (out.new.items ≡ out.old.items ++ groups_of more value) }
-    // A refusal leaves what was there at the front.
-    ensures err { OnErr result (take (length out.old.items) out.new.items ≡ out.old.items) }
+    ensures err { OnErr result (StartsWith out.old.items out.new.items) }
 {
     if more == 0 || value < 128 {
         out.push(value as u8)?;
@@ -55,6 +57,7 @@ fn zigzag_of(value: i64) -> u64
 }
 
 impl Out {
+    /// Nothing is written yet.
     pub fn new(alloc: Global) -> Out
         ensures { result ≡ [] }
     {
@@ -63,6 +66,7 @@ impl Out {
         }
     }
 
+    /// One byte.
     pub fn put_i8(&mut self, value: i8) -> Result<(), NoMemory>
         ensures ok { OnOk result (Writes int8 self.old self.new value) }
         ensures err { OnErr result (self.new ≡ self.old) }
@@ -71,6 +75,7 @@ impl Out {
         Ok(())
     }
 
+    /// Two bytes, the high one first.
     pub fn put_i16(&mut self, value: i16) -> Result<(), NoMemory>
         ensures ok { OnOk result (Writes int16 self.old self.new value) }
         ensures err { OnErr result (self.new ≡ self.old) }
@@ -79,6 +84,7 @@ impl Out {
         Ok(())
     }
 
+    /// Four bytes, the high one first.
     pub fn put_i32(&mut self, value: i32) -> Result<(), NoMemory>
         ensures ok { OnOk result (Writes int32 self.old self.new value) }
         ensures err { OnErr result (self.new ≡ self.old) }
@@ -87,6 +93,7 @@ impl Out {
         Ok(())
     }
 
+    /// Eight bytes, the high one first.
     pub fn put_i64(&mut self, value: i64) -> Result<(), NoMemory>
         ensures ok { OnOk result (Writes int64 self.old self.new value) }
         ensures err { OnErr result (self.new ≡ self.old) }
@@ -105,6 +112,7 @@ impl Out {
         Ok(())
     }
 
+    /// Sixteen bytes, in the order of the text form.
     pub fn put_uuid(&mut self, value: Uuid) -> Result<(), NoMemory>
         ensures ok { OnOk result (Writes uuid_field self.old self.new value) }
         ensures err { OnErr result (self.new ≡ self.old) }
@@ -167,6 +175,7 @@ impl Out {
         self.put_bytes(text.as_bytes())
     }
 
+    /// A string, or the length 0 for null.
     pub fn put_null_str(&mut self, text: Option<&str>) -> Result<(), NoMemory>
         requires { IfSome text (λ t. length t.now + 1 < 2 ^ 32) }
         ensures ok { OnOk result (Writes null_string self.old self.new (option_copied text.entry)) }
@@ -194,6 +203,7 @@ impl Out {
         Ok(())
     }
 
+    /// Bytes, or the length 0 for null.
     pub fn put_null_bytes(&mut self, bytes: Option<&[u8]>) -> Result<(), NoMemory>
         requires { IfSome bytes (λ b. length b.now + 1 < 2 ^ 32) }
         ensures ok { OnOk result (Writes null_byte_string self.old self.new (option_copied bytes.entry)) }
@@ -214,7 +224,7 @@ impl Out {
         Ok(())
     }
 
-    /// The number of elements of an array, which follow it.
+    /// The number of elements of an array, with one added; they follow it.
     pub fn put_array_len(&mut self, count: u32) -> Result<(), NoMemory>
         requires { count + 1 < 2 ^ 32 }
         ensures ok { OnOk result (self.new ≡ self.old ++ uvarint_bytes (count + 1)) }
@@ -224,6 +234,7 @@ impl Out {
         Ok(())
     }
 
+    /// The number of elements of an array, or 0 for null.
     pub fn put_null_array_len(&mut self, count: Option<u32>) -> Result<(), NoMemory>
         requires { IfSome count (λ n. n + 1 < 2 ^ 32) }
         ensures ok { OnOk result (self.new ≡ self.old ++ nullable_bytes (λ n. uvarint_bytes (n + 1)) count) }

@@ -1,5 +1,5 @@
-ghost use Rattle.std.specs.Prelude.{◌≡◌, ◌+◌, ◌^◌, ◌<◌, length, IfOk};
-ghost use Rattle.std.specs.Str.{IsUtf8};
+ghost use Rattle.std.specs.Prelude.{◌≡◌, ◌+◌, ◌^◌, ◌<◌, length, true, false, IfOk, MatchOption};
+ghost use Rattle.std.specs.Str.{IsUtf8, is_utf8};
 
 use crate::fault::NoMemory;
 use std::alloc::Global;
@@ -23,6 +23,7 @@ impl Model for Text {
 }
 
 impl Text {
+    /// A copy of the text; `NoMemory` where no memory was found for it.
     pub fn new(alloc: Global, text: &str) -> Result<Self, NoMemory>
         requires few { length text.now + 1 < 2 ^ 32 }
         ensures bytes { IfOk result (λ t. t ≡ text.now) }
@@ -32,11 +33,23 @@ impl Text {
         })
     }
 
+    /// The text, lent.
     pub fn as_str(&self) -> &str
         ensures bytes { result.now ≡ self.now }
         ensures utf8 { IsUtf8 self.now }
         ensures few { length self.now + 1 < 2 ^ 32 }
     {
         self.string.as_str()
+    }
+}
+
+/// The bytes as a string, where they are UTF-8. It takes no memory.
+#[tactic(auto, using(crate::proofs::Utf8::utf8_true, crate::proofs::Utf8::utf8_false))]
+pub fn as_text(bytes: &[u8]) -> Option<&str>
+    ensures { MatchOption result (is_utf8 bytes.now ≡ false) (λ s. (s.now ≡ bytes.now) × (is_utf8 bytes.now ≡ true)) }
+{
+    match std::str::from_utf8(bytes) {
+        Err(_) => None,
+        Ok(text) => Some(text),
     }
 }

@@ -1,9 +1,9 @@
-ghost use Rattle.std.specs.Prelude.{◌≡◌, ◌+◌, ◌^◌, ◌<◌, ◌++◌, List, ℕ, length, vec_len, Option, OnOk, IfOk};
+ghost use Rattle.std.specs.Prelude.{◌≡◌, ◌+◌, ◌^◌, ◌<◌, ◌++◌, List, ℕ, length, vec_len, Option, OnOk, OnErr, IfOk};
 ghost use Rattle.std.specs.List.{flat_map};
 ghost use Rattle.flex_fields.specs.Reading.{many_at, whole_at};
 ghost use Rattle.flex_fields.specs.Grammar.{AreMany};
 ghost use Rattle.flex_fields.specs.Cursors.{Gives, Moves};
-ghost use Rattle.flex_fields.specs.Formats.{Format, ReadsWhole, ReadsFront, front_at, Writes, IsSpelling, array, null_array};
+ghost use Rattle.flex_fields.specs.Formats.{Format, ReadsWhole, ReadsFront, front_at, Writes, StartsWith, IsSpelling, array, null_array};
 
 use crate::bytes::Bytes;
 use crate::cursor::Cursor;
@@ -17,22 +17,27 @@ pub trait Wire: Sized + Drop {
     /// Its schema.
     ghost format: { Format Self };
 
-    /// Takes it from the cursor. After a refusal the cursor may stand anywhere before the fault.
+    /// Takes it from the cursor. After a refusal the cursor may stand anywhere.
     fn take(alloc: Global, cursor: &mut Cursor<'_>) -> Result<Self, WireFault>
         ensures { Moves cursor.new result (format.read cursor.old) };
 
-    /// Writes it. Where memory runs out, a part of it may be written.
+    /// Writes it behind what was written before. Where memory runs out, that still stands, and a
+    /// part of this may follow it.
     fn put(&self, out: &mut Out) -> Result<(), NoMemory>
-        ensures { OnOk result (Writes format out.old out.new self.now) };
+        ensures ok { OnOk result (Writes format out.old out.new self.now) }
+        ensures err { OnErr result (StartsWith out.old out.new) };
 }
 
-fn take_many<T: Wire>(
+/// Takes so many elements, one after the other, as an array has them behind its length. After a
+/// refusal the cursor may stand anywhere.
+pub fn take_many<T: Wire>(
     alloc: Global,
     count: u32,
     cursor: &mut Cursor<'_>,
 ) -> Result<Items<T>, WireFault>
     requires few { count + 1 < 2 ^ 32 }
-    ensures { Moves cursor.new result (many_at T.format.read count cursor.old) }
+    ensures read { Moves cursor.new result (many_at T.format.read count cursor.old) }
+    ensures all { IfOk result (λ xs. length xs ≡ count) }
 {
     let mut items = Vec::new(alloc);
     for _ in 0..count {
@@ -42,7 +47,7 @@ fn take_many<T: Wire>(
     Ok(Items::new(items))
 }
 
-/// Takes an array, which can't be null here.
+/// Takes an array, which can't be null here. After a refusal the cursor may stand anywhere.
 #[tactic(auto, unfolding(crate::specs::Reading::array_at))]
 pub fn take_array<T: Wire>(alloc: Global, cursor: &mut Cursor<'_>) -> Result<Items<T>, WireFault>
     ensures { Moves cursor.new result ((array T.format).read cursor.old) }
@@ -51,9 +56,12 @@ pub fn take_array<T: Wire>(alloc: Global, cursor: &mut Cursor<'_>) -> Result<Ite
     take_many(alloc, count, cursor)
 }
 
-fn put_items<T: Wire>(out: &mut Out, items: &[T]) -> Result<(), NoMemory>
+/// Writes elements, one after the other, as an array has them behind its length. Where memory runs
+/// out, what was written before stands, and a part of this may follow it.
+pub fn put_many<T: Wire>(out: &mut Out, items: &[T]) -> Result<(), NoMemory>
     ensures bytes { OnOk result (out.new ≡ out.old ++ flat_map T.format.bytes items.now) }
     ensures stands { OnOk result (AreMany T.format.is (flat_map T.format.bytes items.now) items.now) }
+    ensures err { OnErr result (StartsWith out.old out.new) }
 {
     for item in items {
         item.put(out)?;
@@ -61,17 +69,19 @@ fn put_items<T: Wire>(out: &mut Out, items: &[T]) -> Result<(), NoMemory>
     Ok(())
 }
 
-/// Writes an array.
+/// Writes an array. Where memory runs out, what was written before stands, and a part of this may
+/// follow it.
 pub fn put_array<T: Wire>(out: &mut Out, items: &Items<T>) -> Result<(), NoMemory>
-    ensures { OnOk result (Writes (array T.format) out.old out.new items.now) }
+    ensures ok { OnOk result (Writes (array T.format) out.old out.new items.now) }
+    ensures err { OnErr result (StartsWith out.old out.new) }
 {
     let items = items.as_slice();
     out.put_array_len(items.len() as u32)?;
-    put_items(out, items)?;
+    put_many(out, items)?;
     Ok(())
 }
 
-/// Takes an array or null.
+/// Takes an array or null. After a refusal the cursor may stand anywhere.
 #[tactic(auto, unfolding(crate::specs::Reading::nullable_at))]
 pub fn take_null_array<T: Wire>(
     alloc: Global,
@@ -85,9 +95,11 @@ pub fn take_null_array<T: Wire>(
     Ok(Some(take_array(alloc, cursor)?))
 }
 
-/// Writes an array or null.
+/// Writes an array or null. Where memory runs out, what was written before stands, and a part of
+/// this may follow it.
 pub fn put_null_array<T: Wire>(out: &mut Out, items: &Option<Items<T>>) -> Result<(), NoMemory>
-    ensures { OnOk result (Writes (null_array T.format) out.old out.new items.now) }
+    ensures ok { OnOk result (Writes (null_array T.format) out.old out.new items.now) }
+    ensures err { OnErr result (StartsWith out.old out.new) }
 {
     match items {
         None => out.put_uvarint(0),
@@ -104,7 +116,8 @@ fn take_all<T: Wire>(alloc: Global, bytes: &[u8]) -> Result<T, WireFault>
     Ok(message)
 }
 
-/// Reads all of the bytes as one message. Places count from the first byte.
+/// Reads all of the bytes as one message; bytes behind it are refused as `Trailing`. Places count
+/// from the first byte.
 pub fn read_whole<T: Wire>(alloc: Global, bytes: &[u8]) -> Result<T, WireFault>
     ensures { ReadsWhole T.format bytes.now result }
 {
@@ -127,7 +140,7 @@ pub fn read_front<T: Wire>(alloc: Global, bytes: &[u8]) -> Result<(T, u64), Wire
     take_front(alloc, bytes)
 }
 
-/// The bytes of a message, which stand for it again.
+/// The bytes of a message, which stand for it again; `NoMemory` where no memory was found for them.
 pub fn write_whole<T: Wire>(alloc: Global, message: &T) -> Result<Bytes, NoMemory>
     ensures { IfOk result (IsSpelling T.format message.now) }
 {

@@ -1,5 +1,6 @@
 -- Each field is read just where its bytes stand for it.
-use Rattle.std.proofs.Common.{◌≡◌, ℕ, ℤ, zero, suc, ◌+◌, ◌-◌, ◌*◌, ◌<◌, ◌≤◌, Bool, true, false, cond, ltb, List, [], ◌∷◌, ◌++◌, length, get_or, take, Result, Ok, Err, refl, sym, ap, subst, ◌∙◌, arith, inl, inr, ◌⊎◌, length-append, add-one}
+use Rattle.std.proofs.Common.{◌≡◌, ℕ, ℤ, zero, suc, ◌+◌, ◌-◌, ◌*◌, ◌<◌, ◌≤◌, Bool, true, false, cond, ltb, List, [], ◌∷◌, ◌++◌, length}
+use Rattle.std.proofs.Common.{get_or, take, Result, Ok, Err, refl, sym, ap, subst, ◌∙◌, arith, inl, inr, ◌⊎◌, length-append, add-one}
 use Rattle.std.specs.Int.{Width, w8, w16, w32, w64, byte_len, from_be_bytes, cast_signed}
 use Rattle.std.proofs.lemmas.Bool.{ltb-false, ltb-true, le-ltb, lt-ltb}
 use Rattle.std.proofs.lemmas.List.{get_or-append-add, take_at, drop_at, take-append-drop, length-take}
@@ -31,7 +32,8 @@ ok_is x y e = cc
 
 pub IsBytes-rest : (at after : At) (P : List ℕ → Type 0) → IsBytes at.left → Takes at after P → IsBytes after.left
 IsBytes-rest at after P fits t i =
-    let e : get_or at.left (length t.front + i) 0 ≡ get_or after.left i 0 = ap (λ (l : List ℕ). get_or l (length t.front + i) 0) t.parts ∙ get_or-append-add t.front after.left i 0 in
+    let e : get_or at.left (length t.front + i) 0 ≡ get_or after.left i 0 =
+    ap (λ (l : List ℕ). get_or l (length t.front + i) 0) t.parts ∙ get_or-append-add t.front after.left i 0 in
     omega (arith, e, fits (length t.front + i))
 
 pub int_reads : (w : Width) → 0 < byte_len w → IsReader (IsInt w) (int_at w)
@@ -100,7 +102,8 @@ pub record GroupsTake (top more : ℕ) (bytes : List ℕ) (n count : ℕ) : Type
   pub spelled : IsGroups (take count bytes) n
   pub small : n < limit top more
 
-pub groups_take : (place top more : ℕ) (bytes : List ℕ) (n count : ℕ) → top < 128 → IsBytes bytes → groups_at place top more bytes ≡ Ok (n, count) → GroupsTake top more bytes n count
+pub groups_take : (place top more : ℕ) (bytes : List ℕ) (n count : ℕ) → top < 128 → IsBytes bytes
+    → groups_at place top more bytes ≡ Ok (n, count) → GroupsTake top more bytes n count
 unfolding groups_at
 groups_take place top zero [] n count low fits e = absurd cc
 groups_take place top (suc more) [] n count low fits e = absurd cc
@@ -108,12 +111,14 @@ groups_take place top zero (b ∷ bytes) n count low fits e =
     let g = guard_ok (ltb top b) (BadVarint place) (done (b, 1)) (n, count) e in
     let le : b ≤ top = ltb-false _ _ g.0 in
     let pair = ok_is (b, 1) (n, count) g.1 in
-    subst (λ (p : ℕ × ℕ). GroupsTake top 0 (b ∷ bytes) p.0 p.1) pair (record { within = omega arith; few = omega arith; spelled = (omega arith, refl); small = omega arith })
+    subst (λ (p : ℕ × ℕ). GroupsTake top 0 (b ∷ bytes) p.0 p.1) pair
+    (record { within = omega arith; few = omega arith; spelled = (omega arith, refl); small = omega arith })
 groups_take place top (suc more) (b ∷ bytes) n count low fits e =
     elim (chosen (ltb b 128) (done (b, 1)) (groups_at place top more bytes >>= λ high. Ok ((b - 128) + 128 * high.0, high.1 + 1)) (Ok (n, count)) e) [
       | inl last ↦
           let lt : b < 128 = ltb-true _ _ last.0 in
-          subst (λ (p : ℕ × ℕ). GroupsTake top (suc more) (b ∷ bytes) p.0 p.1) (ok_is (b, 1) (n, count) last.1) (record { within = omega arith; few = omega arith; spelled = (lt, refl); small = omega (arith, limit_at_least top more) })
+          subst (λ (p : ℕ × ℕ). GroupsTake top (suc more) (b ∷ bytes) p.0 p.1) (ok_is (b, 1) (n, count) last.1)
+          (record { within = omega arith; few = omega arith; spelled = (lt, refl); small = omega (arith, limit_at_least top more) })
       | inr goes_on ↦
           let le : 128 ≤ b = ltb-false _ _ goes_on.0 in
           let r = bind_ok (groups_at place top more bytes) (λ high. Ok ((b - 128) + 128 * high.0, high.1 + 1)) (n, count) goes_on.1 in
@@ -126,7 +131,8 @@ groups_take place top (suc more) (b ∷ bytes) n count low fits e =
           })
     ]
 
-pub groups_give : (place top more : ℕ) (bytes tail : List ℕ) (n : ℕ) → IsGroups bytes n → length bytes ≤ more + 1 → n < limit top more → groups_at place top more (bytes ++ tail) ≡ Ok (n, length bytes)
+pub groups_give : (place top more : ℕ) (bytes tail : List ℕ) (n : ℕ) → IsGroups bytes n → length bytes ≤ more + 1 → n < limit top more
+    → groups_at place top more (bytes ++ tail) ≡ Ok (n, length bytes)
 unfolding groups_at
 groups_give place top more [] tail n s few small = absurd s
 groups_give place top zero (b ∷ []) tail n s few small =

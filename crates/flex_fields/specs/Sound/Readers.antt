@@ -1,8 +1,10 @@
 -- What is made of readers is a reader.
-use Rattle.std.proofs.Common.{◌≡◌, ℕ, ◌+◌, ◌<◌, ◌≤◌, List, [], ◌∷◌, ◌++◌, length, take, Result, Ok, refl, sym, ap, subst, ◌∙◌, append_assoc, arith, length-append}
+use Rattle.std.proofs.Common.{◌≡◌, ℕ, ◌+◌, ◌<◌, ◌≤◌, List, [], ◌∷◌, ◌++◌, length, take, Result, Ok, refl, sym, ap, subst, ◌∙◌, append_assoc}
+use Rattle.std.proofs.Common.{arith, length-append}
 use Rattle.std.proofs.lemmas.List.{drop_at, take-append-drop, length-take}
 use Rattle.flex_fields.specs.declared.fault.WireFault.{WireFault}
-use Rattle.flex_fields.specs.Reading.{At, past, ◌>>=◌, limit, groups_at, uvarint_at, long_uvarint_at, bool_at, bool_of, varint_at, varlong_at, unzigzag, then_at, as_at}
+use Rattle.flex_fields.specs.Reading.{At, past, ◌>>=◌, limit, groups_at, uvarint_at, long_uvarint_at, bool_at, bool_of, varint_at}
+use Rattle.flex_fields.specs.Reading.{varlong_at, unzigzag, then_at, as_at}
 use Rattle.flex_fields.specs.Grammar.{IsGroups, IsUvarint, IsLongUvarint, IsBool, IsVarint, IsVarlong, Then, As}
 use Rattle.flex_fields.specs.Laws.{Takes, IsReader}
 use Rattle.flex_fields.specs.Sound.Fields.{bind_ok, ok_is, IsBytes-rest, groups_take, groups_give, raw_reads}
@@ -15,13 +17,16 @@ groups_some [] n s = absurd s
 groups_some (b ∷ bytes) n s = omega arith
 
 -- numbers in groups, up to a limit
-groups_reads : (top more : ℕ) → top < 128 → IsReader (λ bytes n. IsGroups bytes n × (length bytes ≤ more + 1) × (n < limit top more)) (λ at. groups_at at.place top more at.left >>= λ n. Ok (n.0, past n.1 at))
+groups_reads : (top more : ℕ) → top < 128
+    → IsReader (λ bytes n. IsGroups bytes n × (length bytes ≤ more + 1) × (n < limit top more))
+    (λ at. groups_at at.place top more at.left >>= λ n. Ok (n.0, past n.1 at))
 groups_reads top more low = record {
   takes = λ at x after fits e.
       let r = bind_ok (groups_at at.place top more at.left) (λ n. Ok (n.0, past n.1 at)) (x, after) e in
       let t = groups_take at.place top more at.left r.0.0 r.0.1 low fits r.1 in
       let len : length (take r.0.1 at.left) ≡ r.0.1 = omega (arith, length-take r.0.1 at.left, t.within) in
-      subst (λ (p : ℕ × At). Takes at p.1 (λ front. IsGroups front p.0 × (length front ≤ more + 1) × (p.0 < limit top more))) (ok_is (r.0.0, past r.0.1 at) (x, after) r.2) (record {
+      subst (λ (p : ℕ × At). Takes at p.1 (λ front. IsGroups front p.0 × (length front ≤ more + 1) × (p.0 < limit top more)))
+      (ok_is (r.0.0, past r.0.1 at) (x, after) r.2) (record {
         front = take r.0.1 at.left;
         parts = sym (take-append-drop r.0.1 at.left);
         moved = ap (λ (k : ℕ). at.place + k) (sym len);
@@ -51,33 +56,39 @@ Takes-then a b c p q both = record {
 }
 
 -- where two parts follow one another, the second is read after the first
-pub gives_then : {A B : Type 0} (first : At → Result (A × At) WireFault) (second : At → Result (B × At) WireFault) (f g tail : List ℕ) (place : ℕ) (a : A) (b : B)
-    → first (at_place place (f ++ (g ++ tail))) ≡ Ok (a, at_place (place + length f) (g ++ tail)) → second (at_place (place + length f) (g ++ tail)) ≡ Ok (b, at_place (place + length f + length g) tail)
+pub gives_then : {A B : Type 0} (first : At → Result (A × At) WireFault) (second : At → Result (B × At) WireFault) (f g tail : List ℕ)
+    (place : ℕ) (a : A) (b : B)
+    → first (at_place place (f ++ (g ++ tail))) ≡ Ok (a, at_place (place + length f) (g ++ tail))
+    → second (at_place (place + length f) (g ++ tail)) ≡ Ok (b, at_place (place + length f + length g) tail)
     → then_at first second (at_place place ((f ++ g) ++ tail)) ≡ Ok ((a, b), at_place (place + length (f ++ g)) tail)
 gives_then {A} {B} first second f g tail place a b p q =
     let len : place + length f + length g ≡ place + length (f ++ g) = omega (arith, length-append f g) in
     ap (λ (l : List ℕ). then_at first second (at_place place l)) (append_assoc f g tail) ∙ rw (p, q) (λ i. Ok ((a, b), at_place (len i) tail))
 
-pub then_reads : {A B : Type 0} (P : List ℕ → A → Type 0) (Q : List ℕ → B → Type 0) (r : At → Result (A × At) WireFault) (s : At → Result (B × At) WireFault) → IsReader P r → IsReader Q s → IsReader (Then P Q) (then_at r s)
+pub then_reads : {A B : Type 0} (P : List ℕ → A → Type 0) (Q : List ℕ → B → Type 0) (r : At → Result (A × At) WireFault)
+    (s : At → Result (B × At) WireFault) → IsReader P r → IsReader Q s → IsReader (Then P Q) (then_at r s)
 then_reads {A} {B} P Q r s p q = record {
   takes = λ at x after fits e.
       let m = bind_ok (r at) (λ a. s a.1 >>= λ b. Ok ((a.0, b.0), b.1)) (x, after) e in
       let n = bind_ok (s m.0.1) (λ b. Ok ((m.0.0, b.0), b.1)) (x, after) m.2 in
       let t = p.takes at m.0.0 m.0.1 fits m.1 in
       let u = q.takes m.0.1 n.0.0 n.0.1 (IsBytes-rest at m.0.1 _ fits t) n.1 in
-      subst (λ (y : (A × B) × At). Takes at y.1 (λ front. Then P Q front y.0)) (ok_is ((m.0.0, n.0.0), n.0.1) (x, after) n.2) (Takes-then at m.0.1 n.0.1 t u (λ f g h k. (f, g, h, k, refl)));
+      subst (λ (y : (A × B) × At). Takes at y.1 (λ front. Then P Q front y.0)) (ok_is ((m.0.0, n.0.0), n.0.1) (x, after) n.2)
+      (Takes-then at m.0.1 n.0.1 t u (λ f g h k. (f, g, h, k, refl)));
   gives = λ front tail place x c.
       subst (λ (f : List ℕ). then_at r s (at_place place (f ++ tail)) ≡ Ok (x, at_place (place + length f) tail)) (sym c.4)
       (gives_then r s c.0 c.1 tail place x.0 x.1 (p.gives c.0 (c.1 ++ tail) place x.0 c.2) (q.gives c.1 tail (place + length c.0) x.1 c.3));
   some = λ front x c. omega (arith, ap length c.4, length-append c.0 c.1, p.some c.0 x.0 c.2);
 }
 
-pub as_reads : {A B : Type 0} (f : A → B) (P : List ℕ → A → Type 0) (r : At → Result (A × At) WireFault) → IsReader P r → IsReader (As f P) (as_at f r)
+pub as_reads : {A B : Type 0} (f : A → B) (P : List ℕ → A → Type 0) (r : At → Result (A × At) WireFault) → IsReader P r
+    → IsReader (As f P) (as_at f r)
 as_reads {A} {B} f P r p = record {
   takes = λ at x after fits e.
       let m = bind_ok (r at) (λ a. Ok (f a.0, a.1)) (x, after) e in
       let t = p.takes at m.0.0 m.0.1 fits m.1 in
-      subst (λ (y : B × At). Takes at y.1 (λ front. As f P front y.0)) (ok_is (f m.0.0, m.0.1) (x, after) m.2) (record { front = t.front; parts = t.parts; moved = t.moved; spelled = (m.0.0, t.spelled, refl) });
+      subst (λ (y : B × At). Takes at y.1 (λ front. As f P front y.0)) (ok_is (f m.0.0, m.0.1) (x, after) m.2)
+      (record { front = t.front; parts = t.parts; moved = t.moved; spelled = (m.0.0, t.spelled, refl) });
   gives = λ front tail place x c. rw (p.gives front tail place c.0 c.1) (λ i. Ok (c.2 i, at_place (place + length front) tail));
   some = λ front x c. p.some front c.0 c.1;
 }

@@ -1,7 +1,7 @@
 use Rattle.std.proofs.Common.{◌≡◌, ◌++◌, take}
 use Rattle.std.specs.List.{flat_map}
 use Rattle.flex_fields.specs.Grammar.{AreMany}
-use Rattle.flex_fields.proofs.wire.put_items.Given as goal
+use Rattle.flex_fields.proofs.wire.put_many.Given as goal
 
 abbrev pub invariant-loop-item : goal.invariant-loop-item
 invariant-loop-item g l = record {
