@@ -3,9 +3,10 @@
 use Rattle.std.specs.Prelude.{ℤ, List, refl}
 use Rattle.flex_fields.specs.Reading.{as_at}
 use Rattle.flex_fields.specs.Formats.{Format, Shape, ◌▹◌, int16}
+use Rattle.flex_fields.specs.Sound.Counted.{shape_reads}
 use Rattle.msgs_base.specs.declared.api_versions_old_reply.OldApiVersion.{OldApiVersion}
 use Rattle.msgs_base.specs.Counted.{IsCounted, counted_at, counted_bytes}
-use Rattle.msgs_base.specs.CountedRead.{counted_reads, plain_reads}
+use Rattle.msgs_base.specs.CountedRead.{counted_reads}
 use Rattle.msgs_base.specs.OldReply.{OldReply}
 
 -- a number of elements in four bytes, and the elements
@@ -18,7 +19,7 @@ plain shape f = record {
   is = λ bytes s. f.is bytes (shape.parts s);
   read = as_at shape.make f.read;
   bytes = λ s. f.bytes (shape.parts s);
-  sound = plain_reads shape.make shape.parts shape.back shape.there f.is f.read f.sound;
+  sound = shape_reads shape.make shape.parts shape.back shape.there f.is f.read f.sound;
 }
 
 abbrev pub old_api_version_shape : Shape OldApiVersion (ℤ × (ℤ × ℤ))

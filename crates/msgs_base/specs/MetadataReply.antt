@@ -19,7 +19,16 @@ metadata_broker = structure metadata_broker_shape (int32 ▹ string ▹ int32 �
 
 abbrev pub metadata_partition_shape : Shape MetadataPartition (ℤ × (ℤ × (ℤ × (ℤ × (List ℤ × (List ℤ × List ℤ))))))
 metadata_partition_shape = record {
-  make = λ x. record { error_code = x.0; partition_index = x.1.0; leader_id = x.1.1.0; leader_epoch = x.1.1.1.0; replica_nodes = x.1.1.1.1.0; isr_nodes = x.1.1.1.1.1.0; offline_replicas = x.1.1.1.1.1.1 };
+  make = λ x. record {
+    error_code = x.0;
+    partition_index = x.1.0;
+    leader_id = x.1.1.0;
+    leader_epoch = x.1.1.1.0;
+    replica_nodes =
+        x.1.1.1.1.0;
+    isr_nodes = x.1.1.1.1.1.0;
+    offline_replicas = x.1.1.1.1.1.1;
+  };
   parts = λ s. (s.error_code, (s.partition_index, (s.leader_id, (s.leader_epoch, (s.replica_nodes, (s.isr_nodes, s.offline_replicas))))));
   back = λ _. refl;
   there = λ _. refl;
@@ -30,7 +39,14 @@ metadata_partition = structure metadata_partition_shape (int16 ▹ int32 ▹ int
 
 abbrev pub metadata_topic_shape : Shape MetadataTopic (ℤ × (Option (List ℕ) × (List ℕ × (Bool × (List MetadataPartition × ℤ)))))
 metadata_topic_shape = record {
-  make = λ x. record { error_code = x.0; name = x.1.0; topic_id = x.1.1.0; is_internal = x.1.1.1.0; partitions = x.1.1.1.1.0; topic_authorized_operations = x.1.1.1.1.1 };
+  make = λ x. record {
+    error_code = x.0;
+    name = x.1.0;
+    topic_id = x.1.1.0;
+    is_internal = x.1.1.1.0;
+    partitions = x.1.1.1.1.0;
+    topic_authorized_operations = x.1.1.1.1.1;
+  };
   parts = λ s. (s.error_code, (s.name, (s.topic_id, (s.is_internal, (s.partitions, s.topic_authorized_operations)))));
   back = λ _. refl;
   there = λ _. refl;

@@ -1,7 +1,7 @@
+-- What a reply to ApiVersions of version 0 says (ApiVersionsResponse.json).
 use Rattle.std.specs.Prelude.{ℤ, List}
 use Rattle.msgs_base.specs.declared.api_versions_old_reply.OldApiVersion.{OldApiVersion}
 
--- what a reply to ApiVersions of version 0 says
 pub record OldReply : Type 0 where
   pub error_code : ℤ
   pub api_keys : List OldApiVersion

@@ -1,33 +1,15 @@
 // Arrays whose number of elements has four bytes.
-ghost use Rattle.std.specs.Prelude.{◌≡◌, ◌+◌, ◌^◌, ◌<◌, ◌++◌, length, OnOk, IfOk};
-ghost use Rattle.std.specs.List.{flat_map};
-ghost use Rattle.flex_fields.specs.Reading.{many_at};
-ghost use Rattle.flex_fields.specs.Grammar.{AreMany};
+ghost use Rattle.std.specs.Prelude.{◌^◌, ◌<◌, length, OnOk, OnErr, IfOk};
 ghost use Rattle.flex_fields.specs.Cursors.{Moves};
-ghost use Rattle.flex_fields.specs.Formats.{Writes};
+ghost use Rattle.flex_fields.specs.Formats.{Writes, StartsWith};
 ghost use Rattle.msgs_base.specs.Counted.{counted_at};
 ghost use Rattle.msgs_base.specs.ApiVersionsOldReply.{counted};
 
-use flex_fields::{Cursor, Items, NoMemory, Out, Wire, WireFault};
+use flex_fields::{Cursor, Items, NoMemory, Out, Wire, WireFault, put_many, take_many};
 use std::alloc::Global;
 
-fn take_many<T: Wire>(
-    alloc: Global,
-    count: u32,
-    cursor: &mut Cursor<'_>,
-) -> Result<Items<T>, WireFault>
-    requires few { count < 2 ^ 31 }
-    ensures read { Moves cursor.new result (many_at T.format.read count cursor.old) }
-    ensures few { IfOk result (λ xs. length xs < 2 ^ 31) }
-{
-    let mut items = Vec::new(alloc);
-    for _ in 0..count {
-        let item = T::take(alloc, cursor)?;
-        items.push(item)?;
-    }
-    Ok(Items::new(items))
-}
-
+/// An array; a number of elements below 0, or above that of the bytes left, is refused as
+/// `BadLength` at its first byte. After a refusal the cursor may stand anywhere.
 #[tactic(auto, unfolding(crate::specs::Counted::counted_at))]
 pub fn take_counted<T: Wire>(alloc: Global, cursor: &mut Cursor<'_>) -> Result<Items<T>, WireFault>
     ensures read { Moves cursor.new result (counted_at T.format.read cursor.old) }
@@ -41,21 +23,13 @@ pub fn take_counted<T: Wire>(alloc: Global, cursor: &mut Cursor<'_>) -> Result<I
     take_many(alloc, count as u32, cursor)
 }
 
-fn put_items<T: Wire>(out: &mut Out, items: &[T]) -> Result<(), NoMemory>
-    ensures bytes { OnOk result (out.new ≡ out.old ++ flat_map T.format.bytes items.now) }
-    ensures stands { OnOk result (AreMany T.format.is (flat_map T.format.bytes items.now) items.now) }
-{
-    for item in items {
-        item.put(out)?;
-    }
-    Ok(())
-}
-
+/// Writes an array.
 pub fn put_counted<T: Wire>(out: &mut Out, items: &[T]) -> Result<(), NoMemory>
     requires { length items.now < 2 ^ 31 }
-    ensures { OnOk result (Writes (counted T.format) out.old out.new items.now) }
+    ensures ok { OnOk result (Writes (counted T.format) out.old out.new items.now) }
+    ensures err { OnErr result (StartsWith out.old out.new) }
 {
     out.put_i32(items.len() as i32)?;
-    put_items(out, items)?;
+    put_many(out, items)?;
     Ok(())
 }

@@ -9,7 +9,14 @@ use Rattle.msgs_state.specs.StateBatch.{state_batch}
 
 abbrev pub read_partition_result_shape : Shape ReadPartitionResult (ℤ × (ℤ × (Option (List ℕ) × (ℤ × (ℤ × List StateBatch)))))
 read_partition_result_shape = record {
-  make = λ x. record { partition = x.0; error_code = x.1.0; error_message = x.1.1.0; state_epoch = x.1.1.1.0; start_offset = x.1.1.1.1.0; state_batches = x.1.1.1.1.1 };
+  make = λ x. record {
+    partition = x.0;
+    error_code = x.1.0;
+    error_message = x.1.1.0;
+    state_epoch = x.1.1.1.0;
+    start_offset = x.1.1.1.1.0;
+    state_batches = x.1.1.1.1.1;
+  };
   parts = λ s. (s.partition, (s.error_code, (s.error_message, (s.state_epoch, (s.start_offset, s.state_batches)))));
   back = λ _. refl;
   there = λ _. refl;

@@ -1,6 +1,7 @@
 -- The client id of a request header: two bytes of length and the string, or -1 for null. Kafka keeps it in the
 -- form of the older, inflexible messages ("NULLABLE_STRING" of the protocol guide, RequestHeader.json).
-use Rattle.std.specs.Prelude.{◌≡◌, ℕ, ℤ, pos, negsuc, zero, suc, true, List, ◌++◌, length, take, Option, Some, None, Result, Ok, Err, nat_lt, if◌then◌else◌}
+use Rattle.std.specs.Prelude.{◌≡◌, ℕ, ℤ, pos, negsuc, zero, suc, true, List, ◌++◌, length, take, Option, Some, None, Result, Ok, Err}
+use Rattle.std.specs.Prelude.{nat_lt, if◌then◌else◌}
 use Rattle.std.specs.Int.{w16}
 use Rattle.std.specs.Str.{is_utf8}
 use Rattle.flex_fields.specs.declared.fault.WireFault.{WireFault}
@@ -15,7 +16,8 @@ IsClient bytes None = IsInt w16 bytes (negsuc 0)
 IsClient bytes (Some text) = (front : List ℕ) × IsInt w16 front (pos (length text)) × (is_utf8 text ≡ true) × (bytes ≡ front ++ text)
 
 abbrev pub string_at : ℕ → ℕ → At → Result (Option (List ℕ) × At) WireFault
-string_at place n at = if nat_lt (length at.left) n then Err (Short place) else if is_utf8 (take n at.left) then Ok (Some (take n at.left), past n at) else Err (NotUtf8 place)
+string_at place n at = if nat_lt (length at.left) n then Err (Short place) else if is_utf8 (take n at.left)
+    then Ok (Some (take n at.left), past n at) else Err (NotUtf8 place)
 
 -- what stands behind this length
 abbrev pub behind_length : ℕ → ℤ → At → Result (Option (List ℕ) × At) WireFault

@@ -5,7 +5,8 @@ use Rattle.flex_fields.specs.Formats.{Format, Shape, structure, ◌▹◌, int16
 use Rattle.req_head.specs.Client.{IsClient, client_at, client_bytes}
 use Rattle.req_head.specs.ClientRead.{client_reads}
 
--- what a request header says
+-- What a request header says: 00 53 00 00 00 00 00 01 ff ff 00 has api key 83, version 0, correlation id 1 and no
+-- client id.
 pub record HeadParts : Type 0 where
   pub key : ℤ
   pub version : ℤ
@@ -29,7 +30,7 @@ request_head = structure head_shape (int16 ▹ int16 ▹ int32 ▹ client_id)
 abbrev pub number_alone : Shape ℤ ℤ
 number_alone = record { make = λ x. x; parts = λ x. x; back = λ _. refl; there = λ _. refl }
 
--- the correlation id, with tags behind it in version 1 and nothing in version 0
+-- the correlation id, with tags behind it in version 1 and nothing in version 0: 00 00 00 01 00 and 00 00 00 01
 abbrev pub reply_head : Bool → Format ℤ
 reply_head true = structure number_alone int32
 reply_head false = int32

@@ -57,15 +57,16 @@ impl Wire for RequestHead {
     }
 }
 
-/// Reads a request header of version 2 from the front of the bytes, and gives its length. What
-/// follows isn't looked at, so it never answers `Trailing`.
+/// Reads a request header of version 2 (KIP-482) from the front of the bytes, and gives its length
+/// in bytes. What follows isn't looked at, so it never answers `Trailing`. A fault is at the first
+/// byte of the field, tag or size that can't be read.
 pub fn read_head(alloc: Global, bytes: &[u8]) -> Result<(RequestHead, u64), WireFault>
     ensures { ReadsFront request_head bytes.now result }
 {
     read_front(alloc, bytes)
 }
 
-/// Writes a request header of version 2.
+/// Writes a request header of version 2; `NoMemory` where no memory was found for it.
 pub fn write_head(alloc: Global, head: &RequestHead) -> Result<Bytes, NoMemory>
     ensures { IfOk result (IsSpelling request_head head.now) }
 {
@@ -91,7 +92,8 @@ pub fn read_reply_head(bytes: &[u8]) -> Result<(i32, u64), WireFault>
     take_reply_head(bytes)
 }
 
-/// Writes a response header, of version 1 where `tags` is true and else of version 0.
+/// Writes a response header, of version 1 where `tags` is true and else of version 0; `NoMemory`
+/// where no memory was found for it.
 pub fn write_reply_head(alloc: Global, correlation: i32, tags: bool) -> Result<Bytes, NoMemory>
     ensures { IfOk result (IsSpelling (reply_head tags) correlation) }
 {

@@ -2,6 +2,6 @@ use Rattle.flex_fields.proofs.Puts.{◌▸◌, structure_writes}
 use Rattle.msgs_base.specs.ApiVersionsRequest.{api_versions_request_shape, api_versions_request}
 use Rattle.msgs_base.proofs.api_versions_request.ApiVersionsRequestWire.put.Goals as goal
 
-pub returns : goal.returns
+pub returns-clause-ok : goal.returns-clause-ok
 unfolding api_versions_request
-returns c = structure_writes api_versions_request_shape (c.in_ok-put.ensures ▸ c.in_ok-put-2.ensures) c.in_ok-put_tags.ensures.ok
+returns-clause-ok c = structure_writes api_versions_request_shape (c.in_ok-put.ensures.ok ▸ c.in_ok-put-2.ensures.ok) c.in_ok-put_tags.ensures.ok
