@@ -1,4 +1,6 @@
 -- The broker as a state: its connections, and its shards. Foreign state is one shard. The model is this project's own.
+-- For example what came before `close 1` is gone when connection 1 is opened again (share_top, the test
+-- scripts_are_replayed_up_to_their_first_malformed_line).
 use Rattle.std.specs.Prelude.{ℕ, List, [], ◌∷◌, ◌++◌, Bool, false, ◌||◌, nat_eq, Option, Some, None, if◌then◌else◌}
 use Rattle.share_model.specs.Foreign.{ForeignEntry}
 use Rattle.conn_core.specs.declared.work.Work.TheVariants.{Free}

@@ -1,5 +1,8 @@
 -- What an event does to the broker. A step is a relation: where a device of a shard may fail, the shard's write may be
--- refused, but only in a step in which that device's count of faults rose. No shard has a device yet.
+-- refused, but only in a step in which that device's count of faults rose. No shard has a device yet. The calls on foreign
+-- state are those of KIP-932, and the rest is this project's own.
+-- For example an initialize with state epoch 2 is refused with code 124 where 3 is known, and leaves 3 (share_top, the test
+-- a_key_is_unknown_until_it_is_initialized_and_a_lower_epoch_is_fenced).
 use Rattle.std.specs.Prelude.{◌≡◌, ℕ, ℤ, pos, negsuc, Bool, List, [], ◌∷◌, Option, Some, None, map, int_le, ◌&&◌, if◌then◌else◌}
 use Rattle.session_script.specs.declared.event.Event.{Event}
 use Rattle.session_script.specs.declared.event.Event.TheVariants.{Open, Bytes, Close, Step}

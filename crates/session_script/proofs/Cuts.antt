@@ -1,5 +1,6 @@
 -- A text is cut in one way at its first blank, or at its first line feed.
-use Rattle.std.proofs.Common.{◌≡◌, ◌≢◌, ◌<◌, ◌≤◌, ◌^◌, ℕ, zero, suc, List, [], ◌∷◌, ◌++◌, Option, Some, None, MatchOption, length, get_or, refl, ap, arith, lit<}
+use Rattle.std.proofs.Common.{◌≡◌, ◌≢◌, ◌<◌, ◌≤◌, ◌^◌, ℕ, zero, suc, List, [], ◌∷◌, ◌++◌, Option, Some, None, MatchOption, length, get_or}
+use Rattle.std.proofs.Common.{refl, ap, arith, lit<}
 use Rattle.std.proofs.Common.{Bool, true, not, ◌&&◌, ◌==◌}
 use Rattle.std.proofs.lemmas.Bool.{and_parts}
 use Rattle.std.proofs.lemmas.Bool.Decides.{nat_tests}
@@ -60,6 +61,7 @@ no_blank n h = none_digits 32 (decimal n) (omega arith) (decimal_is_IsNumeral n 
 pub no_feed : (n : ℕ) → n < 2 ^ 64 → HasNone 10 (decimal n)
 no_feed n h = none_digits 10 (decimal n) (omega arith) (decimal_is_IsNumeral n h).0.1
 
-pub cut_of : (text : List ℕ) (r : Option (Bor (List ℕ) × Bor (List ℕ))) → IsSplitOnceResult 32 text r → MatchOption r (HasNoCut text) (λ x. IsCut text x.0.now x.1.now)
+pub cut_of : (text : List ℕ) (r : Option (Bor (List ℕ) × Bor (List ℕ))) → IsSplitOnceResult 32 text r →
+    MatchOption r (HasNoCut text) (λ x. IsCut text x.0.now x.1.now)
 cut_of text None h = λ front rest p. split_after 32 text front rest None h (lit< tt) p.1 (at_none 32 front p.0)
 cut_of text (Some x) h = let p = split_parts 32 text (Some x) h (lit< tt) in (none_at 32 x.0.now p.1, p.0)

@@ -19,7 +19,8 @@ nowhere_none bs n h = none_at 10 (take n bs) (λ i lt e.
 pub all_none : (bs : List ℕ) → ((k : ℕ) → 0 ≤ k → k < length bs → (slice_index bs k == 10) ≡ true → ⊥) → HasNone 10 bs
 all_none bs h = none_at 10 bs (λ i lt e. h i (omega arith) lt (eqb_is _ _ e))
 
-pub feed_found : (bytes : List ℕ) (from count : ℕ) → from ≤ length bytes → count < length (drop from bytes) → (slice_index (drop from bytes) count == 10) ≡ true → HasNone 10 (take count (drop from bytes)) →
+pub feed_found : (bytes : List ℕ) (from count : ℕ) → from ≤ length bytes → count < length (drop from bytes) →
+    (slice_index (drop from bytes) count == 10) ≡ true → HasNone 10 (take count (drop from bytes)) →
     IsFeedFrom bytes from (from + count)
 feed_found bytes from count le lt e h =
     let len = length-drop from bytes in
@@ -39,7 +40,8 @@ looked_on bytes start scanned place p q h g =
     let at : start + (scanned - start) ≡ scanned = omega arith in
     let cut : take (place - start) (drop start bytes) ≡ take (scanned - start) (drop start bytes) ++ take (place - scanned) (drop scanned bytes) =
     ap (λ (n : ℕ). take n (drop start bytes)) parts ∙ take-add (scanned - start) (place - scanned) (drop start bytes)
-    ∙ ap (λ (l : List ℕ). take (scanned - start) (drop start bytes) ++ take (place - scanned) l) (drop-drop (scanned - start) start bytes ∙ ap (λ (n : ℕ). drop n bytes) at) in
+    ∙ ap (λ (l : List ℕ). take (scanned - start) (drop start bytes) ++ take (place - scanned) l)
+    (drop-drop (scanned - start) start bytes ∙ ap (λ (n : ℕ). drop n bytes) at) in
     subst (HasNone 10) (sym cut) (none_append 10 _ _ h g)
 
 -- all that was looked at
@@ -48,10 +50,12 @@ pub looked_all : (bytes : List ℕ) (start scanned : ℕ) → start ≤ scanned 
 looked_all bytes start scanned p q h g =
     let at : start + (scanned - start) ≡ scanned = omega arith in
     let cut : drop start bytes ≡ take (scanned - start) (drop start bytes) ++ drop scanned bytes =
-    sym (take-append-drop (scanned - start) (drop start bytes)) ∙ ap (λ (l : List ℕ). take (scanned - start) (drop start bytes) ++ l) (drop-drop (scanned - start) start bytes ∙ ap (λ (n : ℕ). drop n bytes) at) in
+    sym (take-append-drop (scanned - start) (drop start bytes))
+    ∙ ap (λ (l : List ℕ). take (scanned - start) (drop start bytes) ++ l) (drop-drop (scanned - start) start bytes ∙ ap (λ (n : ℕ). drop n bytes) at) in
     subst (HasNone 10) (sym cut) (none_append 10 _ _ h g)
 
-pub line_of_feed : (bytes : List ℕ) (start scanned place : ℕ) → start ≤ scanned → HasNone 10 (take (scanned - start) (drop start bytes)) → IsFeedFrom bytes scanned place →
+pub line_of_feed : (bytes : List ℕ) (start scanned place : ℕ) → start ≤ scanned → HasNone 10 (take (scanned - start) (drop start bytes)) →
+    IsFeedFrom bytes scanned place →
     IsLine (drop start bytes) (place - start)
 line_of_feed bytes start scanned place p h f =
     let len = length-drop start bytes in
@@ -62,7 +66,8 @@ line_of_feed bytes start scanned place p h f =
       before = looked_on bytes start scanned place p f.behind h f.before;
     }
 
-pub found_is_buffered : (bytes : List ℕ) (start scanned feed place : ℕ) → IsBuffered bytes start scanned place → IsFeedFrom bytes scanned feed → IsBuffered bytes start feed place
+pub found_is_buffered : (bytes : List ℕ) (start scanned feed place : ℕ) → IsBuffered bytes start scanned place → IsFeedFrom bytes scanned feed →
+    IsBuffered bytes start feed place
 found_is_buffered bytes start scanned feed place b f = record {
   begun = omega (arith, b.begun, f.behind);
   within = omega (arith, f.within);
@@ -70,7 +75,8 @@ found_is_buffered bytes start scanned feed place b f = record {
   script = b.script;
 }
 
-pub none_is_buffered : (bytes : List ℕ) (start scanned end place : ℕ) → IsBuffered bytes start scanned place → end ≡ length bytes → HasNone 10 (drop scanned bytes) → IsBuffered bytes start end place
+pub none_is_buffered : (bytes : List ℕ) (start scanned end place : ℕ) → IsBuffered bytes start scanned place → end ≡ length bytes →
+    HasNone 10 (drop scanned bytes) → IsBuffered bytes start end place
 none_is_buffered bytes start scanned end place b is h = record {
   begun = omega (arith, b.begun, b.within, is);
   within = omega (arith, is);

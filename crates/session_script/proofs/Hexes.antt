@@ -1,10 +1,12 @@
 -- Digits in lower case are those of the bytes to which they decode.
-use Rattle.std.proofs.Common.{◌≡◌, ◌≢◌, ◌<◌, ◌+◌, ◌*◌, ◌/◌, ◌%◌, ℕ, zero, suc, Bool, true, false, ◌&&◌, ◌||◌, ◌==◌, List, [], ◌∷◌, Option, Some, None, Result, Ok, Err, slice_index, refl, sym, ap, ◌∙◌, arith, inl, inr}
+use Rattle.std.proofs.Common.{◌≡◌, ◌≢◌, ◌<◌, ◌+◌, ◌*◌, ◌/◌, ◌%◌, ℕ, zero, suc, Bool, true, false, ◌&&◌, ◌||◌, ◌==◌, List, [], ◌∷◌, Option}
+use Rattle.std.proofs.Common.{Some, None, Result, Ok, Err, slice_index, refl, sym, ap, ◌∙◌, arith, inl, inr}
 use Rattle.std.proofs.lemmas.Bool.{and_parts, cases_lt, eqb-true}
 use Rattle.std.proofs.lemmas.Bool.Decides.{nat_tests}
 use Rattle.std.specs.List.{list_any}
 use Rattle.std.specs.Char.{is_ascii_uppercase, digit_char}
-use Rattle.hex.specs.Hex.{decode_of, decode_pairs, digit_or_error, hex_digit_value, encode_lower, encode_with, lower_digits, pair_value, value_at, IsBytes, ◌>>=◌}
+use Rattle.hex.specs.Hex.{decode_of, decode_pairs, digit_or_error, hex_digit_value, encode_lower, encode_with, lower_digits, pair_value}
+use Rattle.hex.specs.Hex.{value_at, IsBytes, ◌>>=◌}
 use Rattle.hex.specs.declared.error.FromHexError.{FromHexError}
 use Rattle.hex.proofs.HexLemmas.{decode_of-ok, decode_of-even, decode_of-encode_lower}
 use Rattle.session_script.specs.Lines.{HasNone, IsHex, IsNoHex}
@@ -94,5 +96,7 @@ hex_no_feed [] h = tt
 hex_no_feed (b ∷ bytes) h =
     let small : b < 256 = h 0 in
     let up : b / 16 < 16 = omega arith in
-    let down : b % 16 < 16 = omega arith in
-    ((λ e. no_feed_char (b / 16) up (sym (digit_is (b / 16) up) ∙ e)), ((λ e. no_feed_char (b % 16) down (sym (digit_is (b % 16) down) ∙ e)), hex_no_feed bytes (λ i. h (suc i))))
+    let down : b % 16 < 16 = omega arith in (
+      (λ e. no_feed_char (b / 16) up (sym (digit_is (b / 16) up) ∙ e)),
+      ((λ e. no_feed_char (b % 16) down (sym (digit_is (b % 16) down) ∙ e)), hex_no_feed bytes (λ i. h (suc i))),
+    )

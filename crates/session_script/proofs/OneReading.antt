@@ -57,7 +57,8 @@ lines events = flat_map line_of events
 
 -- from a place on
 read_from : (place : ℕ) (events others : List Event) (rest left : List ℕ) → AllByRecursion IsEvent events → AllByRecursion IsEvent others →
-    place + length (lines events) ≤ longest → place + length (lines others) ≤ longest → HasNoEvent (place + length (lines events)) rest → HasNoEvent (place + length (lines others)) left →
+    place + length (lines events) ≤ longest → place + length (lines others) ≤ longest → HasNoEvent (place + length (lines events)) rest →
+    HasNoEvent (place + length (lines others)) left →
     lines events ++ rest ≡ lines others ++ left → (events ≡ others) × (rest ≡ left)
 read_from place [] [] rest left p q w v m n e = (refl, e)
 read_from place [] (b ∷ others) rest left p q w v m n e =
@@ -75,14 +76,17 @@ read_from place (a ∷ events) (b ∷ others) rest left p q w v m n e =
     let same : length (line_of b) ≡ length (line_of a) = ap (λ (x : Event). length (line_of x)) (sym s.0) in
     let at : place + length (lines (a ∷ events)) ≡ place + length (line_of a) + length (lines events) = omega (arith, one) in
     let also : place + length (lines (b ∷ others)) ≡ place + length (line_of a) + length (lines others) = omega (arith, two, same) in
-    let t = read_from (place + length (line_of a)) events others rest left p.1 q.1 (omega (arith, w, at)) (omega (arith, v, also)) (subst (λ (k : ℕ). HasNoEvent k rest) at m) (subst (λ (k : ℕ). HasNoEvent k left) also n) s.1 in
+    let t = read_from (place + length (line_of a)) events others rest left p.1 q.1 (omega (arith, w, at)) (omega (arith, v, also))
+    (subst (λ (k : ℕ). HasNoEvent k rest) at m) (subst (λ (k : ℕ). HasNoEvent k left) also n) s.1 in
     let u : a ∷ events ≡ b ∷ others = cc (s.0, t.0) in
     (u, t.1)
 
 pub one_reading : (text : List ℕ) → HasOneReading text
 one_reading text events others rest left p m q n =
-    let zero_at : (es : List Event) → length (lines es) ≡ 0 + length (lines es) = λ (es : List Event). (let r : length (lines es) ≡ 0 + length (lines es) = omega arith in r) in
-    read_from 0 events others rest left p.each q.each (omega (arith, p.within)) (omega (arith, q.within)) (subst (λ (k : ℕ). HasNoEvent k rest) (zero_at events) m) (subst (λ (k : ℕ). HasNoEvent k left) (zero_at others) n) (sym p.parts ∙ q.parts)
+    let zero_at : (es : List Event) → length (lines es) ≡ 0 + length (lines es) =
+    λ (es : List Event). (let r : length (lines es) ≡ 0 + length (lines es) = omega arith in r) in
+    read_from 0 events others rest left p.each q.each (omega (arith, p.within)) (omega (arith, q.within))
+    (subst (λ (k : ℕ). HasNoEvent k rest) (zero_at events) m) (subst (λ (k : ℕ). HasNoEvent k left) (zero_at others) n) (sym p.parts ∙ q.parts)
 
 -- a text with a malformed line is no script
 pub malformed_is_none : (text : List ℕ) (events others : List Event) (fault : ℕ) → IsMalformed text events fault → IsScript text others → ⊥

@@ -1,5 +1,6 @@
 -- Where no line of an event stands, and neither does the end.
-use Rattle.std.proofs.Common.{◌≡◌, ◌≢◌, ◌<◌, ◌≤◌, ◌+◌, ◌^◌, inl, inr, ℕ, suc, List, [], ◌∷◌, ◌++◌, Option, Some, None, IfSome, length, take, drop, drop-cons, length-append, codes, refl, sym, ap, ◌∙◌, subst, arith, append_assoc, append-nil}
+use Rattle.std.proofs.Common.{◌≡◌, ◌≢◌, ◌<◌, ◌≤◌, ◌+◌, ◌^◌, inl, inr, ℕ, suc, List, [], ◌∷◌, ◌++◌, Option, Some, None, IfSome, length, take}
+use Rattle.std.proofs.Common.{drop, drop-cons, length-append, codes, refl, sym, ap, ◌∙◌, subst, arith, append_assoc, append-nil}
 use Rattle.std.proofs.lemmas.List.{take-append-drop, length-take}
 use Rattle.std.proofs.lemmas.Fmt.{length-decimal-le}
 use Rattle.std.specs.Fmt.{decimal}
@@ -17,12 +18,16 @@ numbered_none : (conn : ℕ) (rest : List ℕ) → conn < 2 ^ 32 → HasNone 10 
 numbered_none conn rest lt h = none_append 10 (decimal conn) (32 ∷ rest) (no_feed conn (omega arith)) ((λ e. absurd (omega arith)), h)
 
 pub no_feed_words : (event : Event) → IsEvent event → HasNone 10 (words_of event)
-no_feed_words (Open conn) is = none_append 10 (codes "open" ++ 32 ∷ []) (decimal conn) (lacks_none 10 (codes "open" ++ 32 ∷ []) refl) (no_feed conn (omega arith))
+no_feed_words (Open conn) is =
+    none_append 10 (codes "open" ++ 32 ∷ []) (decimal conn) (lacks_none 10 (codes "open" ++ 32 ∷ []) refl) (no_feed conn (omega arith))
 no_feed_words (Bytes conn bytes) is =
-    none_append 10 (codes "bytes" ++ 32 ∷ []) (decimal conn ++ 32 ∷ encode_lower bytes) (lacks_none 10 (codes "bytes" ++ 32 ∷ []) refl) (numbered_none conn (encode_lower bytes) is.0 (hex_no_feed bytes is.3))
-no_feed_words (Close conn) is = none_append 10 (codes "close" ++ 32 ∷ []) (decimal conn) (lacks_none 10 (codes "close" ++ 32 ∷ []) refl) (no_feed conn (omega arith))
+    none_append 10 (codes "bytes" ++ 32 ∷ []) (decimal conn ++ 32 ∷ encode_lower bytes) (lacks_none 10 (codes "bytes" ++ 32 ∷ []) refl)
+    (numbered_none conn (encode_lower bytes) is.0 (hex_no_feed bytes is.3))
+no_feed_words (Close conn) is =
+    none_append 10 (codes "close" ++ 32 ∷ []) (decimal conn) (lacks_none 10 (codes "close" ++ 32 ∷ []) refl) (no_feed conn (omega arith))
 no_feed_words (Step conn now) is =
-    none_append 10 (codes "step" ++ 32 ∷ []) (decimal conn ++ 32 ∷ decimal now) (lacks_none 10 (codes "step" ++ 32 ∷ []) refl) (numbered_none conn (decimal now) is.0 (no_feed now (omega (arith, is.1))))
+    none_append 10 (codes "step" ++ 32 ∷ []) (decimal conn ++ 32 ∷ decimal now) (lacks_none 10 (codes "step" ++ 32 ∷ []) refl)
+    (numbered_none conn (decimal now) is.0 (no_feed now (omega (arith, is.1))))
 
 not_in_front : (xs ys : List ℕ) → HasNone 10 (xs ++ 10 ∷ ys) → ⊥
 not_in_front [] ys h = h.0 refl
@@ -57,15 +62,18 @@ end_is_none (Step conn now) e = absurd (omega (arith, same_head _ _ _ _ e))
 -- a line that is the last one's
 same_end : (bytes more rest : List ℕ) (n : ℕ) → IsLine bytes n → bytes ++ more ≡ end_line ++ rest → take n bytes ≡ end_word
 same_end bytes more rest n l e =
-    (one_cut 10 (take n bytes) end_word (drop (suc n) bytes ++ more) rest l.before end_has_none (sym (at_line bytes more n l) ∙ e ∙ append_assoc end_word (10 ∷ []) rest)).0
+    (one_cut 10 (take n bytes) end_word (drop (suc n) bytes ++ more) rest l.before end_has_none
+    (sym (at_line bytes more n l) ∙ e ∙ append_assoc end_word (10 ∷ []) rest)).0
 
 end_alone : (rest : List ℕ) → rest ≡ end_line → rest ≡ end_line ++ []
 end_alone rest e = e ∙ sym (append-nil end_line)
 
 -- a line that says nothing and isn't the last
-pub nothing_said : (place n : ℕ) (bytes more : List ℕ) → IsLine bytes n → SaysNothing (take n bytes) → take n bytes ≢ end_word → IsRefused place (bytes ++ more) place
+pub nothing_said : (place n : ℕ) (bytes more : List ℕ) → IsLine bytes n → SaysNothing (take n bytes) → take n bytes ≢ end_word →
+    IsRefused place (bytes ++ more) place
 nothing_said place n bytes more l h other = record {
-  no_event = λ event rest is e. absurd (h event (is, same_words (take n bytes) (drop (suc n) bytes ++ more) rest event l.before is (sym (at_line bytes more n l) ∙ e)));
+  no_event = λ event rest is e. absurd (h event
+      (is, same_words (take n bytes) (drop (suc n) bytes ++ more) rest event l.before is (sym (at_line bytes more n l) ∙ e)));
   no_end = λ end. other (same_end bytes more [] n l (end_alone (bytes ++ more) end.0));
   at = inr ((λ rest e. absurd (other (same_end bytes more rest n l e))), refl);
 }
@@ -76,7 +84,8 @@ script_full place n bytes more l full =
     let len = length-take n bytes in
     let size : length (take n bytes) ≡ n = omega (arith, len, l.within) in
     let past : (rest : List ℕ) → bytes ++ more ≡ end_line ++ rest → longest < place + 4 =
-    λ (rest : List ℕ) (e : bytes ++ more ≡ end_line ++ rest). (let s : length (take n bytes) ≡ 3 = ap length (same_end bytes more rest n l e) in let r : longest < place + 4 = omega (arith, size, s) in r) in
+    λ (rest : List ℕ) (e : bytes ++ more ≡ end_line ++ rest). (let s : length (take n bytes) ≡ 3 = ap length (same_end bytes more rest n l e) in
+    let r : longest < place + 4 = omega (arith, size, s) in r) in
     record {
       no_event = λ event rest is e.
           (let same = same_words (take n bytes) (drop (suc n) bytes ++ more) rest event l.before is (sym (at_line bytes more n l) ∙ e) in
@@ -107,7 +116,8 @@ words_short (Step conn now) is =
 -- the input ends within the line
 cut_off : (place : ℕ) (bytes : List ℕ) → HasNone 10 bytes → IsRefused place bytes place
 cut_off place bytes h =
-    let no : (front rest : List ℕ) → bytes ≡ front ++ 10 ∷ rest → ⊥ = λ (front rest : List ℕ) (e : bytes ≡ front ++ 10 ∷ rest). not_in_front front rest (subst (HasNone 10) e h) in
+    let no : (front rest : List ℕ) → bytes ≡ front ++ 10 ∷ rest → ⊥ =
+    λ (front rest : List ℕ) (e : bytes ≡ front ++ 10 ∷ rest). not_in_front front rest (subst (HasNone 10) e h) in
     record {
       no_event = λ event rest is e. absurd (no (words_of event) rest (e ∙ line_then event rest));
       no_end = λ end. no end_word [] end.0;
@@ -128,7 +138,8 @@ too_long place bytes more h long =
     feed_within : (bytes more front rest : List ℕ) → HasNone 10 bytes → length front < length bytes → bytes ++ more ≡ front ++ 10 ∷ rest → ⊥
     feed_within [] more front rest h lt e = absurd (omega arith)
     feed_within (b ∷ bytes) more [] rest h lt e = h.0 (cc)
-    feed_within (b ∷ bytes) more (f ∷ front) rest h lt e = (let t : bytes ++ more ≡ front ++ 10 ∷ rest = cc in feed_within bytes more front rest h.1 (omega arith) t)
+    feed_within (b ∷ bytes) more (f ∷ front) rest h lt e =
+        (let t : bytes ++ more ≡ front ++ 10 ∷ rest = cc in feed_within bytes more front rest h.1 (omega arith) t)
 
 pub unfinished : (place : ℕ) (bytes : List ℕ) (left : Option (List ℕ)) → IsUnfinished bytes left → IfSome left (λ more. IsRefused place (bytes ++ more) place)
 unfinished place bytes None u = tt
@@ -139,9 +150,11 @@ unfinished place bytes (Some more) (h, inr long) = too_long place bytes more h l
 pub behind_end : (place : ℕ) (b : ℕ) (bytes : List ℕ) → place + 4 ≤ longest → IsRefused place (end_line ++ b ∷ bytes) (place + 4)
 behind_end place b bytes fits = record {
   no_event = λ event rest is e.
-      (let same = one_cut 10 end_word (words_of event) (b ∷ bytes) rest end_has_none (no_feed_words event is) (sym (append_assoc end_word (10 ∷ []) (b ∷ bytes)) ∙ e ∙ line_then event rest) in
+      (let same = one_cut 10 end_word (words_of event) (b ∷ bytes) rest end_has_none (no_feed_words event is)
+      (sym (append_assoc end_word (10 ∷ []) (b ∷ bytes)) ∙ e ∙ line_then event rest) in
       absurd (end_is_none event same.0));
-  no_end = λ end. (let s : length (end_line ++ b ∷ bytes) ≡ length end_line = ap length end.0 in let t = length-append end_line (b ∷ bytes) in absurd (omega arith));
+  no_end = λ end. (let s : length (end_line ++ b ∷ bytes) ≡ length end_line =
+      ap length end.0 in let t = length-append end_line (b ∷ bytes) in absurd (omega arith));
   at = inl (b ∷ bytes, refl, fits, refl);
 }
 
@@ -155,23 +168,28 @@ cut_no_event place bytes h = (cut_off place bytes h).no_event
 
 -- the same, whatever the source has left
 
-pub full_refused : (place fault n : ℕ) (bytes : List ℕ) (left : Option (List ℕ)) → fault ≡ place → IsLine bytes n → longest ≤ place + n → IfSome left (λ more. IsRefused place (bytes ++ more) fault)
+pub full_refused : (place fault n : ℕ) (bytes : List ℕ) (left : Option (List ℕ)) → fault ≡ place → IsLine bytes n → longest ≤ place + n →
+    IfSome left (λ more. IsRefused place (bytes ++ more) fault)
 full_refused place fault n bytes None is l full = tt
 full_refused place fault n bytes (Some more) is l full = rw is (script_full place n bytes more l full)
 
-pub nothing_refused : (place fault n : ℕ) (bytes : List ℕ) (left : Option (List ℕ)) → fault ≡ place → IsLine bytes n → SaysNothing (take n bytes) → take n bytes ≢ end_word → IfSome left (λ more. IsRefused place (bytes ++ more) fault)
+pub nothing_refused : (place fault n : ℕ) (bytes : List ℕ) (left : Option (List ℕ)) → fault ≡ place → IsLine bytes n → SaysNothing (take n bytes) →
+    take n bytes ≢ end_word → IfSome left (λ more. IsRefused place (bytes ++ more) fault)
 nothing_refused place fault n bytes None is l h other = tt
 nothing_refused place fault n bytes (Some more) is l h other = rw is (nothing_said place n bytes more l h other)
 
-behind : (place fault : ℕ) (bytes rest more : List ℕ) → fault ≡ place + 4 → bytes ≡ end_line ++ rest → place + 4 ≤ longest → 4 < length bytes → IsRefused place (bytes ++ more) fault
+behind : (place fault : ℕ) (bytes rest more : List ℕ) → fault ≡ place + 4 → bytes ≡ end_line ++ rest → place + 4 ≤ longest → 4 < length bytes →
+    IsRefused place (bytes ++ more) fault
 behind place fault bytes [] more is e fits many = let s : length bytes ≡ 4 = ap length e in absurd (omega arith)
 behind place fault bytes (b ∷ rest) more is e fits many =
     let whole : bytes ++ more ≡ end_line ++ b ∷ (rest ++ more) = ap (λ (l : List ℕ). l ++ more) e ∙ append_assoc end_line (b ∷ rest) more in
     rw (whole, is) (behind_end place b (rest ++ more) fits)
 
-pub behind_refused : (place fault : ℕ) (bytes rest : List ℕ) (left : Option (List ℕ)) → fault ≡ place + 4 → bytes ≡ end_line ++ rest → place + 4 ≤ longest → 4 < length bytes → IfSome left (λ more. IsRefused place (bytes ++ more) fault)
+pub behind_refused : (place fault : ℕ) (bytes rest : List ℕ) (left : Option (List ℕ)) → fault ≡ place + 4 → bytes ≡ end_line ++ rest →
+    place + 4 ≤ longest → 4 < length bytes → IfSome left (λ more. IsRefused place (bytes ++ more) fault)
 behind_refused place fault bytes rest None is e fits many = tt
 behind_refused place fault bytes rest (Some more) is e fits many = behind place fault bytes rest more is e fits many
 
-pub unfinished_refused : (place fault : ℕ) (bytes : List ℕ) (left : Option (List ℕ)) → fault ≡ place → IsUnfinished bytes left → IfSome left (λ more. IsRefused place (bytes ++ more) fault)
+pub unfinished_refused : (place fault : ℕ) (bytes : List ℕ) (left : Option (List ℕ)) → fault ≡ place → IsUnfinished bytes left →
+    IfSome left (λ more. IsRefused place (bytes ++ more) fault)
 unfinished_refused place fault bytes left is u = rw is (unfinished place bytes left u)

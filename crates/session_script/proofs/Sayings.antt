@@ -50,7 +50,8 @@ step_no_moment rest word conn p h (Step n now) s =
     h now (s.0.1, t.1)
 
 -- the digits of a line of bytes
-digits_of : (rest digits : List ℕ) (conn : ℕ) → IsNumbered rest conn digits → ((bytes : List ℕ) → 0 < length bytes → length bytes ≤ 65536 → IsHex digits bytes → ⊥) →
+digits_of : (rest digits : List ℕ) (conn : ℕ) → IsNumbered rest conn digits →
+    ((bytes : List ℕ) → 0 < length bytes → length bytes ≤ 65536 → IsHex digits bytes → ⊥) →
     SaysNothing (codes "bytes" ++ 32 ∷ rest)
 digits_of rest digits conn p h (Open n) s = absurd (omega (arith, same_head _ _ _ _ s.1))
 digits_of rest digits conn p h (Close n) s = absurd (omega (arith, same_head _ _ _ _ s.1))
@@ -63,18 +64,23 @@ digits_of rest digits conn p h (Bytes n bytes) s =
 hex_length : (digits bytes : List ℕ) → IsHex digits bytes → length digits ≡ 2 * length bytes
 hex_length digits bytes p = ap length p.1 ∙ length-encode_with lower_digits bytes
 
-pub bytes_too_few_or_many : (rest digits : List ℕ) (conn : ℕ) → IsNumbered rest conn digits → (length digits ≡ 0) ⊎ (2 * 65536 < length digits) → SaysNothing (codes "bytes" ++ 32 ∷ rest)
-bytes_too_few_or_many rest digits conn p (inl none) = digits_of rest digits conn p (λ bytes some few q. let e = hex_length digits bytes q in absurd (omega (arith, e)))
-bytes_too_few_or_many rest digits conn p (inr many) = digits_of rest digits conn p (λ bytes some few q. let e = hex_length digits bytes q in absurd (omega (arith, e)))
+pub bytes_too_few_or_many : (rest digits : List ℕ) (conn : ℕ) → IsNumbered rest conn digits → (length digits ≡ 0) ⊎ (2 * 65536 < length digits) →
+    SaysNothing (codes "bytes" ++ 32 ∷ rest)
+bytes_too_few_or_many rest digits conn p (inl none) =
+    digits_of rest digits conn p (λ bytes some few q. let e = hex_length digits bytes q in absurd (omega (arith, e)))
+bytes_too_few_or_many rest digits conn p (inr many) =
+    digits_of rest digits conn p (λ bytes some few q. let e = hex_length digits bytes q in absurd (omega (arith, e)))
 
 pub bytes_no_hex : (rest digits : List ℕ) (conn : ℕ) → IsNumbered rest conn digits → IsNoHex digits → SaysNothing (codes "bytes" ++ 32 ∷ rest)
 bytes_no_hex rest digits conn p h = digits_of rest digits conn p (λ bytes some few q. h bytes q)
 
-pub bytes_say : (rest digits bytes : List ℕ) (conn : ℕ) → IsNumbered rest conn digits → IsHex digits bytes → 0 < length digits → length digits ≤ 2 * 65536 → Says (codes "bytes" ++ 32 ∷ rest) (Bytes conn bytes)
+pub bytes_say : (rest digits bytes : List ℕ) (conn : ℕ) → IsNumbered rest conn digits → IsHex digits bytes → 0 < length digits →
+    length digits ≤ 2 * 65536 → Says (codes "bytes" ++ 32 ∷ rest) (Bytes conn bytes)
 bytes_say rest digits bytes conn p q some few =
     let e = hex_length digits bytes q in (
       (p.0, (let h : 0 < length bytes = omega (arith, e) in h), (let h : length bytes ≤ 65536 = omega (arith, e) in h), q.0),
-      (let d : rest ≡ decimal conn ++ 32 ∷ encode_lower bytes = p.1 ∙ ap (λ (l : List ℕ). decimal conn ++ 32 ∷ l) q.1 in ap (λ (l : List ℕ). codes "bytes" ++ 32 ∷ l) d),
+      (let d : rest ≡ decimal conn ++ 32 ∷ encode_lower bytes =
+          p.1 ∙ ap (λ (l : List ℕ). decimal conn ++ 32 ∷ l) q.1 in ap (λ (l : List ℕ). codes "bytes" ++ 32 ∷ l) d),
     )
 
 pub bytes_not_numbered : (rest : List ℕ) → IsNotNumbered rest → SaysNothing (codes "bytes" ++ 32 ∷ rest)
@@ -91,9 +97,11 @@ record FirstWord (event : Event) (word rest : List ℕ) : Type 0 where
 
 first_word : (event : Event) → (word : List ℕ) × (rest : List ℕ) × FirstWord event word rest
 first_word (Open conn) = (codes "open", decimal conn, record { parts = refl; whole = lacks_none 32 (codes "open") refl; one = inl refl })
-first_word (Bytes conn bytes) = (codes "bytes", decimal conn ++ 32 ∷ encode_lower bytes, record { parts = refl; whole = lacks_none 32 (codes "bytes") refl; one = inr (inl refl) })
+first_word (Bytes conn bytes) =
+    (codes "bytes", decimal conn ++ 32 ∷ encode_lower bytes, record { parts = refl; whole = lacks_none 32 (codes "bytes") refl; one = inr (inl refl) })
 first_word (Close conn) = (codes "close", decimal conn, record { parts = refl; whole = lacks_none 32 (codes "close") refl; one = inr (inr (inl refl)) })
-first_word (Step conn now) = (codes "step", decimal conn ++ 32 ∷ decimal now, record { parts = refl; whole = lacks_none 32 (codes "step") refl; one = inr (inr (inr refl)) })
+first_word (Step conn now) =
+    (codes "step", decimal conn ++ 32 ∷ decimal now, record { parts = refl; whole = lacks_none 32 (codes "step") refl; one = inr (inr (inr refl)) })
 
 abbrev all_small : List ℕ → Bool
 all_small [] = true
@@ -109,11 +117,13 @@ numbered_ascii : (conn : ℕ) (rest : List ℕ) → conn < 2 ^ 32 → IsAscii re
 numbered_ascii conn rest lt h = IsAscii-append (decimal conn) (32 ∷ rest) (IsAscii-decimal conn (omega arith)) (IsAscii-cons 32 rest (lit< tt) h)
 
 ascii_words : (event : Event) → IsEvent event → IsAscii (words_of event)
-ascii_words (Open conn) is = IsAscii-append (codes "open" ++ 32 ∷ []) (decimal conn) (small_ascii (codes "open" ++ 32 ∷ []) refl) (IsAscii-decimal conn (omega arith))
+ascii_words (Open conn) is =
+    IsAscii-append (codes "open" ++ 32 ∷ []) (decimal conn) (small_ascii (codes "open" ++ 32 ∷ []) refl) (IsAscii-decimal conn (omega arith))
 ascii_words (Bytes conn bytes) is =
     IsAscii-append (codes "bytes" ++ 32 ∷ []) (decimal conn ++ 32 ∷ encode_lower bytes) (small_ascii (codes "bytes" ++ 32 ∷ []) refl)
     (numbered_ascii conn (encode_lower bytes) is.0 (IsAscii-encode_with lower_digits bytes (small_ascii lower_digits refl)))
-ascii_words (Close conn) is = IsAscii-append (codes "close" ++ 32 ∷ []) (decimal conn) (small_ascii (codes "close" ++ 32 ∷ []) refl) (IsAscii-decimal conn (omega arith))
+ascii_words (Close conn) is =
+    IsAscii-append (codes "close" ++ 32 ∷ []) (decimal conn) (small_ascii (codes "close" ++ 32 ∷ []) refl) (IsAscii-decimal conn (omega arith))
 ascii_words (Step conn now) is =
     IsAscii-append (codes "step" ++ 32 ∷ []) (decimal conn ++ 32 ∷ decimal now) (small_ascii (codes "step" ++ 32 ∷ []) refl)
     (numbered_ascii conn (decimal now) is.0 (IsAscii-decimal now (omega (arith, is.1))))
@@ -125,7 +135,8 @@ not_text line h event s = h (rw (s.1) (IsUtf8-from_ascii (words_of event) (ascii
 pub not_words : (line : List ℕ) → HasNoCut line → SaysNothing line
 not_words line h event s = let f = first_word event in h f.0 f.1 (f.2.whole, s.1 ∙ f.2.parts)
 
-pub other_word : (line word rest : List ℕ) → IsCut line word rest → word ≢ codes "open" → word ≢ codes "bytes" → word ≢ codes "close" → word ≢ codes "step" → SaysNothing line
+pub other_word : (line word rest : List ℕ) → IsCut line word rest → word ≢ codes "open" → word ≢ codes "bytes" → word ≢ codes "close" →
+    word ≢ codes "step" → SaysNothing line
 other_word line word rest p o b x t event s =
     let f = first_word event in
     let e = one_cut 32 word f.0 rest f.1 p.0 f.2.whole (sym p.1 ∙ s.1 ∙ f.2.parts) in

@@ -1,5 +1,6 @@
 -- What a reading has taken, from call to call.
-use Rattle.std.proofs.Common.{◌≡◌, ◌+◌, ℕ, List, [], ◌∷◌, ◌++◌, Option, Some, None, length, refl, sym, ap, ◌∙◌, arith, append_assoc, append-nil, suc, take, drop, add-one, length-append}
+use Rattle.std.proofs.Common.{◌≡◌, ◌+◌, ℕ, List, [], ◌∷◌, ◌++◌, Option, Some, None, length, refl, sym, ap, ◌∙◌, arith, append_assoc}
+use Rattle.std.proofs.Common.{append-nil, suc, take, drop, add-one, length-append}
 use Rattle.std.proofs.lemmas.List.{length-take}
 use Rattle.session_script.specs.declared.event.Event.{Event}
 use Rattle.session_script.specs.Script.{words_of, line_of}
@@ -42,6 +43,7 @@ takes_line place n bytes new left event l says is =
     record {
       given = [];
       consumed = same_consumes left;
-      parts = append-nil bytes ∙ line_parts bytes n l ∙ ap (λ (w : List ℕ). w ++ 10 ∷ drop (suc n) bytes) says.1 ∙ sym (append_assoc (words_of event) (10 ∷ []) (drop (suc n) bytes)) ∙ ap (λ (r : List ℕ). line_of event ++ r) rest;
+      parts = append-nil bytes ∙ line_parts bytes n l ∙ ap (λ (w : List ℕ). w ++ 10 ∷ drop (suc n) bytes) says.1
+          ∙ sym (append_assoc (words_of event) (10 ∷ []) (drop (suc n) bytes)) ∙ ap (λ (r : List ℕ). line_of event ++ r) rest;
       place = ap (λ (u : Unread). u.place) is ∙ omega (arith, size, more);
     }

@@ -1,4 +1,5 @@
--- What a call that writes a text does to its sink.
+-- What a call that writes a text does to its sink (this project's own).
+-- For example `malformed 27` stands whole behind the reply before it (the test outcomes_are_written_as_lines).
 use Rattle.std.specs.Prelude.{◌≡◌, ◌≤◌, List, ℕ, OnOk, Result, Err}
 use Rattle.std.specs.declared.option.Option.{Option}
 use Rattle.std.specs.Io.KnownBytes.{Appends, Keeps}

@@ -29,7 +29,8 @@ pub at_none : (id : ℕ) (change : Connection → Connection) (xs : List Connect
 at_none id change [] le = refl
 at_none id change (x ∷ xs) le = grind (arith, nat_tests, common_steps, at_none id change xs)
 
-pub closed_found : (id : ℕ) (xs : List Connection) → position_or_len (named id) xs < length xs → closed id xs ≡ take (position_or_len (named id) xs) xs ++ drop (position_or_len (named id) xs + 1) xs
+pub closed_found : (id : ℕ) (xs : List Connection) → position_or_len (named id) xs < length xs →
+    closed id xs ≡ take (position_or_len (named id) xs) xs ++ drop (position_or_len (named id) xs + 1) xs
 closed_found id [] lt = absurd (omega arith)
 closed_found id (x ∷ xs) lt = grind (arith, nat_tests, common_steps, closed_found id xs)
 
@@ -37,7 +38,8 @@ pub closed_none : (id : ℕ) (xs : List Connection) → length xs ≤ position_o
 closed_none id [] le = refl
 closed_none id (x ∷ xs) le = grind (arith, nat_tests, common_steps, closed_none id xs)
 
-pub link_found : (id : ℕ) (xs : List Connection) (d : Connection) → position_or_len (named id) xs < length xs → link_at id xs ≡ Some (slice_index_or xs (position_or_len (named id) xs) d).link
+pub link_found : (id : ℕ) (xs : List Connection) (d : Connection) → position_or_len (named id) xs < length xs →
+    link_at id xs ≡ Some (slice_index_or xs (position_or_len (named id) xs) d).link
 link_found id [] d lt = absurd (omega arith)
 link_found id (x ∷ xs) d lt = grind (arith, nat_tests, common_steps, link_found id xs d)
 
@@ -58,7 +60,8 @@ open_none id (x ∷ xs) le = grind (arith, nat_tests, common_steps, open_none id
 abbrev pub Search : ℕ → List Connection → Option ℕ
 Search id xs = position (named id) xs
 
-pub changed_at : (id : ℕ) (change : Connection → Connection) (xs : List Connection) (i : ℕ) (d : Connection) → Some i ≡ Search id xs → at_connection id change xs ≡ slice_set xs i (change (slice_index_or xs i d))
+pub changed_at : (id : ℕ) (change : Connection → Connection) (xs : List Connection) (i : ℕ) (d : Connection) → Some i ≡ Search id xs →
+    at_connection id change xs ≡ slice_set xs i (change (slice_index_or xs i d))
 changed_at id change xs i d e = let f = found_at (named id) xs i (sym e) in rw (← f.is) (at_found id change xs d (omega (arith, f.within, f.is)))
 
 pub changed_none : (id : ℕ) (change : Connection → Connection) (xs : List Connection) → None ≡ Search id xs → at_connection id change xs ≡ xs

@@ -1,4 +1,6 @@
--- How far a replay has come.
+-- How far a replay has come (this project's own).
+-- For example at the malformed line the reply before it is written already (the test
+-- scripts_are_replayed_up_to_their_first_malformed_line).
 use Rattle.std.specs.Prelude.{◌≡◌, List, ℕ, length}
 use Rattle.std.specs.declared.option.Option.{Option}
 use Rattle.std.specs.List.{flat_map}

@@ -1,4 +1,6 @@
--- What a step of a client does: to the client, to foreign state, and what the client is sent.
+-- What a step of a client does: to the client, to foreign state, and what the client is sent (this project's own).
+-- For example an initialize is done and answered in one step (the test
+-- a_key_is_unknown_until_it_is_initialized_and_a_lower_epoch_is_fenced).
 use Rattle.std.specs.Prelude.{◌≡◌, ℕ, List, [], ◌∷◌, Some}
 use Rattle.share_model.specs.declared.foreign.ForeignOp.{ForeignOp}
 use Rattle.share_model.specs.declared.foreign.ForeignAnswer.{ForeignAnswer}

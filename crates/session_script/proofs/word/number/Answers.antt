@@ -5,7 +5,8 @@ use Rattle.std.specs.Cmp.Lexicographic.{other_text}
 use Rattle.session_script.proofs.word.number.Goals as goal
 
 pub returns-in_default : goal.returns-in_default
-returns-in_default c = λ n p. c.in_default.not-Ok n (parse-decimal 64 n c.args.word.now c.parse.result (omega (arith, p.0)) (omega (arith, p.0)) p.1 c.parse.ensures.value.0)
+returns-in_default c =
+    λ n p. c.in_default.not-Ok n (parse-decimal 64 n c.args.word.now c.parse.result (omega (arith, p.0)) (omega (arith, p.0)) p.1 c.parse.ensures.value.0)
 
 pub returns-then-number-limit : goal.returns-then-number-limit
 returns-then-number-limit c = λ n p.

@@ -3,7 +3,9 @@ use Rattle.session_script.proofs.Feeds.{found_is_buffered, none_is_buffered, loo
 use Rattle.session_script.proofs.reader.ScriptReader.line_feed.Goals as goal
 
 pub invariant_of-self : goal.invariant_of-self
-invariant_of-self c = found_is_buffered c.self.inside.buffer.items c.self.inside.start c.self.inside.scanned c.in-Some.place c.self.inside.place c.self.invariant (rw c.deref.ensures.value at c.in-Some.ensures)
+invariant_of-self c =
+    found_is_buffered c.self.inside.buffer.items c.self.inside.start c.self.inside.scanned c.in-Some.place c.self.inside.place c.self.invariant
+    (rw c.deref.ensures.value at c.in-Some.ensures)
 
 pub invariant_of-self-in-None : goal.invariant_of-self-in-None
 invariant_of-self-in-None c =
@@ -12,8 +14,10 @@ invariant_of-self-in-None c =
 
 pub returns-in-Some-clause-found : goal.returns-in-Some-clause-found
 returns-in-Some-clause-found c =
-    line_of_feed c.self.inside.buffer.items c.self.inside.start c.self.inside.scanned c.in-Some.place c.self.invariant.begun c.self.invariant.looked (rw c.deref.ensures.value at c.in-Some.ensures)
+    line_of_feed c.self.inside.buffer.items c.self.inside.start c.self.inside.scanned c.in-Some.place c.self.invariant.begun c.self.invariant.looked
+    (rw c.deref.ensures.value at c.in-Some.ensures)
 
 pub returns-in-None-clause-found : goal.returns-in-None-clause-found
 returns-in-None-clause-found c =
-    looked_all c.self.inside.buffer.items c.self.inside.start c.self.inside.scanned c.self.invariant.begun c.self.invariant.within c.self.invariant.looked (rw c.deref.ensures.value at c.in-None.ensures)
+    looked_all c.self.inside.buffer.items c.self.inside.start c.self.inside.scanned c.self.invariant.begun c.self.invariant.within
+    c.self.invariant.looked (rw c.deref.ensures.value at c.in-None.ensures)

@@ -15,24 +15,34 @@ returns-in_default c =
 pub returns-in-Stays : goal.returns-in-Stays
 returns-in-Stays c =
     let old : Machine = record { connections = c.self.inside.clients.items; foreign = c.self.inside.foreign.items } in
-    let stepped : IsStepped (turn c.args.conf.now c.index_mut.result.now.link) c.self.inside.foreign.items c.step.new.foreign.items Stays c.index_mut.result.now c.step.new.self = rw c.in-Stays.is at c.in_ok-step.ensures in
-    let at = subst (λ (x : Connection). IsStepped (turn c.args.conf.now x.link) c.self.inside.foreign.items c.step.new.foreign.items Stays x c.step.new.self) c.index_mut.ensures.value stepped in
+    let stepped : IsStepped
+    (turn c.args.conf.now c.index_mut.result.now.link) c.self.inside.foreign.items c.step.new.foreign.items Stays c.index_mut.result.now
+    c.step.new.self = rw c.in-Stays.is at c.in_ok-step.ensures in
+    let at = subst (λ (x : Connection). IsStepped
+    (turn c.args.conf.now x.link) c.self.inside.foreign.items c.step.new.foreign.items Stays x c.step.new.self) c.index_mut.ensures.value stepped in
     rw (← c.self.view_is, c.new-in-Stays.ensures.items)
-    (serve_staying c.args.conf.now old c.step.new.foreign.items c.args.conn c.in-Some.place c.step.new.self c.index_mut.result.now Stays (rw c.deref.ensures.value at c.in-Some.ensures) tt at)
+    (serve_staying c.args.conf.now old c.step.new.foreign.items c.args.conn c.in-Some.place c.step.new.self c.index_mut.result.now Stays
+    (rw c.deref.ensures.value at c.in-Some.ensures) tt at)
 
 pub returns-in_ok-one-in-Replies : goal.returns-in_ok-one-in-Replies
 returns-in_ok-one-in-Replies c =
     let old : Machine = record { connections = c.self.inside.clients.items; foreign = c.self.inside.foreign.items } in
-    let stepped : IsStepped (turn c.args.conf.now c.index_mut.result.now.link) c.self.inside.foreign.items c.step.new.foreign.items (Replies c.in-Replies.frame) c.index_mut.result.now c.step.new.self = rw c.in-Replies.is at c.in_ok-step.ensures in
-    let at = subst (λ (x : Connection). IsStepped (turn c.args.conf.now x.link) c.self.inside.foreign.items c.step.new.foreign.items (Replies c.in-Replies.frame) x c.step.new.self) c.index_mut.ensures.value stepped in
+    let stepped : IsStepped (turn c.args.conf.now c.index_mut.result.now.link) c.self.inside.foreign.items c.step.new.foreign.items
+    (Replies c.in-Replies.frame) c.index_mut.result.now c.step.new.self = rw c.in-Replies.is at c.in_ok-step.ensures in
+    let at = subst (λ (x : Connection). IsStepped (turn c.args.conf.now x.link) c.self.inside.foreign.items c.step.new.foreign.items
+    (Replies c.in-Replies.frame) x c.step.new.self) c.index_mut.ensures.value stepped in
     rw (← c.self.view_is, c.in_ok-one-in-Replies.ensures)
-    (serve_staying c.args.conf.now old c.step.new.foreign.items c.args.conn c.in-Some.place c.step.new.self c.index_mut.result.now (Replies c.in-Replies.frame) (rw c.deref.ensures.value at c.in-Some.ensures) tt at)
+    (serve_staying c.args.conf.now old c.step.new.foreign.items c.args.conn c.in-Some.place c.step.new.self c.index_mut.result.now
+    (Replies c.in-Replies.frame) (rw c.deref.ensures.value at c.in-Some.ensures) tt at)
 
 pub returns-in_ok-one-in-Goes : goal.returns-in_ok-one-in-Goes
 returns-in_ok-one-in-Goes c =
     let old : Machine = record { connections = c.self.inside.clients.items; foreign = c.self.inside.foreign.items } in
-    let stepped : IsStepped (turn c.args.conf.now c.index_mut.result.now.link) c.self.inside.foreign.items c.step.new.foreign.items (Goes c.in-Goes.cause) c.index_mut.result.now c.step.new.self = rw c.in-Goes.is at c.in_ok-step.ensures in
-    let at = subst (λ (x : Connection). IsStepped (turn c.args.conf.now x.link) c.self.inside.foreign.items c.step.new.foreign.items (Goes c.in-Goes.cause) x c.step.new.self) c.index_mut.ensures.value stepped in
+    let stepped : IsStepped (turn c.args.conf.now c.index_mut.result.now.link) c.self.inside.foreign.items c.step.new.foreign.items
+    (Goes c.in-Goes.cause) c.index_mut.result.now c.step.new.self = rw c.in-Goes.is at c.in_ok-step.ensures in
+    let at = subst (λ (x : Connection). IsStepped (turn c.args.conf.now x.link) c.self.inside.foreign.items c.step.new.foreign.items
+    (Goes c.in-Goes.cause) x c.step.new.self) c.index_mut.ensures.value stepped in
     let removed : c.remove.new.self.items ≡ without c.in-Some.place (slice_set c.self.inside.clients.items c.in-Some.place c.step.new.self) = search rules in
     rw (← c.self.view_is, c.in_ok-one-in-Goes.ensures, removed)
-    (serve_going c.args.conf.now old c.step.new.foreign.items c.args.conn c.in-Some.place c.step.new.self c.index_mut.result.now c.in-Goes.cause (rw c.deref.ensures.value at c.in-Some.ensures) at)
+    (serve_going c.args.conf.now old c.step.new.foreign.items c.args.conn c.in-Some.place c.step.new.self c.index_mut.result.now c.in-Goes.cause
+    (rw c.deref.ensures.value at c.in-Some.ensures) at)
