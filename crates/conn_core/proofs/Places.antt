@@ -9,7 +9,7 @@ use Rattle.conn_core.specs.Sound.{waiting, places_waiting, topics_waiting}
 
 one_ask : (code : Option Code) (topic : List ℕ) (entry : Entry) (n m : ℕ) → n ≡ m → length (ask_unless code topic entry) + n ≡ waiting code m
 one_ask None topic entry n m e = omega (arith, e)
-one_ask (Some code) topic entry n m e = e
+one_ask (Some code) topic entry n m e = omega (arith, e)
 
 topic_parts : (fits hosted : Bool) (topic : List ℕ) (entries : List Entry) →
     length (flat_map (entry_asks fits hosted topic) entries) ≡ places_waiting (map (planned_partition fits hosted) entries)

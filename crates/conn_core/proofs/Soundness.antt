@@ -1,6 +1,7 @@
 -- The calls of a connection keep it sound.
 use Rattle.std.proofs.Common.{◌≡◌, ◌≢◌, ◌+◌, ℕ, ℤ, Bool, true, false, List, [], ◌∷◌, ◌++◌, length, Option, Some, None}
-use Rattle.std.proofs.Common.{Result, Ok, Err, refl, sym, subst, arith, if◌then◌else◌}
+use Rattle.std.proofs.Common.{Result, Ok, Err, refl, sym, subst, arith, not, ◌&&◌, if◌then◌else◌}
+use Rattle.std.specs.Ordering.{int_eq}
 use Rattle.std.proofs.lemmas.List.{length-append}
 use Rattle.flex_fields.specs.declared.fault.WireFault.{WireFault}
 use Rattle.flex_fields.specs.Formats.{front_at}
@@ -8,6 +9,7 @@ use Rattle.share_model.specs.declared.foreign.ForeignOp.{ForeignOp}
 use Rattle.topic_conf.specs.Configs.{ConfigParts}
 use Rattle.req_head.specs.Heads.{HeadParts, request_head}
 use Rattle.msgs_base.specs.ApiVersionsRequest.{api_versions_request}
+use Rattle.msgs_base.specs.ApiVersionsOldReply.{api_versions_old_reply}
 use Rattle.msgs_base.specs.MetadataRequest.{metadata_request}
 use Rattle.msgs_base.specs.FindCoordinatorRequest.{find_coordinator_request}
 use Rattle.msgs_state.specs.InitializeRequest.{initialize_share_group_state_request}
@@ -24,8 +26,9 @@ use Rattle.conn_core.specs.declared.stream.Front.TheVariants.{Partial, TooLong, 
 use Rattle.conn_core.specs.declared.told.Told.{Told}
 use Rattle.conn_core.specs.declared.work.Work.{Work}
 use Rattle.conn_core.specs.declared.work.Work.TheVariants.{Free, Busy, Overlong}
-use Rattle.conn_core.specs.Served.{api_at}
-use Rattle.conn_core.specs.Planning.{TopicEntries, is_group}
+use Rattle.conn_core.specs.Served.{api_key, api_version, api_at}
+use Rattle.conn_core.specs.Versions.{old_versions_answer}
+use Rattle.conn_core.specs.Planning.{TopicEntries, is_group, planned_topics, asks_of}
 use Rattle.conn_core.specs.Replies.{is_long, body_of}
 use Rattle.conn_core.specs.Stream.{front_of, frame_at, behind_frame}
 use Rattle.conn_core.specs.Hands.{AskParts, HandParts, first_of, first_part, rest_of, goes_on}
@@ -49,7 +52,10 @@ if_well false x y p q = q
 
 group_well : (conf : ConfigParts) (correlation : ℤ) (call : Call) (group : List ℕ) (entries : List TopicEntries) →
     IsWell (state_call conf correlation call group entries)
-group_well conf correlation call group entries = if_well (is_group group) _ _ (all_parts conf.topics true entries) tt
+group_well conf correlation call group entries =
+    let e = all_parts conf.topics true entries in
+    let parts : 0 + length (asks_of conf.topics true entries) ≡ topics_waiting (planned_topics conf.topics true entries) = omega (arith, e) in
+    if_well (is_group group) _ _ parts tt
 
 body_well : {A : Type 0} (asks : A → Judged) → ((message : A) → IsWell (asks message)) → (read : Result A ℕ) → IsWell (from_body asks read)
 body_well asks well (Ok message) = well message
@@ -72,8 +78,14 @@ called_well : (conf : ConfigParts) (frame : List ℕ) (key version : ℤ) (api :
 called_well conf frame key version (Some api) = headed_well conf frame api (front_at request_head.read frame)
 called_well conf frame key version None = tt
 
+routed_well : (conf : ConfigParts) (frame : List ℕ) (key version correlation : ℤ) → IsWell (routed conf frame key version correlation)
+routed_well conf frame key version correlation =
+    if_well (int_eq key (api_key ApiVersions) && not (int_eq version (api_version ApiVersions)))
+    (Answered false correlation (api_versions_old_reply.bytes old_versions_answer)) (called conf frame key version (api_at key version))
+    tt (called_well conf frame key version (api_at key version))
+
 started_well : (conf : ConfigParts) (frame : List ℕ) (read : Result ((ℤ × (ℤ × ℤ)) × ℕ) WireFault) → IsWell (started conf frame read)
-started_well conf frame (Ok x) = if_well _ _ _ tt (called_well conf frame x.0.0 x.0.1.0 (api_at x.0.0 x.0.1.0))
+started_well conf frame (Ok x) = routed_well conf frame x.0.0 x.0.1.0 x.0.1.1
 started_well conf frame (Err fault) = tt
 
 judged_well : (conf : ConfigParts) (frame : List ℕ) → IsWell (judged conf frame)
@@ -92,8 +104,8 @@ pub ended_sound : (conn : ConnParts) → IsSound (ended conn)
 ended_sound conn = record { work = tt; gone = λ e. refl }
 
 some_part : (part : Option ForeignOp) (op : ForeignOp) → part ≡ Some op → part ≢ None
-some_part None op e = absurd cc
-some_part (Some part) op e none = absurd cc
+some_part None op e none = cc
+some_part (Some part) op e none = cc
 
 -- of a turn that isn't idle
 abbrev KeepsSound : ConnParts → Next → ConnParts → Turn → Type 0

@@ -47,11 +47,11 @@ pub record IsSound (conn : ConnParts) : Type 0 where
 
 -- the calls of a connection keep it so
 pub record CallsKeepIt : Type 0 where
-  pub open : IsSound opened
-  pub feed : (piece : List ℕ) (conn : ConnParts) → IsSound conn → IsSound (fed piece conn)
-  pub close : (conn : ConnParts) → IsSound (ended conn)
-  pub go_on : (conf : ConfigParts) (old new : ConnParts) (next : Next) → IsSound old → GoesOn conf old next new → IsSound new
-  pub give : (told : Told) (conn : ConnParts) → IsSound conn → IsSound (given told conn)
+  pub at_first : IsSound opened
+  pub after_feed : (piece : List ℕ) (conn : ConnParts) → IsSound conn → IsSound (fed piece conn)
+  pub after_end : (conn : ConnParts) → IsSound (ended conn)
+  pub after_turn : (conf : ConfigParts) (old new : ConnParts) (next : Next) → IsSound old → GoesOn conf old next new → IsSound new
+  pub after_answer : (told : Told) (conn : ConnParts) → IsSound conn → IsSound (given told conn)
 
 -- it waits exactly where it isn't gone, no request is in hand, and what is unread begins with neither a whole frame nor the
 -- size of one that is too long

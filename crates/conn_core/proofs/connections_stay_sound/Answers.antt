@@ -3,11 +3,11 @@ use Rattle.conn_core.proofs.connections_stay_sound.Goals as goal
 
 pub returns-clause-kept : goal.returns-clause-kept
 returns-clause-kept c = record {
-  open = opened_sound;
-  feed = λ piece conn sound. fed_sound piece conn sound;
-  close = λ conn. ended_sound conn;
-  go_on = λ conf old new next sound turned. going_on_sound conf old new next sound turned;
-  give = λ told conn sound. given_sound told conn sound;
+  at_first = opened_sound;
+  after_feed = λ piece conn sound. fed_sound piece conn sound;
+  after_end = λ conn. ended_sound conn;
+  after_turn = λ conf old new next sound turned. going_on_sound conf old new next sound turned;
+  after_answer = λ told conn sound. given_sound told conn sound;
 }
 
 pub returns-clause-waits : goal.returns-clause-waits
