@@ -1,6 +1,6 @@
 -- What calls of a disk do to its armed fault and its count, one after the other.
-use Rattle.std.proofs.Common.{◌≡◌, ◌⊎◌, inl, inr, ⊎_elim, refl, sym, ap, ◌∙◌, subst, ℕ, ◌-◌, ◌==◌, if◌then◌else◌, List, Bool, true, false, Option, Result, Ok, Err, OnOk, IsErr, is_some}
-use Rattle.std.proofs.Common.{rules}
+use Rattle.std.proofs.Common.{◌≡◌, ◌⊎◌, inl, inr, ⊎_elim, refl, sym, ap, ◌∙◌, subst, rules, ℕ, ◌-◌, ◌==◌, if◌then◌else◌}
+use Rattle.std.proofs.Common.{List, Bool, true, false, Option, Result, Ok, Err, OnOk, IsErr, is_some}
 use Rattle.std.proofs.lemmas.Bool.{false_from_ne_true, cases_Bool}
 use Rattle.edge_io.specs.declared.fault.FaultMode.{FaultMode}
 use Rattle.edge_io.specs.declared.fault.FaultMode.TheVariants.{Once, Torn, Dead}
@@ -24,7 +24,8 @@ spends_then a b c f g h p q = record {
       (p.one_shot one);
 }
 
-module _ {D : Type 0} (content : D → Option (List ℕ)) (losses : D → List (ℕ × List ℕ)) (arms : D → ℕ) (armed : D → Armed) (starved : D → Bool) (faults : D → ℕ) where
+module _ {D : Type 0} (content : D → Option (List ℕ)) (losses : D → List (ℕ × List ℕ)) (arms : D → ℕ)
+    (armed : D → Armed) (starved : D → Bool) (faults : D → ℕ) where
   abbrev Runs : D → D → Type 0
   Runs old new = RunsOn content losses arms armed starved faults old new
 
@@ -46,20 +47,33 @@ module _ {D : Type 0} (content : D → Option (List ℕ)) (losses : D → List (
 -- ---- one call
 
 -- a fault that breaks one call, by whether it is its turn
-shot : (passes : ℕ) (mode : FaultMode) (b : Armed) (f g : ℕ) → spent mode ≡ Nothing → ((k : ℕ) → IsOneShot (After k mode)) → b ≡ next_armed (After passes mode) → (breaks (After passes mode) ≡ true) ⊎ (g ≡ f)
+shot : (passes : ℕ) (mode : FaultMode) (b : Armed) (f g : ℕ) → spent mode ≡ Nothing → ((k : ℕ) → IsOneShot (After k mode))
+    → b ≡ next_armed (After passes mode) → (breaks (After passes mode) ≡ true) ⊎ (g ≡ f)
     → (IsOneShot b × (g ≡ f)) ⊎ (b ≡ Nothing)
 shot passes mode b f g gone one next how = ⊎_elim
     (λ yes. inr (next ∙ ap (λ (t : Bool). if t then spent mode else After (passes - 1) mode) yes ∙ gone))
-    (λ no. inl (subst IsOneShot (sym (next ∙ ap (λ (t : Bool). if t then spent mode else After (passes - 1) mode) no)) (one (passes - 1)), ⊎_elim (λ yes. absurd (clash (sym yes ∙ no))) (λ same. same) how))
+    (λ no. inl (
+      subst IsOneShot (sym (next ∙ ap (λ (t : Bool). if t then spent mode else After (passes - 1) mode) no)) (one (passes - 1)),
+      ⊎_elim (λ yes. absurd (clash (sym yes ∙ no))) (λ same. same) how,
+    ))
     (cases_Bool (passes == 0))
 
 spends_by : (a b : Armed) (f g : ℕ) → b ≡ next_armed a → (breaks a ≡ true) ⊎ (g ≡ f) → Spends a b f g
-spends_by Nothing b f g next how = record { disarmed = λ is. (next, ⊎_elim (λ yes. absurd (clash (sym yes))) (λ same. same) how); one_shot = λ one. absurd one }
-spends_by (After passes Once) b f g next how = record { disarmed = λ is. absurd (armed_not is); one_shot = λ one. shot passes Once b f g refl (λ k. tt) next how }
+spends_by Nothing b f g next how = record {
+  disarmed = λ is. (next, ⊎_elim (λ yes. absurd (clash (sym yes))) (λ same. same) how);
+  one_shot = λ one. absurd one;
+}
+spends_by (After passes Once) b f g next how = record {
+  disarmed = λ is. absurd (armed_not is);
+  one_shot = λ one. shot passes Once b f g refl (λ k. tt) next how;
+}
   where
     armed_not : After passes Once ≡ Nothing → ⊥
     armed_not e = search rules
-spends_by (After passes Torn) b f g next how = record { disarmed = λ is. absurd (armed_not is); one_shot = λ one. shot passes Torn b f g refl (λ k. tt) next how }
+spends_by (After passes Torn) b f g next how = record {
+  disarmed = λ is. absurd (armed_not is);
+  one_shot = λ one. shot passes Torn b f g refl (λ k. tt) next how;
+}
   where
     armed_not : After passes Torn ≡ Nothing → ⊥
     armed_not e = search rules
@@ -72,14 +86,18 @@ spends_by Broken b f g next how = record { disarmed = λ is. absurd (armed_not i
     armed_not : Broken ≡ Nothing → ⊥
     armed_not e = search rules
 
-done_or_broken : {T E : Type 0} (a : Armed) (f g : ℕ) (now : Bool) (r : Result T E) → now ≡ false → (IsErr r → (breaks a ≡ true) ⊎ (now ≡ true)) → OnOk r (g ≡ f) → (breaks a ≡ true) ⊎ (g ≡ f)
+done_or_broken : {T E : Type 0} (a : Armed) (f g : ℕ) (now : Bool) (r : Result T E) → now ≡ false
+    → (IsErr r → (breaks a ≡ true) ⊎ (now ≡ true)) → OnOk r (g ≡ f) → (breaks a ≡ true) ⊎ (g ≡ f)
 done_or_broken a f g now (Ok x) not only quiet = inr quiet
 done_or_broken a f g now (Err e) not only quiet = ⊎_elim (λ broken. inl broken) (λ yes. absurd (clash (sym yes ∙ not))) (only refl)
 
-module _ {D : Type 0} (content : D → Option (List ℕ)) (losses : D → List (ℕ × List ℕ)) (arms : D → ℕ) (armed : D → Armed) (starved : D → Bool) (faults : D → ℕ) where
-  pub call_runs : {T E : Type 0} (old new : D) (r : Result T E) → is_some (content new) ≡ is_some (content old) → IsUneventful (losses old) (losses new) (arms old) (arms new)
-      → (IsTold (content old) → RunsAsArmed (armed old) (armed new) (starved old) (starved new) (faults old) (faults new) r) → RunsOn content losses arms armed starved faults old new
-  call_runs old new r told events runs = record {
+module _ {D : Type 0} (content : D → Option (List ℕ)) (losses : D → List (ℕ × List ℕ)) (arms : D → ℕ)
+    (armed : D → Armed) (starved : D → Bool) (faults : D → ℕ) where
+  pub call_runs : {T E : Type 0} (writes_half : Bool) (old new : D) (r : Result T E) → is_some (content new) ≡ is_some (content old)
+      → IsUneventful (losses old) (losses new) (arms old) (arms new)
+      → (IsTold (content old) → RunsAsArmed writes_half (armed old) (armed new) (starved old) (starved new) (faults old) (faults new) r)
+      → RunsOn content losses arms armed starved faults old new
+  call_runs writes_half old new r told events runs = record {
     same_losses = events.losses;
     same_arms = events.arms;
     told = told;

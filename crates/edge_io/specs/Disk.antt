@@ -1,7 +1,10 @@
 -- What the calls of a disk do to its content, and what a crash may leave of it. A content is a list of bytes. A disk
 -- that tells its content has `Some` of it; one that tells nothing, as a file, has `None` and no images, and then these
--- words say nothing of it.
-use Rattle.std.specs.Prelude.{◌≡◌, ℕ, ◌+◌, ◌≤◌, min, max, List, [], ◌∷◌, ◌++◌, length, take, drop, Some, is_some, true, Result, OnOk, MatchResult}
+-- words say nothing of it. The calls are POSIX `pread`, `pwrite`, `ftruncate` and `fdatasync`; what a crash leaves is this
+-- project's own model. Worked example: `ab` is synced, `cd` written at 2, and then all is cut to 1. A read gives `a`, and a
+-- crash may leave `a`, `ab`, or `ab` and one or two bytes more, which may be any.
+use Rattle.std.specs.Prelude.{◌≡◌, ℕ, ◌+◌, ◌≤◌, min, max, List, [], ◌∷◌, ◌++◌, length, take, drop}
+use Rattle.std.specs.Prelude.{Some, is_some, true, Result, OnOk, OnErr, MatchResult}
 use Rattle.std.specs.declared.option.Option.{Option}
 use Rattle.edge_io.specs.declared.fault.Armed.{Armed}
 use Rattle.edge_io.specs.declared.fault.Armed.TheVariants.{Nothing}
@@ -16,7 +19,7 @@ IsTold content = is_some content ≡ true
 abbrev pub WhereTold : Option (List ℕ) → (List ℕ → Type 0) → Type 0
 WhereTold content P = (c : List ℕ) → content ≡ Some c → P c
 
--- these bytes stand at a place, and all else is as it was
+-- these bytes stand at a place, over what was there and past the end, and all else is as it was
 abbrev pub written : ℕ → List ℕ → List ℕ → List ℕ
 written at bytes old = take at old ++ (bytes ++ drop (at + length bytes) old)
 
@@ -24,9 +27,12 @@ written at bytes old = take at old ++ (bytes ++ drop (at + length bytes) old)
 abbrev pub Becomes : (List ℕ → List ℕ) → Option (List ℕ) → Option (List ℕ) → Type 0
 Becomes f old new = (c : List ℕ) → new ≡ Some c → (d : List ℕ) × (old ≡ Some d) × (c ≡ f d)
 
--- a call that changes the content so, where it is done
-pub record Changes {T E : Type 0} (f : List ℕ → List ℕ) (old new : Option (List ℕ)) (result : Result T E) : Type 0 where
+-- A call that changes the content so, where it is done. Where it failed, a read gives what the unfinished call may have
+-- made of the content.
+pub record Changes {T E : Type 0} (f : List ℕ → List ℕ) (unfinished : List ℕ → List ℕ → Type 0) (old new : Option (List ℕ))
+    (result : Result T E) : Type 0 where
   pub done : OnOk result (Becomes f old new)
+  pub failed : OnErr result ((c d : List ℕ) → old ≡ Some c → new ≡ Some d → unfinished c d)
   pub told : is_some new ≡ is_some old
 
 -- ---- images: the contents that a crash now may leave
@@ -102,13 +108,15 @@ ShrinksTo to old new result = MatchResult result (λ _. new ≡ to) (λ _. (to �
 
 -- The content is one of the images, and the only one from now on. It joins the losses with its choice, and no fault is
 -- armed.
-pub record LosesPower (choice : ℕ) (old_image : List ℕ → Type 0) (old_losses : List (ℕ × List ℕ)) (content : Option (List ℕ)) (image : List ℕ → Type 0) (losses : List (ℕ × List ℕ)) (armed : Armed) : Type 0 where
+pub record LosesPower (choice : ℕ) (old_image : List ℕ → Type 0) (old_losses : List (ℕ × List ℕ))
+    (content : Option (List ℕ)) (image : List ℕ → Type 0) (losses : List (ℕ × List ℕ)) (armed : Armed) : Type 0 where
   pub left : (c : List ℕ) → content ≡ Some c → old_image c × (losses ≡ old_losses ++ (choice, c) ∷ [])
   pub only : Synced content image
   pub disarmed : armed ≡ Nothing
 
 -- A power loss that failed has changed nothing but the count of faults and whether the disk is starved.
-pub record KeepsPower (old_losses new_losses : List (ℕ × List ℕ)) (old_armed new_armed : Armed) (old_image new_image : List ℕ → Type 0) : Type 0 where
+pub record KeepsPower (old_losses new_losses : List (ℕ × List ℕ)) (old_armed new_armed : Armed)
+    (old_image new_image : List ℕ → Type 0) : Type 0 where
   pub losses : new_losses ≡ old_losses
   pub armed : new_armed ≡ old_armed
   pub images : SameImages old_image new_image

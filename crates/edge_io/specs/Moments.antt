@@ -1,4 +1,6 @@
--- What a crash at some moment might have left, during a call or between two.
+-- What a crash at some moment might have left, during a call or between two. This project's own. Worked example: on a disk
+-- of `ab`, since a moment before `cd` is written at 2, a crash might have left `ab`, also when a sync behind the write has
+-- made `abcd` the only content that a crash now may leave.
 use Rattle.std.specs.Prelude.{◌⊎◌, ℕ, ◌≤◌, List}
 
 -- Time goes on: a crash since t might have left what it might have left before, or what it may leave now.
@@ -16,7 +18,9 @@ pub record LeavesOnly {D : Type 0} (moment : D → ℕ) (since : D → ℕ → L
 
 -- Two disks, each at a moment of its own: an image of the one since its old moment, beside an image of the other since
 -- its own, have P.
-pub record LeavesPairs {A B : Type 0} (moment_a : A → ℕ) (since_a : A → ℕ → List ℕ → Type 0) (moment_b : B → ℕ) (since_b : B → ℕ → List ℕ → Type 0) (old_a new_a : A) (old_b new_b : B) (P : List ℕ → List ℕ → Type 0) : Type 0 where
+pub record LeavesPairs {A B : Type 0} (moment_a : A → ℕ) (since_a : A → ℕ → List ℕ → Type 0)
+    (moment_b : B → ℕ) (since_b : B → ℕ → List ℕ → Type 0)
+    (old_a new_a : A) (old_b new_b : B) (P : List ℕ → List ℕ → Type 0) : Type 0 where
   pub later_a : moment_a old_a ≤ moment_a new_a
   pub later_b : moment_b old_b ≤ moment_b new_b
   pub each : (c d : List ℕ) → since_a new_a (moment_a old_a) c → since_b new_b (moment_b old_b) d → P c d

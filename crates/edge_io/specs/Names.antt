@@ -1,6 +1,9 @@
 -- The names of disks: `TOPIC/N/log`, `TOPIC/N/state-a` and `TOPIC/N/state-b` for the partitions that a broker hosts, and
 -- `foreign/state-a` and `foreign/state-b` for the states of those that it doesn't. They are also the paths of their files.
-use Rattle.std.specs.Prelude.{◌≡◌, ◌≢◌, ◌⊎◌, ◌<◌, ◌≤◌, ◌+◌, ◌/◌, ◌%◌, ◌==◌, ◌&&◌, ◌||◌, nat_le, nat_lt, if◌then◌else◌, ℕ, Bool, true, List, [], ◌∷◌, ◌++◌, length, All, codes}
+-- What a topic may be named is Kafka's rule; the names of disks and the limit of 64 partitions are this project's own.
+-- Worked example: `orders/0/state-a`; `..` is no topic's name, and no topic has a partition 64.
+use Rattle.std.specs.Prelude.{◌≡◌, ◌≢◌, ◌⊎◌, ◌<◌, ◌≤◌, ◌+◌, ◌/◌, ◌%◌, ◌==◌, ◌&&◌, ◌||◌, nat_le, nat_lt}
+use Rattle.std.specs.Prelude.{if◌then◌else◌, ℕ, Bool, true, List, [], ◌∷◌, ◌++◌, length, All, codes}
 use Rattle.edge_io.specs.declared.name.DiskPlace.{DiskPlace}
 use Rattle.edge_io.specs.declared.name.DiskPlace.TheVariants.{Log, StateA, StateB}
 
@@ -26,5 +29,6 @@ hosted_name topic number place = topic ++ (codes "/" ++ (number_word number ++ (
 
 -- one of these names; a topic has at most 64 partitions
 abbrev pub IsDiskName : List ℕ → Type 0
-IsDiskName name = ((topic : List ℕ) × (number : ℕ) × (place : DiskPlace) × IsTopicName topic × (number < 64) × (name ≡ hosted_name topic number place))
+IsDiskName name = ((topic : List ℕ) × (number : ℕ) × (place : DiskPlace) ×
+    IsTopicName topic × (number < 64) × (name ≡ hosted_name topic number place))
     ⊎ ((name ≡ codes "foreign/state-a") ⊎ (name ≡ codes "foreign/state-b"))

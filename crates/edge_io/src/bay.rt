@@ -1,6 +1,7 @@
-ghost use Rattle.std.specs.Prelude.{◌≡◌, ◌≢◌, ◌≤◌, ◌<◌, ℕ, List, Bool, true, false, IfOk, OnErr};
+ghost use Rattle.std.specs.Prelude.{◌≡◌, ◌≢◌, ◌⊎◌, ◌≤◌, ◌+◌, ◌-◌, ◌^◌, min};
+ghost use Rattle.std.specs.Prelude.{ℕ, List, Bool, true, false, IfOk, OnErr, IsErr};
 ghost use Rattle.std.specs.declared.option.Option.{Option};
-ghost use Rattle.edge_io.specs.Causes.{HasCause, Rose};
+ghost use Rattle.edge_io.specs.Causes.{HasCause};
 ghost use Rattle.edge_io.specs.Bays.{SameSlot, IsAsTold, Holds};
 
 use crate::{Disk, DiskName, Failed};
@@ -38,17 +39,18 @@ pub trait Bay {
         ensures is_out { IfOk result (λ d. (out self.new name.now ≡ true) × (taken self.new name.now ≡ Self.D.faults d)) }
         ensures err { OnErr result ((disk self.new name.now ≡ disk self.old name.now) × (out self.new name.now ≡ false)) }
         ensures others { (m : List ℕ) → m ≢ name.now → SameSlot disk out taken m self.old self.new }
+        ensures starves { starved self.new ≡ true → (starved self.old ≡ true) ⊎ IsErr result }
         ensures stays { starved self.old ≡ true → starved self.new ≡ true }
         ensures cause { HasCause (faults self.old) (faults self.new) result };
 
-    /// Puts a disk back. Its faults since it was taken count as the bay's.
+    /// Puts a disk back. Its faults since it was taken are added to the bay's count, which stays at `u64::MAX` once it is
+    /// there.
     fn put_back(&mut self, name: &DiskName, given: Self::D)
         requires { out self.old name.now ≡ true }
         ensures there { Holds (disk self.old name.now) (disk self.new name.now) given }
         ensures is_in { out self.new name.now ≡ false }
         ensures others { (m : List ℕ) → m ≢ name.now → SameSlot disk out taken m self.old self.new }
         ensures later { faults self.old ≤ faults self.new }
-        ensures counts { taken self.old name.now < Self.D.faults given → Rose (faults self.old) (faults self.new) }
-        ensures quiet { Self.D.faults given ≤ taken self.old name.now → faults self.new ≡ faults self.old }
+        ensures counts { faults self.new ≡ min (faults self.old + (Self.D.faults given - taken self.old name.now)) (2 ^ 64 - 1) }
         ensures starved { starved self.new ≡ starved self.old };
 }

@@ -1,7 +1,7 @@
 ghost use Rattle.std.specs.Prelude.{◌≡◌, ◌≢◌, ◌≤◌, ◌++◌, List, ℕ, OnOk, IfSome, IsErrOf, Err, true};
 ghost use Rattle.std.specs.Io.KnownBytes.{Appends};
 ghost use Rattle.edge_io.specs.Causes.{Rose, HasCause};
-ghost use Rattle.edge_io.specs.Streams.{AppendsFront, Gains};
+ghost use Rattle.edge_io.specs.Streams.{AppendsFront, Gains, Spills};
 ghost use Rattle.edge_io.specs.declared.copying.ReadError.TheVariants.{NoMemory};
 
 use crate::{Failed, Sink, Source};
@@ -55,12 +55,14 @@ impl From<AllocError> for ReadError {
 
 /// Reads a source to its end, and puts the bytes behind those of `out`.
 ///
-/// At `Failed` `out` has gained what was read before the fault.
+/// At `Failed` `out` has gained what was read before the fault. At `NoMemory` it has gained all that was read but the last
+/// piece, of at most 4096 bytes, which is lost.
 #[tactic(auto, using(crate::proofs::Streaming::gains_then))]
 pub fn read_to_end<S: Source>(source: &mut S, out: &mut Vec<u8>) -> Result<(), ReadError>
     ensures ok { OnOk result (IfSome (S.left source.old) (λ bytes. out.new.items ≡ out.old.items ++ bytes)) }
     ensures end { OnOk result (S.ended source.new ≡ true) }
     ensures gains { result ≢ Err ReadError.NoMemory → Gains (S.left source.old) (S.left source.new) out.old.items out.new.items }
+    ensures spills { IsErrOf result ReadError.NoMemory → Spills (S.left source.old) (S.left source.new) out.old.items out.new.items }
     ensures later { S.faults source.old ≤ S.faults source.new }
     ensures failed { IsErrOf result ReadError.Failed → Rose (S.faults source.old) (S.faults source.new) }
 {

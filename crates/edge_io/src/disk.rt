@@ -1,10 +1,11 @@
-ghost use Rattle.std.specs.Prelude.{◌≡◌, ◌+◌, ◌-◌, ◌≤◌, ◌^◌, min, ℕ, List, Bool, length, take, drop, Some, is_some, OnOk, OnErr};
+ghost use Rattle.std.specs.Prelude.{◌≡◌, ◌+◌, ◌≤◌, ◌^◌, ℕ, List, Bool, false, length, take, drop, Some, is_some, OnOk, OnErr};
 ghost use Rattle.std.specs.declared.option.Option.{Option};
 ghost use Rattle.edge_io.specs.declared.fault.Armed.{Armed};
 ghost use Rattle.edge_io.specs.declared.fault.Armed.TheVariants.{After};
-ghost use Rattle.edge_io.specs.Armed.{RunsAsArmed};
-ghost use Rattle.edge_io.specs.Causes.{FailsBy, HasCause};
-ghost use Rattle.edge_io.specs.Disk.{written, IsTold, WhereTold, Changes, UnfinishedWrite, UnfinishedCut, StepsBy, Within, SameImages, Synced, SameContent, IsUneventful, GrowsTo, ShrinksTo, LosesPower, KeepsPower};
+ghost use Rattle.edge_io.specs.Armed.{RunsAsArmed, tears};
+ghost use Rattle.edge_io.specs.Causes.{FailsBy, HasCause, raised};
+ghost use Rattle.edge_io.specs.Disk.{written, IsTold, WhereTold, Changes, UnfinishedWrite, UnfinishedCut, StepsBy, Within};
+ghost use Rattle.edge_io.specs.Disk.{SameImages, Synced, SameContent, IsUneventful, GrowsTo, ShrinksTo, LosesPower, KeepsPower};
 ghost use Rattle.edge_io.specs.Moments.{Elapses};
 
 use crate::{Failed, FaultMode};
@@ -65,47 +66,55 @@ pub trait Disk {
         ensures images { SameImages (image self.old) (image self.new) }
         ensures time { Elapses (moment self.old) (moment self.new) (since self.old) (since self.new) (image self.new) }
         ensures events { IsUneventful (losses self.old) (losses self.new) (arms self.old) (arms self.new) }
-        ensures fails { IsTold (content self.old) → RunsAsArmed (armed self.old) (armed self.new) (starved self.old) (starved self.new) (faults self.old) (faults self.new) result }
+        ensures fails { IsTold (content self.old) → RunsAsArmed false (armed self.old) (armed self.new)
+            (starved self.old) (starved self.new) (faults self.old) (faults self.new) result }
         ensures cause { HasCause (faults self.old) (faults self.new) result };
 
     /// Writes bytes at `place`, over what stands there and past the end. It is safe from a crash after the next sync.
+    /// After an `Err` the bytes of its range are any, and the content may have grown up to the end of the write.
     fn write_at(&mut self, place: u64, bytes: &[u8]) -> Result<(), Failed>
         requires begins { place ≤ size self.old }
         requires ends { place + length bytes.now ≤ 2 ^ 62 }
-        ensures content { Changes (written place bytes.now) (content self.old) (content self.new) result }
+        ensures content { Changes (written place bytes.now) (UnfinishedWrite place (length bytes.now)) (content self.old) (content self.new) result }
         ensures size { GrowsTo (place + length bytes.now) (size self.old) (size self.new) result }
         ensures images { StepsBy (UnfinishedWrite place (length bytes.now)) (image self.old) (image self.new) result }
         ensures time { Elapses (moment self.old) (moment self.new) (since self.old) (since self.new) (image self.new) }
         ensures events { IsUneventful (losses self.old) (losses self.new) (arms self.old) (arms self.new) }
-        ensures fails { IsTold (content self.old) → RunsAsArmed (armed self.old) (armed self.new) (starved self.old) (starved self.new) (faults self.old) (faults self.new) result }
+        ensures fails { IsTold (content self.old) → RunsAsArmed (tears (armed self.old)) (armed self.old) (armed self.new)
+            (starved self.old) (starved self.new) (faults self.old) (faults self.new) result }
         ensures cause { HasCause (faults self.old) (faults self.new) result };
 
-    /// Cuts the content to a length. It is safe from a crash after the next sync.
+    /// Cuts the content to a length. It is safe from a crash after the next sync. After an `Err` the content has some
+    /// length from the one that was asked for to the old one.
     fn cut(&mut self, to: u64) -> Result<(), Failed>
         requires { to ≤ size self.old }
-        ensures content { Changes (take to) (content self.old) (content self.new) result }
+        ensures content { Changes (take to) (UnfinishedCut to) (content self.old) (content self.new) result }
         ensures size { ShrinksTo to (size self.old) (size self.new) result }
         ensures images { StepsBy (UnfinishedCut to) (image self.old) (image self.new) result }
         ensures time { Elapses (moment self.old) (moment self.new) (since self.old) (since self.new) (image self.new) }
         ensures events { IsUneventful (losses self.old) (losses self.new) (arms self.old) (arms self.new) }
-        ensures fails { IsTold (content self.old) → RunsAsArmed (armed self.old) (armed self.new) (starved self.old) (starved self.new) (faults self.old) (faults self.new) result }
+        ensures fails { IsTold (content self.old) → RunsAsArmed false (armed self.old) (armed self.new)
+            (starved self.old) (starved self.new) (faults self.old) (faults self.new) result }
         ensures cause { HasCause (faults self.old) (faults self.new) result };
 
-    /// Makes what a read gives the only image.
+    /// Makes what a read gives the only image. After an `Err` each image is one from before the call.
     fn sync(&mut self) -> Result<(), Failed>
         ensures synced { OnOk result (Synced (content self.old) (image self.new)) }
         ensures stays { SameContent (content self.old) (content self.new) (size self.old) (size self.new) }
         ensures images { Within (image self.old) (image self.new) }
         ensures time { Elapses (moment self.old) (moment self.new) (since self.old) (since self.new) (image self.new) }
         ensures events { IsUneventful (losses self.old) (losses self.new) (arms self.old) (arms self.new) }
-        ensures fails { IsTold (content self.old) → RunsAsArmed (armed self.old) (armed self.new) (starved self.old) (starved self.new) (faults self.old) (faults self.new) result }
+        ensures fails { IsTold (content self.old) → RunsAsArmed false (armed self.old) (armed self.new)
+            (starved self.old) (starved self.new) (faults self.old) (faults self.new) result }
         ensures cause { HasCause (faults self.old) (faults self.new) result };
 
     /// Loses power: the content becomes one of the images, by a choice, and no fault is armed any more. It fails only
-    /// for want of memory. A file ignores it.
+    /// for want of memory, and then nothing but the count and `starved` has changed. A file ignores it.
     fn power_loss(&mut self, choice: u64) -> Result<(), Failed>
-        ensures loses { OnOk result (LosesPower choice (image self.old) (losses self.old) (content self.new) (image self.new) (losses self.new) (armed self.new)) }
-        ensures keeps { OnErr result (KeepsPower (losses self.old) (losses self.new) (armed self.old) (armed self.new) (image self.old) (image self.new)) }
+        ensures loses { OnOk result (LosesPower choice (image self.old) (losses self.old)
+            (content self.new) (image self.new) (losses self.new) (armed self.new)) }
+        ensures keeps { OnErr result (KeepsPower (losses self.old) (losses self.new) (armed self.old) (armed self.new)
+            (image self.old) (image self.new)) }
         ensures stays { OnErr result (SameContent (content self.old) (content self.new) (size self.old) (size self.new)) }
         ensures told { is_some (content self.new) ≡ is_some (content self.old) }
         ensures images { Within (image self.old) (image self.new) }
@@ -119,7 +128,7 @@ pub trait Disk {
     /// one. A file ignores it.
     fn arm(&mut self, after: u64, mode: FaultMode)
         ensures armed { IsTold (content self.old) → armed self.new ≡ After after mode }
-        ensures arms { IsTold (content self.old) → arms self.new ≡ min (arms self.old + 1) (2 ^ 64 - 1) }
+        ensures arms { IsTold (content self.old) → arms self.new ≡ raised (arms self.old) }
         ensures losses { losses self.new ≡ losses self.old }
         ensures stays { SameContent (content self.old) (content self.new) (size self.old) (size self.new) }
         ensures images { SameImages (image self.old) (image self.new) }

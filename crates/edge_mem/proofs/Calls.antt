@@ -10,7 +10,7 @@ use Rattle.edge_mem.specs.Past.{Past, state, content, image, since, with_event, 
 use Rattle.edge_mem.specs.Refusals.{Leaves}
 use Rattle.edge_mem.specs.declared.faulty.Refusal.{Refusal}
 use Rattle.edge_mem.specs.declared.faulty.Refusal.TheVariants.{Broken, NoMemory}
-use Rattle.edge_mem.specs.Laws.{run_push, replay_join, image_join, image_split, image_same, torn_same, next_wrote, content_there, length_written, Fits, fits_front, replay_is_image, run_fits}
+use Rattle.edge_mem.specs.Laws.{run_push, replay_join, image_join, image_split, image_same, torn_same, torn_written, next_wrote, content_there, length_written, Fits, fits_front, replay_is_image, run_fits}
 use Rattle.edge_mem.specs.Steps.{EndsKept}
 use Rattle.edge_mem.proofs.Sounds.{ended}
 
@@ -203,6 +203,19 @@ refused_part e how h k g l at bytes same is left = subst (λ (m : Past). IsPart 
 module _ (h g : Past) (at : ℕ) (bytes : List ℕ) (le : at ≤ length (content h)) (part : IsPart h g at bytes) where
   pub part_crash : Follows (UnfinishedWrite at (length bytes)) (image h) (image g)
   part_crash = ⊎_elim (λ same c now. (c, subst (λ (k : Past). image k c) same now, torn_same at (length bytes) c)) (λ p. wrote_crash h g at p.0 le p.2 (length bytes) p.1) part
+
+  part_done : UnfinishedWrite at (length bytes) (content h) (content g)
+  part_done = ⊎_elim
+      (λ same. subst (λ (k : Past). UnfinishedWrite at (length bytes) (content h) (content k)) (sym same) (torn_same at (length bytes) (content h)))
+      (λ p. subst (λ (l : List ℕ). UnfinishedWrite at (length bytes) (content h) l) (sym (wrote_content h g at p.0 le p.2))
+          (torn_more at (length p.0) (length bytes) (content h) (written at p.0 (content h)) p.1 (torn_written at p.0 (content h) le)))
+      part
+
+  pub part_content : (c d : List ℕ) → Some (content h) ≡ Some c → Some (content g) ≡ Some d → UnfinishedWrite at (length bytes) c d
+  part_content c d was now =
+      let a : content h ≡ c = cc in
+      let b : content g ≡ d = cc in
+      subst (λ (l : List ℕ). UnfinishedWrite at (length bytes) l d) a (subst (λ (l : List ℕ). UnfinishedWrite at (length bytes) (content h) l) b part_done)
 
   pub part_low : length (content h) ≤ length (content g)
   part_low = ⊎_elim (λ same. omega (arith, ap (λ (k : Past). length (content k)) same)) (λ p. omega (arith, wrote_size h g at p.0 le p.2)) part

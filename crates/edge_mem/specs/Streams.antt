@@ -1,9 +1,6 @@
--- What contracts see of the streams in memory.
-use Rattle.std.specs.Prelude.{◌≡◌, ◌+◌, ◌-◌, ◌^◌, ℕ, Bool, List, min, Result, MatchResult}
-
--- a number after it was raised by one, where a u64 has room
-abbrev pub raised : ℕ → ℕ
-raised n = min (n + 1) (2 ^ 64 - 1)
+-- What contracts see of the streams in memory. This project's own. Worked example: a source of `queue` whose call 1 is
+-- listed gives `queue` at call 0, fails at call 1, and is at its end at call 2.
+use Rattle.std.specs.Prelude.{ℕ, Bool, List}
 
 -- a source: the bytes that are left, and the numbers of the calls that fail
 pub record Supply : Type 0 where
@@ -23,7 +20,3 @@ pub record Collected : Type 0 where
   -- a call has failed for want of memory
   pub starved : Bool
   pub faults : ℕ
-
--- a fault is counted where the call failed, and not else
-abbrev pub CountsFault : {T E : Type 0} → ℕ → ℕ → Result T E → Type 0
-CountsFault old new result = MatchResult result (λ _. new ≡ old) (λ _. new ≡ raised old)

@@ -1,8 +1,8 @@
-ghost use Rattle.std.specs.Prelude.{◌≡◌, ◌≢◌, ◌≤◌, ◌<◌, ℕ, List, Bool, true, false, OnErr, ◌+◌, ◌-◌, ◌^◌, ◌++◌, ◌∷◌, [], min, Some, None, IfSome, IfOk, Contains, length, slice_index_or};
+ghost use Rattle.std.specs.Prelude.{◌≡◌, ◌≢◌, ◌⊎◌, ◌≤◌, ◌<◌, ◌+◌, ◌-◌, ◌^◌, ◌++◌, ◌∷◌, [], min, ℕ, List, Bool, true, false};
+ghost use Rattle.std.specs.Prelude.{Some, None, IfSome, IfOk, OnErr, IsErr, Contains, length, slice_index_or};
 ghost use Rattle.edge_io.specs.Bays.{SameSlot, IsAsTold, Holds};
-ghost use Rattle.edge_io.specs.Causes.{FailsBy, HasCause, Rose};
+ghost use Rattle.edge_io.specs.Causes.{CountsFault, FailsBy, HasCause, raised};
 ghost use Rattle.edge_mem.specs.Bays.{place, found, disk_at, out_at, taken_at, is_empty, fresh, Taken, Put};
-ghost use Rattle.edge_mem.specs.Streams.{CountsFault, raised};
 ghost use Rattle.edge_mem.specs.declared.bay.Slot.{Slot};
 
 use crate::disk::MemDisk;
@@ -92,7 +92,8 @@ fn counted(faults: u64, more: u64) -> u64
 
 // A new disk, whose slot is out.
 fn make(alloc: Global, slots: &mut Vec<Slot>, name: &DiskName) -> Result<MemDisk, AllocError>
-    ensures ok { IfOk result (λ d. (d ≡ fresh) × ((s : Slot) × (s.name ≡ name.now) × (s.disk ≡ None) × (s.count ≡ 0) × (slots.new.items ≡ slots.old.items ++ s ∷ []))) }
+    ensures ok { IfOk result (λ d. (d ≡ fresh) × ((s : Slot) × (s.name ≡ name.now) × (s.disk ≡ None) × (s.count ≡ 0) ×
+        (slots.new.items ≡ slots.old.items ++ s ∷ []))) }
     ensures err { OnErr result (slots.new.items ≡ slots.old.items) }
 {
     let disk = MemDisk::new(alloc, Vec::new(alloc))?;
@@ -166,12 +167,15 @@ impl Bay for MemBay {
         ensures is_out { IfOk result (λ d. (out_at self.new name.now ≡ true) × (taken_at self.new name.now ≡ d.faults)) }
         ensures err { OnErr result ((Some (disk_at self.new name.now) ≡ Some (disk_at self.old name.now)) × (out_at self.new name.now ≡ false)) }
         ensures others { (m : List ℕ) → m ≢ name.now → SameSlot (λ b k. Some (disk_at b k)) out_at taken_at m self.old self.new }
+        ensures starves { self.new.starved ≡ true → (self.old.starved ≡ true) ⊎ IsErr result }
         ensures stays { self.old.starved ≡ true → self.new.starved ≡ true }
         ensures cause { HasCause self.old.faults self.new.faults result }
 
-        // It gives the disk that is told. It fails where the list says so or where it finds no memory.
+        // It gives the disk that is told. It fails where the list says so or where it finds no memory; where the list says
+        // so it asks for none.
         ensures disk { IfOk result (λ d. d ≡ disk_at self.old name.now) }
         ensures fails { FailsBy (Contains self.old.failing self.old.calls) self.old.starved self.new.starved result }
+        ensures memory { Contains self.old.failing self.old.calls → self.new.starved ≡ self.old.starved }
         ensures failing { self.new.failing ≡ self.old.failing }
         ensures calls { self.new.calls ≡ raised self.old.calls }
         ensures faults { CountsFault self.old.faults self.new.faults result }
@@ -198,13 +202,11 @@ impl Bay for MemBay {
         ensures is_in { out_at self.new name.now ≡ false }
         ensures others { (m : List ℕ) → m ≢ name.now → SameSlot (λ b k. Some (disk_at b k)) out_at taken_at m self.old self.new }
         ensures later { self.old.faults ≤ self.new.faults }
-        ensures counts { taken_at self.old name.now < given.faults → Rose self.old.faults self.new.faults }
-        ensures quiet { given.faults ≤ taken_at self.old name.now → self.new.faults ≡ self.old.faults }
+        ensures counts { self.new.faults ≡ min (self.old.faults + (given.faults - taken_at self.old name.now)) (2 ^ 64 - 1) }
         ensures starved { self.new.starved ≡ self.old.starved }
 
-        // The faults of the disk since it was taken are added.
+        // It is told by its name from now on.
         ensures disk { disk_at self.new name.now ≡ given }
-        ensures faults { self.new.faults ≡ min (self.old.faults + (given.faults - taken_at self.old name.now)) (2 ^ 64 - 1) }
         ensures failing { self.new.failing ≡ self.old.failing }
         ensures calls { self.new.calls ≡ self.old.calls }
     {

@@ -1,13 +1,13 @@
-ghost use Rattle.std.specs.Prelude.{◌≡◌, ◌↔◌, ◌⊎◌, ◌≤◌, ◌+◌, ◌-◌, ◌^◌, min, [], length, take, drop, false, true, Some, is_some, IfOk, OnOk, OnErr, IsErr, MatchResult};
+ghost use Rattle.std.specs.Prelude.{◌≡◌, ◌↔◌, ◌⊎◌, ◌≤◌, ◌+◌, ◌^◌, [], length, take, drop, false, true};
+ghost use Rattle.std.specs.Prelude.{Some, is_some, IfOk, OnOk, OnErr, IsErr, MatchResult};
 ghost use Rattle.edge_io.specs.declared.fault.Armed.TheVariants.{Nothing, After};
-ghost use Rattle.edge_io.specs.Armed.{breaks, RunsAsArmed};
-ghost use Rattle.edge_io.specs.Causes.{FailsBy, HasCause, Rose};
+ghost use Rattle.edge_io.specs.Armed.{breaks, tears, RunsAsArmed};
+ghost use Rattle.edge_io.specs.Causes.{CountsFault, FailsBy, HasCause, Rose, raised};
 ghost use Rattle.edge_io.specs.Disk.{written, IsTold, WhereTold, Changes, UnfinishedWrite, UnfinishedCut, StepsBy, Within};
 ghost use Rattle.edge_io.specs.Disk.{SameImages, Synced, SameContent, IsUneventful, GrowsTo, ShrinksTo, LosesPower, KeepsPower};
 ghost use Rattle.edge_io.specs.Moments.{Elapses};
 ghost use Rattle.edge_mem.specs.Events.{Wrote, CutTo, Kept, Lost, loss_of};
 ghost use Rattle.edge_mem.specs.Steps.{EndsKept};
-ghost use Rattle.edge_mem.specs.Streams.{CountsFault, raised};
 ghost use Rattle.edge_mem.specs.Past.{state, content, image, since, with_event, broken_by, failed_write};
 ghost use Rattle.edge_mem.specs.Laws.{content_is_image, counts_now, only_now};
 ghost use Rattle.edge_mem.specs.declared.faulty.Refusal.TheVariants.{Broken, NoMemory};
@@ -51,7 +51,8 @@ fn copy_part(from: &[u8], place: usize, into: &mut [u8])
 impl MemDisk {
     /// A disk with this content, on which nothing has happened yet.
     pub fn new(alloc: Global, bytes: Vec<u8>) -> Result<MemDisk, AllocError>
-        ensures state { IfOk result (λ d. d ≡ record { past = record { first = bytes.items; events = [] }; armed = Nothing; arms = 0; starved = false; faults = 0 }) }
+        ensures state { IfOk result (λ d. d ≡ record { past = record { first = bytes.items; events = [] };
+            armed = Nothing; arms = 0; starved = false; faults = 0 }) }
         ensures content { IfOk result (λ d. content d.past ≡ bytes.items) }
     {
         Ok(MemDisk {
@@ -131,11 +132,13 @@ impl Disk for MemDisk {
     fn read_at(&mut self, place: u64, into: &mut [u8]) -> Result<(), Failed>
         requires { place + length into.old ≤ length (content self.old.past) }
         ensures bytes { OnOk result (WhereTold (Some (content self.old.past)) (λ c. into.new ≡ take (length into.old) (drop place c))) }
-        ensures stays { SameContent (Some (content self.old.past)) (Some (content self.new.past)) (length (content self.old.past)) (length (content self.new.past)) }
+        ensures stays { SameContent (Some (content self.old.past)) (Some (content self.new.past))
+            (length (content self.old.past)) (length (content self.new.past)) }
         ensures images { SameImages (image self.old.past) (image self.new.past) }
         ensures time { Elapses (length self.old.past.events) (length self.new.past.events) (since self.old.past) (since self.new.past) (image self.new.past) }
         ensures events { IsUneventful (state self.old.past).losses (state self.new.past).losses self.old.arms self.new.arms }
-        ensures fails { IsTold (Some (content self.old.past)) → RunsAsArmed self.old.armed self.new.armed self.old.starved self.new.starved self.old.faults self.new.faults result }
+        ensures fails { IsTold (Some (content self.old.past)) → RunsAsArmed false self.old.armed self.new.armed
+            self.old.starved self.new.starved self.old.faults self.new.faults result }
         ensures cause { HasCause self.old.faults self.new.faults result }
 
         // It fails exactly where the armed fault breaks it, and changes nothing.
@@ -154,18 +157,21 @@ impl Disk for MemDisk {
     fn write_at(&mut self, place: u64, bytes: &[u8]) -> Result<(), Failed>
         requires begins { place ≤ length (content self.old.past) }
         requires ends { place + length bytes.now ≤ 2 ^ 62 }
-        ensures content { Changes (written place bytes.now) (Some (content self.old.past)) (Some (content self.new.past)) result }
+        ensures content { Changes (written place bytes.now) (UnfinishedWrite place (length bytes.now))
+            (Some (content self.old.past)) (Some (content self.new.past)) result }
         ensures size { GrowsTo (place + length bytes.now) (length (content self.old.past)) (length (content self.new.past)) result }
         ensures images { StepsBy (UnfinishedWrite place (length bytes.now)) (image self.old.past) (image self.new.past) result }
         ensures time { Elapses (length self.old.past.events) (length self.new.past.events) (since self.old.past) (since self.new.past) (image self.new.past) }
         ensures events { IsUneventful (state self.old.past).losses (state self.new.past).losses self.old.arms self.new.arms }
-        ensures fails { IsTold (Some (content self.old.past)) → RunsAsArmed self.old.armed self.new.armed self.old.starved self.new.starved self.old.faults self.new.faults result }
+        ensures fails { IsTold (Some (content self.old.past)) → RunsAsArmed (tears self.old.armed) self.old.armed self.new.armed
+            self.old.starved self.new.starved self.old.faults self.new.faults result }
         ensures cause { HasCause self.old.faults self.new.faults result }
 
         // One that is done is the event that happened. A broken one leaves nothing, or the first half, by the mode of the
         // fault. Without memory it changes nothing.
         ensures past { MatchResult result (λ _. self.new.past ≡ with_event self.old.past (Wrote place bytes.now))
-            (λ _. (self.new.past ≡ failed_write (broken_by self.old.armed) place bytes.now self.old.past) ⊎ ((self.new.starved ≡ true) × (self.new.past ≡ self.old.past))) }
+            (λ _. (self.new.past ≡ failed_write (broken_by self.old.armed) place bytes.now self.old.past) ⊎
+                ((self.new.starved ≡ true) × (self.new.past ≡ self.old.past))) }
         ensures no_memory { self.old.starved ≡ false → self.new.starved ≡ true → self.new.past ≡ self.old.past }
         ensures faults { CountsFault self.old.faults self.new.faults result }
     {
@@ -177,17 +183,17 @@ impl Disk for MemDisk {
 
     fn cut(&mut self, to: u64) -> Result<(), Failed>
         requires { to ≤ length (content self.old.past) }
-        ensures content { Changes (take to) (Some (content self.old.past)) (Some (content self.new.past)) result }
+        ensures content { Changes (take to) (UnfinishedCut to) (Some (content self.old.past)) (Some (content self.new.past)) result }
         ensures size { ShrinksTo to (length (content self.old.past)) (length (content self.new.past)) result }
         ensures images { StepsBy (UnfinishedCut to) (image self.old.past) (image self.new.past) result }
         ensures time { Elapses (length self.old.past.events) (length self.new.past.events) (since self.old.past) (since self.new.past) (image self.new.past) }
         ensures events { IsUneventful (state self.old.past).losses (state self.new.past).losses self.old.arms self.new.arms }
-        ensures fails { IsTold (Some (content self.old.past)) → RunsAsArmed self.old.armed self.new.armed self.old.starved self.new.starved self.old.faults self.new.faults result }
+        ensures fails { IsTold (Some (content self.old.past)) → RunsAsArmed false self.old.armed self.new.armed
+            self.old.starved self.new.starved self.old.faults self.new.faults result }
         ensures cause { HasCause self.old.faults self.new.faults result }
 
-        // One that fails changes nothing, and one that is broken finds memory.
+        // One that fails changes nothing.
         ensures past { MatchResult result (λ _. self.new.past ≡ with_event self.old.past (CutTo to)) (λ _. self.new.past ≡ self.old.past) }
-        ensures memory { breaks self.old.armed ≡ true → self.new.starved ≡ self.old.starved }
         ensures faults { CountsFault self.old.faults self.new.faults result }
     {
         match cut(&mut self.history, &mut self.armed, to as usize) {
@@ -198,11 +204,13 @@ impl Disk for MemDisk {
 
     fn sync(&mut self) -> Result<(), Failed>
         ensures synced { OnOk result (Synced (Some (content self.old.past)) (image self.new.past)) }
-        ensures stays { SameContent (Some (content self.old.past)) (Some (content self.new.past)) (length (content self.old.past)) (length (content self.new.past)) }
+        ensures stays { SameContent (Some (content self.old.past)) (Some (content self.new.past))
+            (length (content self.old.past)) (length (content self.new.past)) }
         ensures images { Within (image self.old.past) (image self.new.past) }
         ensures time { Elapses (length self.old.past.events) (length self.new.past.events) (since self.old.past) (since self.new.past) (image self.new.past) }
         ensures events { IsUneventful (state self.old.past).losses (state self.new.past).losses self.old.arms self.new.arms }
-        ensures fails { IsTold (Some (content self.old.past)) → RunsAsArmed self.old.armed self.new.armed self.old.starved self.new.starved self.old.faults self.new.faults result }
+        ensures fails { IsTold (Some (content self.old.past)) → RunsAsArmed false self.old.armed self.new.armed
+            self.old.starved self.new.starved self.old.faults self.new.faults result }
         ensures cause { HasCause self.old.faults self.new.faults result }
 
         // It fails exactly where the armed fault breaks it, and then changes nothing.
@@ -224,7 +232,8 @@ impl Disk for MemDisk {
             (Some (content self.new.past)) (image self.new.past) (state self.new.past).losses self.new.armed) }
         ensures keeps { OnErr result (KeepsPower (state self.old.past).losses (state self.new.past).losses
             self.old.armed self.new.armed (image self.old.past) (image self.new.past)) }
-        ensures stays { OnErr result (SameContent (Some (content self.old.past)) (Some (content self.new.past)) (length (content self.old.past)) (length (content self.new.past))) }
+        ensures stays { OnErr result (SameContent (Some (content self.old.past)) (Some (content self.new.past))
+            (length (content self.old.past)) (length (content self.new.past))) }
         ensures told { is_some (Some (content self.new.past)) ≡ is_some (Some (content self.old.past)) }
         ensures images { Within (image self.old.past) (image self.new.past) }
         ensures time { Elapses (length self.old.past.events) (length self.new.past.events) (since self.old.past) (since self.new.past) (image self.new.past) }
@@ -251,7 +260,8 @@ impl Disk for MemDisk {
         ensures armed { IsTold (Some (content self.old.past)) → self.new.armed ≡ After after mode }
         ensures arms { IsTold (Some (content self.old.past)) → self.new.arms ≡ raised self.old.arms }
         ensures losses { (state self.new.past).losses ≡ (state self.old.past).losses }
-        ensures stays { SameContent (Some (content self.old.past)) (Some (content self.new.past)) (length (content self.old.past)) (length (content self.new.past)) }
+        ensures stays { SameContent (Some (content self.old.past)) (Some (content self.new.past))
+            (length (content self.old.past)) (length (content self.new.past)) }
         ensures images { SameImages (image self.old.past) (image self.new.past) }
         ensures time { Elapses (length self.old.past.events) (length self.new.past.events) (since self.old.past) (since self.new.past) (image self.new.past) }
         ensures starved { self.new.starved ≡ self.old.starved }

@@ -1,6 +1,7 @@
 // The calls that an armed fault may break, over a history.
-ghost use Rattle.std.specs.Prelude.{◌≡◌, ◌⊎◌, ◌≤◌, ◌/◌, Err, length, take, true, IfErr, OnOk, OnErr, IsErr};
-ghost use Rattle.edge_io.specs.Armed.{breaks, next_armed, spent};
+ghost use Rattle.std.specs.Prelude.{◌≡◌, ◌⊎◌, ◌≤◌, ◌/◌, Err, length, take, true, false, IfErr, OnOk, OnErr, IsErr};
+ghost use Rattle.edge_io.specs.declared.fault.FaultMode.TheVariants.{Once};
+ghost use Rattle.edge_io.specs.Armed.{breaks, next_armed, spent, tears};
 ghost use Rattle.edge_mem.specs.Events.{Wrote, CutTo};
 ghost use Rattle.edge_mem.specs.Past.{content, with_event, broken_by, broken_write, failed_write};
 ghost use Rattle.edge_mem.specs.Refusals.{Leaves};
@@ -65,7 +66,8 @@ fn write_half(history: &mut History, place: usize, bytes: &[u8]) -> Refusal
 // What a broken write leaves, and why the whole was not written.
 fn tear(history: &mut History, mode: FaultMode, place: usize, bytes: &[u8]) -> Refusal
     requires { place ≤ length (content history.old) }
-    ensures { Leaves result (broken_write mode place bytes.now history.old) history.old history.new }
+    ensures left { Leaves result (broken_write mode place bytes.now history.old) history.old history.new }
+    ensures memory { mode ≡ Once → result ≡ Broken }
 {
     match mode {
         FaultMode::Once => Refusal::Broken,
@@ -86,6 +88,7 @@ pub fn write(
     ensures left { IfErr result (λ e. Leaves e (failed_write (broken_by armed.old) place bytes.now history.old) history.old history.new) }
     ensures armed { armed.new ≡ next_armed armed.old }
     ensures broken { breaks armed.old ≡ true → IsErr result }
+    ensures memory { breaks armed.old ≡ true → tears armed.old ≡ false → result ≡ Err Broken }
     ensures only { IfErr result (λ e. (breaks armed.old ≡ true) ⊎ (e ≡ NoMemory)) }
 {
     match count_call(armed) {

@@ -1,9 +1,8 @@
 ghost use Rattle.std.specs.Prelude.{◌≡◌, Some, IfOk, Contains, length, [], false};
 ghost use Rattle.std.specs.Io.{WritesAtMost};
 ghost use Rattle.std.specs.Io.KnownBytes.{WriteAppends};
-ghost use Rattle.edge_io.specs.Causes.{FailsBy, HasCause};
+ghost use Rattle.edge_io.specs.Causes.{CountsFault, FailsBy, HasCause, raised};
 ghost use Rattle.edge_io.specs.Streams.{TakesSome};
-ghost use Rattle.edge_mem.specs.Streams.{CountsFault, raised};
 
 use edge_io::{Failed, Sink};
 use std::alloc::Global;
@@ -68,8 +67,10 @@ impl Sink for MemSink {
         ensures bytes { WriteAppends (Some self.old.held) (Some self.new.held) result bytes.now }
         ensures cause { HasCause self.old.faults self.new.faults result }
 
-        // It fails where the list says so or where it finds no memory, and else takes the whole piece.
+        // It fails where the list says so or where it finds no memory, and else takes the whole piece. One that is listed
+        // asks for no memory.
         ensures fails { FailsBy (Contains self.old.failing self.old.calls) self.old.starved self.new.starved result }
+        ensures memory { Contains self.old.failing self.old.calls → self.new.starved ≡ self.old.starved }
         ensures whole { IfOk result (λ n. n ≡ length bytes.now) }
         ensures failing { self.new.failing ≡ self.old.failing }
         ensures calls { self.new.calls ≡ raised self.old.calls }

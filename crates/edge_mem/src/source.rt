@@ -1,9 +1,8 @@
 ghost use Rattle.std.specs.Prelude.{◌≡◌, ◌↔◌, ◌<◌, ◌≤◌, ◌&&◌, ◌++◌, nat_eq, nat_lt, min, Some, IsErr, IfOk, Contains, take, drop, length, [], false};
 ghost use Rattle.std.specs.Io.{ReadsAtMost};
 ghost use Rattle.std.specs.Io.KnownBytes.{ReadConsumes};
-ghost use Rattle.edge_io.specs.Causes.{HasCause};
+ghost use Rattle.edge_io.specs.Causes.{CountsFault, HasCause, raised};
 ghost use Rattle.edge_io.specs.Streams.{EndsBy};
-ghost use Rattle.edge_mem.specs.Streams.{CountsFault, raised};
 
 use edge_io::{Failed, Source};
 use std::marker::Model;

@@ -33,10 +33,4 @@ faults : (c : goal.After-self-1) → c.self.inside.faults ≡ c.args.self.now.fa
 faults c = ap (λ (b : BayState). b.faults) c.self.view_is
 
 pub returns-clause-counts : goal.returns-clause-counts
-returns-clause-counts c = λ less. omega (arith, less, rose c, faults c, c.counted-self-inside.ensures.sum)
-
-pub returns-clause-quiet : goal.returns-clause-quiet
-returns-clause-quiet c = λ no_more. c.counted-self-inside.ensures.none (omega (arith, no_more, rose c)) ∙ faults c
-
-pub returns-clause-faults : goal.returns-clause-faults
-returns-clause-faults c = omega (arith, rose c, faults c, c.counted-self-inside.ensures.sum)
+returns-clause-counts c = omega (arith, rose c, faults c, c.counted-self-inside.ensures.sum)

@@ -8,7 +8,7 @@ was_cut : (c : goal.In-Ok) → c.cut.new.history ≡ with_event c.args.self.now.
 was_cut c = done_to _ c.self.inside.history _ _ (ap (λ (d : DiskState). d.past) c.self.view_is) c.in-Ok.ensures.done
 
 pub returns-in-Ok-clause-content : goal.returns-in-Ok-clause-content
-returns-in-Ok-clause-content c = record { done = cut_becomes _ _ _ (was_cut c); told = refl }
+returns-in-Ok-clause-content c = record { done = cut_becomes _ _ _ (was_cut c); failed = tt; told = refl }
 
 pub returns-in-Ok-clause-images : goal.returns-in-Ok-clause-images
 returns-in-Ok-clause-images c = record { follows = cut_crash _ _ _ (was_cut c); leads = cut_all _ _ _ (was_cut c) }
