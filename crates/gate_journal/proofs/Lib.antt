@@ -3,3 +3,4 @@ pub mod Repairs
 pub mod Shaped
 pub mod Shapes
 pub mod Texts
+pub mod Total

@@ -1,5 +1,6 @@
 -- What the repair of a text's end leaves.
-use Rattle.std.proofs.Common.{◌≡◌, ◌≢◌, inl, inr, ⊎_elim, refl, ℕ, ◌<◌, ◌≤◌, List, [], ◌∷◌, ◌++◌, length, take, drop, sym, ◌∙◌, ap, arith, append_assoc, length-append, take-append-drop}
+use Rattle.std.proofs.Common.{◌≡◌, ◌≢◌, inl, inr, ⊎_elim, refl, ℕ, ◌<◌, ◌≤◌, List, [], ◌∷◌}
+use Rattle.std.proofs.Common.{◌++◌, length, take, drop, sym, ◌∙◌, ap, arith, append_assoc, length-append, take-append-drop}
 use Rattle.std.proofs.lemmas.List.{take-take, take_at, take_all}
 use Rattle.std.specs.List.{AllByRecursion}
 use Rattle.edge_io.specs.Disk.{UnfinishedWrite, UnfinishedCut, written}
@@ -27,14 +28,27 @@ module _ (frames : List (List ℕ)) (len end : ℕ) (x : List ℕ) (read : IsRea
   pub cut_stands : (c : List ℕ) → 1 < len → UnfinishedCut end x c → StandsFor c frames
   cut_stands c gt cut =
       let e = ends gt in
-      let same : take end c ≡ take end x = ap (λ (l : List ℕ). take end l) (sym cut.front) ∙ take-take end (length c) x (omega (arith, cut.no_shorter, read.end_is, ap length e.3, length-append (blocks frames) (e.0 ∷ e.1))) in
-      inr (e.0, drop end c, e.2, sym (take-append-drop end c) ∙ ap (λ (l : List ℕ). l ++ drop end c) (same ∙ front e.0 e.1 e.3) ∙ append_assoc (blocks frames) (e.0 ∷ []) (drop end c), e.4)
+      let same : take end c ≡ take end x = ap (λ (l : List ℕ). take end l) (sym cut.front)
+      ∙ take-take end (length c) x (omega (arith, cut.no_shorter, read.end_is, ap length e.3, length-append (blocks frames) (e.0 ∷ e.1))) in
+      inr (
+        e.0,
+        drop end c,
+        e.2,
+        sym (take-append-drop end c) ∙ ap (λ (l : List ℕ). l ++ drop end c) (same ∙ front e.0 e.1 e.3)
+            ∙ append_assoc (blocks frames) (e.0 ∷ []) (drop end c),
+        e.4,
+      )
 
   pub cut_rests : (c : List ℕ) → 1 < len → c ≡ take end x → IsRest frames c
   cut_rests c gt is = let e = ends gt in (e.0, e.2, is ∙ front e.0 e.1 e.3)
 
   pub first_rests : (c : List ℕ) → len ≤ 1 → c ≡ written 0 (0 ∷ []) x → IsRest frames c
-  first_rests c le is = (0, λ z. absurd (omega (arith, z)), is ∙ one x (omega (arith, le, read.len_is)) ∙ ap (λ (fs : List (List ℕ)). blocks fs ++ 0 ∷ []) (sym (short le)))
+  first_rests c le is = (
+    0,
+    λ z. absurd (omega (arith, z)),
+    is ∙ one x (omega (arith, le, read.len_is))
+        ∙ ap (λ (fs : List (List ℕ)). blocks fs ++ 0 ∷ []) (sym (short le)),
+  )
     where
       one : (x : List ℕ) → length x ≤ 1 → written 0 (0 ∷ []) x ≡ 0 ∷ []
       one [] le = refl

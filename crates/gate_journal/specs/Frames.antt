@@ -1,9 +1,10 @@
--- Journal text: which content of a disk stands for which frames.
+-- Journal text: which content of a disk stands for which frames. This project's own format.
 --
 -- A gate is one byte: open where it is 1, and closed otherwise. Behind an open gate stand the length of a frame, as a
 -- big-endian u32, and the frame; then comes the next gate. So gates open one after another, and the last one is closed.
 -- Worked example: `01 00000001 61 00` stands for the one frame `61`, and so does that with any bytes behind it.
-use Rattle.std.specs.Prelude.{◌≡◌, ◌≢◌, ◌⊎◌, ◌<◌, ◌≤◌, ◌-◌, ◌+◌, ℕ, List, [], ◌∷◌, ◌++◌, length, take, drop, Some, None}
+use Rattle.std.specs.Prelude.{◌≡◌, ◌≢◌, ◌⊎◌, ◌<◌, ◌≤◌, ◌-◌, ◌+◌, ℕ, List, [], ◌∷◌, ◌++◌, length, take, drop}
+use Rattle.std.specs.Prelude.{Some, None}
 use Rattle.std.specs.declared.option.Option.{Option}
 use Rattle.std.specs.List.{AllByRecursion}
 use Rattle.std.specs.Int.{w32, to_be_bytes}
@@ -65,6 +66,10 @@ abbrev pub framed : List ℕ → List ℕ
 framed frame = behind_gate frame ++ 0 ∷ []
 
 -- ---- the shapes of a journal's disk
+
+-- the frames and a gate that is closed by a 0, as an append writes them, and nothing more
+abbrev pub text_of : List (List ℕ) → List ℕ
+text_of frames = blocks frames ++ 0 ∷ []
 
 -- the frames and a closed gate, and nothing more
 abbrev pub IsRest : List (List ℕ) → List ℕ → Type 0

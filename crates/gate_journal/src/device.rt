@@ -8,7 +8,6 @@ ghost use Rattle.edge_io.specs.Moments.{LeavesOnly};
 use edge_io::{Disk, Failed};
 
 // Writes, and syncs.
-
 pub fn write_and_sync<D: Disk>(disk: &mut D, place: u64, bytes: &[u8]) -> Result<(), Failed>
     requires begins { place ≤ D.size disk.old }
     requires ends { place + length bytes.now ≤ 2 ^ 62 }

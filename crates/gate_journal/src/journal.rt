@@ -1,9 +1,10 @@
-ghost use Rattle.std.specs.Prelude.{◌≡◌, ◌⊎◌, ◌+◌, ◌<◌, ◌≤◌, ◌^◌, ◌++◌, ◌↔◌, [], ◌∷◌, List, ℕ, length, Some, None, IfOk, OnOk, OnErr, Err};
+ghost use Rattle.std.specs.Prelude.{◌≡◌, ◌⊎◌, ◌↔◌, ◌+◌, ◌<◌, ◌≤◌, ◌^◌, ◌++◌, [], ◌∷◌, List, ℕ, length};
+ghost use Rattle.std.specs.Prelude.{Some, IfOk, OnOk, OnErr, Err};
 ghost use Rattle.std.specs.declared.option.Option.{Option};
 ghost use Rattle.edge_io.specs.Armed.{ArmsAlone, RunsOn};
 ghost use Rattle.edge_io.specs.Causes.{Rose};
 ghost use Rattle.edge_io.specs.Moments.{Elapses, LeavesOnly};
-ghost use Rattle.gate_journal.specs.Frames.{IsBeforeOrAfter, IsWithPending, IsFrame, frame_in, framed};
+ghost use Rattle.gate_journal.specs.Frames.{IsBeforeOrAfter, IsWithPending, IsFrame, frame_in, framed, text_of};
 
 use crate::writer::{Mending, Writer};
 use edge_io::{Disk, FaultMode};
@@ -57,7 +58,7 @@ impl<D: Disk> Model for Journal<D> {
 }
 
 impl<D: Disk> Journal<D> {
-    ghost use Rattle.gate_journal.specs.Journals.{HasRoom, Stands};
+    ghost use Rattle.gate_journal.specs.Journals.{HasRoom, Stands, IsAtRest};
 
     // A journal of frames that were read from the disk.
     pub(crate) fn opened(disk: D, end: u64, count: u64) -> Self
@@ -78,26 +79,30 @@ impl<D: Disk> Journal<D> {
     ///
     /// `buffer` has the frame, of 1 to 33554432 bytes, behind four bytes of any value and before one: the five are set
     /// to the frame's length and a closed gate, so that one device write carries all. An append that finds nothing to
-    /// mend makes four device calls: a write, a sync, a write of one byte, a sync.
+    /// mend makes four device calls: a write, a sync, a write of one byte, a sync. At `Full` nothing is changed, the buffer
+    /// included; at `Device` the buffer still has the frame, so the same append can be tried again.
     pub fn append(&mut self, buffer: &mut [u8]) -> Result<u64, StoreFault>
         requires { IsFrame (frame_in buffer.old) }
 
-        // At Ok each image stands for the frames with this one, and no write is pending.
+        // At Ok each image is the text of the frames with this one, and no write is pending.
         ensures kept { OnOk result ((frames : List (List ℕ)) (pending : Option (List ℕ)) → Stands D.image self.old frames pending →
-            Stands D.image self.new (frames ++ frame_in buffer.old ∷ []) None) }
+            IsAtRest D.image self.new (frames ++ frame_in buffer.old ∷ [])) }
+        ensures text { OnOk result ((frames : List (List ℕ)) (pending : Option (List ℕ)) → Stands D.image self.old frames pending →
+            (c : List ℕ) → D.image self.new.disk c → c ≡ text_of (frames ++ frame_in buffer.old ∷ [])) }
         ensures number { IfOk result (λ n. n ≡ self.old.count) }
 
         // At Err the frames are the same. The pending write is the one from before, or this one.
         ensures failed { OnErr result ((frames : List (List ℕ)) (pending : Option (List ℕ)) → Stands D.image self.old frames pending →
             Stands D.image self.new frames pending ⊎ Stands D.image self.new frames (Some (frame_in buffer.old))) }
         ensures full { (end : ℕ) → (result ≡ Err (StoreFault.Full end)) ↔ ((end ≡ self.old.end) × (2 ^ 62 < self.old.end + length buffer.old)) }
-        ensures untouched { (end : ℕ) → result ≡ Err (StoreFault.Full end) → self.new ≡ self.old }
+        ensures untouched { (end : ℕ) → result ≡ Err (StoreFault.Full end) → (self.new ≡ self.old) × (buffer.new ≡ buffer.old) }
         ensures device { result ≡ Err StoreFault.Device → Rose (D.faults self.old.disk) (D.faults self.new.disk) }
 
         // At each moment since the call began a crash leaves the frames, with or without the pending one, or with this one.
         ensures any_moment { (frames : List (List ℕ)) (pending : Option (List ℕ)) → Stands D.image self.old frames pending →
             LeavesOnly D.moment D.since self.old.disk self.new.disk (λ c. IsWithPending frames pending c ⊎ IsBeforeOrAfter frames (frame_in buffer.old) c) }
         ensures runs { RunsOn D.content D.losses D.arms D.armed D.starved D.faults self.old.disk self.new.disk }
+        ensures set { OnOk result (buffer.new ≡ framed (frame_in buffer.old)) }
         ensures buffer { frame_in buffer.new ≡ frame_in buffer.old }
     {
         let len = buffer.len() as u64;
@@ -126,9 +131,11 @@ impl<D: Disk> Journal<D> {
     /// Arms a fault of its disk, and changes nothing else.
     pub fn arm(&mut self, after: u64, mode: FaultMode)
         ensures disk { ArmsAlone D.content D.image D.losses D.arms D.armed D.starved D.faults after mode self.old.disk self.new.disk }
-        ensures time { Elapses (D.moment self.old.disk) (D.moment self.new.disk) (D.since self.old.disk) (D.since self.new.disk) (D.image self.new.disk) }
+        ensures time { Elapses (D.moment self.old.disk) (D.moment self.new.disk)
+            (D.since self.old.disk) (D.since self.new.disk) (D.image self.new.disk) }
         ensures rest { self.new ≡ record self.old { disk = self.new.disk } }
-        ensures stands { (frames : List (List ℕ)) (pending : Option (List ℕ)) → Stands D.image self.old frames pending → Stands D.image self.new frames pending }
+        ensures stands { (frames : List (List ℕ)) (pending : Option (List ℕ)) → Stands D.image self.old frames pending →
+            Stands D.image self.new frames pending }
     {
         self.writer.disk.arm(after, mode);
     }

@@ -6,7 +6,7 @@ ghost use Rattle.edge_io.specs.Causes.{Rose};
 ghost use Rattle.edge_io.specs.Disk.{Within, Synced, WhereTold, SameContent};
 ghost use Rattle.edge_io.specs.Moments.{LeavesOnly};
 ghost use Rattle.gate_journal.specs.Frames.{IsRead, IsRest, IsFrame, blocks, IsDamaged, StandsFor, StandsAs};
-ghost use Rattle.gate_journal.specs.Journals.{Stands};
+ghost use Rattle.gate_journal.specs.Journals.{IsAtRest};
 
 use crate::frame::Frame;
 use crate::journal::Journal;
@@ -92,6 +92,8 @@ fn recover<D: Disk>(alloc: Global, disk: &mut D) -> Result<(Vec<Frame>, u64), St
     ensures later { D.faults disk.old ≤ D.faults disk.new }
     ensures damaged { (place : ℕ) → result ≡ Err (StartFault.Damaged place) → WhereTold (D.content disk.old) (λ c. IsDamaged c place) }
     ensures device { result ≡ Err StartFault.Device → Rose (D.faults disk.old) (D.faults disk.new) }
+    ensures stays { IfErr result (λ e. e ≢ StartFault.Device →
+        SameContent (D.content disk.old) (D.content disk.new) (D.size disk.old) (D.size disk.new)) }
 {
     let (frames, end) = read_synced(alloc, disk)?;
     if let Err(_) = repair(disk, end) {
@@ -103,19 +105,23 @@ fn recover<D: Disk>(alloc: Global, disk: &mut D) -> Result<(Vec<Frame>, u64), St
 /// Opens the journal of a disk: reads the frames that its content stands for, and repairs its end.
 ///
 /// It syncs first, so that what it reads is what a crash would leave. Then it writes a closed gate to an empty disk, or
-/// cuts off what stands behind the last gate, and syncs again. At an `Err` the disk comes back. It reads the content
-/// into memory once, and copies each frame.
+/// cuts off what stands behind the last gate, and syncs again. At an `Err` the disk comes back, at `Damaged` and
+/// `NoMemory` with the content that it had. It reads the content into memory once, and copies each frame.
 pub fn start<D: Disk>(
     alloc: Global,
     mut disk: D,
 ) -> Result<(Journal<D>, Vec<Frame>), (D, StartFault)>
     // The frames are those that the content stands for, each image stands for them from now on, and nothing is pending.
     ensures frames { IfOk result (λ x. WhereTold (D.content disk) (λ c. StandsFor c x.1.items)) }
-    ensures kept { IfOk result (λ x. Stands D.image x.0 x.1.items None) }
+    ensures kept { IfOk result (λ x. IsAtRest D.image x.0 x.1.items) }
 
     // Each refusal has its cause.
     ensures damaged { IfErr result (λ e. (place : ℕ) → e.1 ≡ StartFault.Damaged place → WhereTold (D.content disk) (λ c. IsDamaged c place)) }
     ensures device { IfErr result (λ e. e.1 ≡ StartFault.Device → Rose (D.faults disk) (D.faults e.0)) }
+
+    // The content is as it was, unless the disk failed.
+    ensures stays { IfErr result (λ e. e.1 ≢ StartFault.Device →
+        SameContent (D.content disk) (D.content e.0) (D.size disk) (D.size e.0)) }
 
     // A content that stands for frames is never damaged, and gives these frames.
     ensures recovers { (c : List ℕ) (frames : List (List ℕ)) → D.content disk ≡ Some c → StandsFor c frames →

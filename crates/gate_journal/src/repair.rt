@@ -14,10 +14,10 @@ pub fn repair<D: Disk>(disk: &mut D, end: u64) -> Result<(), Failed>
     requires some { 0 < end }
     requires fits { D.size disk.old ≤ 1 → end ≡ 1 }
     requires within { 1 < D.size disk.old → end ≤ D.size disk.old }
-    ensures ok { OnOk result ((frames : List (List ℕ)) → WhereTold (D.content disk.old) (IsRead frames (D.size disk.old) end) → Synced (D.content disk.old) (D.image disk.old) →
-        (c : List ℕ) → D.image disk.new c → IsRest frames c) }
-    ensures any_moment { (frames : List (List ℕ)) → WhereTold (D.content disk.old) (IsRead frames (D.size disk.old) end) → Synced (D.content disk.old) (D.image disk.old) →
-        LeavesOnly D.moment D.since disk.old disk.new (StandsAs (D.image disk.old)) }
+    ensures ok { OnOk result ((frames : List (List ℕ)) → WhereTold (D.content disk.old) (IsRead frames (D.size disk.old) end) →
+        Synced (D.content disk.old) (D.image disk.old) → (c : List ℕ) → D.image disk.new c → IsRest frames c) }
+    ensures any_moment { (frames : List (List ℕ)) → WhereTold (D.content disk.old) (IsRead frames (D.size disk.old) end) →
+        Synced (D.content disk.old) (D.image disk.old) → LeavesOnly D.moment D.since disk.old disk.new (StandsAs (D.image disk.old)) }
     ensures size { OnOk result (end ≤ D.size disk.new) }
     ensures runs { RunsOn D.content D.losses D.arms D.armed D.starved D.faults disk.old disk.new }
     ensures cause { HasCause (D.faults disk.old) (D.faults disk.new) result }

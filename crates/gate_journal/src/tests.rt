@@ -154,6 +154,26 @@ fn a_frame_lands_only_where_the_last_sync_failed_and_the_write_was_kept(rt: Host
 }
 
 #[test]
+fn a_journal_on_an_empty_disk_has_the_bytes_of_the_worked_example(rt: HostRuntime) {
+    for content in [b"".as_slice(), b"\x01".as_slice()] {
+        let bytes = content.to_vec(rt.alloc()).expect(&rt, "memory");
+        let disk = MemDisk::new(rt.alloc(), bytes).expect(&rt, "memory");
+        let Ok((mut journal, frames)) = start(rt.alloc(), disk) else {
+            panic!(rt; "it is journal text");
+        };
+        assert!(rt; frames.is_empty());
+        let mut buffer = [9, 9, 9, 9, 0xaa, 0xbb, 9];
+        assert_eq!(rt; journal.append(&mut buffer), Ok(0));
+        assert_eq!(rt; &buffer, b"\x00\x00\x00\x02\xaa\xbb\x00");
+        let disk = journal.into_disk();
+        assert_eq!(rt;
+            disk.bytes(),
+            b"\x01\x00\x00\x00\x02\xaa\xbb\x00".as_slice()
+        );
+    }
+}
+
+#[test]
 fn a_frame_comes_back_as_its_bytes(rt: HostRuntime) {
     let content = b"\x01\x00\x00\x00\x02ab\x00"
         .to_vec(rt.alloc())

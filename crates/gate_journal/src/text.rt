@@ -1,5 +1,6 @@
 // Reads journal text.
-ghost use Rattle.std.specs.Prelude.{◌≡◌, ◌≢◌, ◌+◌, ◌<◌, ◌≤◌, ◌^◌, ◌++◌, List, ℕ, length, IfOk, IfErr, Err, MatchOption};
+ghost use Rattle.std.specs.Prelude.{◌≡◌, ◌≢◌, ◌⊎◌, ◌+◌, ◌<◌, ◌≤◌, ◌^◌, ◌++◌};
+ghost use Rattle.std.specs.Prelude.{List, ℕ, length, IfOk, IfErr, Err, MatchOption};
 ghost use Rattle.std.specs.Int.{w32, to_be_bytes};
 ghost use Rattle.std.specs.List.{AllByRecursion};
 ghost use Rattle.gate_journal.specs.Frames.{StandsFor, IsFrame, IsBroken, IsDamaged, behind_gate, blocks};
@@ -75,6 +76,7 @@ pub fn read_text(alloc: Global, bytes: &[u8]) -> Result<(Vec<Frame>, u64), Start
 
 /// A content stands for one list of frames, or is damaged at one place, and not both.
 pub fn journal_text_is_read_one_way()
+    ensures either { (c : List ℕ) → ((frames : List (List ℕ)) × StandsFor c frames) ⊎ ((place : ℕ) × IsDamaged c place) }
     ensures frames { (c : List ℕ) (fs gs : List (List ℕ)) → StandsFor c fs → StandsFor c gs → fs ≡ gs }
     ensures damaged { (c : List ℕ) (fs : List (List ℕ)) (place : ℕ) → StandsFor c fs → IsDamaged c place → ⊥ }
     ensures place { (c : List ℕ) (p q : ℕ) → IsDamaged c p → IsDamaged c q → p ≡ q }

@@ -4,7 +4,7 @@ ghost use Rattle.std.specs.declared.option.Option.{Option};
 ghost use Rattle.edge_io.specs.Armed.{RunsOn};
 ghost use Rattle.edge_io.specs.Causes.{HasCause};
 ghost use Rattle.edge_io.specs.Moments.{LeavesOnly};
-ghost use Rattle.gate_journal.specs.Frames.{StandsFor, IsBeforeOrAfter, IsWithPending, IsFrame, IsRest, IsShut, IsHeld, IsAjar, framed};
+ghost use Rattle.gate_journal.specs.Frames.{StandsFor, IsBeforeOrAfter, IsWithPending, IsFrame, IsRest, IsShut, IsHeld, IsAjar, framed, text_of};
 
 use crate::device::{cut_and_sync, write_and_sync};
 use edge_io::{Disk, Failed};
@@ -109,13 +109,15 @@ impl<D: Disk> Writer<D> {
         requires some { 0 < len }
         ensures ok { OnOk result ((frames : List (List ℕ)) (frame : List ℕ) → IsShaped D.image self.old frames (IsHeld frames frame) →
             IsFrame frame → len ≡ length (framed frame) →
-            IsShaped D.image self.new (frames ++ frame ∷ []) (IsRest (frames ++ frame ∷ []))) }
+            IsShaped D.image self.new (frames ++ frame ∷ []) (λ c. c ≡ text_of (frames ++ frame ∷ []))) }
         ensures kept { OnErr result ((frames : List (List ℕ)) (frame : List ℕ) → IsShaped D.image self.old frames (IsHeld frames frame) →
             IsShaped D.image self.new frames (IsAjar frames frame)) }
         ensures any_moment { (frames : List (List ℕ)) (frame : List ℕ) → IsShaped D.image self.old frames (IsHeld frames frame) → IsFrame frame →
             LeavesOnly D.moment D.since self.old.disk self.new.disk (IsBeforeOrAfter frames frame) }
-        ensures done { OnOk result ((self.new.mending ≡ Mending.Nothing) × (self.new.end ≡ self.old.end + len) × (self.new.count ≡ self.old.count + 1)) }
-        ensures err { OnErr result ((self.new.mending ≡ Mending.Gate) × (self.new.end ≡ self.old.end) × (self.new.count ≡ self.old.count)) }
+        ensures done { OnOk result ((self.new.mending ≡ Mending.Nothing) ×
+            (self.new.end ≡ self.old.end + len) × (self.new.count ≡ self.old.count + 1)) }
+        ensures err { OnErr result ((self.new.mending ≡ Mending.Gate) ×
+            (self.new.end ≡ self.old.end) × (self.new.count ≡ self.old.count)) }
         ensures room_kept { HasRoom D.size self.new }
         ensures runs { RunsOn D.content D.losses D.arms D.armed D.starved D.faults self.old.disk self.new.disk }
         ensures cause { HasCause (D.faults self.old.disk) (D.faults self.new.disk) result }
@@ -167,14 +169,15 @@ impl<D: Disk> Writer<D> {
         requires some { 0 < length bytes.now }
         ensures ok { OnOk result ((frames : List (List ℕ)) (frame : List ℕ) →
             IsShaped D.image self.old frames (IsRest frames) → IsFrame frame → bytes.now ≡ framed frame →
-            IsShaped D.image self.new (frames ++ frame ∷ []) (IsRest (frames ++ frame ∷ []))) }
+            IsShaped D.image self.new (frames ++ frame ∷ []) (λ c. c ≡ text_of (frames ++ frame ∷ []))) }
         ensures kept { OnErr result ((frames : List (List ℕ)) (frame : List ℕ) →
             IsShaped D.image self.old frames (IsRest frames) → IsFrame frame → bytes.now ≡ framed frame →
             Mends D.image self.new self.new.mending frames (Some frame)) }
         ensures any_moment { (frames : List (List ℕ)) (frame : List ℕ) → IsShaped D.image self.old frames (IsRest frames) →
             IsFrame frame → bytes.now ≡ framed frame →
             LeavesOnly D.moment D.since self.old.disk self.new.disk (IsBeforeOrAfter frames frame) }
-        ensures done { OnOk result ((self.new.mending ≡ Mending.Nothing) × (self.new.end ≡ self.old.end + length bytes.now) × (self.new.count ≡ self.old.count + 1)) }
+        ensures done { OnOk result ((self.new.mending ≡ Mending.Nothing) ×
+            (self.new.end ≡ self.old.end + length bytes.now) × (self.new.count ≡ self.old.count + 1)) }
         ensures err { OnErr result ((self.new.end ≡ self.old.end) × (self.new.count ≡ self.old.count)) }
         ensures room_kept { HasRoom D.size self.new }
         ensures runs { RunsOn D.content D.losses D.arms D.armed D.starved D.faults self.old.disk self.new.disk }

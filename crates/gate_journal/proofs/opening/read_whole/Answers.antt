@@ -5,4 +5,6 @@ use Rattle.gate_journal.proofs.opening.read_whole.Goals as goal
 pub returns-clause-bytes : goal.returns-clause-bytes
 returns-clause-bytes g c = λ x told.
     let size = (g.met.D.Disk.read_is_image c.args.disk.now x told).1 in
-    whole_read _ _ _ _ x (c.in_default-read_at.ensures.bytes x told) (omega (arith, size, c.deref_mut.ensures.len, c.in_default.ensures.len, c.len-len.ensures)) (omega (arith, size, c.in_default.ensures.len, c.len-len.ensures))
+    whole_read _ _ _ _ x (c.in_default-read_at.ensures.bytes x told)
+    (omega (arith, size, c.deref_mut.ensures.len, c.in_default.ensures.len, c.len-len.ensures))
+    (omega (arith, size, c.in_default.ensures.len, c.len-len.ensures))

@@ -7,11 +7,13 @@ use Rattle.gate_journal.proofs.opening.recover.Goals as goal
 pub returns-clause-any_moment : goal.returns-clause-any_moment
 returns-clause-any_moment g c =
     joined g.D.Disk.moment g.D.Disk.since _ _ _ _ _ (StandsAs (g.D.Disk.image c.args.disk.now)) c.read_synced.ensures.any_moment
-    (c.repair.ensures.any_moment c.in_ok-frames.frames.items (read_moved _ _ _ _ _ _ c.read_synced.ensures.stays.content c.read_synced.ensures.stays.size c.in_ok-frames.ensures.text) c.in_ok-frames.ensures.synced)
+    (c.repair.ensures.any_moment c.in_ok-frames.frames.items
+    (read_moved _ _ _ _ _ _ c.read_synced.ensures.stays.content c.read_synced.ensures.stays.size c.in_ok-frames.ensures.text) c.in_ok-frames.ensures.synced)
     (λ x now. (x, now, inl refl)) (λ x p. (p.0, c.read_synced.ensures.images p.0 p.1, p.2))
 
 pub returns-in-Err-clause-any_moment : goal.returns-in-Err-clause-any_moment
 returns-in-Err-clause-any_moment g c =
     joined g.D.Disk.moment g.D.Disk.since _ _ _ _ _ (StandsAs (g.D.Disk.image c.args.disk.now)) c.read_synced.ensures.any_moment
-    (c.repair.ensures.any_moment c.in_ok-frames.frames.items (read_moved _ _ _ _ _ _ c.read_synced.ensures.stays.content c.read_synced.ensures.stays.size c.in_ok-frames.ensures.text) c.in_ok-frames.ensures.synced)
+    (c.repair.ensures.any_moment c.in_ok-frames.frames.items
+    (read_moved _ _ _ _ _ _ c.read_synced.ensures.stays.content c.read_synced.ensures.stays.size c.in_ok-frames.ensures.text) c.in_ok-frames.ensures.synced)
     (λ x now. (x, now, inl refl)) (λ x p. (p.0, c.read_synced.ensures.images p.0 p.1, p.2))

@@ -17,4 +17,5 @@ pub returns-in-Ok-clause-recovers : goal.returns-in-Ok-clause-recovers
 returns-in-Ok-clause-recovers g c = λ x frames told text. once x _ frames (c.in-Ok.ensures.text x told) text
 
 pub returns-in-Err-clause-recovers : goal.returns-in-Err-clause-recovers
-returns-in-Err-clause-recovers g c = λ x frames told text place is. not_both x frames place text (c.in-Err.ensures.damaged place (ap (λ (f : StartFault). Err f) is) x told)
+returns-in-Err-clause-recovers g c = λ x frames told text place is. not_both x frames place text
+    (c.in-Err.ensures.damaged place (ap (λ (f : StartFault). Err f) is) x told)

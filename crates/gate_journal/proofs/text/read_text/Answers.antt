@@ -4,7 +4,8 @@ use Rattle.gate_journal.proofs.text.read_text.Goals as goal
 
 pub loop-gate-preserved : goal.loop-gate-preserved
 loop-gate-preserved c =
-    let pushed : c.push.new.self.items ≡ c.loop-gate.frames.items ++ c.in-Some-next_frame.frame.now ∷ [] = c.in_default-push.ensures.items ∙ ap (λ (b : List ℕ). c.loop-gate.frames.items ++ b ∷ []) c.in-Ok.ensures in
+    let pushed : c.push.new.self.items ≡ c.loop-gate.frames.items ++ c.in-Some-next_frame.frame.now ∷ [] = c.in_default-push.ensures.items
+    ∙ ap (λ (b : List ℕ). c.loop-gate.frames.items ++ b ∷ []) c.in-Ok.ensures in
     let gate : c.in-Some.gate.now ≡ 1 = grind (arith, c.if-gate-ne1.false) in
     let rest : c.loop-gate.rest.now ≡ c.in-Some.gate.now ∷ c.in-Some.behind.now = search rules in
     let next = c.in-Some-next_frame.ensures in

@@ -4,33 +4,47 @@ use Rattle.edge_io.proofs.Moments.{joined}
 use Rattle.gate_journal.specs.Frames.{IsWithPending, IsBeforeOrAfter, frame_in}
 use Rattle.gate_journal.specs.Journals.{Stands}
 use Rattle.gate_journal.specs.declared.writer.Writer.{Writer}
-use Rattle.gate_journal.proofs.Shaped.{stands_by, stands_mended}
+use Rattle.gate_journal.proofs.Shaped.{stands_by, rests_by_text}
 use Rattle.gate_journal.proofs.journal.Journal.append.Goals as goal
 
 pub returns-in-Err-add-clause-failed : goal.returns-in-Err-add-clause-failed
 returns-in-Err-add-clause-failed g c = λ frames pending s.
     let left = subst (λ (w : Writer _). Stands g.D.Disk.image w frames pending) (sym c.self.view_is) s in
     let clean = c.in_default.ensures.ok frames pending left.mends in
-    inr (stands_by g.D.Disk.image c.add.new.self frames (Some (frame_in c.args.buffer.now)) (c.in-Err-add.ensures.kept frames (frame_in c.args.buffer.now) clean c.requires c.set_frame.ensures))
+    inr (stands_by g.D.Disk.image c.add.new.self frames (Some (frame_in c.args.buffer.now))
+    (c.in-Err-add.ensures.kept frames (frame_in c.args.buffer.now) clean c.requires c.set_frame.ensures))
 
 pub returns-in-Err-add-clause-any_moment : goal.returns-in-Err-add-clause-any_moment
 returns-in-Err-add-clause-any_moment g c = λ frames pending s.
     let left = subst (λ (w : Writer _). Stands g.D.Disk.image w frames pending) (sym c.self.view_is) s in
     let clean = c.in_default.ensures.ok frames pending left.mends in
-    subst (λ (w : Writer _). LeavesOnly g.D.Disk.moment g.D.Disk.since w.disk c.add.new.self.disk (λ x. IsWithPending frames pending x ⊎ IsBeforeOrAfter frames (frame_in c.args.buffer.now) x)) c.self.view_is
-    (joined g.D.Disk.moment g.D.Disk.since c.self.inside.writer.disk c.mend.new.self.disk c.add.new.self.disk (IsWithPending frames pending) (IsBeforeOrAfter frames (frame_in c.args.buffer.now)) _
-    (c.mend.ensures.any_moment frames pending left.mends) (c.add.ensures.any_moment frames (frame_in c.args.buffer.now) clean c.requires c.set_frame.ensures) (λ x p. inl p) (λ x p. inr p))
+    subst (λ (w : Writer _). LeavesOnly g.D.Disk.moment g.D.Disk.since w.disk c.add.new.self.disk
+    (λ x. IsWithPending frames pending x ⊎ IsBeforeOrAfter frames (frame_in c.args.buffer.now) x)) c.self.view_is
+    (joined g.D.Disk.moment g.D.Disk.since c.self.inside.writer.disk c.mend.new.self.disk c.add.new.self.disk (IsWithPending frames pending)
+    (IsBeforeOrAfter frames (frame_in c.args.buffer.now)) _
+    (c.mend.ensures.any_moment frames pending left.mends) (c.add.ensures.any_moment frames
+    (frame_in c.args.buffer.now) clean c.requires c.set_frame.ensures) (λ x p. inl p) (λ x p. inr p))
 
 pub returns-clause-kept : goal.returns-clause-kept
 returns-clause-kept g c = λ frames pending s.
     let left = subst (λ (w : Writer _). Stands g.D.Disk.image w frames pending) (sym c.self.view_is) s in
     let clean = c.in_default.ensures.ok frames pending left.mends in
-    stands_mended g.D.Disk.image c.add.new.self _ c.in_default-add.ensures.done.0 (c.in_default-add.ensures.ok frames (frame_in c.args.buffer.now) clean c.requires c.set_frame.ensures)
+    rests_by_text g.D.Disk.image c.add.new.self _ c.in_default-add.ensures.done.0
+    (c.in_default-add.ensures.ok frames (frame_in c.args.buffer.now) clean c.requires c.set_frame.ensures)
+
+pub returns-clause-text : goal.returns-clause-text
+returns-clause-text g c = λ frames pending s.
+    let left = subst (λ (w : Writer _). Stands g.D.Disk.image w frames pending) (sym c.self.view_is) s in
+    let clean = c.in_default.ensures.ok frames pending left.mends in
+    (c.in_default-add.ensures.ok frames (frame_in c.args.buffer.now) clean c.requires c.set_frame.ensures).each
 
 pub returns-clause-any_moment : goal.returns-clause-any_moment
 returns-clause-any_moment g c = λ frames pending s.
     let left = subst (λ (w : Writer _). Stands g.D.Disk.image w frames pending) (sym c.self.view_is) s in
     let clean = c.in_default.ensures.ok frames pending left.mends in
-    subst (λ (w : Writer _). LeavesOnly g.D.Disk.moment g.D.Disk.since w.disk c.add.new.self.disk (λ x. IsWithPending frames pending x ⊎ IsBeforeOrAfter frames (frame_in c.args.buffer.now) x)) c.self.view_is
-    (joined g.D.Disk.moment g.D.Disk.since c.self.inside.writer.disk c.mend.new.self.disk c.add.new.self.disk (IsWithPending frames pending) (IsBeforeOrAfter frames (frame_in c.args.buffer.now)) _
-    (c.mend.ensures.any_moment frames pending left.mends) (c.add.ensures.any_moment frames (frame_in c.args.buffer.now) clean c.requires c.set_frame.ensures) (λ x p. inl p) (λ x p. inr p))
+    subst (λ (w : Writer _). LeavesOnly g.D.Disk.moment g.D.Disk.since w.disk c.add.new.self.disk
+    (λ x. IsWithPending frames pending x ⊎ IsBeforeOrAfter frames (frame_in c.args.buffer.now) x)) c.self.view_is
+    (joined g.D.Disk.moment g.D.Disk.since c.self.inside.writer.disk c.mend.new.self.disk c.add.new.self.disk (IsWithPending frames pending)
+    (IsBeforeOrAfter frames (frame_in c.args.buffer.now)) _
+    (c.mend.ensures.any_moment frames pending left.mends) (c.add.ensures.any_moment frames
+    (frame_in c.args.buffer.now) clean c.requires c.set_frame.ensures) (λ x p. inl p) (λ x p. inr p))

@@ -5,7 +5,9 @@ use Rattle.gate_journal.proofs.writer.Writer.stage.Goals as goal
 
 pub returns-clause-ok : goal.returns-clause-ok
 returns-clause-ok g c = λ frames frame s is. record {
-  each = reached _ _ (IsRest frames) (IsHeld frames frame) s.each _ (λ x told. (g.met.D.Disk.read_is_image c.args.self.now.disk x told).0) _ c.in_default.ensures.ok (λ d e. staged frames frame _ _ d e s.end is);
+  each = reached _ _ (IsRest frames) (IsHeld frames frame) s.each _
+      (λ x told. (g.met.D.Disk.read_is_image c.args.self.now.disk x told).0) _ c.in_default.ensures.ok
+      (λ d e. staged frames frame _ _ d e s.end is);
   fit = s.fit;
   end = s.end;
   count = s.count;
@@ -29,8 +31,12 @@ returns-clause-kept g c = λ frames s. record {
 
 pub returns-in-Err-clause-any_moment : goal.returns-in-Err-clause-any_moment
 returns-in-Err-clause-any_moment g c = λ frames s.
-    at_moments g.D.Disk.image g.D.Disk.moment g.D.Disk.since _ _ (IsRest frames) (λ x. StandsFor x frames) _ s.each c.write_and_sync.ensures.any_moment (λ d e was step. shut_stands frames e s.fit (staging frames _ _ d e s.end was step))
+    at_moments g.D.Disk.image g.D.Disk.moment g.D.Disk.since _ _ (IsRest frames)
+    (λ x. StandsFor x frames) _ s.each c.write_and_sync.ensures.any_moment
+    (λ d e was step. shut_stands frames e s.fit (staging frames _ _ d e s.end was step))
 
 pub returns-clause-any_moment : goal.returns-clause-any_moment
 returns-clause-any_moment g c = λ frames s.
-    at_moments g.D.Disk.image g.D.Disk.moment g.D.Disk.since _ _ (IsRest frames) (λ x. StandsFor x frames) _ s.each c.write_and_sync.ensures.any_moment (λ d e was step. shut_stands frames e s.fit (staging frames _ _ d e s.end was step))
+    at_moments g.D.Disk.image g.D.Disk.moment g.D.Disk.since _ _ (IsRest frames)
+    (λ x. StandsFor x frames) _ s.each c.write_and_sync.ensures.any_moment
+    (λ d e was step. shut_stands frames e s.fit (staging frames _ _ d e s.end was step))
