@@ -8,20 +8,8 @@ ghost use Rattle.gate_journal.specs.Frames.{IsBeforeOrAfter, IsWithPending, IsFr
 
 use crate::writer::{Mending, Writer};
 use edge_io::{Disk, FaultMode};
+use share_model::StoreFault;
 use std::marker::Model;
-use thiserror::Error;
-
-/// Why a frame was not stored.
-#[derive(Clone, Copy, Debug, PartialEq, Eq, Error)]
-pub enum StoreFault {
-    /// The disk failed. The frame is then pending, or the one that was pending still is.
-    #[error("the disk failed")]
-    Device,
-    /// The frame would end past 2^62 bytes. Nothing was changed; `end` is the number of bytes up to the last gate and
-    /// with it.
-    #[error("the journal is full at {end}")]
-    Full { end: u64 },
-}
 
 const MAX_END: u64 = 1 << 62;
 
@@ -79,8 +67,11 @@ impl<D: Disk> Journal<D> {
     ///
     /// `buffer` has the frame, of 1 to 33554432 bytes, behind four bytes of any value and before one: the five are set
     /// to the frame's length and a closed gate, so that one device write carries all. An append that finds nothing to
-    /// mend makes four device calls: a write, a sync, a write of one byte, a sync. At `Full` nothing is changed, the buffer
-    /// included; at `Device` the buffer still has the frame, so the same append can be tried again.
+    /// mend makes four device calls: a write, a sync, a write of one byte, a sync.
+    ///
+    /// At `Device` the frame is pending, or the one that was pending still is; the buffer still has the frame, so the same
+    /// append can be tried again. At `Full` the frame would end past 2^62 bytes, and nothing is changed, the buffer
+    /// included; `end` is the number of bytes up to the last gate and with it.
     pub fn append(&mut self, buffer: &mut [u8]) -> Result<u64, StoreFault>
         requires { IsFrame (frame_in buffer.old) }
 

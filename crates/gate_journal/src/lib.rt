@@ -8,7 +8,6 @@
 #![tactic(auto)]
 
 mod device;
-mod frame;
 mod journal;
 mod opening;
 mod repair;
@@ -17,7 +16,6 @@ mod tests;
 mod text;
 mod writer;
 
-pub use frame::Frame;
-pub use journal::{Journal, StoreFault};
+pub use journal::Journal;
 pub use opening::{StartFault, start};
 pub use text::journal_text_is_read_one_way;

@@ -8,11 +8,11 @@ ghost use Rattle.edge_io.specs.Moments.{LeavesOnly};
 ghost use Rattle.gate_journal.specs.Frames.{IsRead, IsRest, IsFrame, blocks, IsDamaged, StandsFor, StandsAs};
 ghost use Rattle.gate_journal.specs.Journals.{IsAtRest};
 
-use crate::frame::Frame;
 use crate::journal::Journal;
 use crate::repair::repair;
 use crate::text::read_text;
 use edge_io::Disk;
+use share_model::Blob;
 use std::alloc::Global;
 use thiserror::Error;
 
@@ -54,7 +54,7 @@ fn read_whole<D: Disk>(alloc: Global, disk: &mut D) -> Result<Vec<u8>, StartFaul
 }
 
 // Syncs, and reads the frames and the place behind the last gate.
-fn read_synced<D: Disk>(alloc: Global, disk: &mut D) -> Result<(Vec<Frame>, u64), StartFault>
+fn read_synced<D: Disk>(alloc: Global, disk: &mut D) -> Result<(Vec<Blob>, u64), StartFault>
     ensures text { IfOk result (λ x. WhereTold (D.content disk.old) (IsRead x.0.items (D.size disk.old) x.1)) }
     ensures fit { IfOk result (λ x. AllByRecursion IsFrame x.0.items) }
     ensures end { IfOk result (λ x. x.1 ≡ length (blocks x.0.items) + 1) }
@@ -81,7 +81,7 @@ fn read_synced<D: Disk>(alloc: Global, disk: &mut D) -> Result<(Vec<Frame>, u64)
 }
 
 // Reads the frames, and repairs the end.
-fn recover<D: Disk>(alloc: Global, disk: &mut D) -> Result<(Vec<Frame>, u64), StartFault>
+fn recover<D: Disk>(alloc: Global, disk: &mut D) -> Result<(Vec<Blob>, u64), StartFault>
     ensures text { IfOk result (λ x. WhereTold (D.content disk.old) (λ c. StandsFor c x.0.items)) }
     ensures rest { IfOk result (λ x. (c : List ℕ) → D.image disk.new c → IsRest x.0.items c) }
     ensures fit { IfOk result (λ x. AllByRecursion IsFrame x.0.items) }
@@ -110,7 +110,7 @@ fn recover<D: Disk>(alloc: Global, disk: &mut D) -> Result<(Vec<Frame>, u64), St
 pub fn start<D: Disk>(
     alloc: Global,
     mut disk: D,
-) -> Result<(Journal<D>, Vec<Frame>), (D, StartFault)>
+) -> Result<(Journal<D>, Vec<Blob>), (D, StartFault)>
     // The frames are those that the content stands for, each image stands for them from now on, and nothing is pending.
     ensures frames { IfOk result (λ x. WhereTold (D.content disk) (λ c. StandsFor c x.1.items)) }
     ensures kept { IfOk result (λ x. IsAtRest D.image x.0 x.1.items) }

@@ -1,7 +1,8 @@
 // What no clause says: worked examples, and each device call broken in each way before each power loss.
-use crate::{Frame, Journal, StartFault, start};
+use crate::{Journal, StartFault, start};
 use edge_io::{Disk, FaultMode};
 use edge_mem::MemDisk;
+use share_model::Blob;
 use std::alloc::Global;
 
 // The first bytes of the frames, or what was refused.
@@ -184,7 +185,7 @@ fn a_frame_comes_back_as_its_bytes(rt: HostRuntime) {
     };
     assert!(rt; !journal.starved());
     assert_eq!(rt;
-        frames.pop().map(Frame::into_vec).as_deref(),
+        frames.pop().map(Blob::into_vec).as_deref(),
         Some(b"ab".as_slice())
     );
 }

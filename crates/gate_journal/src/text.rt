@@ -5,9 +5,9 @@ ghost use Rattle.std.specs.Int.{w32, to_be_bytes};
 ghost use Rattle.std.specs.List.{AllByRecursion};
 ghost use Rattle.gate_journal.specs.Frames.{StandsFor, IsFrame, IsBroken, IsDamaged, behind_gate, blocks};
 
-use crate::frame::Frame;
 use crate::opening::StartFault;
-use std::alloc::Global;
+use share_model::Blob;
+use std::alloc::{AllocError, Global};
 
 const MAX_FRAME: usize = 33554432;
 
@@ -39,8 +39,16 @@ fn next_frame(behind: &[u8]) -> Option<(&[u8], &[u8])>
     Some((frame, after))
 }
 
+// A copy of these bytes.
+fn copy_of(alloc: Global, bytes: &[u8]) -> Result<Blob, AllocError>
+    ensures { IfOk result (λ b. b ≡ bytes.now) }
+{
+    let bytes = bytes.to_vec(alloc)?;
+    Ok(Blob::new(bytes))
+}
+
 // The frames of a text, and the place behind its last gate.
-pub fn read_text(alloc: Global, bytes: &[u8]) -> Result<(Vec<Frame>, u64), StartFault>
+pub fn read_text(alloc: Global, bytes: &[u8]) -> Result<(Vec<Blob>, u64), StartFault>
     requires { length bytes.now < 2 ^ 64 }
     ensures frames { IfOk result (λ x. StandsFor bytes.now x.0.items × AllByRecursion IsFrame x.0.items) }
     ensures end { IfOk result (λ x. x.1 ≡ length (blocks x.0.items) + 1) }
@@ -62,7 +70,7 @@ pub fn read_text(alloc: Global, bytes: &[u8]) -> Result<(Vec<Frame>, u64), Start
         let Some((frame, after)) = next_frame(behind) else {
             return Err(StartFault::Damaged { place });
         };
-        let Ok(copy) = Frame::copy_of(alloc, frame) else {
+        let Ok(copy) = copy_of(alloc, frame) else {
             return Err(StartFault::NoMemory);
         };
         if let Err(_) = frames.push(copy) {
