@@ -49,9 +49,9 @@ impl Code {
 /// Why a write to a store was refused.
 #[derive(Clone, Copy, Debug, PartialEq, Eq)]
 pub enum StoreFault {
-    /// A device call failed.
+    /// A device call failed. The write is then pending, or the one that was pending still is.
     Device,
-    /// The journal, whose content ends at `end`, has no room for the frame below 2^62.
+    /// The journal, whose last gate ends at `end`, has no room for the frame below 2^62. Nothing was changed.
     Full { end: u64 },
 }
 
