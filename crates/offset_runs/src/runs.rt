@@ -67,7 +67,8 @@ impl Runs {
         Ok(())
     }
 
-    /// Takes away the rows below an offset, and moves each run at most once.
+    /// Takes away the rows below an offset. It finds the place in the logarithm of the number of runs, and
+    /// moves each run at most once, and none where no run ends below the offset.
     pub fn cut_below(&mut self, offset: u64)
         ensures { CutsBelow self.old self.new offset }
     {

@@ -8,6 +8,9 @@ pub(crate) fn remove_front(runs: &mut Vec<Run>, count: usize)
     requires { count ≤ vec_len runs.old }
     ensures { runs.new.items ≡ drop count runs.old.items }
 {
+    if count == 0 {
+        return;
+    }
     let kept = runs.len() - count;
     for place in 0..kept {
         runs[place] = runs[place + count];
