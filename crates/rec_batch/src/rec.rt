@@ -1,6 +1,6 @@
 use share_model::Blob;
 
-/// What a producer says of a record.
+/// A record to be written: its key and its value, each of which is null where it is `None`.
 #[derive(Debug, Drop)]
 pub struct Rec {
     pub key: Option<Blob>,
