@@ -4,7 +4,8 @@ use Rattle.std.proofs.Common.{Ok, Err, refl, sym, ap, ◌∙◌, append_assoc, a
 use Rattle.share_model.specs.declared.run.Run.{Run}
 use Rattle.state_records.specs.declared.fault.RecordFault.{RecordFault}
 use Rattle.state_records.specs.declared.fault.RecordFault.TheVariants as faults
-use Rattle.state_records.specs.Reading.{At, ◌>>=◌, Fails, run_at, runs_at}
+use Rattle.flex_fields.specs.Reading.{At}
+use Rattle.state_records.specs.Reading.{◌>>=◌, Fails, run_at, runs_at}
 
 -- what was read before, and what is still read
 abbrev pub with_front : List Run → Result (List Run × At) ℕ → Result (List Run × At) ℕ

@@ -11,7 +11,8 @@ use Rattle.share_model.specs.Names.{IsName}
 use Rattle.share_model.specs.declared.run.Run.{Run}
 use Rattle.state_records.specs.States.{StateParts, IsEpoch, IsStart, IsKey, IsState}
 use Rattle.state_records.specs.Spelling.{name_bytes, key_bytes, epoch_number, start_number, runs_bytes, state_bytes}
-use Rattle.state_records.specs.Reading.{At, past, then_at, raw_at, number_at, below_at, is_name, name_at, key_of, key_at}
+use Rattle.flex_fields.specs.Reading.{At, past}
+use Rattle.state_records.specs.Reading.{then_at, raw_at, number_at, below_at, is_name, name_at, key_of, key_at}
 use Rattle.state_records.specs.Reading.{epoch_at, start_of, start_at, all_runs_at, state_of_parts, state_at}
 use Rattle.state_records.proofs.Spells.{IsBytes-drop, bind_ok, guard_else, guard_then, ok_is, Takes, Takes-then, Spells}
 use Rattle.state_records.proofs.Spells.{then_spells, as_spells, found_spells, raw_spells, number_spells, wide16, wide64}

@@ -5,7 +5,8 @@ use Rattle.std.specs.Int.{Width, w16, w32, w64, byte_len, from_be_bytes, to_be_b
 use Rattle.std.proofs.lemmas.Bool.{cases_lt, ltb-false, le-ltb}
 use Rattle.std.proofs.lemmas.List.{take_at, drop_at, take-append-drop, length-append, length-take, get_or-drop, get_or-take, get_or_past}
 use Rattle.std.proofs.lemmas.Nat.{be_bytes_2, be_bytes_4, be_bytes_8, from_be_bytes-to_be_bytes_2, from_be_bytes-to_be_bytes_4, from_be_bytes-to_be_bytes_8}
-use Rattle.state_records.specs.Reading.{At, past, ◌>>=◌, as_at, then_at, only_at, byte_in, byte_at, raw_at, number_at, found_at}
+use Rattle.flex_fields.specs.Reading.{At, past}
+use Rattle.state_records.specs.Reading.{◌>>=◌, as_at, then_at, only_at, byte_in, byte_at, raw_at, number_at, found_at}
 
 abbrev pub IsBytes : List ℕ → Type 0
 IsBytes bytes = (i : ℕ) → get_or bytes i 0 < 256

@@ -15,7 +15,8 @@ use Rattle.offset_runs.specs.Parts.{touches}
 use Rattle.offset_runs.proofs.Joins.{touches_true, touches_false}
 use Rattle.state_records.specs.States.{IsStoredRun, AreStoredRuns}
 use Rattle.state_records.specs.Spelling.{run_bytes, runs_bytes}
-use Rattle.state_records.specs.Reading.{At, ◌>>=◌, only_at, byte_at, number_at, below_at, row_state_at, is_behind, could_join, run_at, runs_at, all_runs_at}
+use Rattle.flex_fields.specs.Reading.{At}
+use Rattle.state_records.specs.Reading.{◌>>=◌, only_at, byte_at, number_at, below_at, row_state_at, is_behind, could_join, run_at, runs_at, all_runs_at}
 use Rattle.state_records.proofs.Spells.{IsBytes, bind_ok, guard_else, guard_then, ok_is, Takes, Takes-then, Again, Spells}
 use Rattle.state_records.proofs.Spells.{only_spells, found_spells, number_spells, byte_spells, wide16, wide32, wide64}
 

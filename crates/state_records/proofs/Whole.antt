@@ -7,7 +7,8 @@ use Rattle.state_records.specs.declared.fault.RecordFault.{RecordFault}
 use Rattle.state_records.specs.declared.record.StateRecord.{StateRecord}
 use Rattle.state_records.specs.declared.record.StateRecord.TheVariants.{Snapshot, Update, Removal}
 use Rattle.state_records.specs.Spelling.{key_bytes, state_bytes, record_bytes, IsRecord}
-use Rattle.state_records.specs.Reading.{At, ◌>>=◌, Gives, only_at, byte_at, key_at, state_at, fields_at, record_at}
+use Rattle.flex_fields.specs.Reading.{At}
+use Rattle.state_records.specs.Reading.{◌>>=◌, Gives, only_at, byte_at, key_at, state_at, fields_at, record_at}
 use Rattle.state_records.proofs.Spells.{IsBytes, bind_ok, guard_then, ok_is, Takes, Takes-then, Again, Spells, only_spells, byte_spells}
 use Rattle.state_records.proofs.Stored.{lt_yes, yes_lt}
 use Rattle.state_records.proofs.Records.{key_spells, state_spells}

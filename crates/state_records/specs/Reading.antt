@@ -4,9 +4,10 @@
 -- a_snapshot_is_written_and_read_again), and an update whose second run begins where the first one ends is wrong at the
 -- second's first byte, 73 (the test a_fault_is_at_its_field).
 use Rattle.std.specs.Prelude.{◌≡◌, ◌+◌, ◌-◌, ◌^◌, ℕ, zero, suc, ℤ, pos, negsuc, Bool, true, false, ◌==◌, ◌&&◌, List, [], ◌∷◌}
-use Rattle.std.specs.Prelude.{length, take, drop, Option, Some, None, Result, Ok, Err, nat_le, nat_lt, if◌then◌else◌}
+use Rattle.std.specs.Prelude.{length, take, Option, Some, None, Result, Ok, Err, nat_le, nat_lt, if◌then◌else◌}
 use Rattle.std.specs.Int.{Width, w16, w32, w64, byte_len, from_be_bytes}
 use Rattle.std.specs.Str.{is_utf8}
+use Rattle.flex_fields.specs.Reading.{At, past}
 use Rattle.share_model.specs.Keys.{KeyParts}
 use Rattle.share_model.specs.Rows.{state_of}
 use Rattle.share_model.specs.declared.row.RowState.{RowState}
@@ -17,15 +18,6 @@ use Rattle.state_records.specs.declared.fault.RecordFault.{RecordFault}
 use Rattle.state_records.specs.declared.fault.RecordFault.TheVariants as faults
 use Rattle.state_records.specs.declared.record.StateRecord.{StateRecord}
 use Rattle.state_records.specs.declared.record.StateRecord.TheVariants.{Snapshot, Update, Removal}
-
--- a place, counted in bytes, and the bytes from there on
-pub record At : Type 0 where
-  pub place : ℕ
-  pub left : List ℕ
-
--- n bytes on
-abbrev pub past : ℕ → At → At
-past n at = record { place = at.place + n; left = drop n at.left }
 
 -- the first fault is the answer; a fault is a place
 infixl 10 ◌>>=◌

@@ -13,7 +13,7 @@ pub(crate) struct Reader<'a> {
 
 impl<'a> Model for Reader<'a> {
     ghost use Rattle.std.specs.Prelude.{◌+◌, ◌^◌, ◌<◌, length};
-    ghost use Rattle.state_records.specs.Reading.{At};
+    ghost use Rattle.flex_fields.specs.Reading.{At};
 
     ghost Value = { At };
 
