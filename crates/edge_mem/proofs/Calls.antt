@@ -1,36 +1,55 @@
 -- What the calls of a history do to its images.
-use Rattle.std.proofs.Common.{◌≡◌, ◌⊎◌, inl, inr, ⊎_elim, refl, sym, ap, ◌∙◌, subst, ℕ, ◌+◌, ◌-◌, ◌/◌, ◌≤◌, ◌<◌, max, Option, None, List, [], ◌∷◌, ◌++◌, length, take, drop, arith, length-append, Some, take-append-drop, length-take}
+use Rattle.std.proofs.Common.{◌≡◌, ◌⊎◌, inl, inr, ⊎_elim, refl, sym, ap, ◌∙◌, subst, ℕ, ◌+◌, ◌-◌, ◌/◌, ◌≤◌}
+use Rattle.std.proofs.Common.{◌<◌, max, Option, None, List, [], ◌∷◌, ◌++◌, length, take, drop, arith, length-append, Some}
+use Rattle.std.proofs.Common.{take-append-drop, length-take}
 use Rattle.std.proofs.lemmas.List.{take_all, take-append-le, drop-drop}
 use Rattle.edge_io.specs.Disk.{written, Becomes, UnfinishedWrite, UnfinishedCut, Follows, Leads, Within, Synced}
 use Rattle.edge_io.specs.Moments.{Elapses}
-use Rattle.edge_mem.specs.Events.{Event, Wrote, CutTo, Kept, Lost, State, done, replay, LeavesBy, IsImage, base, content_of, image_of, loss_of, changed, next, run, begun}
+use Rattle.edge_mem.specs.Events.{Event, Wrote, CutTo, Kept, Lost, State, done, replay, LeavesBy}
+use Rattle.edge_mem.specs.Events.{IsImage, base, content_of, image_of, loss_of, changed, next, run, begun}
 use Rattle.edge_io.specs.declared.fault.FaultMode.{FaultMode}
 use Rattle.edge_io.specs.declared.fault.FaultMode.TheVariants.{Once, Torn, Dead}
 use Rattle.edge_mem.specs.Past.{Past, state, content, image, since, with_event, broken_write, failed_write}
 use Rattle.edge_mem.specs.Refusals.{Leaves}
 use Rattle.edge_mem.specs.declared.faulty.Refusal.{Refusal}
 use Rattle.edge_mem.specs.declared.faulty.Refusal.TheVariants.{Broken, NoMemory}
-use Rattle.edge_mem.specs.Laws.{run_push, replay_join, image_join, image_split, image_same, torn_same, torn_written, next_wrote, content_there, length_written, Fits, fits_front, replay_is_image, run_fits}
+use Rattle.edge_mem.specs.Laws.{run_push, replay_join, image_join, image_split, image_same, torn_same, torn_written}
+use Rattle.edge_mem.specs.Laws.{next_wrote, content_there, length_written, Fits, fits_front, replay_is_image, run_fits}
 use Rattle.edge_mem.specs.Steps.{EndsKept}
 use Rattle.edge_mem.proofs.Sounds.{ended}
 
 -- ---- time
 
 pub elapses_same : (h g : Past) → g ≡ h → Elapses (length h.events) (length g.events) (since h) (since g) (image g)
-elapses_same h g is = subst (λ (k : Past). Elapses (length h.events) (length k.events) (since h) (since k) (image k)) (sym is) (record { later = omega arith; nothing_else = λ t c le left. inl left; keeps = λ t c le left. left })
+elapses_same h g is = subst (λ (k : Past). Elapses (length h.events) (length k.events) (since h) (since k) (image k)) (sym is)
+    (record { later = omega arith; nothing_else = λ t c le left. inl left; keeps = λ t c le left. left })
 
 elapses_then : (h : Past) (e : Event) → Elapses (length h.events) (length (with_event h e).events) (since h) (since (with_event h e)) (image (with_event h e))
 elapses_then h e = record {
   later = omega (arith, length-append h.events (e ∷ []));
-  nothing_else = λ t c le left. ⊎_elim (old t c left) (λ gt. inr (subst (λ (es : List Event). image_of (run (begun h.first) es) c) (take_all left.0 (h.events ++ e ∷ []) (omega (arith, gt, length-append h.events (e ∷ [])))) left.3)) (cases left.0);
-  keeps = λ t c le left. (left.0, left.1, omega (arith, left.2, length-append h.events (e ∷ [])), subst (λ (es : List Event). image_of (run (begun h.first) es) c) (sym (take-append-le left.0 h.events (e ∷ []) left.2)) left.3);
+  nothing_else = λ t c le left. ⊎_elim (old t c left) (λ gt. inr (subst
+      (λ (es : List Event). image_of (run (begun h.first) es) c)
+      (take_all left.0 (h.events ++ e ∷ []) (omega (arith, gt, length-append h.events (e ∷ [])))) left.3)) (cases left.0);
+  keeps = λ t c le left. (
+    left.0,
+    left.1,
+    omega (arith, left.2, length-append h.events (e ∷ [])),
+    subst
+        (λ (es : List Event). image_of (run (begun h.first) es) c) (sym (take-append-le left.0 h.events (e ∷ []) left.2)) left.3,
+  );
 }
   where
     cases : (m : ℕ) → (m ≤ length h.events) ⊎ (length h.events < m)
     cases m = grind arith
 
     old : (t : ℕ) (c : List ℕ) (left : since (with_event h e) t c) → left.0 ≤ length h.events → since h t c ⊎ image (with_event h e) c
-    old t c left le = inl (left.0, left.1, le, subst (λ (es : List Event). image_of (run (begun h.first) es) c) (take-append-le left.0 h.events (e ∷ []) le) left.3)
+    old t c left le = inl (
+      left.0,
+      left.1,
+      le,
+      subst (λ (es : List Event). image_of (run (begun h.first) es) c)
+          (take-append-le left.0 h.events (e ∷ []) le) left.3,
+    )
 
 pub elapses_push : (h g : Past) (e : Event) → g ≡ with_event h e → Elapses (length h.events) (length g.events) (since h) (since g) (image g)
 elapses_push h g e is = subst (λ (k : Past). Elapses (length h.events) (length k.events) (since h) (since k) (image k)) (sym is) (elapses_then h e)
@@ -126,7 +145,8 @@ module _ (h g : Past) (is : (g ≡ with_event h Kept) ⊎ ((g ≡ h) × EndsKept
   pub sync_image : (c : List ℕ) → image g c → c ≡ content h
   sync_image c now = ⊎_elim
       (λ p. subst (λ (s : State). image_of s c) (kept_state p) now ∙ replay_join (state h).kept (state h).changes (state h).first)
-      (λ p. let none = ended h.first h.events p.1 in subst (λ (es : List Event). IsImage es (base (state h)) c) none (subst (λ (k : Past). image k c) p.0 now) ∙ sym (ap (λ (es : List Event). replay es (base (state h))) none))
+      (λ p. let none = ended h.first h.events p.1 in subst (λ (es : List Event). IsImage es (base (state h)) c) none (subst
+      (λ (k : Past). image k c) p.0 now) ∙ sym (ap (λ (es : List Event). replay es (base (state h))) none))
       is
 
   pub sync_told : Synced (Some (content h)) (image g)
@@ -150,7 +170,8 @@ module _ (h g : Past) (choice : ℕ) (is : g ≡ with_event h (Lost choice (loss
   loss_is_image : image h (loss_of (state h) choice)
   loss_is_image =
       let s = state h in
-      let fits : Fits (take choice s.changes ++ drop choice s.changes) (base s) = subst (λ (es : List Event). Fits es (base s)) (sym (take-append-drop choice s.changes)) (run_fits (begun h.first) h.events tt) in
+      let fits : Fits (take choice s.changes ++ drop choice s.changes) (base s) = subst
+      (λ (es : List Event). Fits es (base s)) (sym (take-append-drop choice s.changes)) (run_fits (begun h.first) h.events tt) in
       subst (λ (es : List Event). IsImage es (base s) (loss_of s choice)) (take-append-drop choice s.changes)
       (image_join (take choice s.changes) (drop choice s.changes) (base s) (loss_of s choice) (loss_of s choice)
       (replay_is_image (take choice s.changes) (base s) (fits_front (take choice s.changes) (drop choice s.changes) (base s) fits))
@@ -192,30 +213,35 @@ failed_part : (how : Option FaultMode) (h g : Past) (at : ℕ) (bytes : List ℕ
 failed_part None h g at bytes is = inl is
 failed_part (Some mode) h g at bytes is = broken_part mode h g at bytes is
 
-some_part : (e : Refusal) (how : Option FaultMode) (h g : Past) (at : ℕ) (bytes : List ℕ) → Leaves e (failed_write how at bytes h) h g → IsPart h g at bytes
+some_part : (e : Refusal) (how : Option FaultMode) (h g : Past) (at : ℕ) (bytes : List ℕ) → Leaves e (failed_write how at bytes h) h g
+    → IsPart h g at bytes
 some_part Broken how h g at bytes left = failed_part how h g at bytes left
 some_part NoMemory how h g at bytes left = inl left
 
 -- what a refused write left, of a past that is this one
-pub refused_part : (e : Refusal) (how : Option FaultMode) (h k g l : Past) (at : ℕ) (bytes : List ℕ) → k ≡ h → l ≡ g → Leaves e (failed_write how at bytes k) k g → IsPart h l at bytes
-refused_part e how h k g l at bytes same is left = subst (λ (m : Past). IsPart h m at bytes) (sym is) (subst (λ (m : Past). IsPart m g at bytes) same (some_part e how k g at bytes left))
+pub refused_part : (e : Refusal) (how : Option FaultMode) (h k g l : Past) (at : ℕ) (bytes : List ℕ) → k ≡ h → l ≡ g
+    → Leaves e (failed_write how at bytes k) k g → IsPart h l at bytes
+refused_part e how h k g l at bytes same is left = subst (λ (m : Past). IsPart h m at bytes) (sym is) (subst
+    (λ (m : Past). IsPart m g at bytes) same (some_part e how k g at bytes left))
 
 module _ (h g : Past) (at : ℕ) (bytes : List ℕ) (le : at ≤ length (content h)) (part : IsPart h g at bytes) where
   pub part_crash : Follows (UnfinishedWrite at (length bytes)) (image h) (image g)
-  part_crash = ⊎_elim (λ same c now. (c, subst (λ (k : Past). image k c) same now, torn_same at (length bytes) c)) (λ p. wrote_crash h g at p.0 le p.2 (length bytes) p.1) part
+  part_crash = ⊎_elim (λ same c now. (c, subst (λ (k : Past). image k c) same now, torn_same at (length bytes) c))
+      (λ p. wrote_crash h g at p.0 le p.2 (length bytes) p.1) part
 
   part_done : UnfinishedWrite at (length bytes) (content h) (content g)
   part_done = ⊎_elim
       (λ same. subst (λ (k : Past). UnfinishedWrite at (length bytes) (content h) (content k)) (sym same) (torn_same at (length bytes) (content h)))
       (λ p. subst (λ (l : List ℕ). UnfinishedWrite at (length bytes) (content h) l) (sym (wrote_content h g at p.0 le p.2))
-          (torn_more at (length p.0) (length bytes) (content h) (written at p.0 (content h)) p.1 (torn_written at p.0 (content h) le)))
+      (torn_more at (length p.0) (length bytes) (content h) (written at p.0 (content h)) p.1 (torn_written at p.0 (content h) le)))
       part
 
   pub part_content : (c d : List ℕ) → Some (content h) ≡ Some c → Some (content g) ≡ Some d → UnfinishedWrite at (length bytes) c d
   part_content c d was now =
       let a : content h ≡ c = cc in
       let b : content g ≡ d = cc in
-      subst (λ (l : List ℕ). UnfinishedWrite at (length bytes) l d) a (subst (λ (l : List ℕ). UnfinishedWrite at (length bytes) (content h) l) b part_done)
+      subst (λ (l : List ℕ). UnfinishedWrite at (length bytes) l d) a (subst
+      (λ (l : List ℕ). UnfinishedWrite at (length bytes) (content h) l) b part_done)
 
   pub part_low : length (content h) ≤ length (content g)
   part_low = ⊎_elim (λ same. omega (arith, ap (λ (k : Past). length (content k)) same)) (λ p. omega (arith, wrote_size h g at p.0 le p.2)) part

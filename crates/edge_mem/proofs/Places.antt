@@ -1,5 +1,6 @@
 -- The slots of a bay.
-use Rattle.std.proofs.Common.{◌≡◌, ◌≢◌, ◌⊎◌, inl, inr, ⊎_elim, refl, sym, ap, ◌∙◌, subst, ℕ, ◌<◌, if◌then◌else◌, Bool, true, false, List, [], ◌∷◌, ◌++◌, length, get_or, Option, Some, None, arith, rules}
+use Rattle.std.proofs.Common.{◌≡◌, ◌≢◌, ◌⊎◌, inl, inr, ⊎_elim, refl, sym, ap, ◌∙◌, subst, ℕ, ◌<◌}
+use Rattle.std.proofs.Common.{if◌then◌else◌, Bool, true, false, List, [], ◌∷◌, ◌++◌, length, get_or, Option, Some, None, arith, rules}
 use Rattle.std.proofs.Math.ListN.{set}
 use Rattle.std.proofs.lemmas.Bool.{cases_Bool}
 use Rattle.std.specs.Cmp.Lexicographic.{same_text, other_text}
@@ -35,7 +36,8 @@ abbrev pub Looked : List Slot → List ℕ → Option ℕ → Type 0
 Looked slots name None = found slots name ≡ None
 Looked slots name (Some n) = IsAt slots name n
 
-more : (s : Slot) (slots : List Slot) (name : List ℕ) → s.name ≢ name → (o : Option ℕ) → Looked slots name o → Looked (s ∷ slots) name (behind o)
+more : (s : Slot) (slots : List Slot) (name : List ℕ) → s.name ≢ name → (o : Option ℕ) → Looked slots name o
+    → Looked (s ∷ slots) name (behind o)
 more s slots name other None l = there s slots name other ∙ l
 more s slots name other (Some n) l = record {
   within = omega (arith, l.within);
@@ -60,8 +62,11 @@ first s slots name same = record {
 pub looked : (slots : List Slot) (name : List ℕ) → Looked slots name (place slots name)
 looked [] name = refl
 looked (s ∷ slots) name = elim (name_cases s.name name) [
-  | inl same ↦ let b : same_name s.name name ≡ true = same_yes s.name name same in subst (Looked (s ∷ slots) name) (sym (ap (λ (b : Bool). if b then Some 0 else behind (place slots name)) b)) (first s slots name same)
-  | inr other ↦ let b : same_name s.name name ≡ false = same_no s.name name other in subst (Looked (s ∷ slots) name) (sym (ap (λ (b : Bool). if b then Some 0 else behind (place slots name)) b)) (more s slots name other (place slots name) (looked slots name))
+  | inl same ↦ let b : same_name s.name name ≡ true = same_yes s.name name same in
+      subst (Looked (s ∷ slots) name) (sym (ap (λ (b : Bool). if b then Some 0 else behind (place slots name)) b)) (first s slots name same)
+  | inr other ↦ let b : same_name s.name name ≡ false = same_no s.name name other in
+      subst (Looked (s ∷ slots) name) (sym (ap (λ (b : Bool). if b then Some 0 else behind (place slots name)) b))
+      (more s slots name other (place slots name) (looked slots name))
 ]
 
 pub pushed : (slots : List Slot) (y : Slot) (name : List ℕ) → found slots name ≡ None → y.name ≡ name → found (slots ++ y ∷ []) name ≡ Some y
@@ -82,16 +87,19 @@ pushed_others (s ∷ slots) y name m on away = ap (λ (o : Option Slot). if same
 
 -- what was found under the name's bytes
 pub is_at : (slots now : List Slot) (name bytes : List ℕ) (n : ℕ) → now ≡ slots → bytes ≡ name → Some n ≡ place now bytes → IsAt slots name n
-is_at slots now name bytes n same on e = subst (Looked slots name) (sym (e ∙ ap (λ (l : List Slot). place l bytes) same ∙ ap (place slots) on)) (looked slots name)
+is_at slots now name bytes n same on e = subst (Looked slots name) (sym (e ∙ ap (λ (l : List Slot). place l bytes) same ∙ ap (place slots) on))
+    (looked slots name)
 
 pub is_absent : (slots now : List Slot) (name bytes : List ℕ) → now ≡ slots → bytes ≡ name → None ≡ place now bytes → found slots name ≡ None
-is_absent slots now name bytes same on e = subst (Looked slots name) (sym (e ∙ ap (λ (l : List Slot). place l bytes) same ∙ ap (place slots) on)) (looked slots name)
+is_absent slots now name bytes same on e = subst (Looked slots name) (sym (e ∙ ap (λ (l : List Slot). place l bytes) same ∙ ap (place slots) on))
+    (looked slots name)
 
 pub some_slot : Slot
 some_slot = record { name = []; disk = None; count = 0 }
 
 abbrev pub Same : List Slot → List Slot → List ℕ → Type 0
-Same old new m = (disk_in (found new m) ≡ disk_in (found old m)) × (out_in (found new m) ≡ out_in (found old m)) × (taken_in (found new m) ≡ taken_in (found old m))
+Same old new m = (disk_in (found new m) ≡ disk_in (found old m)) × (out_in (found new m) ≡ out_in (found old m))
+    × (taken_in (found new m) ≡ taken_in (found old m))
 
 same : (old new : List Slot) (m : List ℕ) → found new m ≡ found old m → Same old new m
 same old new m e = (ap disk_in e, ap out_in e, ap taken_in e)
@@ -103,9 +111,11 @@ module _ (slots new : List Slot) (name : List ℕ) (n : ℕ) (at : IsAt slots na
   pub count_at : (d : Slot) → taken_in (found slots name) ≡ (get_or slots n d).count
   count_at d = ap taken_in (at.is d)
 
-  pub take_given : (d : Slot) (disk : DiskState) → Taken slots n d disk new → (disk ≡ disk_in (found slots name)) × (out_in (found new name) ≡ true) × (taken_in (found new name) ≡ disk.faults)
+  pub take_given : (d : Slot) (disk : DiskState) → Taken slots n d disk new
+      → (disk ≡ disk_in (found slots name)) × (out_in (found new name) ≡ true) × (taken_in (found new name) ≡ disk.faults)
   take_given d disk t =
-      let now : found new name ≡ Some (record { name = (get_or slots n d).name; disk = None; count = disk.faults }) = ap (λ (l : List Slot). found l name) t.set_out ∙ at.changed _ (at.named d) in
+      let now : found new name ≡ Some (record { name = (get_or slots n d).name; disk = None; count = disk.faults }) =
+      ap (λ (l : List Slot). found l name) t.set_out ∙ at.changed _ (at.named d) in
       (t.is ∙ sym (ap disk_in (at.is d)), ap out_in now, ap taken_in now)
 
   pub take_others : (d : Slot) (disk : DiskState) → Taken slots n d disk new → (m : List ℕ) → m ≢ name → Same slots new m
@@ -113,14 +123,17 @@ module _ (slots new : List Slot) (name : List ℕ) (n : ℕ) (at : IsAt slots na
 
   pub put_there : (d : Slot) (disk : DiskState) → Put slots n d disk new → (disk_in (found new name) ≡ disk) × (out_in (found new name) ≡ false)
   put_there d disk p =
-      let now : found new name ≡ Some (record { name = (get_or slots n d).name; disk = Some disk; count = (get_or slots n d).count }) = ap (λ (l : List Slot). found l name) p.set_in ∙ at.changed _ (at.named d) in
+      let now : found new name ≡ Some (record { name = (get_or slots n d).name; disk = Some disk; count = (get_or slots n d).count }) =
+      ap (λ (l : List Slot). found l name) p.set_in ∙ at.changed _ (at.named d) in
       (ap disk_in now, ap out_in now)
 
   pub put_others : (d : Slot) (disk : DiskState) → Put slots n d disk new → (m : List ℕ) → m ≢ name → Same slots new m
   put_others d disk p m away = same slots new m (ap (λ (l : List Slot). found l m) p.set_in ∙ at.others _ m (at.named d) away)
 
-module _ (slots new : List Slot) (name : List ℕ) (s : Slot) (none : found slots name ≡ None) (on : s.name ≡ name) (nothing : s.disk ≡ None) (zero_count : s.count ≡ 0) (new_is : new ≡ slots ++ s ∷ []) where
-  pub made_given : (disk : DiskState) → disk ≡ fresh → (disk ≡ disk_in (found slots name)) × (out_in (found new name) ≡ true) × (taken_in (found new name) ≡ disk.faults)
+module _ (slots new : List Slot) (name : List ℕ) (s : Slot) (none : found slots name ≡ None) (on : s.name ≡ name) (nothing : s.disk ≡ None)
+    (zero_count : s.count ≡ 0) (new_is : new ≡ slots ++ s ∷ []) where
+  pub made_given : (disk : DiskState) → disk ≡ fresh → (disk ≡ disk_in (found slots name)) × (out_in (found new name) ≡ true)
+      × (taken_in (found new name) ≡ disk.faults)
   made_given disk is =
       let now : found new name ≡ Some s = ap (λ (l : List Slot). found l name) new_is ∙ pushed slots s name none on in
       (is ∙ sym (ap disk_in none), ap out_in now ∙ ap is_empty nothing, ap taken_in now ∙ zero_count ∙ sym (ap (λ (d : DiskState). d.faults) is))
@@ -130,10 +143,13 @@ module _ (slots new : List Slot) (name : List ℕ) (s : Slot) (none : found slot
 
 -- ---- the bay, seen as its state
 
-pub same_slot : (old new b : BayState) (m : List ℕ) → b ≡ old → Same b.slots new.slots m → SameSlot (λ k l. Some (disk_at k l)) out_at taken_at m old new
-same_slot old new b m e s = subst (λ (k : BayState). SameSlot (λ k l. Some (disk_at k l)) out_at taken_at m k new) e (record { same_disk = ap (λ (d : DiskState). Some d) s.0; same_out = s.1; same_taken = s.2 })
+pub same_slot : (old new b : BayState) (m : List ℕ) → b ≡ old → Same b.slots new.slots m
+    → SameSlot (λ k l. Some (disk_at k l)) out_at taken_at m old new
+same_slot old new b m e s = subst (λ (k : BayState). SameSlot (λ k l. Some (disk_at k l)) out_at taken_at m k new) e
+    (record { same_disk = ap (λ (d : DiskState). Some d) s.0; same_out = s.1; same_taken = s.2 })
 
-pub still_in : (old b : BayState) (slots : List Slot) (name : List ℕ) → b ≡ old → slots ≡ b.slots → out_at old name ≡ false → (Some (disk_in (found slots name)) ≡ Some (disk_at old name)) × (out_in (found slots name) ≡ false)
+pub still_in : (old b : BayState) (slots : List Slot) (name : List ℕ) → b ≡ old → slots ≡ b.slots → out_at old name ≡ false
+    → (Some (disk_in (found slots name)) ≡ Some (disk_at old name)) × (out_in (found slots name) ≡ false)
 still_in old b slots name e s out =
     let same : slots ≡ old.slots = s ∙ ap (λ (k : BayState). k.slots) e in
     (ap (λ (l : List Slot). Some (disk_in (found l name))) same, ap (λ (l : List Slot). out_in (found l name)) same ∙ out)

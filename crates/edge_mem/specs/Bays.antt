@@ -1,4 +1,5 @@
--- The disks of a bay in memory.
+-- The disks of a bay in memory. This project's own. Worked example: a name that was never taken has an empty disk; one that
+-- was put back with the content `kept` has that disk, also after a `take` that failed.
 use Rattle.std.specs.Prelude.{◌≡◌, ℕ, suc, if◌then◌else◌, Bool, true, false, List, [], ◌∷◌, Some, None, nat_eq}
 use Rattle.std.specs.Cmp.Lexicographic.{pointwise}
 use Rattle.std.proofs.Math.ListN.{set, get_or}
@@ -11,9 +12,11 @@ use Rattle.edge_mem.specs.declared.bay.Slot.{Slot}
 abbrev pub fresh : DiskState
 fresh = record { past = record { first = []; events = [] }; armed = Nothing; arms = 0; starved = false; faults = 0 }
 
+-- the same bytes
 abbrev pub same_name : List ℕ → List ℕ → Bool
 same_name a b = pointwise nat_eq a b
 
+-- one place further
 abbrev pub behind : Option ℕ → Option ℕ
 behind None = None
 behind (Some n) = Some (suc n)

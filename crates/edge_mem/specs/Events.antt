@@ -1,4 +1,5 @@
--- What happened to a disk in memory, and what it makes of a content.
+-- What happened to a disk in memory, and what it makes of a content. This project's own; a change is that of POSIX `pwrite` or
+-- `ftruncate`, and a sync is that of `fdatasync`. `loss_of` has the worked example.
 use Rattle.std.specs.Prelude.{◌≡◌, ℕ, List, [], ◌∷◌, ◌++◌, length, take, if◌then◌else◌, nat_lt}
 use Rattle.edge_io.specs.Disk.{written, UnfinishedWrite, UnfinishedCut}
 

@@ -1,15 +1,25 @@
 -- The laws of a disk in memory.
-use Rattle.std.specs.Prelude.{◌≡◌, ◌⊎◌, ℕ, ◌+◌, ◌≤◌, ◌<◌, min, max, List, [], ◌∷◌, ◌++◌, length, take, drop, if◌then◌else◌, nat_lt, true, false, Bool, Some}
+use Rattle.std.specs.Prelude.{◌≡◌, ◌⊎◌, ℕ, ◌+◌, ◌≤◌, ◌<◌, min, max, List, []}
+use Rattle.std.specs.Prelude.{◌∷◌, ◌++◌, length, take, drop, if◌then◌else◌, nat_lt, true, false, Bool, Some}
 use Rattle.std.proofs.Common.{inl, inr, ⊎_elim, refl, sym, ap, ◌∙◌, subst, arith, append_assoc, length-append, length-drop}
 use Rattle.std.proofs.lemmas.List.{take_at, drop_at, take_all, length-take}
 use Rattle.edge_io.specs.Disk.{written, UnfinishedWrite, UnfinishedCut}
-use Rattle.edge_mem.specs.Events.{Event, Wrote, CutTo, Kept, Lost, State, done, replay, LeavesBy, IsImage, base, content_of, image_of, changed, next, run, begun}
+use Rattle.edge_mem.specs.Events.{Event, Wrote, CutTo, Kept, Lost, State, done, replay, LeavesBy, IsImage, base, content_of, image_of, changed, next}
+use Rattle.edge_mem.specs.Events.{run, begun}
 use Rattle.edge_mem.specs.Past.{Past, state, content, image, since}
 
 -- ---- a change
 
 pub length_written : (at : ℕ) (bytes c : List ℕ) → at ≤ length c → length (written at bytes c) ≡ max (length c) (at + length bytes)
-length_written at bytes c le = omega (arith, length-take at c, length-append (take at c) (bytes ++ drop (at + length bytes) c), length-append bytes (drop (at + length bytes) c), length-drop (at + length bytes) c, le)
+length_written at bytes c le = omega (
+  arith,
+  length-take at c,
+  length-append (take at c) (bytes ++ drop (at + length bytes) c),
+  length-append bytes
+      (drop (at + length bytes) c),
+  length-drop (at + length bytes) c,
+  le,
+)
 
 pub torn_written : (at : ℕ) (bytes c : List ℕ) → at ≤ length c → UnfinishedWrite at (length bytes) c (written at bytes c)
 torn_written at bytes c le = record {
@@ -31,7 +41,8 @@ pub cut_done : (n : ℕ) (c : List ℕ) → UnfinishedCut n c (take n c)
 cut_done n c = record { no_shorter = omega (arith, length-take n c); front = ap (λ (k : ℕ). take k c) (length-take n c) ∙ take_min n c }
   where
     take_min : (n : ℕ) (c : List ℕ) → take (min n (length c)) c ≡ take n c
-    take_min n c = ⊎_elim (λ le. ap (λ (k : ℕ). take k c) (omega (arith, le))) (λ gt. take_all _ c (omega (arith, gt)) ∙ sym (take_all n c (omega (arith, gt)))) (cases n c)
+    take_min n c = ⊎_elim (λ le. ap (λ (k : ℕ). take k c) (omega (arith, le)))
+        (λ gt. take_all _ c (omega (arith, gt)) ∙ sym (take_all n c (omega (arith, gt)))) (cases n c)
       where
         cases : (n : ℕ) (c : List ℕ) → (n ≤ length c) ⊎ (length c < n)
         cases n c = grind arith
@@ -96,7 +107,8 @@ run_push s [] e = refl
 run_push s (f ∷ es) e = run_push (next s f) es e
 
 pub next_wrote : (s : State) (at : ℕ) (bytes : List ℕ) → at ≤ length (content_of s) → next s (Wrote at bytes) ≡ changed s (Wrote at bytes)
-next_wrote s at bytes le = let no : nat_lt (length (content_of s)) at ≡ false = grind (arith, le) in ap (λ (b : Bool). if b then s else changed s (Wrote at bytes)) no
+next_wrote s at bytes le = let no : nat_lt (length (content_of s)) at ≡ false = grind (arith, le) in
+    ap (λ (b : Bool). if b then s else changed s (Wrote at bytes)) no
 
 abbrev pub StateFits : State → Type 0
 StateFits s = Fits s.changes (base s)
@@ -104,7 +116,8 @@ StateFits s = Fits s.changes (base s)
 pub next_fits : (s : State) (e : Event) → StateFits s → StateFits (next s e)
 next_fits s (Wrote at bytes) p = ⊎_elim
     (λ yes. subst StateFits (sym (ap (λ (b : Bool). if b then s else changed s (Wrote at bytes)) yes)) p)
-    (λ no. subst StateFits (sym (ap (λ (b : Bool). if b then s else changed s (Wrote at bytes)) no)) (fits_push s.changes (Wrote at bytes) (base s) p (grind (arith, no), tt)))
+    (λ no. subst StateFits (sym (ap (λ (b : Bool). if b then s else changed s (Wrote at bytes)) no))
+    (fits_push s.changes (Wrote at bytes) (base s) p (grind (arith, no), tt)))
     (cases (nat_lt (length (content_of s)) at))
   where
     cases : (b : Bool) → (b ≡ true) ⊎ (b ≡ false)

@@ -1,4 +1,6 @@
--- What a disk in memory knows of itself: all that happened to it, and from that its content, its images and its losses.
+-- What a disk in memory knows of itself: all that happened to it, and from that its content, its images and its losses. This
+-- project's own. Worked example: an empty disk on which a write of `wxyz` at 0 was torn has the one event that `wx` was
+-- written at 0; a read gives `wx`, and a crash may leave at most two bytes, which may be any.
 use Rattle.std.specs.Prelude.{◌≤◌, ◌==◌, ◌/◌, if◌then◌else◌, ℕ, Bool, List, ◌∷◌, [], ◌++◌, length, take, Some, None}
 use Rattle.std.specs.declared.option.Option.{Option}
 use Rattle.edge_io.specs.declared.fault.FaultMode.{FaultMode}

@@ -1,4 +1,5 @@
-ghost use Rattle.std.specs.Prelude.{◌≡◌, ◌≢◌, ◌⊎◌, ◌≤◌, ◌<◌, ◌+◌, ◌-◌, ◌^◌, ◌++◌, ◌∷◌, [], min, ℕ, List, Bool, true, false};
+ghost use Rattle.std.specs.Prelude.{◌≡◌, ◌≢◌, ◌⊎◌, ◌≤◌, ◌<◌, ◌+◌, ◌-◌, ◌^◌, ◌++◌, ◌∷◌};
+ghost use Rattle.std.specs.Prelude.{[], min, ℕ, List, Bool, true, false};
 ghost use Rattle.std.specs.Prelude.{Some, None, IfSome, IfOk, OnErr, IsErr, Contains, length, slice_index_or};
 ghost use Rattle.edge_io.specs.Bays.{SameSlot, IsAsTold, Holds};
 ghost use Rattle.edge_io.specs.Causes.{CountsFault, FailsBy, HasCause, raised};
@@ -85,7 +86,6 @@ fn put_at(slots: &mut Vec<Slot>, at: usize, disk: MemDisk) -> u64
 // A count of faults with some more.
 fn counted(faults: u64, more: u64) -> u64
     ensures sum { result ≡ min (faults + more) (2 ^ 64 - 1) }
-    ensures none { more ≡ 0 → result ≡ faults }
 {
     faults.saturating_add(more)
 }

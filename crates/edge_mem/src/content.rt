@@ -1,5 +1,6 @@
 // A content, and the steps that were done to it.
-ghost use Rattle.std.specs.Prelude.{◌≡◌, ◌≤◌, ◌+◌, ◌-◌, ℕ, List, [], ◌∷◌, ◌++◌, length, take, drop, IfOk, OnOk, OnErr, true, false};
+ghost use Rattle.std.specs.Prelude.{◌≡◌, ◌≤◌, ◌+◌, ◌-◌, ◌∷◌, ◌++◌};
+ghost use Rattle.std.specs.Prelude.{ℕ, List, [], length, take, drop, IfOk, OnOk, OnErr, true, false};
 ghost use Rattle.edge_io.specs.Disk.{written};
 ghost use Rattle.edge_mem.specs.Events.{Event, Wrote, CutTo, Kept, replay, done};
 ghost use Rattle.edge_mem.specs.Steps.{Joins, Marked, changes, event_of};

@@ -51,8 +51,13 @@ fn copy_part(from: &[u8], place: usize, into: &mut [u8])
 impl MemDisk {
     /// A disk with this content, on which nothing has happened yet.
     pub fn new(alloc: Global, bytes: Vec<u8>) -> Result<MemDisk, AllocError>
-        ensures state { IfOk result (λ d. d ≡ record { past = record { first = bytes.items; events = [] };
-            armed = Nothing; arms = 0; starved = false; faults = 0 }) }
+        ensures state { IfOk result (λ d. d ≡ record {
+          past = record { first = bytes.items; events = [] };
+          armed = Nothing;
+          arms = 0;
+          starved = false;
+          faults = 0;
+        }) }
         ensures content { IfOk result (λ d. content d.past ≡ bytes.items) }
     {
         Ok(MemDisk {
@@ -171,7 +176,7 @@ impl Disk for MemDisk {
         // fault. Without memory it changes nothing.
         ensures past { MatchResult result (λ _. self.new.past ≡ with_event self.old.past (Wrote place bytes.now))
             (λ _. (self.new.past ≡ failed_write (broken_by self.old.armed) place bytes.now self.old.past) ⊎
-                ((self.new.starved ≡ true) × (self.new.past ≡ self.old.past))) }
+            ((self.new.starved ≡ true) × (self.new.past ≡ self.old.past))) }
         ensures no_memory { self.old.starved ≡ false → self.new.starved ≡ true → self.new.past ≡ self.old.past }
         ensures faults { CountsFault self.old.faults self.new.faults result }
     {
@@ -215,7 +220,8 @@ impl Disk for MemDisk {
 
         // It fails exactly where the armed fault breaks it, and then changes nothing.
         ensures broken { IsErr result ↔ (breaks self.old.armed ≡ true) }
-        ensures past { MatchResult result (λ _. (self.new.past ≡ with_event self.old.past Kept) ⊎ ((self.new.past ≡ self.old.past) × EndsKept self.old.past.events))
+        ensures past { MatchResult result
+            (λ _. (self.new.past ≡ with_event self.old.past Kept) ⊎ ((self.new.past ≡ self.old.past) × EndsKept self.old.past.events))
             (λ _. self.new.past ≡ self.old.past) }
         ensures starved { self.new.starved ≡ self.old.starved }
         ensures faults { CountsFault self.old.faults self.new.faults result }

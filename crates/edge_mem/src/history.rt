@@ -16,10 +16,11 @@ pub struct History {
     log: Vec<Step>,
     // where the steps since the last power loss begin
     start: usize,
-    // the content with_event
+    // the content before them
     era: Vec<u8>,
     // how many of them were done at the last sync
     kept: usize,
+    // what a read gives
     bytes: Vec<u8>,
 }
 

@@ -1,4 +1,5 @@
-ghost use Rattle.std.specs.Prelude.{◌≡◌, ◌↔◌, ◌<◌, ◌≤◌, ◌&&◌, ◌++◌, nat_eq, nat_lt, min, Some, IsErr, IfOk, Contains, take, drop, length, [], false};
+ghost use Rattle.std.specs.Prelude.{◌≡◌, ◌↔◌, ◌<◌, ◌≤◌, ◌&&◌, ◌++◌};
+ghost use Rattle.std.specs.Prelude.{nat_eq, nat_lt, min, Some, IsErr, IfOk, Contains, take, drop, length, [], false};
 ghost use Rattle.std.specs.Io.{ReadsAtMost};
 ghost use Rattle.std.specs.Io.KnownBytes.{ReadConsumes};
 ghost use Rattle.edge_io.specs.Causes.{CountsFault, HasCause, raised};

@@ -15,7 +15,8 @@ take_at-requires-clause-there c = λ d. lies c.self.inside.slots.items c.self.in
     (subst (λ (b : BayState). out_at b c.args.name.now ≡ _) (sym c.self.view_is) c.requires) d
 
 pub returns-in-Some-clause-given : goal.returns-in-Some-clause-given
-returns-in-Some-clause-given c = subst (λ (b : BayState). c.take_at.result ≡ disk_at b c.args.name.now) c.self.view_is (take_given _ _ _ _ (at c) some_slot _ (c.take_at.ensures some_slot)).0
+returns-in-Some-clause-given c = subst (λ (b : BayState). c.take_at.result ≡ disk_at b c.args.name.now) c.self.view_is
+    (take_given _ _ _ _ (at c) some_slot _ (c.take_at.ensures some_slot)).0
 
 pub returns-in-Some-clause-is_out : goal.returns-in-Some-clause-is_out
 returns-in-Some-clause-is_out c = let given = take_given _ _ _ _ (at c) some_slot _ (c.take_at.ensures some_slot) in (given.1, given.2)
@@ -26,7 +27,8 @@ returns-in-Some-clause-others c = λ m away. same_slot _ _ _ m c.self.view_is (t
 pub returns-in_ok-disk-in-None-clause-given : goal.returns-in_ok-disk-in-None-clause-given
 returns-in_ok-disk-in-None-clause-given c =
     let made = c.in_ok-disk-in-None.ensures.ok in
-    subst (λ (b : BayState). c.in_ok-disk-in-None.disk ≡ disk_at b c.args.name.now) c.self.view_is (made_given _ _ _ made.1.0 (absent c) made.1.1 made.1.2 made.1.3 made.1.4 _ made.0).0
+    subst (λ (b : BayState). c.in_ok-disk-in-None.disk ≡ disk_at b c.args.name.now) c.self.view_is
+    (made_given _ _ _ made.1.0 (absent c) made.1.1 made.1.2 made.1.3 made.1.4 _ made.0).0
 
 pub returns-in_ok-disk-in-None-clause-is_out : goal.returns-in_ok-disk-in-None-clause-is_out
 returns-in_ok-disk-in-None-clause-is_out c =

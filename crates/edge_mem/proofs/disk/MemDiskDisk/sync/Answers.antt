@@ -5,8 +5,10 @@ use Rattle.edge_mem.specs.Past.{Past, DiskState, with_event}
 use Rattle.edge_mem.proofs.Calls.{sync_told, sync_content, sync_within, sync_losses}
 use Rattle.edge_mem.proofs.disk.MemDiskDisk.sync.Goals as goal
 
-kept : (c : goal.After-sync) → (c.sync.new.self ≡ with_event c.args.self.now.past Kept) ⊎ ((c.sync.new.self ≡ c.args.self.now.past) × EndsKept c.args.self.now.past.events)
-kept c = subst (λ (h : Past). (c.sync.new.self ≡ with_event h Kept) ⊎ ((c.sync.new.self ≡ h) × EndsKept h.events)) (ap (λ (d : DiskState). d.past) c.self.view_is) c.sync.ensures
+kept : (c : goal.After-sync) → (c.sync.new.self ≡ with_event c.args.self.now.past Kept)
+    ⊎ ((c.sync.new.self ≡ c.args.self.now.past) × EndsKept c.args.self.now.past.events)
+kept c = subst (λ (h : Past). (c.sync.new.self ≡ with_event h Kept)
+    ⊎ ((c.sync.new.self ≡ h) × EndsKept h.events)) (ap (λ (d : DiskState). d.past) c.self.view_is) c.sync.ensures
 
 pub returns-clause-synced : goal.returns-clause-synced
 returns-clause-synced c = sync_told _ _ (kept c)

@@ -11,7 +11,8 @@ wrote c = done_to _ c.self.inside.history _ _ (ap (λ (d : DiskState). d.past) c
 
 -- a part was written
 part : (c : goal.After-refuse) → IsPart c.args.self.now.past c.refuse.new.self.past c.args.place c.args.bytes.now
-part c = refused_part _ (broken_by c.self.inside.armed) _ c.self.inside.history c.write.new.history _ _ _ (ap (λ (d : DiskState). d.past) c.self.view_is) c.refuse.ensures.past c.in-Err.ensures.left
+part c = refused_part _ (broken_by c.self.inside.armed) _ c.self.inside.history c.write.new.history _ _ _ (ap
+    (λ (d : DiskState). d.past) c.self.view_is) c.refuse.ensures.past c.in-Err.ensures.left
 
 pub returns-in-Ok-clause-content : goal.returns-in-Ok-clause-content
 returns-in-Ok-clause-content c = record { done = wrote_becomes _ _ _ _ c.requires.begins (wrote c); failed = tt; told = refl }
@@ -20,7 +21,11 @@ pub returns-in-Ok-clause-size : goal.returns-in-Ok-clause-size
 returns-in-Ok-clause-size c = wrote_size _ _ _ _ c.requires.begins (wrote c)
 
 pub returns-in-Ok-clause-images : goal.returns-in-Ok-clause-images
-returns-in-Ok-clause-images c = record { follows = wrote_crash _ _ _ _ c.requires.begins (wrote c) _ (omega arith); leads = wrote_all _ _ _ _ c.requires.begins (wrote c) }
+returns-in-Ok-clause-images c = record {
+  follows = wrote_crash _ _ _ _ c.requires.begins (wrote c) _
+      (omega arith);
+  leads = wrote_all _ _ _ _ c.requires.begins (wrote c);
+}
 
 pub returns-in-Ok-clause-events : goal.returns-in-Ok-clause-events
 returns-in-Ok-clause-events c = record { losses = wrote_losses _ _ _ _ c.requires.begins (wrote c); arms = ap (λ (d : DiskState). d.arms) c.self.view_is }
@@ -38,4 +43,8 @@ pub returns-in-Err-clause-time : goal.returns-in-Err-clause-time
 returns-in-Err-clause-time c = part_time _ _ _ _ c.requires.begins (part c)
 
 pub returns-in-Err-clause-events : goal.returns-in-Err-clause-events
-returns-in-Err-clause-events c = record { losses = part_losses _ _ _ _ c.requires.begins (part c); arms = c.refuse.ensures.arms ∙ ap (λ (d : DiskState). d.arms) c.self.view_is }
+returns-in-Err-clause-events c = record {
+  losses = part_losses _ _ _ _ c.requires.begins (part c);
+  arms = c.refuse.ensures.arms
+      ∙ ap (λ (d : DiskState). d.arms) c.self.view_is;
+}

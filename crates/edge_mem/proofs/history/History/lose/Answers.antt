@@ -6,7 +6,8 @@ use Rattle.edge_mem.proofs.Sounds.{lost_sound, view_then, loss_is, kept_fits}
 use Rattle.edge_mem.proofs.history.History.lose.Goals as goal
 
 pub after_loss-requires-clause-kept : goal.after_loss-requires-clause-kept
-after_loss-requires-clause-kept c = let same : length c.deref-2.result.now ≡ length c.self.inside.log.items = ap length c.deref-2.ensures.value in omega (arith, same, kept_fits _ _ _ _ _ _ c.self.invariant)
+after_loss-requires-clause-kept c = let same : length c.deref-2.result.now ≡ length c.self.inside.log.items = ap length c.deref-2.ensures.value in
+    omega (arith, same, kept_fits _ _ _ _ _ _ c.self.invariant)
 
 pub invariant_of-self-2 : goal.invariant_of-self-2
 invariant_of-self-2 c =
@@ -19,8 +20,10 @@ pub returns-clause-ok : goal.returns-clause-ok
 returns-clause-ok c =
     let left : c.in_ok-left.left.items ≡ loss_of (state c.args.self.now) c.args.choice =
     c.in_ok-left.ensures
-    ∙ ap (λ (l : List _). replay (take (c.self.inside.kept + c.args.choice) (changes (drop c.self.inside.start l))) c.deref.result.now) c.deref-2.ensures.value
-    ∙ ap (λ (l : List ℕ). replay (take (c.self.inside.kept + c.args.choice) (changes (drop c.self.inside.start c.self.inside.log.items))) l) c.deref.ensures.value
+    ∙ ap (λ (l : List _). replay (take (c.self.inside.kept + c.args.choice)
+    (changes (drop c.self.inside.start l))) c.deref.result.now) c.deref-2.ensures.value
+    ∙ ap (λ (l : List ℕ). replay (take (c.self.inside.kept + c.args.choice)
+    (changes (drop c.self.inside.start c.self.inside.log.items))) l) c.deref.ensures.value
     ∙ loss_is _ _ _ _ _ _ c.self.invariant c.args.choice
     ∙ ap (λ (h : Past). loss_of (state h) c.args.choice) c.self.view_is in
     view_then _ _ _ _ _ c.self.view_is c.in_ok-push_step.ensures.ok ∙ ap (λ (l : List ℕ). with_event c.args.self.now (Lost c.args.choice l)) left

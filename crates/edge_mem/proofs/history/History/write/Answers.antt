@@ -10,7 +10,8 @@ pub invariant_of-self-2 : goal.invariant_of-self-2
 invariant_of-self-2 c =
     let same : content c.args.self.now ≡ content_of (state_of c.self.inside.first.items c.self.inside.log.items) = sym (ap content c.self.view_is) in
     let le : c.args.place ≤ length (content_of (state_of c.self.inside.first.items c.self.inside.log.items)) = omega (arith, c.requires, ap length same) in
-    changed_sound _ _ _ _ _ _ c.self.invariant _ (Wrote c.args.place c.args.bytes.now) _ c.in_ok-write_step.ensures.log (next_wrote _ _ _ le) c.in_ok-write_step.ensures.content
+    changed_sound _ _ _ _ _ _ c.self.invariant _ (Wrote c.args.place c.args.bytes.now) _ c.in_ok-write_step.ensures.log
+    (next_wrote _ _ _ le) c.in_ok-write_step.ensures.content
 
 pub returns-clause-ok : goal.returns-clause-ok
 returns-clause-ok c = view_then _ _ _ _ _ c.self.view_is c.in_ok-write_step.ensures.log
