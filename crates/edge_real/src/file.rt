@@ -1,7 +1,8 @@
-ghost use Rattle.std.specs.Prelude.{◌≡◌, ◌+◌, ◌-◌, ◌≤◌, ◌^◌, min, None, [], false, length, IfOk};
+ghost use Rattle.std.specs.Prelude.{◌≡◌, ◌+◌, ◌≤◌, ◌^◌, None, [], false, length, IfOk, IsErr};
 ghost use Rattle.edge_io.specs.declared.fault.Armed.TheVariants.{Nothing};
-ghost use Rattle.edge_io.specs.Causes.{Rose};
-ghost use Rattle.edge_real.specs.Files.{no_content};
+ghost use Rattle.edge_io.specs.Causes.{HasCause, raised};
+ghost use Rattle.edge_io.specs.Disk.{GrowsTo, ShrinksTo};
+ghost use Rattle.edge_real.specs.Files.{no_content, Calls, Syncs};
 
 use edge_io::{Disk, DiskName, Failed, FaultMode};
 use std::fs::{File, OpenOptions};
@@ -55,7 +56,7 @@ impl FileDisk {
     /// Opens the file of that name under a folder. A file that is missing is made, empty, with the folders above it.
     ///
     /// It syncs the file's folder and those above it up to the given one, so that the file's name lasts: three syncs, or
-    /// two for a foreign disk.
+    /// two for a foreign disk. An error is the system's, or of the kind `OutOfMemory`; the file may be there then.
     pub fn open<R: Files<File = File> + AllocGlobal>(
         rt: &R,
         folder: &str,
@@ -88,8 +89,9 @@ impl FileDisk {
     // Counts a fault.
     fn fail(&mut self) -> Failed
         ensures size { self.new.size ≡ self.old.size }
+        ensures broken { self.new.broken ≡ self.old.broken }
         ensures later { self.old.faults ≤ self.new.faults }
-        ensures rose { Rose self.old.faults self.new.faults }
+        ensures faults { self.new.faults ≡ raised self.old.faults }
     {
         self.faults = self.faults.saturating_add(1);
         Failed
@@ -135,14 +137,25 @@ impl Disk for FileDisk {
         self.faults
     }
 
-    fn read_at(&mut self, place: u64, into: &mut [u8]) -> Result<(), Failed> {
+    fn read_at(&mut self, place: u64, into: &mut [u8]) -> Result<(), Failed>
+        requires { place + length into.old ≤ self.old.size }
+        ensures size { self.new.size ≡ self.old.size }
+        ensures cause { HasCause self.old.faults self.new.faults result }
+        ensures file { Calls self.old self.new result }
+    {
         if self.broken || self.file.read_exact_at(into, place).is_err() {
             return Err(self.fail());
         }
         Ok(())
     }
 
-    fn write_at(&mut self, place: u64, bytes: &[u8]) -> Result<(), Failed> {
+    fn write_at(&mut self, place: u64, bytes: &[u8]) -> Result<(), Failed>
+        requires begins { place ≤ self.old.size }
+        requires ends { place + length bytes.now ≤ 2 ^ 62 }
+        ensures size { GrowsTo (place + length bytes.now) self.old.size self.new.size result }
+        ensures cause { HasCause self.old.faults self.new.faults result }
+        ensures file { Calls self.old self.new result }
+    {
         if self.broken || self.file.write_all_at(bytes, place).is_err() {
             return Err(self.fail());
         }
@@ -150,7 +163,12 @@ impl Disk for FileDisk {
         Ok(())
     }
 
-    fn cut(&mut self, to: u64) -> Result<(), Failed> {
+    fn cut(&mut self, to: u64) -> Result<(), Failed>
+        requires { to ≤ self.old.size }
+        ensures size { ShrinksTo to self.old.size self.new.size result }
+        ensures cause { HasCause self.old.faults self.new.faults result }
+        ensures file { Calls self.old self.new result }
+    {
         if self.broken || self.file.set_len(to).is_err() {
             return Err(self.fail());
         }
@@ -158,7 +176,11 @@ impl Disk for FileDisk {
         Ok(())
     }
 
-    fn sync(&mut self) -> Result<(), Failed> {
+    fn sync(&mut self) -> Result<(), Failed>
+        ensures size { self.new.size ≡ self.old.size }
+        ensures cause { HasCause self.old.faults self.new.faults result }
+        ensures file { Syncs self.old self.new result }
+    {
         if self.broken || self.file.sync_data().is_err() {
             self.broken = true;
             return Err(self.fail());
@@ -166,11 +188,16 @@ impl Disk for FileDisk {
         Ok(())
     }
 
-    fn power_loss(&mut self, _choice: u64) -> Result<(), Failed> {
+    fn power_loss(&mut self, _choice: u64) -> Result<(), Failed>
+        ensures done { IsErr result → ⊥ }
+        ensures ignored { self.new ≡ self.old }
+    {
         Ok(())
     }
 
-    fn arm(&mut self, _after: u64, _mode: FaultMode) {}
+    fn arm(&mut self, _after: u64, _mode: FaultMode)
+        ensures ignored { self.new ≡ self.old }
+    {}
 }
 
 #[cfg(test)]

@@ -1,6 +1,7 @@
 ghost use Rattle.std.specs.Prelude.{◌≡◌, ◌&&◌, nat_eq, nat_lt, None, length, false};
 ghost use Rattle.std.specs.Io.{ReadsAtMost, WritesAtMost};
-ghost use Rattle.edge_io.specs.Streams.{TakesSome};
+ghost use Rattle.edge_io.specs.Causes.{CountsFault, HasCause};
+ghost use Rattle.edge_io.specs.Streams.{EndsBy, TakesSome};
 
 use edge_io::{Failed, Sink, Source};
 use std::io;
@@ -63,7 +64,12 @@ impl<R: Read> Source for ReaderSource<R> {
 
     ghost faults = { λ s. s.faults };
 
-    fn read(&mut self, into: &mut [u8]) -> Result<usize, Failed> {
+    fn read(&mut self, into: &mut [u8]) -> Result<usize, Failed>
+        ensures bound { ReadsAtMost result into.new }
+        ensures end { EndsBy self.old.ended self.new.ended result into.new }
+        ensures cause { HasCause self.old.faults self.new.faults result }
+        ensures faults { CountsFault self.old.faults self.new.faults result }
+    {
         let Ok(count) = read_retrying(&mut self.reader, into) else {
             self.faults = self.faults.saturating_add(1);
             return Err(Failed);
@@ -134,7 +140,12 @@ impl<W: Write> Sink for WriterSink<W> {
 
     ghost faults = { λ s. s };
 
-    fn write(&mut self, bytes: &[u8]) -> Result<usize, Failed> {
+    fn write(&mut self, bytes: &[u8]) -> Result<usize, Failed>
+        ensures bound { WritesAtMost result bytes.now }
+        ensures some { TakesSome result bytes.now }
+        ensures cause { HasCause self.old self.new result }
+        ensures faults { CountsFault self.old self.new result }
+    {
         let Ok(count) = write_some(&mut self.writer, bytes) else {
             self.faults = self.faults.saturating_add(1);
             return Err(Failed);
