@@ -11,5 +11,6 @@ returns-then-not-is_empty c =
 
 pub returns-else-not-is_empty : goal.returns-else-not-is_empty
 returns-else-not-is_empty c =
-    cut_none c.args.runs.now.items c.deref.result.now c.remove_front.new.runs.items c.args.offset c.count_ended-gone.result c.deref.ensures.value c.count_ended-gone.ensures.count c.remove_front.ensures
+    cut_none c.args.runs.now.items c.deref.result.now c.remove_front.new.runs.items c.args.offset c.count_ended-gone.result
+    c.deref.ensures.value c.count_ended-gone.ensures.count c.remove_front.ensures
     (omega (arith, eqb-true _ 0 (sym c.if-not-is_empty.ensures)))

@@ -8,7 +8,10 @@ put_record-requires c =
     let all = records_bytes 0 c.args.records.now in
     record {
       few = omega (arith, c.loop-first.invariant.number, records_many 0 c.args.records.now, c.in-Some.ensures.cases.1);
-      small = omega (arith, part_small c.loop-first.out c.args.out.now all c.loop-first.delta c.loop-first.rest.now c.in-Some.others.now c.in-Some.first.now c.in-Some.ensures.cases.0 c.loop-first.invariant.whole c.loop-first.invariant.grown);
+      small =
+          let part = part_small c.loop-first.out c.args.out.now all c.loop-first.delta c.loop-first.rest.now c.in-Some.others.now
+          c.in-Some.first.now c.in-Some.ensures.cases.0 c.loop-first.invariant.whole c.loop-first.invariant.grown in
+          omega (arith, part);
     }
 
 pub overflow_add-delta : goal.overflow_add-delta

@@ -14,7 +14,8 @@ returns-in_err-run c =
 
 pub loop-preserved : goal.loop-preserved
 loop-preserved c =
-    rw c.in_ok-push.ensures.items (goes_on c.loop.runs.items c.args.count c.loop.counter c.loop.before c.loop.reader c.in_ok-run.run' c.read_run.new.reader (runs_at c.args.count None c.args.reader.now) c.loop-test.true c.in_ok-run.ensures c.loop.invariant)
+    rw c.in_ok-push.ensures.items (goes_on c.loop.runs.items c.args.count c.loop.counter c.loop.before c.loop.reader
+    c.in_ok-run.run' c.read_run.new.reader (runs_at c.args.count None c.args.reader.now) c.loop-test.true c.in_ok-run.ensures c.loop.invariant)
 
 pub returns : goal.returns
 returns c = record { read = is_done c.loop.runs.items c.args.count c.loop.counter c.loop.before c.loop.reader (runs_at c.args.count None c.args.reader.now) c.loop-test.false c.loop.invariant }
