@@ -10,6 +10,11 @@ pub none : (frames : List (List ℕ)) → length (blocks frames) ≡ 0 → frame
 none [] is = refl
 none (frame ∷ frames) is = absurd (omega (arith, is))
 
+written_first : (x : List ℕ) → length x ≤ 1 → written 0 (0 ∷ []) x ≡ 0 ∷ []
+written_first [] le = refl
+written_first (b ∷ []) le = refl
+written_first (b ∷ d ∷ x) le = absurd (omega (arith, le))
+
 module _ (frames : List (List ℕ)) (len end : ℕ) (x : List ℕ) (read : IsRead frames len end x) where
   short : len ≤ 1 → frames ≡ []
   short le = ⊎_elim (λ p. p.1) (λ p. none frames (omega (arith, le, read.len_is, ap length p.3, length-append (blocks frames) (p.0 ∷ p.1)))) read.stands
@@ -46,14 +51,9 @@ module _ (frames : List (List ℕ)) (len end : ℕ) (x : List ℕ) (read : IsRea
   first_rests c le is = (
     0,
     λ z. absurd (omega (arith, z)),
-    is ∙ one x (omega (arith, le, read.len_is))
+    is ∙ written_first x (omega (arith, le, read.len_is))
         ∙ ap (λ (fs : List (List ℕ)). blocks fs ++ 0 ∷ []) (sym (short le)),
   )
-    where
-      one : (x : List ℕ) → length x ≤ 1 → written 0 (0 ∷ []) x ≡ 0 ∷ []
-      one [] le = refl
-      one (b ∷ []) le = refl
-      one (b ∷ d ∷ x) le = absurd (omega (arith, le))
 
   pub whole_rests : (c : List ℕ) → 1 < len → len ≤ end → c ≡ x → IsRest frames c
   whole_rests c gt le is = cut_rests c gt (is ∙ sym (take_all end x (omega (arith, le, read.len_is))))

@@ -5,6 +5,7 @@
 -- Worked example: `01 00000001 61 00` stands for the one frame `61`, and so does that with any bytes behind it.
 use Rattle.std.specs.Prelude.{◌≡◌, ◌≢◌, ◌⊎◌, ◌<◌, ◌≤◌, ◌-◌, ◌+◌, ℕ, List, [], ◌∷◌, ◌++◌, length, take, drop}
 use Rattle.std.specs.Prelude.{Some, None}
+use Rattle.std.specs.Prelude.{if◌then◌else◌, nat_le}
 use Rattle.std.specs.declared.option.Option.{Option}
 use Rattle.std.specs.List.{AllByRecursion}
 use Rattle.std.specs.Int.{w32, to_be_bytes}
@@ -86,6 +87,11 @@ IsHeld frames frame c = (gate : ℕ) × (gate ≢ 1) × (c ≡ blocks frames ++ 
 -- the frames, and one frame more behind a gate that is open or closed
 abbrev pub IsAjar : List (List ℕ) → List ℕ → List ℕ → Type 0
 IsAjar frames frame c = (gate : ℕ) × (c ≡ blocks frames ++ gate ∷ framed frame)
+
+-- what opening makes of a content whose last gate ends at `end`: a first gate where there was none, and else nothing behind
+-- the last one
+abbrev pub repaired : ℕ → List ℕ → List ℕ
+repaired end c = if nat_le (length c) 1 then 0 ∷ [] else take end c
 
 -- a content of this length was read: its frames, and where its next gate ends
 pub record IsRead (frames : List (List ℕ)) (len end : ℕ) (content : List ℕ) : Type 0 where

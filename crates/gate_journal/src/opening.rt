@@ -3,9 +3,9 @@ ghost use Rattle.std.specs.Prelude.{◌≡◌, ◌≢◌, ◌+◌, ◌<◌, ◌�
 ghost use Rattle.std.specs.List.{AllByRecursion};
 ghost use Rattle.edge_io.specs.Armed.{RunsOn};
 ghost use Rattle.edge_io.specs.Causes.{Rose};
-ghost use Rattle.edge_io.specs.Disk.{Within, Synced, WhereTold, SameContent};
+ghost use Rattle.edge_io.specs.Disk.{Within, Synced, IsTold, WhereTold, SameContent};
 ghost use Rattle.edge_io.specs.Moments.{LeavesOnly};
-ghost use Rattle.gate_journal.specs.Frames.{IsRead, IsRest, IsFrame, blocks, IsDamaged, StandsFor, StandsAs};
+ghost use Rattle.gate_journal.specs.Frames.{IsRead, IsRest, IsFrame, blocks, IsDamaged, StandsFor, StandsAs, repaired};
 ghost use Rattle.gate_journal.specs.Journals.{IsAtRest};
 
 use crate::journal::Journal;
@@ -41,6 +41,7 @@ fn read_whole<D: Disk>(alloc: Global, disk: &mut D) -> Result<Vec<u8>, StartFaul
     ensures later { D.faults disk.old ≤ D.faults disk.new }
     ensures device { result ≡ Err StartFault.Device → Rose (D.faults disk.old) (D.faults disk.new) }
     ensures whole { (place : ℕ) → result ≢ Err (StartFault.Damaged place) }
+    ensures quiet { result ≢ Err StartFault.Device → IsTold (D.content disk.old) → D.faults disk.new ≡ D.faults disk.old }
 {
     let len = disk.len() as usize;
     let mut bytes = Vec::new(alloc);
@@ -69,6 +70,7 @@ fn read_synced<D: Disk>(alloc: Global, disk: &mut D) -> Result<(Vec<Blob>, u64),
     ensures later { D.faults disk.old ≤ D.faults disk.new }
     ensures damaged { (place : ℕ) → result ≡ Err (StartFault.Damaged place) → WhereTold (D.content disk.old) (λ c. IsDamaged c place) }
     ensures device { result ≡ Err StartFault.Device → Rose (D.faults disk.old) (D.faults disk.new) }
+    ensures quiet { result ≢ Err StartFault.Device → IsTold (D.content disk.old) → D.faults disk.new ≡ D.faults disk.old }
 {
     if let Err(_) = disk.sync() {
         return Err(StartFault::Device);
@@ -84,6 +86,7 @@ fn read_synced<D: Disk>(alloc: Global, disk: &mut D) -> Result<(Vec<Blob>, u64),
 fn recover<D: Disk>(alloc: Global, disk: &mut D) -> Result<(Vec<Blob>, u64), StartFault>
     ensures text { IfOk result (λ x. WhereTold (D.content disk.old) (λ c. StandsFor c x.0.items)) }
     ensures rest { IfOk result (λ x. (c : List ℕ) → D.image disk.new c → IsRest x.0.items c) }
+    ensures bytes { IfOk result (λ x. WhereTold (D.content disk.old) (λ c. (d : List ℕ) → D.image disk.new d → d ≡ repaired x.1 c)) }
     ensures fit { IfOk result (λ x. AllByRecursion IsFrame x.0.items) }
     ensures end { IfOk result (λ x. x.1 ≡ length (blocks x.0.items) + 1) }
     ensures some { IfOk result (λ x. (0 < x.1) × (x.1 ≤ D.size disk.new)) }
@@ -92,6 +95,8 @@ fn recover<D: Disk>(alloc: Global, disk: &mut D) -> Result<(Vec<Blob>, u64), Sta
     ensures later { D.faults disk.old ≤ D.faults disk.new }
     ensures damaged { (place : ℕ) → result ≡ Err (StartFault.Damaged place) → WhereTold (D.content disk.old) (λ c. IsDamaged c place) }
     ensures device { result ≡ Err StartFault.Device → Rose (D.faults disk.old) (D.faults disk.new) }
+    ensures quiet { IfErr result (λ e. e ≢ StartFault.Device → IsTold (D.content disk.old) →
+        D.faults disk.new ≡ D.faults disk.old) }
     ensures stays { IfErr result (λ e. e ≢ StartFault.Device →
         SameContent (D.content disk.old) (D.content disk.new) (D.size disk.old) (D.size disk.new)) }
 {
@@ -114,14 +119,16 @@ pub fn start<D: Disk>(
     // The frames are those that the content stands for, each image stands for them from now on, and nothing is pending.
     ensures frames { IfOk result (λ x. WhereTold (D.content disk) (λ c. StandsFor c x.1.items)) }
     ensures kept { IfOk result (λ x. IsAtRest D.image x.0 x.1.items) }
+    ensures text { IfOk result (λ x. WhereTold (D.content disk) (λ c. (d : List ℕ) → D.image x.0.disk d → d ≡ repaired x.0.end c)) }
 
     // Each refusal has its cause.
     ensures damaged { IfErr result (λ e. (place : ℕ) → e.1 ≡ StartFault.Damaged place → WhereTold (D.content disk) (λ c. IsDamaged c place)) }
     ensures device { IfErr result (λ e. e.1 ≡ StartFault.Device → Rose (D.faults disk) (D.faults e.0)) }
 
-    // The content is as it was, unless the disk failed.
+    // Unless the disk failed, the content is as it was, and no call was a fault.
     ensures stays { IfErr result (λ e. e.1 ≢ StartFault.Device →
         SameContent (D.content disk) (D.content e.0) (D.size disk) (D.size e.0)) }
+    ensures quiet { IfErr result (λ e. e.1 ≢ StartFault.Device → IsTold (D.content disk) → D.faults e.0 ≡ D.faults disk) }
 
     // A content that stands for frames is never damaged, and gives these frames.
     ensures recovers { (c : List ℕ) (frames : List (List ℕ)) → D.content disk ≡ Some c → StandsFor c frames →

@@ -4,7 +4,7 @@ ghost use Rattle.edge_io.specs.Armed.{RunsOn};
 ghost use Rattle.edge_io.specs.Causes.{HasCause};
 ghost use Rattle.edge_io.specs.Disk.{Synced, WhereTold};
 ghost use Rattle.edge_io.specs.Moments.{LeavesOnly};
-ghost use Rattle.gate_journal.specs.Frames.{IsRead, IsRest, StandsAs};
+ghost use Rattle.gate_journal.specs.Frames.{IsRead, IsRest, StandsAs, repaired};
 
 use crate::device::{cut_and_sync, write_and_sync};
 use edge_io::{Disk, Failed};
@@ -16,6 +16,8 @@ pub fn repair<D: Disk>(disk: &mut D, end: u64) -> Result<(), Failed>
     requires within { 1 < D.size disk.old → end ≤ D.size disk.old }
     ensures ok { OnOk result ((frames : List (List ℕ)) → WhereTold (D.content disk.old) (IsRead frames (D.size disk.old) end) →
         Synced (D.content disk.old) (D.image disk.old) → (c : List ℕ) → D.image disk.new c → IsRest frames c) }
+    ensures text { OnOk result (Synced (D.content disk.old) (D.image disk.old) →
+        WhereTold (D.content disk.old) (λ x. (c : List ℕ) → D.image disk.new c → c ≡ repaired end x)) }
     ensures any_moment { (frames : List (List ℕ)) → WhereTold (D.content disk.old) (IsRead frames (D.size disk.old) end) →
         Synced (D.content disk.old) (D.image disk.old) → LeavesOnly D.moment D.since disk.old disk.new (StandsAs (D.image disk.old)) }
     ensures size { OnOk result (end ≤ D.size disk.new) }
