@@ -2,8 +2,6 @@
 //! shards, and the replies that are composed from their answers.
 #![tactic(auto)]
 
-ghost use Rattle.conn_core.specs.Sound.{CallsKeepIt, WaitsForBytes, EndsOnce, HasAllAnswers};
-
 mod api;
 mod ask;
 mod conn;
@@ -28,14 +26,5 @@ mod versions;
 mod work;
 
 pub use conn::Conn;
-pub use law::each_entry_is_told_by_its_own_part;
+pub use law::{connections_stay_sound, each_entry_is_told_by_its_own_part};
 pub use next::{Next, Part, PartAnswer};
-
-/// What holds of each connection that the calls lead to, so that some cases of the definitions never come: a request in
-/// hand has a part left, each place of its reply a code, an answer or a part, and a connection that is gone nothing in hand.
-pub fn connections_stay_sound()
-    ensures kept { CallsKeepIt }
-    ensures waits { WaitsForBytes }
-    ensures ends { EndsOnce }
-    ensures answers { HasAllAnswers }
-{}

@@ -27,9 +27,6 @@ const UNTOLD: i32 = i32::MIN;
 pub fn text_of(alloc: Global, name: &Name) -> Result<Text, NoMemory>
     ensures { IfOk result (λ text. text ≡ name.now) }
 {
-    // So short that a text can hold it.
-    let is_short = name.as_bytes().len() <= 255;
-    prove!(is_short);
     Text::new(alloc, name.as_str())
 }
 

@@ -1,5 +1,5 @@
 use Rattle.conn_core.proofs.Soundness.{opened_sound, fed_sound, ended_sound, going_on_sound, given_sound, waits_for_bytes, ends_once, has_all_answers}
-use Rattle.conn_core.proofs.connections_stay_sound.Goals as goal
+use Rattle.conn_core.proofs.law.connections_stay_sound.Goals as goal
 
 pub returns-clause-kept : goal.returns-clause-kept
 returns-clause-kept c = record {
