@@ -3,3 +3,4 @@ pub mod Filling
 pub mod Owns
 pub mod Places
 pub mod Soundness
+pub mod Taking

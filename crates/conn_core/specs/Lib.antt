@@ -12,3 +12,4 @@ pub mod Links
 pub mod Turning
 pub mod Laws
 pub mod Sound
+pub mod Requests

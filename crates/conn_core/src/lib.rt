@@ -26,5 +26,8 @@ mod versions;
 mod work;
 
 pub use conn::Conn;
-pub use law::{connections_stay_sound, each_entry_is_told_by_its_own_part};
+pub use law::{
+    connections_stay_sound, each_entry_is_told_by_its_own_part,
+    each_request_is_taken_for_what_it_says,
+};
 pub use next::{Next, Part, PartAnswer};
