@@ -1,30 +1,42 @@
 use crate::ask::{Ask, Call, Wish, op_of};
 use crate::fill::reply_body;
 use crate::plan::{PlannedPartition, PlannedTopic, plan_initialize, plan_read};
+use crate::tests_answers::orders;
 use crate::told::{told_code, told_of};
 use flex_fields::Items;
 use msgs_state::{InitializePartition, InitializeTopic, ReadPartition, ReadTopic};
-use share_model::{Code, ForeignAnswer, ForeignOp, Name, Reset, RowState, Run};
+use share_model::{Code, ForeignAnswer, ForeignOp, Name, RowState, Run};
 use std::alloc::Global;
 use std::collections::VecDeque;
 use std::test::Fail;
-use topic_conf::{Config, Topic, TopicList};
 use uuid::Uuid;
 
 // The reply to an Initialize call, with three topics. The second has no partitions.
-const STATE_REPLY: [u8; 96] = [
-    4, 17, 17, 17, 17, 17, 17, 17, 17, 17, 17, 17, 17, 17, 17, 17, 17, 5, 0, 0, 0, 5, 0, 42, 0, 0,
-    0, 0, 0, 0, 0, 0, 0, 0, 255, 255, 255, 255, 0, 42, 0, 0, 0, 0, 0, 1, 0, 124, 0, 0, 0, 1, 1, 1,
-    1, 1, 1, 1, 1, 1, 1, 1, 1, 1, 1, 1, 1, 1, 0, 17, 17, 17, 17, 17, 17, 17, 17, 17, 17, 17, 17,
-    17, 17, 17, 17, 2, 0, 0, 0, 2, 0, 3, 0, 0, 0, 0,
-];
+const STATE_REPLY: &[u8] = b"\
+    \x04\
+    \x11\x11\x11\x11\x11\x11\x11\x11\x11\x11\x11\x11\x11\x11\x11\x11\
+    \x05\
+    \0\0\0\x05\0\x2a\0\0\
+    \0\0\0\0\0\0\0\0\
+    \xff\xff\xff\xff\0\x2a\0\0\
+    \0\0\0\x01\0\x7c\0\0\
+    \0\
+    \x01\x01\x01\x01\x01\x01\x01\x01\x01\x01\x01\x01\x01\x01\x01\x01\
+    \x01\0\
+    \x11\x11\x11\x11\x11\x11\x11\x11\x11\x11\x11\x11\x11\x11\x11\x11\
+    \x02\
+    \0\0\0\x02\0\x03\0\0\
+    \0\0";
 
 // The reply to a Read call of one partition, with two batches.
-const READ_REPLY: [u8; 81] = [
-    2, 17, 17, 17, 17, 17, 17, 17, 17, 17, 17, 17, 17, 17, 17, 17, 17, 2, 0, 0, 0, 0, 0, 0, 0, 0,
-    0, 0, 3, 0, 0, 0, 0, 0, 0, 0, 7, 3, 0, 0, 0, 0, 0, 0, 0, 7, 0, 0, 0, 0, 0, 0, 0, 9, 2, 0, 1, 0,
-    0, 0, 0, 0, 0, 0, 0, 12, 0, 0, 0, 0, 0, 0, 0, 12, 4, 0, 5, 0, 0, 0, 0,
-];
+const READ_REPLY: &[u8] = b"\
+    \x02\
+    \x11\x11\x11\x11\x11\x11\x11\x11\x11\x11\x11\x11\x11\x11\x11\x11\
+    \x02\
+    \0\0\0\0\0\0\0\0\0\0\x03\0\0\0\0\0\0\0\x07\x03\
+    \0\0\0\0\0\0\0\x07\0\0\0\0\0\0\0\x09\x02\0\x01\0\
+    \0\0\0\0\0\0\0\x0c\0\0\0\0\0\0\0\x0c\x04\0\x05\0\
+    \0\0\0";
 
 fn hosted() -> Uuid {
     Uuid::from_bytes([1; 16])
@@ -32,26 +44,6 @@ fn hosted() -> Uuid {
 
 fn foreign() -> Uuid {
     Uuid::from_bytes([17; 16])
-}
-
-// A configuration with one hosted topic.
-fn orders(alloc: Global) -> Result<Config, Fail> {
-    let name = Name::new("orders").ok_or("a name")?;
-    let topics = vec![in alloc;
-        Topic {
-            name,
-            parts: 1,
-            id: hosted()
-        },
-    ]?;
-    Ok(Config::new(
-        TopicList::new(topics).ok_or("topics")?,
-        Reset::Latest,
-        30000,
-        5,
-        Name::new("localhost").ok_or("a host")?,
-        9092,
-    ))
 }
 
 fn initialize(partition: i32) -> InitializePartition {
@@ -210,7 +202,7 @@ fn answers_stand_at_their_places_with_known_ones_between(rt: HostRuntime) -> Res
         done.push_back(told_code(alloc, code))?;
     }
     let body = reply_body(alloc, Call::Initialize, &Items::new(topics), done)?;
-    assert_eq!(rt; body.as_slice(), STATE_REPLY.as_slice());
+    assert_eq!(rt; body.as_slice(), STATE_REPLY);
     Ok(())
 }
 
@@ -247,6 +239,6 @@ fn a_read_reply_has_the_batches_of_its_answer(rt: HostRuntime) -> Result<(), Fai
         },
     ]?;
     let body = reply_body(alloc, Call::Read, &Items::new(topics), done)?;
-    assert_eq!(rt; body.as_slice(), READ_REPLY.as_slice());
+    assert_eq!(rt; body.as_slice(), READ_REPLY);
     Ok(())
 }
