@@ -103,6 +103,7 @@ module _ (old new : List ForeignEntry) (key : KeyParts) (epoch start : ℤ) (ans
   init_cases step = go (is_fair epoch start) (is_fenced_state (known_at key old) epoch) step.0 step.1 where
     changed : List ForeignEntry
     changed = with_state key (record { state_epoch = epoch; leader_epoch = pos 0; start = start }) old
+
     go : (fair fenced : Bool) → answer ≡ cond fair (cond fenced (code_alone FENCED_STATE_EPOCH) (code_alone NONE)) (code_alone INVALID_REQUEST)
         → new ≡ cond fair (cond fenced old changed) old → (Accepts old key epoch start new × (answer.code ≡ NONE)) ⊎ Refuses old answer new
     go true true told was = inr (record { code = λ e. fenced_is_some (sym (code_is answer FENCED_STATE_EPOCH told) ∙ e); same = was })
