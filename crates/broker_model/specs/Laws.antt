@@ -1,4 +1,6 @@
--- What holds of all runs, and of foreign state.
+-- What holds of all runs, and of foreign state (this project's own).
+-- For example three sessions of the same two frames, on a line each, on one line, and in single bytes, have the same replies
+-- (share_top, the test frames_in_any_pieces_have_the_same_replies).
 use Rattle.std.specs.Prelude.{◌≡◌, ◌≢◌, ◌≤ℤ◌, ℕ, ℤ, pos, List, []}
 use Rattle.session_script.specs.declared.event.Event.{Event}
 use Rattle.session_script.specs.declared.event.Outcome.{Outcome}
