@@ -1,7 +1,7 @@
 -- What holds of all runs, and of foreign state (this project's own).
 -- For example three sessions of the same two frames, on a line each, on one line, and in single bytes, have the same replies
 -- (share_top, the test frames_in_any_pieces_have_the_same_replies).
-use Rattle.std.specs.Prelude.{◌≡◌, ◌≢◌, ◌≤ℤ◌, ℕ, ℤ, pos, List, []}
+use Rattle.std.specs.Prelude.{◌≡◌, ◌≢◌, ◌≤ℤ◌, ℕ, ℤ, pos, List, [], Some}
 use Rattle.session_script.specs.declared.event.Event.{Event}
 use Rattle.session_script.specs.declared.event.Outcome.{Outcome}
 use Rattle.share_model.specs.declared.fault.TheConstants.Code.{NONE}
@@ -10,8 +10,15 @@ use Rattle.share_model.specs.declared.foreign.ForeignAnswer.{ForeignAnswer}
 use Rattle.share_model.specs.Keys.{KeyParts}
 use Rattle.share_model.specs.Foreign.{ForeignEntry}
 use Rattle.topic_conf.specs.Configs.{ConfigParts}
+use Rattle.conn_core.specs.declared.stream.Front.TheVariants.{Partial}
+use Rattle.conn_core.specs.declared.work.Work.TheVariants.{Free}
+use Rattle.conn_core.specs.Links.{Link}
+use Rattle.conn_core.specs.Stream.{front_of}
+use Rattle.conn_core.specs.Turning.{turn}
+use Rattle.conn_core.specs.Turning.Turn.{idle as waits}
+use Rattle.broker_model.specs.Machine.{idle, link_at}
 use Rattle.broker_model.specs.Steps.{ForeignStep}
-use Rattle.broker_model.specs.Counted.{Counted, CountedStep}
+use Rattle.broker_model.specs.Counted.{Counted, CountedStep, diskless}
 use Rattle.broker_model.specs.Runs.{Run}
 use Rattle.broker_model.specs.Cutting.{AreRecut}
 
@@ -30,6 +37,13 @@ HasOneRun conf old events = (first second : List Outcome) (one other : Counted) 
 abbrev pub HasCutRuns : ConfigParts → Counted → List Event → List Event → Type 0
 HasCutRuns conf old events others = (outcomes : List Outcome) (new : Counted) → AreRecut events others →
     Run (CountedStep conf) old events outcomes new → Run (CountedStep conf) old others outcomes new
+
+-- In a broker that a run leads to, a connection has nothing to do only where no request is in hand, and what has come begins
+-- with neither a whole frame nor the size of one that is too long.
+abbrev pub WaitForBytes : ConfigParts → List Event → Type 0
+WaitForBytes conf events = (outcomes : List Outcome) (new : Counted) (conn : ℕ) (link : Link) →
+    Run (CountedStep conf) (diskless idle) events outcomes new → link_at conn new.machine.connections ≡ Some link →
+    turn conf link ≡ waits → (link.work ≡ Free) × (front_of link.unread ≡ Partial)
 
 -- Foreign state is kept by key. An Initialize that is answered with code 0 is what a Read of its key tells from then on, a
 -- refused one changes nothing, and neither changes what a Read of another key tells.
