@@ -45,8 +45,8 @@ WaitForBytes conf events = (outcomes : List Outcome) (new : Counted) (conn : ℕ
     Run (CountedStep conf) (diskless idle) events outcomes new → link_at conn new.machine.connections ≡ Some link →
     turn conf link ≡ waits → (link.work ≡ Free) × (front_of link.unread ≡ Partial)
 
--- Foreign state is kept by key. An Initialize that is answered with code 0 is what a Read of its key tells from then on, a
--- refused one changes nothing, and neither changes what a Read of another key tells.
+-- Foreign state is kept by key. After an Initialize that is answered with code 0 a Read of its key tells what it gave, a refused
+-- one changes nothing, and neither changes what a Read of another key tells.
 pub record KeepsByKey (old : List ForeignEntry) (key : KeyParts) (epoch start : ℤ) (answer : ForeignAnswer) (new : List ForeignEntry) : Type 0 where
   pub own : answer.code ≡ NONE → (leader : ℤ) → pos 0 ≤ℤ leader →
       ForeignStep new (Read key leader) (record { code = NONE; state_epoch = epoch; start = start; runs = [] }) new
