@@ -1,12 +1,13 @@
 -- What calls of a disk do to its armed fault and its count, one after the other.
 use Rattle.std.proofs.Common.{◌≡◌, ◌⊎◌, inl, inr, ⊎_elim, refl, sym, ap, ◌∙◌, subst, rules, ℕ, ◌-◌, ◌==◌, if◌then◌else◌}
-use Rattle.std.proofs.Common.{List, Bool, true, false, Option, Result, Ok, Err, OnOk, IsErr, is_some}
+use Rattle.std.proofs.Common.{List, Bool, true, false, Option, Result, Ok, Err, OnOk, IsErr, is_some, arith}
 use Rattle.std.proofs.lemmas.Bool.{false_from_ne_true, cases_Bool}
 use Rattle.edge_io.specs.declared.fault.FaultMode.{FaultMode}
 use Rattle.edge_io.specs.declared.fault.FaultMode.TheVariants.{Once, Torn, Dead}
 use Rattle.edge_io.specs.declared.fault.Armed.{Armed}
 use Rattle.edge_io.specs.declared.fault.Armed.TheVariants.{Nothing, After, Broken}
 use Rattle.edge_io.specs.Disk.{IsTold, IsUneventful}
+use Rattle.edge_io.specs.Causes.{HasCause}
 use Rattle.edge_io.specs.Armed.{breaks, spent, next_armed, RunsAsArmed, IsOneShot, Spends, RunsOn}
 
 clash : true ≡ false → ⊥
@@ -30,13 +31,15 @@ module _ {D : Type 0} (content : D → Option (List ℕ)) (losses : D → List (
   Runs old new = RunsOn content losses arms armed starved faults old new
 
   pub runs_none : (d : D) → Runs d d
-  runs_none d = record { same_losses = refl; same_arms = refl; told = refl; stays = λ told was. was; spends = λ told not. spends_none (armed d) (faults d) }
+  runs_none d = record { same_losses = refl; same_arms = refl; told = refl; later = omega arith; unarmed = λ told is. is; stays = λ told was. was; spends = λ told not. spends_none (armed d) (faults d) }
 
   pub runs_then : (old mid new : D) → Runs old mid → Runs mid new → Runs old new
   runs_then old mid new p q = record {
     same_losses = q.same_losses ∙ p.same_losses;
     same_arms = q.same_arms ∙ p.same_arms;
     told = q.told ∙ p.told;
+    later = omega (arith, p.later, q.later);
+    unarmed = λ told is. q.unarmed (p.told ∙ told) (p.unarmed told is);
     stays = λ told was. q.stays (p.told ∙ told) (p.stays told was);
     spends = λ told not. spends_then _ _ _ _ _ _ (p.spends told (still told not)) (q.spends (p.told ∙ told) not);
   }
@@ -96,11 +99,14 @@ module _ {D : Type 0} (content : D → Option (List ℕ)) (losses : D → List (
   pub call_runs : {T E : Type 0} (writes_half : Bool) (old new : D) (r : Result T E) → is_some (content new) ≡ is_some (content old)
       → IsUneventful (losses old) (losses new) (arms old) (arms new)
       → (IsTold (content old) → RunsAsArmed writes_half (armed old) (armed new) (starved old) (starved new) (faults old) (faults new) r)
+      → HasCause (faults old) (faults new) r
       → RunsOn content losses arms armed starved faults old new
-  call_runs writes_half old new r told events runs = record {
+  call_runs writes_half old new r told events runs cause = record {
     same_losses = events.losses;
     same_arms = events.arms;
     told = told;
+    later = cause.later;
+    unarmed = λ is none. (runs is).next ∙ ap next_armed none;
     stays = λ is was. (runs is).fails.stays was;
     spends = λ is not. spends_by _ _ _ _ (runs is).next (done_or_broken (armed old) _ _ _ r not (runs is).fails.only (runs is).quiet);
   }

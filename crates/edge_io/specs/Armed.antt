@@ -1,7 +1,7 @@
 -- What an armed fault does to the calls that it counts: reads, writes, cuts and syncs. This project's own. Worked example:
 -- `wxyz` is written to an empty disk whose next call is broken. By `Once` nothing is written, by `Torn` and `Dead` `wx` is;
 -- the call after it passes by `Once` and `Torn`, and fails by `Dead`.
-use Rattle.std.specs.Prelude.{◌≡◌, ◌⊎◌, ℕ, ◌-◌, ◌==◌, if◌then◌else◌, Bool, true, false, List, is_some, Result, OnOk}
+use Rattle.std.specs.Prelude.{◌≡◌, ◌⊎◌, ℕ, ◌-◌, ◌≤◌, ◌==◌, if◌then◌else◌, Bool, true, false, List, is_some, Result, OnOk}
 use Rattle.std.specs.declared.option.Option.{Option}
 use Rattle.edge_io.specs.declared.fault.FaultMode.{FaultMode}
 use Rattle.edge_io.specs.declared.fault.FaultMode.TheVariants.{Once, Torn, Dead}
@@ -68,9 +68,16 @@ pub record RunsOn {D : Type 0} (content : D → Option (List ℕ)) (losses : D �
   pub same_losses : losses new ≡ losses old
   pub same_arms : arms new ≡ arms old
   pub told : is_some (content new) ≡ is_some (content old)
+  pub later : faults old ≤ faults new
+  -- where nothing was armed, nothing is
+  pub unarmed : IsTold (content old) → armed old ≡ Nothing → armed new ≡ Nothing
   -- where it tells its content: what is starved stays so, and if it isn't, the armed fault alone makes calls fail
   pub stays : IsTold (content old) → starved old ≡ true → starved new ≡ true
   pub spends : IsTold (content old) → starved new ≡ false → Spends (armed old) (armed new) (faults old) (faults new)
+
+-- with nothing armed, a disk that tells its content fails only where it finds no memory
+abbrev pub StarvesUnarmed : {D : Type 0} → (D → Option (List ℕ)) → (D → Armed) → (D → Bool) → D → D → Type 0
+StarvesUnarmed content armed starved old new = IsTold (content old) → armed old ≡ Nothing → starved new ≡ true
 
 -- A fault was armed, and nothing else of the disk has changed. The members of the disk come first.
 pub record ArmsAlone {D : Type 0} (content : D → Option (List ℕ)) (image : D → List ℕ → Type 0)

@@ -1,5 +1,5 @@
 ghost use Rattle.std.specs.Prelude.{◌≡◌, ◌≢◌, ◌⊎◌, ◌≤◌, ◌+◌, ◌-◌, ◌^◌, min};
-ghost use Rattle.std.specs.Prelude.{ℕ, List, Bool, true, false, IfOk, OnErr, IsErr};
+ghost use Rattle.std.specs.Prelude.{ℕ, List, Bool, true, false, is_some, IfOk, OnErr, IsErr};
 ghost use Rattle.std.specs.declared.option.Option.{Option};
 ghost use Rattle.edge_io.specs.Causes.{HasCause};
 ghost use Rattle.edge_io.specs.Bays.{SameSlot, IsAsTold, Holds};
@@ -28,6 +28,9 @@ pub trait Bay {
     /// Whether a call has failed for want of memory.
     ghost starved: { Self → Bool };
 
+    /// `take` fails for want of memory alone, from now on.
+    ghost steady: { Self → Type 0 };
+
     /// Whether a call has failed for want of memory.
     fn starved(&self) -> bool
         ensures { result ≡ starved self.now };
@@ -41,6 +44,11 @@ pub trait Bay {
         ensures others { (m : List ℕ) → m ≢ name.now → SameSlot disk out taken m self.old self.new }
         ensures starves { starved self.new ≡ true → (starved self.old ≡ true) ⊎ IsErr result }
         ensures stays { starved self.old ≡ true → starved self.new ≡ true }
+
+        // A name that was told a disk is told one again, which is what it has once the disk is put back.
+        ensures told { is_some (disk self.new name.now) ≡ is_some (disk self.old name.now) }
+        ensures steady { steady self.old → steady self.new }
+        ensures want { steady self.old → OnErr result (starved self.new ≡ true) }
         ensures cause { HasCause (faults self.old) (faults self.new) result };
 
     /// Puts a disk back. Its faults since it was taken are added to the bay's count, which stays at `u64::MAX` once it is
@@ -52,5 +60,6 @@ pub trait Bay {
         ensures others { (m : List ℕ) → m ≢ name.now → SameSlot disk out taken m self.old self.new }
         ensures later { faults self.old ≤ faults self.new }
         ensures counts { faults self.new ≡ min (faults self.old + (Self.D.faults given - taken self.old name.now)) (2 ^ 64 - 1) }
+        ensures steady { steady self.old → steady self.new }
         ensures starved { starved self.new ≡ starved self.old };
 }

@@ -1,6 +1,6 @@
 ghost use Rattle.std.specs.Prelude.{◌≡◌, ◌≢◌, ◌⊎◌, ◌≤◌, ◌<◌, ◌+◌, ◌-◌, ◌^◌, ◌++◌, ◌∷◌};
 ghost use Rattle.std.specs.Prelude.{[], min, ℕ, List, Bool, true, false};
-ghost use Rattle.std.specs.Prelude.{Some, None, IfSome, IfOk, OnErr, IsErr, Contains, length, slice_index_or};
+ghost use Rattle.std.specs.Prelude.{Some, None, is_some, IfSome, IfOk, OnErr, IsErr, Contains, length, slice_index_or};
 ghost use Rattle.edge_io.specs.Bays.{SameSlot, IsAsTold, Holds};
 ghost use Rattle.edge_io.specs.Causes.{CountsFault, FailsBy, HasCause, raised};
 ghost use Rattle.edge_mem.specs.Bays.{place, found, disk_at, out_at, taken_at, is_empty, fresh, Taken, Put};
@@ -157,6 +157,8 @@ impl Bay for MemBay {
 
     ghost starved = { λ b. b.starved };
 
+    ghost steady = { λ b. b.failing ≡ [] };
+
     fn starved(&self) -> bool {
         self.starved
     }
@@ -169,6 +171,9 @@ impl Bay for MemBay {
         ensures others { (m : List ℕ) → m ≢ name.now → SameSlot (λ b k. Some (disk_at b k)) out_at taken_at m self.old self.new }
         ensures starves { self.new.starved ≡ true → (self.old.starved ≡ true) ⊎ IsErr result }
         ensures stays { self.old.starved ≡ true → self.new.starved ≡ true }
+        ensures told { is_some (Some (disk_at self.new name.now)) ≡ is_some (Some (disk_at self.old name.now)) }
+        ensures steady { self.old.failing ≡ [] → self.new.failing ≡ [] }
+        ensures want { self.old.failing ≡ [] → OnErr result (self.new.starved ≡ true) }
         ensures cause { HasCause self.old.faults self.new.faults result }
 
         // It gives the disk that is told. It fails where the list says so or where it finds no memory; where the list says
@@ -202,6 +207,7 @@ impl Bay for MemBay {
         ensures is_in { out_at self.new name.now ≡ false }
         ensures others { (m : List ℕ) → m ≢ name.now → SameSlot (λ b k. Some (disk_at b k)) out_at taken_at m self.old self.new }
         ensures later { self.old.faults ≤ self.new.faults }
+        ensures steady { self.old.failing ≡ [] → self.new.failing ≡ [] }
         ensures counts { self.new.faults ≡ min (self.old.faults + (given.faults - taken_at self.old name.now)) (2 ^ 64 - 1) }
         ensures starved { self.new.starved ≡ self.old.starved }
 

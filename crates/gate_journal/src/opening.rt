@@ -1,7 +1,7 @@
 // Opens a journal.
 ghost use Rattle.std.specs.Prelude.{◌≡◌, ◌≢◌, ◌+◌, ◌<◌, ◌≤◌, List, ℕ, length, Some, None, IfOk, IfErr, OnOk, MatchResult, Err};
 ghost use Rattle.std.specs.List.{AllByRecursion};
-ghost use Rattle.edge_io.specs.Armed.{RunsOn};
+ghost use Rattle.edge_io.specs.Armed.{RunsOn, StarvesUnarmed};
 ghost use Rattle.edge_io.specs.Causes.{Rose};
 ghost use Rattle.edge_io.specs.Disk.{Within, Synced, IsTold, WhereTold, SameContent};
 ghost use Rattle.edge_io.specs.Moments.{LeavesOnly};
@@ -40,6 +40,7 @@ fn read_whole<D: Disk>(alloc: Global, disk: &mut D) -> Result<Vec<u8>, StartFaul
     ensures runs { RunsOn D.content D.losses D.arms D.armed D.starved D.faults disk.old disk.new }
     ensures later { D.faults disk.old ≤ D.faults disk.new }
     ensures device { result ≡ Err StartFault.Device → Rose (D.faults disk.old) (D.faults disk.new) }
+    ensures memory { result ≡ Err StartFault.Device → StarvesUnarmed D.content D.armed D.starved disk.old disk.new }
     ensures whole { (place : ℕ) → result ≢ Err (StartFault.Damaged place) }
     ensures quiet { result ≢ Err StartFault.Device → IsTold (D.content disk.old) → D.faults disk.new ≡ D.faults disk.old }
 {
@@ -70,6 +71,7 @@ fn read_synced<D: Disk>(alloc: Global, disk: &mut D) -> Result<(Vec<Blob>, u64),
     ensures later { D.faults disk.old ≤ D.faults disk.new }
     ensures damaged { (place : ℕ) → result ≡ Err (StartFault.Damaged place) → WhereTold (D.content disk.old) (λ c. IsDamaged c place) }
     ensures device { result ≡ Err StartFault.Device → Rose (D.faults disk.old) (D.faults disk.new) }
+    ensures memory { result ≡ Err StartFault.Device → StarvesUnarmed D.content D.armed D.starved disk.old disk.new }
     ensures quiet { result ≢ Err StartFault.Device → IsTold (D.content disk.old) → D.faults disk.new ≡ D.faults disk.old }
 {
     if let Err(_) = disk.sync() {
@@ -95,6 +97,7 @@ fn recover<D: Disk>(alloc: Global, disk: &mut D) -> Result<(Vec<Blob>, u64), Sta
     ensures later { D.faults disk.old ≤ D.faults disk.new }
     ensures damaged { (place : ℕ) → result ≡ Err (StartFault.Damaged place) → WhereTold (D.content disk.old) (λ c. IsDamaged c place) }
     ensures device { result ≡ Err StartFault.Device → Rose (D.faults disk.old) (D.faults disk.new) }
+    ensures memory { result ≡ Err StartFault.Device → StarvesUnarmed D.content D.armed D.starved disk.old disk.new }
     ensures quiet { IfErr result (λ e. e ≢ StartFault.Device → IsTold (D.content disk.old) →
         D.faults disk.new ≡ D.faults disk.old) }
     ensures stays { IfErr result (λ e. e ≢ StartFault.Device →
@@ -124,6 +127,7 @@ pub fn start<D: Disk>(
     // Each refusal has its cause.
     ensures damaged { IfErr result (λ e. (place : ℕ) → e.1 ≡ StartFault.Damaged place → WhereTold (D.content disk) (λ c. IsDamaged c place)) }
     ensures device { IfErr result (λ e. e.1 ≡ StartFault.Device → Rose (D.faults disk) (D.faults e.0)) }
+    ensures memory { IfErr result (λ e. e.1 ≡ StartFault.Device → StarvesUnarmed D.content D.armed D.starved disk e.0) }
 
     // Unless the disk failed, the content is as it was, and no call was a fault.
     ensures stays { IfErr result (λ e. e.1 ≢ StartFault.Device →
