@@ -1,0 +1,80 @@
+-- From the journal on the first disk to the frames of the store.
+use Rattle.std.proofs.Common.{◌≡◌, ◌⊎◌, ◌↔◌, ◌<◌, ◌≤◌, ◌+◌, ◌^◌, inl, inr, ⊎_elim, refl, sym, subst, arith, ℕ, List, [], ◌∷◌, ◌++◌, length}
+use Rattle.std.proofs.Common.{Option, Some, None, Result, Ok, Err, OnOk, length-append}
+use Rattle.std.proofs.lemmas.Bool.{cases_lt}
+use Rattle.edge_io.specs.Moments.{LeavesOnly, LeavesPairs}
+use Rattle.edge_io.proofs.Moments.{started, paired}
+use Rattle.gate_journal.specs.Frames.{StandsFor, IsWithPending, IsBeforeOrAfter, blocks, behind_gate}
+use Rattle.gate_journal.specs.Journals.{Stands, Mends}
+use Rattle.gate_journal.specs.declared.writer.Writer.{Writer}
+use Rattle.gate_journal.specs.declared.writer.Mending.{Mending}
+use Rattle.gate_journal.specs.declared.writer.Mending.TheVariants.{Nothing, Behind, Gate}
+use Rattle.share_model.specs.declared.fault.StoreFault.{StoreFault}
+use Rattle.share_model.specs.declared.fault.StoreFault.TheVariants.{Full}
+use Rattle.share_model.specs.Pending.{WithPending, WithinWrite}
+use Rattle.coord_checkpoint.specs.Lists.{IsListed, Keeps, and_pending}
+
+-- what holds without the pending write holds with or without it
+pub without : {S : Type 0} (P : S → Type 0) (s : S) (pending : Option S) → P s → WithPending P s pending
+without P s None h = h
+without P s (Some t) h = inl h
+
+module _ (frames : List (List ℕ)) (a b : List ℕ) (bare : StandsFor b []) where
+  pub with_pending : (pending : Option (List ℕ)) → IsWithPending frames pending a → WithPending (IsListed a b) frames (and_pending frames pending)
+  with_pending None h = record { listed = h; bare = bare }
+  with_pending (Some p) (inl h) = inl (record { listed = h; bare = bare })
+  with_pending (Some p) (inr h) = inr (record { listed = h; bare = bare })
+
+  pub within : (pending : Option (List ℕ)) (frame : List ℕ) → IsWithPending frames pending a ⊎ IsBeforeOrAfter frames frame a
+      → WithinWrite (IsListed a b) frames (and_pending frames pending) (frames ++ frame ∷ [])
+  within pending frame (inl h) = inl (with_pending pending h)
+  within pending frame (inr (inl h)) = inl (without (IsListed a b) frames (and_pending frames pending) (record { listed = h; bare = bare }))
+  within pending frame (inr (inr h)) = inr (record { listed = h; bare = bare })
+
+module _ {D : Type 0} (image : D → List ℕ → Type 0) (live : Writer D) (idle : D) (frames : List (List ℕ)) (pending : Option (List ℕ)) where
+  pub keeps_by : Stands image live frames pending → ((c : List ℕ) → image idle c → StandsFor c []) → Keeps image (record { live = live; idle = idle }) frames pending
+  keeps_by stands bare = record {
+    stands = stands;
+    bare = bare;
+    images = λ a b on_a on_b. with_pending frames a b (bare b on_b) pending (stands.images a on_a);
+  }
+
+-- at each moment of an append
+module _ {D : Type 0} (image : D → List ℕ → Type 0) (moment : D → ℕ) (since : D → ℕ → List ℕ → Type 0)
+    (only_now : (d : D) (c : List ℕ) → since d (moment d) c → image d c) where
+  pub pairs : (old new idle : D) (frames : List (List ℕ)) (pending : Option (List ℕ)) (frame : List ℕ)
+      → ((c : List ℕ) → image idle c → StandsFor c [])
+      → LeavesOnly moment since old new (λ c. IsWithPending frames pending c ⊎ IsBeforeOrAfter frames frame c)
+      → LeavesPairs moment since moment since old new idle idle (λ a b. WithinWrite (IsListed a b) frames (and_pending frames pending) (frames ++ frame ∷ []))
+  pairs old new idle frames pending frame bare run =
+      paired moment since moment since old new idle idle (λ c. IsWithPending frames pending c ⊎ IsBeforeOrAfter frames frame c) (λ c. StandsFor c [])
+      (λ a b. WithinWrite (IsListed a b) frames (and_pending frames pending) (frames ++ frame ∷ [])) run
+      (started moment since idle (λ c. StandsFor c []) (λ c left. bare c (only_now idle c left)))
+      (λ a b p q. within frames a b q pending frame p)
+
+-- ---- the number of frames
+
+pub blocks_few : (frames : List (List ℕ)) → length frames ≤ length (blocks frames)
+blocks_few [] = omega arith
+blocks_few (f ∷ fs) = omega (arith, blocks_few fs, length-append (behind_gate f) (blocks fs))
+
+end_of : {D : Type 0} (image : D → List ℕ → Type 0) (writer : Writer D) (m : Mending) (frames : List (List ℕ)) (pending : Option (List ℕ))
+    → Mends image writer m frames pending → writer.end ≡ length (blocks frames) + 1
+end_of image writer Nothing frames pending h = h.1.end
+end_of image writer Behind frames pending h = h.end
+end_of image writer Gate frames pending h = h.3.end
+
+pub stands_few : {D : Type 0} (image : D → List ℕ → Type 0) (writer : Writer D) (frames : List (List ℕ)) (pending : Option (List ℕ))
+    → Stands image writer frames pending → length frames < writer.end
+stands_few image writer frames pending h =
+    omega (arith, blocks_few frames, end_of image writer writer.mending frames pending h.mends)
+
+is_err : {T E : Type 0} → Result T E → Type 0
+is_err (Ok x) = ⊥
+is_err (Err e) = Unit {0}
+
+-- an append that was not refused as full has room
+pub has_room : (r : Result ℕ StoreFault) (e n : ℕ) → ((end : ℕ) → (r ≡ Err (Full end)) ↔ ((end ≡ e) × (2 ^ 62 < e + n))) → OnOk r (e + n ≤ 2 ^ 62)
+unfolding is_err
+has_room (Err f) e n full = tt
+has_room (Ok x) e n full = ⊎_elim (λ lt. absurd (subst is_err (sym ((full e).1 (refl, lt))) tt)) (λ le. le) (cases_lt (2 ^ 62) (e + n))

@@ -1,0 +1,2 @@
+pub mod NoFrames
+pub mod Keeping

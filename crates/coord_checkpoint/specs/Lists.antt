@@ -1,0 +1,34 @@
+-- The list of frames that the two disks of a store keep. This project's own. Today the first disk has the frames, and the second
+-- one is kept free of frames.
+-- For example the contents `01 00000001 61 00` and `00` keep the one frame `61` (the test
+-- frames_come_back_and_the_second_disk_stays_as_it_was).
+use Rattle.std.specs.Prelude.{◌≡◌, ℕ, List, [], ◌∷◌, ◌++◌, Bool, true, false}
+use Rattle.std.specs.Option.{option_map}
+use Rattle.std.specs.declared.option.Option.{Option}
+use Rattle.gate_journal.specs.Frames.{StandsFor, IsDamaged}
+use Rattle.gate_journal.specs.Journals.{Stands}
+use Rattle.share_model.specs.Pending.{WithPending}
+use Rattle.coord_checkpoint.specs.declared.journal.StateJournal.{StateJournal}
+
+-- contents of the first and the second disk that keep these frames
+pub record IsListed (first second : List ℕ) (frames : List (List ℕ)) : Type 0 where
+  pub listed : StandsFor first frames
+  pub bare : StandsFor second []
+
+-- the frames with the pending one behind them, if one is pending
+abbrev pub and_pending : List (List ℕ) → Option (List ℕ) → Option (List (List ℕ))
+and_pending frames pending = option_map (λ frame. frames ++ frame ∷ []) pending
+
+-- A store of these frames, with this write pending, if one is: a crash now leaves the frames, with or without the pending one,
+-- and the next append can go on from there.
+pub record Keeps {D : Type 0} (image : D → List ℕ → Type 0) (journal : StateJournal D) (frames : List (List ℕ))
+    (pending : Option (List ℕ)) : Type 0 where
+  pub stands : Stands image journal.live frames pending
+  pub bare : (c : List ℕ) → image journal.idle c → StandsFor c []
+  pub images : (a b : List ℕ) → image journal.live.disk a → image journal.idle b → WithPending (IsListed a b) frames (and_pending frames pending)
+
+-- Not a store: the first content is no journal text, by the place of its open gate that no frame and gate follow; or the second
+-- one has an open gate at its front, and so isn't text of no frames.
+abbrev pub IsUnlisted : List ℕ → List ℕ → Bool → ℕ → Type 0
+IsUnlisted first second false place = IsDamaged first place
+IsUnlisted first second true place = (place ≡ 0) × (StandsFor second [] → ⊥)
