@@ -10,7 +10,7 @@ use Rattle.edge_io.specs.Disk.{IsTold, IsUneventful}
 use Rattle.edge_io.specs.Causes.{HasCause}
 use Rattle.edge_io.specs.Armed.{breaks, spent, next_armed, RunsAsArmed, IsOneShot, Spends, RunsOn}
 
-clash : true ≡ false → ⊥
+pub clash : true ≡ false → ⊥
 clash e = search rules
 
 pub spends_none : (a : Armed) (f : ℕ) → Spends a a f f

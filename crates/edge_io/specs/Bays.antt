@@ -1,4 +1,4 @@
--- The places of a bay, by the names of their disks. This project's own. Worked example: a disk that is put back with the
+-- The disks of a bay, by their names. This project's own. Worked example: a disk that is put back with the
 -- content `kept` has that content when it is taken again, and a disk of another name is as it was.
 use Rattle.std.specs.Prelude.{◌≡◌, ◌<◌, ◌^◌, ℕ, Bool, List, Some, is_some, true, false}
 use Rattle.std.specs.declared.option.Option.{Option}

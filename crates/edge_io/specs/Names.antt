@@ -19,13 +19,13 @@ IsTopicName name = (0 < length name) × (length name ≤ 249) × All (λ b. is_t
 abbrev pub number_word : ℕ → List ℕ
 number_word n = if nat_lt n 10 then (48 + n) ∷ [] else (48 + n / 10) ∷ (48 + n % 10) ∷ []
 
-abbrev pub place_word : DiskPlace → List ℕ
-place_word Log = codes "log"
-place_word StateA = codes "state-a"
-place_word StateB = codes "state-b"
+abbrev pub disk_word : DiskPlace → List ℕ
+disk_word Log = codes "log"
+disk_word StateA = codes "state-a"
+disk_word StateB = codes "state-b"
 
 abbrev pub hosted_name : List ℕ → ℕ → DiskPlace → List ℕ
-hosted_name topic number place = topic ++ (codes "/" ++ (number_word number ++ (codes "/" ++ place_word place)))
+hosted_name topic number place = topic ++ (codes "/" ++ (number_word number ++ (codes "/" ++ disk_word place)))
 
 -- one of these names; a topic has at most 64 partitions
 abbrev pub IsDiskName : List ℕ → Type 0

@@ -16,5 +16,6 @@ pub use bay::Bay;
 pub use copying::{ReadError, read_to_end, write_all};
 pub use disk::Disk;
 pub use fault::{Armed, FaultMode};
-pub use name::{DiskName, DiskPlace};
+pub use name::{DiskName, DiskPlace, MAX_PARTITIONS};
 pub use streams::{Failed, Sink, Source};
+pub use topic::is_topic_name;

@@ -2,7 +2,7 @@ ghost use Rattle.std.specs.Prelude.{◌≡◌, ◌↔◌, ◌<◌, ◌≤◌, �
 ghost use Rattle.arrayvec.specs.ArrayVec.{array_vec_len};
 ghost use Rattle.edge_io.specs.declared.name.DiskPlace.TheVariants.{Log, StateA, StateB};
 
-use crate::topic::{is_topic_name, place_word, push, push_number};
+use crate::topic::{disk_word, is_topic_name, push, push_number};
 use arrayvec::ArrayVec;
 use std::marker::Model;
 
@@ -14,8 +14,8 @@ pub enum DiskPlace {
     StateB,
 }
 
-/// The greatest number of partitions of a topic.
-const MAX_PARTITIONS: u32 = 64;
+/// The greatest number of partitions that a broker hosts, and so of one topic.
+pub const MAX_PARTITIONS: u32 = 64;
 
 /// The longest name: 249 bytes of a topic, two digits, a place, and two slashes.
 const MAX_NAME: usize = 260;
@@ -55,7 +55,7 @@ impl DiskName {
         push(&mut text, b"/");
         push_number(&mut text, number);
         push(&mut text, b"/");
-        push(&mut text, place_word(place));
+        push(&mut text, disk_word(place));
         Some(DiskName { text })
     }
 

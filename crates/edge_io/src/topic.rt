@@ -1,7 +1,7 @@
-// The parts of a disk's name.
+// The parts of a disk's name, and the rule of topic names.
 ghost use Rattle.std.specs.Prelude.{◌≡◌, ◌↔◌, ◌<◌, ◌≤◌, ◌+◌, ◌++◌, IsTrue, length};
 ghost use Rattle.arrayvec.specs.ArrayVec.{array_vec_len};
-ghost use Rattle.edge_io.specs.Names.{is_topic_byte, IsTopicName, number_word, place_word};
+ghost use Rattle.edge_io.specs.Names.{is_topic_byte, IsTopicName, number_word, disk_word};
 
 use crate::name::DiskPlace;
 use arrayvec::ArrayVec;
@@ -12,7 +12,8 @@ fn is_topic_byte(byte: u8) -> bool
     byte.is_ascii_alphanumeric() || byte == b'.' || byte == b'_' || byte == b'-'
 }
 
-// Whether a topic may have this name.
+/// Whether a topic may have this name: 1 to 249 ASCII letters, digits, `.`, `_` and `-`, and neither `.` nor `..`. This is
+/// Kafka's rule.
 pub fn is_topic_name(name: &[u8]) -> bool
     ensures { IsTrue result ↔ IsTopicName name.now }
 {
@@ -49,8 +50,8 @@ pub fn push_number<const N: usize>(text: &mut ArrayVec<u8, N>, number: u32)
     }
 }
 
-pub fn place_word(place: DiskPlace) -> &'static [u8]
-    ensures word { result.now ≡ place_word place }
+pub fn disk_word(place: DiskPlace) -> &'static [u8]
+    ensures word { result.now ≡ disk_word place }
     ensures short { length result.now ≤ 7 }
 {
     match place {

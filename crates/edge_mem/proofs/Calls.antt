@@ -6,7 +6,7 @@ use Rattle.std.proofs.lemmas.List.{take_all, take-append-le, drop-drop}
 use Rattle.edge_io.specs.Disk.{written, Becomes, UnfinishedWrite, UnfinishedCut, Follows, Leads, Within, Synced}
 use Rattle.edge_io.specs.Moments.{Elapses}
 use Rattle.edge_mem.specs.Events.{Event, Wrote, CutTo, Kept, Lost, State, done, replay, LeavesBy}
-use Rattle.edge_mem.specs.Events.{IsImage, base, content_of, image_of, loss_of, changed, next, run, begun}
+use Rattle.edge_mem.specs.Events.{IsImage, base, content_of, image_of, loss_of, changed, next, run, first_state}
 use Rattle.edge_io.specs.declared.fault.FaultMode.{FaultMode}
 use Rattle.edge_io.specs.declared.fault.FaultMode.TheVariants.{Once, Torn, Dead}
 use Rattle.edge_mem.specs.Past.{Past, state, content, image, since, with_event, broken_write, failed_write}
@@ -28,14 +28,14 @@ elapses_then : (h : Past) (e : Event) → Elapses (length h.events) (length (wit
 elapses_then h e = record {
   later = omega (arith, length-append h.events (e ∷ []));
   nothing_else = λ t c le left. ⊎_elim (old t c left) (λ gt. inr (subst
-      (λ (es : List Event). image_of (run (begun h.first) es) c)
+      (λ (es : List Event). image_of (run (first_state h.first) es) c)
       (take_all left.0 (h.events ++ e ∷ []) (omega (arith, gt, length-append h.events (e ∷ [])))) left.3)) (cases left.0);
   keeps = λ t c le left. (
     left.0,
     left.1,
     omega (arith, left.2, length-append h.events (e ∷ [])),
     subst
-        (λ (es : List Event). image_of (run (begun h.first) es) c) (sym (take-append-le left.0 h.events (e ∷ []) left.2)) left.3,
+        (λ (es : List Event). image_of (run (first_state h.first) es) c) (sym (take-append-le left.0 h.events (e ∷ []) left.2)) left.3,
   );
 }
   where
@@ -47,7 +47,7 @@ elapses_then h e = record {
       left.0,
       left.1,
       le,
-      subst (λ (es : List Event). image_of (run (begun h.first) es) c)
+      subst (λ (es : List Event). image_of (run (first_state h.first) es) c)
           (take-append-le left.0 h.events (e ∷ []) le) left.3,
     )
 
@@ -61,7 +61,7 @@ done_to h k g e same is = is ∙ ap (λ (l : Past). with_event l e) same
 -- ---- changes
 
 pub state_then : (h g : Past) (e : Event) → g ≡ with_event h e → state g ≡ next (state h) e
-state_then h g e is = ap state is ∙ run_push (begun h.first) h.events e
+state_then h g e is = ap state is ∙ run_push (first_state h.first) h.events e
 
 module _ (h g : Past) (e : Event) (is : state g ≡ changed (state h) e) where
   pub follows : (step : List ℕ → List ℕ → Type 0) → ((d c : List ℕ) → LeavesBy e d c → step d c) → Follows step (image h) (image g)
@@ -171,7 +171,7 @@ module _ (h g : Past) (choice : ℕ) (is : g ≡ with_event h (Lost choice (loss
   loss_is_image =
       let s = state h in
       let fits : Fits (take choice s.changes ++ drop choice s.changes) (base s) = subst
-      (λ (es : List Event). Fits es (base s)) (sym (take-append-drop choice s.changes)) (run_fits (begun h.first) h.events tt) in
+      (λ (es : List Event). Fits es (base s)) (sym (take-append-drop choice s.changes)) (run_fits (first_state h.first) h.events tt) in
       subst (λ (es : List Event). IsImage es (base s) (loss_of s choice)) (take-append-drop choice s.changes)
       (image_join (take choice s.changes) (drop choice s.changes) (base s) (loss_of s choice) (loss_of s choice)
       (replay_is_image (take choice s.changes) (base s) (fits_front (take choice s.changes) (drop choice s.changes) (base s) fits))

@@ -4,7 +4,7 @@ use Rattle.std.proofs.Common.{Bool, List, [], ◌∷◌, ◌++◌, length, take,
 use Rattle.std.proofs.lemmas.List.{append-nil, drop-append-le, drop_all, take_all}
 use Rattle.std.proofs.Math.Seq.{take-append-add}
 use Rattle.edge_mem.specs.Past.{Past, with_event}
-use Rattle.edge_mem.specs.Events.{Event, Kept, Lost, State, run, begun, next, changed, done, replay, base, content_of, loss_of}
+use Rattle.edge_mem.specs.Events.{Event, Kept, Lost, State, run, first_state, next, changed, done, replay, base, content_of, loss_of}
 use Rattle.edge_mem.specs.Steps.{event_of, with_sync, events, changes, Joins, EndsKept, Marked}
 use Rattle.edge_mem.specs.Sound.{IsSound, state_of}
 use Rattle.edge_mem.specs.Laws.{run_push, replay_join}
@@ -26,10 +26,10 @@ joined_changes log new e start le j =
     ap (λ (l : List Step). changes (drop start l)) j.pushed ∙ ap changes (drop-append-le start log (j.step ∷ []) le)
     ∙ changes_push (drop start log) j.step ∙ ap (λ (f : Event). changes (drop start log) ++ f ∷ []) j.is
 
-pub ended : (first : List ℕ) (es : List Event) → EndsKept es → (run (begun first) es).changes ≡ []
+pub ended : (first : List ℕ) (es : List Event) → EndsKept es → (run (first_state first) es).changes ≡ []
 unfolding run
-ended first es (inl none) = ap (λ (l : List Event). (run (begun first) l).changes) none
-ended first es (inr p) = ap (λ (l : List Event). (run (begun first) l).changes) p.1 ∙ ap (λ (s : State). s.changes) (run_push (begun first) p.0 Kept)
+ended first es (inl none) = ap (λ (l : List Event). (run (first_state first) l).changes) none
+ended first es (inr p) = ap (λ (l : List Event). (run (first_state first) l).changes) p.1 ∙ ap (λ (s : State). s.changes) (run_push (first_state first) p.0 Kept)
 
 pub view_then : (first : List ℕ) (log new : List Step) (e : Event) (h : Past) → record { first = first; events = events log } ≡ h
     → Joins log e new → record { first = first; events = events new } ≡ with_event h e
@@ -41,7 +41,7 @@ module _ (first era bytes : List ℕ) (log : List Step) (start kept : ℕ) (soun
   s = state_of first log
 
   state_then : (new : List Step) (e : Event) → events new ≡ events log ++ e ∷ [] → state_of first new ≡ next s e
-  state_then new e is = ap (run (begun first)) is ∙ run_push (begun first) (events log) e
+  state_then new e is = ap (run (first_state first)) is ∙ run_push (first_state first) (events log) e
 
   pub changed_sound : (new : List Step) (e : Event) (content : List ℕ) → Joins log e new → next s e ≡ changed s e → content ≡ done e bytes
       → IsSound first era content new start kept
@@ -75,7 +75,7 @@ module _ (first era bytes : List ℕ) (log : List Step) (start kept : ℕ) (soun
 
       was : (events new ≡ events log) × EndsKept (events log) → IsSound first era bytes new start (length new - start)
       was p =
-          let state_is : state_of first new ≡ s = ap (run (begun first)) p.0 in
+          let state_is : state_of first new ≡ s = ap (run (first_state first)) p.0 in
           let none : s.changes ≡ [] = ended first (events log) p.1 in
           record {
             era_is = sound.era_is ∙ sym (ap (λ (t : State). t.first) state_is);

@@ -16,15 +16,15 @@ fresh = record { past = record { first = []; events = [] }; armed = Nothing; arm
 abbrev pub same_name : List ℕ → List ℕ → Bool
 same_name a b = pointwise nat_eq a b
 
--- one place further
+-- one slot further
 abbrev pub behind : Option ℕ → Option ℕ
 behind None = None
 behind (Some n) = Some (suc n)
 
--- where the slot of a name stands
-abbrev pub place : List Slot → List ℕ → Option ℕ
-place [] name = None
-place (s ∷ slots) name = if same_name s.name name then Some 0 else behind (place slots name)
+-- the number of the slot of a name, from 0 on
+abbrev pub slot_index : List Slot → List ℕ → Option ℕ
+slot_index [] name = None
+slot_index (s ∷ slots) name = if same_name s.name name then Some 0 else behind (slot_index slots name)
 
 abbrev pub found : List Slot → List ℕ → Option Slot
 found [] name = None

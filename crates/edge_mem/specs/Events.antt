@@ -78,6 +78,6 @@ unfoldable pub run : State → List Event → State
 run s [] = s
 run s (e ∷ es) = run (next s e) es
 
--- a disk that was made with this content
-abbrev pub begun : List ℕ → State
-begun first = record { first = first; kept = []; changes = []; losses = [] }
+-- the state of a disk that was made with this content
+abbrev pub first_state : List ℕ → State
+first_state first = record { first = first; kept = []; changes = []; losses = [] }

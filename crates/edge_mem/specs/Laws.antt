@@ -5,7 +5,7 @@ use Rattle.std.proofs.Common.{inl, inr, ⊎_elim, refl, sym, ap, ◌∙◌, subs
 use Rattle.std.proofs.lemmas.List.{take_at, drop_at, take_all, length-take}
 use Rattle.edge_io.specs.Disk.{written, UnfinishedWrite, UnfinishedCut}
 use Rattle.edge_mem.specs.Events.{Event, Wrote, CutTo, Kept, Lost, State, done, replay, LeavesBy, IsImage, base, content_of, image_of, changed, next}
-use Rattle.edge_mem.specs.Events.{run, begun}
+use Rattle.edge_mem.specs.Events.{run, first_state}
 use Rattle.edge_mem.specs.Past.{Past, state, content, image, since}
 
 -- ---- a change
@@ -135,13 +135,13 @@ run_fits s (e ∷ es) p = run_fits (next s e) es (next_fits s e p)
 -- ---- laws
 
 pub content_there : (h : Past) → image h (content h)
-content_there h = let s = state h in replay_is_image s.changes (base s) (run_fits (begun h.first) h.events tt)
+content_there h = let s = state h in replay_is_image s.changes (base s) (run_fits (first_state h.first) h.events tt)
 
 pub content_is_image : (h : Past) (c : List ℕ) → Some (content h) ≡ Some c → image h c × (length (content h) ≡ length c)
 content_is_image h c told = let e : content h ≡ c = cc in (subst (image h) e (content_there h), ap length e)
 
-at_now : (h : Past) (m : ℕ) → length h.events ≤ m → run (begun h.first) (take m h.events) ≡ state h
-at_now h m le = ap (run (begun h.first)) (take_all m h.events le)
+at_now : (h : Past) (m : ℕ) → length h.events ≤ m → run (first_state h.first) (take m h.events) ≡ state h
+at_now h m le = ap (run (first_state h.first)) (take_all m h.events le)
 
 pub counts_now : (h : Past) (t : ℕ) (c : List ℕ) → t ≤ length h.events → image h c → since h t c
 counts_now h t c le now = (length h.events, le, omega arith, subst (λ (s : State). image_of s c) (sym (at_now h (length h.events) (omega arith))) now)

@@ -7,7 +7,7 @@ use Rattle.edge_io.specs.declared.fault.FaultMode.{FaultMode}
 use Rattle.edge_io.specs.declared.fault.FaultMode.TheVariants.{Once, Torn, Dead}
 use Rattle.edge_io.specs.declared.fault.Armed.{Armed}
 use Rattle.edge_io.specs.declared.fault.Armed.TheVariants.{Nothing, After, Broken}
-use Rattle.edge_mem.specs.Events.{Event, Wrote, State, run, begun, content_of, image_of}
+use Rattle.edge_mem.specs.Events.{Event, Wrote, State, run, first_state, content_of, image_of}
 
 -- the content that the disk was made with, and what happened since
 pub record Past : Type 0 where
@@ -15,7 +15,7 @@ pub record Past : Type 0 where
   pub events : List Event
 
 abbrev pub state : Past → State
-state h = run (begun h.first) h.events
+state h = run (first_state h.first) h.events
 
 abbrev pub content : Past → List ℕ
 content h = content_of (state h)
@@ -25,7 +25,7 @@ image h c = image_of (state h) c
 
 -- what a crash at a moment from t on might have left; the moments are the numbers of events that had happened
 abbrev pub since : Past → ℕ → List ℕ → Type 0
-since h t c = (m : ℕ) × (t ≤ m) × (m ≤ length h.events) × image_of (run (begun h.first) (take m h.events)) c
+since h t c = (m : ℕ) × (t ≤ m) × (m ≤ length h.events) × image_of (run (first_state h.first) (take m h.events)) c
 
 abbrev pub with_event : Past → Event → Past
 with_event h e = record { first = h.first; events = h.events ++ e ∷ [] }

@@ -1,17 +1,19 @@
 ghost use Rattle.std.specs.Prelude.{◌≡◌, ◌≢◌, ◌⊎◌, ◌≤◌, ◌<◌, ◌+◌, ◌-◌, ◌^◌, ◌++◌, ◌∷◌};
 ghost use Rattle.std.specs.Prelude.{[], min, ℕ, List, Bool, true, false};
 ghost use Rattle.std.specs.Prelude.{Some, None, is_some, IfSome, IfOk, OnErr, IsErr, Contains, length, slice_index_or};
-ghost use Rattle.edge_io.specs.Bays.{SameSlot, IsAsTold, Holds};
+ghost use Rattle.edge_io.specs.Bays.{SameSlot, IsAsTold, Holds, IsSound};
 ghost use Rattle.edge_io.specs.Causes.{CountsFault, FailsBy, HasCause, raised};
-ghost use Rattle.edge_mem.specs.Bays.{place, found, disk_at, out_at, taken_at, is_empty, fresh, Taken, Put};
+ghost use Rattle.edge_mem.specs.Bays.{slot_index, found, disk_at, out_at, taken_at, is_empty, fresh, Taken, Put};
+ghost use Rattle.edge_mem.specs.Past.{content};
 ghost use Rattle.edge_mem.specs.declared.bay.Slot.{Slot};
 
 use crate::disk::MemDisk;
 use edge_io::{Bay, Disk, DiskName, Failed};
-use std::alloc::{AllocError, Global};
+use flex_fields::NoMemory;
+use std::alloc::Global;
 use std::marker::Model;
 
-/// A place for a disk, and the count of faults with which it was taken.
+/// A slot for a disk, and the count of faults with which it was taken.
 #[derive(Drop)]
 pub struct Slot {
     pub name: DiskName,
@@ -38,9 +40,9 @@ impl Model for MemBay {
     ghost view = { λ b. record { slots = b.slots.items; failing = b.failing.items; calls = b.calls; starved = b.starved; faults = b.faults } };
 }
 
-// Where the slot of that name stands.
+// The number of the slot of that name, from 0 on.
 fn position(slots: &[Slot], name: &[u8]) -> Option<usize>
-    ensures at { result ≡ place slots.now name.now }
+    ensures at { result ≡ slot_index slots.now name.now }
     ensures within { IfSome result (λ n. n < length slots.now) }
 {
     let Some((first, rest)) = slots.split_first() else {
@@ -91,7 +93,7 @@ fn counted(faults: u64, more: u64) -> u64
 }
 
 // A new disk, whose slot is out.
-fn make(alloc: Global, slots: &mut Vec<Slot>, name: &DiskName) -> Result<MemDisk, AllocError>
+fn make(alloc: Global, slots: &mut Vec<Slot>, name: &DiskName) -> Result<MemDisk, NoMemory>
     ensures ok { IfOk result (λ d. (d ≡ fresh) × ((s : Slot) × (s.name ≡ name.now) × (s.disk ≡ None) × (s.count ≡ 0) ×
         (slots.new.items ≡ slots.old.items ++ s ∷ []))) }
     ensures err { OnErr result (slots.new.items ≡ slots.old.items) }
@@ -106,9 +108,11 @@ fn make(alloc: Global, slots: &mut Vec<Slot>, name: &DiskName) -> Result<MemDisk
 }
 
 impl MemBay {
-    /// A bay with no disks yet. The calls of `take` whose numbers, from 0 on, are in `failing` fail.
+    /// A bay with no disks yet. With no call listed it is sound. The calls of `take` whose numbers, from 0 on, are in `failing` fail.
     pub fn new(alloc: Global, failing: Vec<u64>) -> MemBay
-        ensures { result ≡ record { slots = []; failing = failing.items; calls = 0; starved = false; faults = 0 } }
+        ensures state { result ≡ record { slots = []; failing = failing.items; calls = 0; starved = false; faults = 0 } }
+        ensures sound { failing.items ≡ [] → IsSound (λ b name. Some (disk_at b name)) (λ b. b.failing ≡ [])
+            (λ d. Some (content d.past)) (λ d. d.armed) (λ d. d.arms) (λ d. d.starved) (λ d. d.faults) result }
     {
         MemBay {
             alloc,
@@ -123,7 +127,7 @@ impl MemBay {
 
 impl MemBay {
     // Takes the disk of that name, which is made if it is new.
-    fn take_named(&mut self, name: &DiskName) -> Result<MemDisk, AllocError>
+    fn take_named(&mut self, name: &DiskName) -> Result<MemDisk, NoMemory>
         requires { out_at self.old name.now ≡ false }
         ensures given { IfOk result (λ d. d ≡ disk_at self.old name.now) }
         ensures is_out { IfOk result (λ d. (out_at self.new name.now ≡ true) × (taken_at self.new name.now ≡ d.faults)) }

@@ -10,12 +10,12 @@ ghost use Rattle.edge_mem.specs.Events.{Wrote, CutTo, Kept, Lost, loss_of};
 ghost use Rattle.edge_mem.specs.Steps.{EndsKept};
 ghost use Rattle.edge_mem.specs.Past.{state, content, image, since, with_event, broken_by, failed_write};
 ghost use Rattle.edge_mem.specs.Laws.{content_is_image, counts_now, only_now};
-ghost use Rattle.edge_mem.specs.declared.faulty.Refusal.TheVariants.{Broken, NoMemory};
 
 use crate::faulty::{Refusal, count_call, cut, write};
 use crate::history::History;
 use edge_io::{Armed, Disk, Failed, FaultMode};
-use std::alloc::{AllocError, Global};
+use flex_fields::NoMemory;
+use std::alloc::Global;
 use std::marker::Model;
 
 /// A disk in memory. It keeps all that happened to it, so that it tells what a crash might have left at any moment.
@@ -50,7 +50,7 @@ fn copy_part(from: &[u8], place: usize, into: &mut [u8])
 
 impl MemDisk {
     /// A disk with this content, on which nothing has happened yet.
-    pub fn new(alloc: Global, bytes: Vec<u8>) -> Result<MemDisk, AllocError>
+    pub fn new(alloc: Global, bytes: Vec<u8>) -> Result<MemDisk, NoMemory>
         ensures state { IfOk result (λ d. d ≡ record {
           past = record { first = bytes.items; events = [] };
           armed = Nothing;
@@ -81,13 +81,13 @@ impl MemDisk {
         ensures past { self.new.past ≡ self.old.past }
         ensures armed { self.new.armed ≡ self.old.armed }
         ensures arms { self.new.arms ≡ self.old.arms }
-        ensures starves { refusal ≡ NoMemory → self.new.starved ≡ true }
+        ensures starves { refusal ≡ Refusal.NoMemory → self.new.starved ≡ true }
         ensures stays { self.old.starved ≡ true → self.new.starved ≡ true }
         ensures later { self.old.faults ≤ self.new.faults }
         ensures rose { Rose self.old.faults self.new.faults }
         ensures faults { self.new.faults ≡ raised self.old.faults }
-        ensures only { self.new.starved ≡ true → (self.old.starved ≡ true) ⊎ (refusal ≡ NoMemory) }
-        ensures same { refusal ≡ Broken → self.new.starved ≡ self.old.starved }
+        ensures only { self.new.starved ≡ true → (self.old.starved ≡ true) ⊎ (refusal ≡ Refusal.NoMemory) }
+        ensures same { refusal ≡ Refusal.Broken → self.new.starved ≡ self.old.starved }
     {
         self.starved = self.starved | (refusal == Refusal::NoMemory);
         self.faults = self.faults.saturating_add(1);
@@ -146,8 +146,9 @@ impl Disk for MemDisk {
             self.old.starved self.new.starved self.old.faults self.new.faults result }
         ensures cause { HasCause self.old.faults self.new.faults result }
 
-        // It fails exactly where the armed fault breaks it, and changes nothing.
+        // It fails exactly where the armed fault breaks it, and changes nothing, `into` included.
         ensures broken { IsErr result ↔ (breaks self.old.armed ≡ true) }
+        ensures into { OnErr result (into.new ≡ into.old) }
         ensures past { self.new.past ≡ self.old.past }
         ensures starved { self.new.starved ≡ self.old.starved }
         ensures faults { CountsFault self.old.faults self.new.faults result }

@@ -1,5 +1,5 @@
 ghost use Rattle.std.specs.Prelude.{◌≡◌, ◌↔◌, ◌<◌, ◌≤◌, ◌&&◌, ◌++◌};
-ghost use Rattle.std.specs.Prelude.{nat_eq, nat_lt, min, Some, IsErr, IfOk, Contains, take, drop, length, [], false};
+ghost use Rattle.std.specs.Prelude.{nat_eq, nat_lt, min, Some, IsErr, OnErr, IfOk, Contains, take, drop, length, [], false};
 ghost use Rattle.std.specs.Io.{ReadsAtMost};
 ghost use Rattle.std.specs.Io.KnownBytes.{ReadConsumes};
 ghost use Rattle.edge_io.specs.Causes.{CountsFault, HasCause, raised};
@@ -75,8 +75,11 @@ impl Source for MemSource {
         ensures end { EndsBy self.old.ended self.new.ended result into.new }
         ensures cause { HasCause self.old.faults self.new.faults result }
 
-        // It fails exactly where the list says so, and else gives all that there is room for.
+        // It fails exactly where the list says so, and else gives all that there is room for. Where it fails, nothing is lost
+        // and `into` is as it was.
         ensures fails { IsErr result ↔ Contains self.old.failing self.old.calls }
+        ensures lost { OnErr result (self.new.left ≡ self.old.left) }
+        ensures into { OnErr result (into.new ≡ into.old) }
         ensures count { IfOk result (λ n. n ≡ min (length self.old.left) (length into.new)) }
         ensures failing { self.new.failing ≡ self.old.failing }
         ensures calls { self.new.calls ≡ raised self.old.calls }

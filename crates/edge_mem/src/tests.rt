@@ -1,10 +1,11 @@
 // Worked examples of the disk, and each object once with ample memory.
 use crate::{MemBay, MemDisk, MemSink, MemSource};
 use edge_io::{Bay, Disk, DiskName, DiskPlace, Failed, FaultMode, read_to_end, write_all};
+use flex_fields::NoMemory;
 use std::alloc::{AllocError, Global};
 
 // A disk of `ab`, to which `cd` was written at 2, and that was cut to 1 then.
-fn changed(alloc: Global) -> Result<MemDisk, AllocError> {
+fn changed(alloc: Global) -> Result<MemDisk, NoMemory> {
     let mut disk = MemDisk::new(alloc, b"ab".to_vec(alloc)?)?;
     if disk.sync().is_err()
         || disk.write_at(2, b"cd").is_err()
@@ -32,7 +33,7 @@ fn a_power_loss_keeps_the_first_changes_since_the_sync(rt: HostRuntime) {
 }
 
 // What is left of a write of `wxyz`, and of one more, on a disk whose next call is broken.
-fn broken(alloc: Global, mode: FaultMode) -> Result<(MemDisk, bool), AllocError> {
+fn broken(alloc: Global, mode: FaultMode) -> Result<(MemDisk, bool), NoMemory> {
     let mut disk = MemDisk::new(alloc, Vec::new(alloc))?;
     disk.arm(0, mode);
     let first = disk.write_at(0, b"wxyz");

@@ -32,6 +32,13 @@ Mends image writer Behind frames pending = IsShaped image writer frames (IsShut 
 Mends image writer Gate frames pending =
     (frame : List ℕ) × (pending ≡ Some frame) × IsFrame frame × IsShaped image writer frames (IsAjar frames frame)
 
+-- how many calls of its disk it takes to mend this: none; a cut and a sync; a write of a closed gate, a cut, and a sync
+-- behind each
+abbrev pub calls_to_mend : Mending → ℕ
+calls_to_mend Nothing = 0
+calls_to_mend Behind = 2
+calls_to_mend Gate = 4
+
 -- A journal of these frames, with this write pending, if one is: a crash now leaves the frames, with or without the
 -- pending one, and the next append can go on from there.
 pub record Stands {D : Type 0} (image : D → List ℕ → Type 0) (writer : Writer D) (frames : List (List ℕ))

@@ -1,8 +1,9 @@
 ghost use Rattle.std.specs.Prelude.{◌≡◌, ◌⊎◌, ◌↔◌, ◌+◌, ◌<◌, ◌≤◌, ◌^◌, ◌++◌, [], ◌∷◌, List, ℕ, length};
-ghost use Rattle.std.specs.Prelude.{Some, IfOk, OnOk, OnErr, Err};
+ghost use Rattle.std.specs.Prelude.{Some, IfOk, OnOk, OnErr, MatchResult, Err};
 ghost use Rattle.std.specs.declared.option.Option.{Option};
-ghost use Rattle.edge_io.specs.Armed.{ArmsAlone, RunsOn};
+ghost use Rattle.edge_io.specs.Armed.{ArmsAlone, RunsOn, StarvesUnarmed};
 ghost use Rattle.edge_io.specs.Causes.{Rose};
+ghost use Rattle.edge_io.specs.Counting.{DoesCalls, FailsInCalls};
 ghost use Rattle.edge_io.specs.Moments.{Elapses, LeavesOnly};
 ghost use Rattle.gate_journal.specs.Frames.{IsBeforeOrAfter, IsWithPending, IsFrame, frame_in, framed, text_of};
 
@@ -46,7 +47,7 @@ impl<D: Disk> Model for Journal<D> {
 }
 
 impl<D: Disk> Journal<D> {
-    ghost use Rattle.gate_journal.specs.Journals.{HasRoom, Stands, IsAtRest};
+    ghost use Rattle.gate_journal.specs.Journals.{HasRoom, Stands, IsAtRest, calls_to_mend};
 
     // A journal of frames that were read from the disk.
     pub(crate) fn opened(disk: D, end: u64, count: u64) -> Self
@@ -93,7 +94,14 @@ impl<D: Disk> Journal<D> {
         ensures any_moment { (frames : List (List ℕ)) (pending : Option (List ℕ)) → Stands D.image self.old frames pending →
             LeavesOnly D.moment D.since self.old.disk self.new.disk (λ c. IsWithPending frames pending c ⊎ IsBeforeOrAfter frames (frame_in buffer.old) c) }
         ensures runs { RunsOn D.content D.losses D.arms D.armed D.starved D.faults self.old.disk self.new.disk }
-        ensures set { OnOk result (buffer.new ≡ framed (frame_in buffer.old)) }
+
+        // Of a disk that tells: the calls that mend and four more, and the first that fails is the last.
+        ensures calls { OnOk result (DoesCalls D.content D.armed D.starved D.faults (calls_to_mend self.old.mending + 4) self.old.disk self.new.disk) }
+        ensures fails { result ≡ Err StoreFault.Device →
+            FailsInCalls D.content D.armed D.starved (calls_to_mend self.old.mending + 4) self.old.disk self.new.disk }
+        ensures memory { result ≡ Err StoreFault.Device → StarvesUnarmed D.content D.armed D.starved self.old.disk self.new.disk }
+        ensures set { MatchResult result (λ _. buffer.new ≡ framed (frame_in buffer.old))
+            (λ e. e ≡ StoreFault.Device → buffer.new ≡ framed (frame_in buffer.old)) }
         ensures buffer { frame_in buffer.new ≡ frame_in buffer.old }
     {
         let len = buffer.len() as u64;

@@ -3,6 +3,7 @@ ghost use Rattle.std.specs.Prelude.{◌≡◌, ◌≢◌, ◌+◌, ◌<◌, ◌�
 ghost use Rattle.std.specs.List.{AllByRecursion};
 ghost use Rattle.edge_io.specs.Armed.{RunsOn, StarvesUnarmed};
 ghost use Rattle.edge_io.specs.Causes.{Rose};
+ghost use Rattle.edge_io.specs.Counting.{DoesUpTo, FailsInCalls};
 ghost use Rattle.edge_io.specs.Disk.{Within, Synced, IsTold, WhereTold, SameContent};
 ghost use Rattle.edge_io.specs.Moments.{LeavesOnly};
 ghost use Rattle.gate_journal.specs.Frames.{IsRead, IsRest, IsFrame, blocks, IsDamaged, StandsFor, StandsAs, repaired};
@@ -40,6 +41,8 @@ fn read_whole<D: Disk>(alloc: Global, disk: &mut D) -> Result<Vec<u8>, StartFaul
     ensures runs { RunsOn D.content D.losses D.arms D.armed D.starved D.faults disk.old disk.new }
     ensures later { D.faults disk.old ≤ D.faults disk.new }
     ensures device { result ≡ Err StartFault.Device → Rose (D.faults disk.old) (D.faults disk.new) }
+    ensures calls { result ≢ Err StartFault.Device → DoesUpTo D.content D.armed D.starved D.faults 1 disk.old disk.new }
+    ensures fails { result ≡ Err StartFault.Device → FailsInCalls D.content D.armed D.starved 1 disk.old disk.new }
     ensures memory { result ≡ Err StartFault.Device → StarvesUnarmed D.content D.armed D.starved disk.old disk.new }
     ensures whole { (place : ℕ) → result ≢ Err (StartFault.Damaged place) }
     ensures quiet { result ≢ Err StartFault.Device → IsTold (D.content disk.old) → D.faults disk.new ≡ D.faults disk.old }
@@ -71,6 +74,8 @@ fn read_synced<D: Disk>(alloc: Global, disk: &mut D) -> Result<(Vec<Blob>, u64),
     ensures later { D.faults disk.old ≤ D.faults disk.new }
     ensures damaged { (place : ℕ) → result ≡ Err (StartFault.Damaged place) → WhereTold (D.content disk.old) (λ c. IsDamaged c place) }
     ensures device { result ≡ Err StartFault.Device → Rose (D.faults disk.old) (D.faults disk.new) }
+    ensures calls { result ≢ Err StartFault.Device → DoesUpTo D.content D.armed D.starved D.faults 2 disk.old disk.new }
+    ensures fails { result ≡ Err StartFault.Device → FailsInCalls D.content D.armed D.starved 2 disk.old disk.new }
     ensures memory { result ≡ Err StartFault.Device → StarvesUnarmed D.content D.armed D.starved disk.old disk.new }
     ensures quiet { result ≢ Err StartFault.Device → IsTold (D.content disk.old) → D.faults disk.new ≡ D.faults disk.old }
 {
@@ -97,6 +102,8 @@ fn recover<D: Disk>(alloc: Global, disk: &mut D) -> Result<(Vec<Blob>, u64), Sta
     ensures later { D.faults disk.old ≤ D.faults disk.new }
     ensures damaged { (place : ℕ) → result ≡ Err (StartFault.Damaged place) → WhereTold (D.content disk.old) (λ c. IsDamaged c place) }
     ensures device { result ≡ Err StartFault.Device → Rose (D.faults disk.old) (D.faults disk.new) }
+    ensures calls { result ≢ Err StartFault.Device → DoesUpTo D.content D.armed D.starved D.faults 4 disk.old disk.new }
+    ensures fails { result ≡ Err StartFault.Device → FailsInCalls D.content D.armed D.starved 4 disk.old disk.new }
     ensures memory { result ≡ Err StartFault.Device → StarvesUnarmed D.content D.armed D.starved disk.old disk.new }
     ensures quiet { IfErr result (λ e. e ≢ StartFault.Device → IsTold (D.content disk.old) →
         D.faults disk.new ≡ D.faults disk.old) }
@@ -133,6 +140,11 @@ pub fn start<D: Disk>(
     ensures stays { IfErr result (λ e. e.1 ≢ StartFault.Device →
         SameContent (D.content disk) (D.content e.0) (D.size disk) (D.size e.0)) }
     ensures quiet { IfErr result (λ e. e.1 ≢ StartFault.Device → IsTold (D.content disk) → D.faults e.0 ≡ D.faults disk) }
+
+    // It makes at most four calls, of which the first that fails is the last.
+    ensures calls { MatchResult result (λ x. DoesUpTo D.content D.armed D.starved D.faults 4 disk x.0.disk)
+        (λ e. e.1 ≢ StartFault.Device → DoesUpTo D.content D.armed D.starved D.faults 4 disk e.0) }
+    ensures fails { IfErr result (λ e. e.1 ≡ StartFault.Device → FailsInCalls D.content D.armed D.starved 4 disk e.0) }
 
     // A content that stands for frames is never damaged, and gives these frames.
     ensures recovers { (c : List ℕ) (frames : List (List ℕ)) → D.content disk ≡ Some c → StandsFor c frames →

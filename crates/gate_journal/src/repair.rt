@@ -2,6 +2,7 @@
 ghost use Rattle.std.specs.Prelude.{◌≡◌, ◌<◌, ◌≤◌, List, ℕ, OnOk, OnErr};
 ghost use Rattle.edge_io.specs.Armed.{RunsOn, StarvesUnarmed};
 ghost use Rattle.edge_io.specs.Causes.{HasCause};
+ghost use Rattle.edge_io.specs.Counting.{DoesUpTo, FailsInCalls};
 ghost use Rattle.edge_io.specs.Disk.{Synced, WhereTold};
 ghost use Rattle.edge_io.specs.Moments.{LeavesOnly};
 ghost use Rattle.gate_journal.specs.Frames.{IsRead, IsRest, StandsAs, repaired};
@@ -22,6 +23,8 @@ pub fn repair<D: Disk>(disk: &mut D, end: u64) -> Result<(), Failed>
         Synced (D.content disk.old) (D.image disk.old) → LeavesOnly D.moment D.since disk.old disk.new (StandsAs (D.image disk.old)) }
     ensures size { OnOk result (end ≤ D.size disk.new) }
     ensures runs { RunsOn D.content D.losses D.arms D.armed D.starved D.faults disk.old disk.new }
+    ensures calls { OnOk result (DoesUpTo D.content D.armed D.starved D.faults 2 disk.old disk.new) }
+    ensures fails { OnErr result (FailsInCalls D.content D.armed D.starved 2 disk.old disk.new) }
     ensures memory { OnErr result (StarvesUnarmed D.content D.armed D.starved disk.old disk.new) }
     ensures cause { HasCause (D.faults disk.old) (D.faults disk.new) result }
 {

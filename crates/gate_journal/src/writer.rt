@@ -3,6 +3,7 @@ ghost use Rattle.std.specs.Prelude.{◌≡◌, ◌+◌, ◌<◌, ◌≤◌, ◌^
 ghost use Rattle.std.specs.declared.option.Option.{Option};
 ghost use Rattle.edge_io.specs.Armed.{RunsOn};
 ghost use Rattle.edge_io.specs.Causes.{HasCause};
+ghost use Rattle.edge_io.specs.Counting.{DoesCalls, FailsInCalls};
 ghost use Rattle.edge_io.specs.Moments.{LeavesOnly};
 ghost use Rattle.gate_journal.specs.Frames.{StandsFor, IsBeforeOrAfter, IsWithPending, IsFrame, IsRest, IsShut, IsHeld, IsAjar, framed, text_of};
 
@@ -29,7 +30,7 @@ pub struct Writer<D: Disk> {
 }
 
 impl<D: Disk> Writer<D> {
-    ghost use Rattle.gate_journal.specs.Journals.{HasRoom, IsShaped, Mends};
+    ghost use Rattle.gate_journal.specs.Journals.{HasRoom, IsShaped, Mends, calls_to_mend};
 
     // Closes a gate that may be open.
     fn close_gate(&mut self) -> Result<(), Failed>
@@ -47,6 +48,8 @@ impl<D: Disk> Writer<D> {
         ensures same { (self.new.end ≡ self.old.end) × (self.new.count ≡ self.old.count) }
         ensures room_kept { HasRoom D.size self.new }
         ensures runs { RunsOn D.content D.losses D.arms D.armed D.starved D.faults self.old.disk self.new.disk }
+        ensures calls { OnOk result (DoesCalls D.content D.armed D.starved D.faults 2 self.old.disk self.new.disk) }
+        ensures fails { OnErr result (FailsInCalls D.content D.armed D.starved 2 self.old.disk self.new.disk) }
         ensures cause { HasCause (D.faults self.old.disk) (D.faults self.new.disk) result }
     {
         write_and_sync(&mut self.disk, self.end - 1, &[0])?;
@@ -68,6 +71,8 @@ impl<D: Disk> Writer<D> {
         ensures same { (self.new.end ≡ self.old.end) × (self.new.count ≡ self.old.count) }
         ensures room_kept { HasRoom D.size self.new }
         ensures runs { RunsOn D.content D.losses D.arms D.armed D.starved D.faults self.old.disk self.new.disk }
+        ensures calls { OnOk result (DoesCalls D.content D.armed D.starved D.faults 2 self.old.disk self.new.disk) }
+        ensures fails { OnErr result (FailsInCalls D.content D.armed D.starved 2 self.old.disk self.new.disk) }
         ensures cause { HasCause (D.faults self.old.disk) (D.faults self.new.disk) result }
     {
         cut_and_sync(&mut self.disk, self.end)?;
@@ -91,6 +96,8 @@ impl<D: Disk> Writer<D> {
         ensures room_kept { HasRoom D.size self.new }
         ensures reach { OnOk result (self.old.end + length bytes.now ≤ D.size self.new.disk) }
         ensures runs { RunsOn D.content D.losses D.arms D.armed D.starved D.faults self.old.disk self.new.disk }
+        ensures calls { OnOk result (DoesCalls D.content D.armed D.starved D.faults 2 self.old.disk self.new.disk) }
+        ensures fails { OnErr result (FailsInCalls D.content D.armed D.starved 2 self.old.disk self.new.disk) }
         ensures cause { HasCause (D.faults self.old.disk) (D.faults self.new.disk) result }
     {
         if let Err(failed) = write_and_sync(&mut self.disk, self.end, bytes) {
@@ -120,6 +127,8 @@ impl<D: Disk> Writer<D> {
             (self.new.end ≡ self.old.end) × (self.new.count ≡ self.old.count)) }
         ensures room_kept { HasRoom D.size self.new }
         ensures runs { RunsOn D.content D.losses D.arms D.armed D.starved D.faults self.old.disk self.new.disk }
+        ensures calls { OnOk result (DoesCalls D.content D.armed D.starved D.faults 2 self.old.disk self.new.disk) }
+        ensures fails { OnErr result (FailsInCalls D.content D.armed D.starved 2 self.old.disk self.new.disk) }
         ensures cause { HasCause (D.faults self.old.disk) (D.faults self.new.disk) result }
     {
         if let Err(failed) = write_and_sync(&mut self.disk, self.end - 1, &[1]) {
@@ -145,6 +154,8 @@ impl<D: Disk> Writer<D> {
         ensures same { (self.new.end ≡ self.old.end) × (self.new.count ≡ self.old.count) }
         ensures room_kept { HasRoom D.size self.new }
         ensures runs { RunsOn D.content D.losses D.arms D.armed D.starved D.faults self.old.disk self.new.disk }
+        ensures calls { OnOk result (DoesCalls D.content D.armed D.starved D.faults (calls_to_mend self.old.mending) self.old.disk self.new.disk) }
+        ensures fails { OnErr result (FailsInCalls D.content D.armed D.starved (calls_to_mend self.old.mending) self.old.disk self.new.disk) }
         ensures cause { HasCause (D.faults self.old.disk) (D.faults self.new.disk) result }
     {
         match self.mending {
@@ -181,6 +192,8 @@ impl<D: Disk> Writer<D> {
         ensures err { OnErr result ((self.new.end ≡ self.old.end) × (self.new.count ≡ self.old.count)) }
         ensures room_kept { HasRoom D.size self.new }
         ensures runs { RunsOn D.content D.losses D.arms D.armed D.starved D.faults self.old.disk self.new.disk }
+        ensures calls { OnOk result (DoesCalls D.content D.armed D.starved D.faults 4 self.old.disk self.new.disk) }
+        ensures fails { OnErr result (FailsInCalls D.content D.armed D.starved 4 self.old.disk self.new.disk) }
         ensures cause { HasCause (D.faults self.old.disk) (D.faults self.new.disk) result }
     {
         self.stage(bytes)?;

@@ -1,6 +1,6 @@
 use Rattle.std.proofs.Common.{◌≡◌, None, subst, sym}
 use Rattle.edge_mem.specs.Bays.{BayState, disk_at, out_at, found}
-use Rattle.edge_mem.proofs.Places.{IsAt, is_at, is_absent, some_slot, lies, take_given, take_others, made_given, made_others, same_slot}
+use Rattle.edge_mem.proofs.Slots.{IsAt, is_at, is_absent, some_slot, lies, take_given, take_others, made_given, made_others, same_slot}
 use Rattle.edge_mem.proofs.bay.MemBay.take_named.Goals as goal
 
 at : (c : goal.After-take_at) → IsAt c.self.inside.slots.items c.args.name.now c.in-Some.at

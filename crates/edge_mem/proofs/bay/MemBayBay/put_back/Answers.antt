@@ -1,7 +1,7 @@
 use Rattle.std.proofs.Common.{◌≡◌, ◌-◌, ℕ, true, false, sym, ap, ◌∙◌, subst, arith, rules, Some}
 use Rattle.edge_mem.specs.Past.{DiskState}
 use Rattle.edge_mem.specs.Bays.{BayState, out_in, out_at, taken_at}
-use Rattle.edge_mem.proofs.Places.{IsAt, is_at, is_absent, some_slot, count_at, put_there, put_others, same_slot}
+use Rattle.edge_mem.proofs.Slots.{IsAt, is_at, is_absent, some_slot, count_at, put_there, put_others, same_slot}
 use Rattle.edge_mem.proofs.bay.MemBayBay.put_back.Goals as goal
 
 at : (c : goal.After-self-1) → IsAt c.self.inside.slots.items c.args.name.now c.in-Some.at

@@ -1,6 +1,6 @@
 use Rattle.std.proofs.Common.{refl, ap, ◌∙◌}
 use Rattle.edge_mem.specs.Bays.{BayState}
-use Rattle.edge_mem.proofs.Places.{still_in}
+use Rattle.edge_mem.proofs.Slots.{still_in}
 use Rattle.edge_mem.proofs.bay.MemBayBay.take.Goals as goal
 
 pub take_named-requires : goal.take_named-requires

@@ -1,8 +1,10 @@
-use Rattle.std.proofs.Common.{◌⊎◌, inl, inr, subst, sym, Some}
+use Rattle.std.proofs.Common.{◌⊎◌, inl, inr, subst, sym, Some, ◌∙◌, ◌+◌}
+use Rattle.edge_io.specs.Counting.{FailsInCalls}
+use Rattle.edge_io.proofs.Counting.{does_then_fails}
 use Rattle.edge_io.specs.Moments.{LeavesOnly}
 use Rattle.edge_io.proofs.Moments.{joined}
 use Rattle.gate_journal.specs.Frames.{IsWithPending, IsBeforeOrAfter, frame_in}
-use Rattle.gate_journal.specs.Journals.{Stands}
+use Rattle.gate_journal.specs.Journals.{Stands, calls_to_mend}
 use Rattle.gate_journal.specs.declared.writer.Writer.{Writer}
 use Rattle.gate_journal.proofs.Shaped.{stands_by, rests_by_text}
 use Rattle.gate_journal.proofs.journal.Journal.append.Goals as goal
@@ -48,3 +50,11 @@ returns-clause-any_moment g c = λ frames pending s.
     (IsBeforeOrAfter frames (frame_in c.args.buffer.now)) _
     (c.mend.ensures.any_moment frames pending left.mends) (c.add.ensures.any_moment frames
     (frame_in c.args.buffer.now) clean c.requires c.set_frame.ensures) (λ x p. inl p) (λ x p. inr p))
+
+pub returns-in-Err-add-clause-fails : goal.returns-in-Err-add-clause-fails
+returns-in-Err-add-clause-fails g c is =
+    subst (λ (w : Writer _). FailsInCalls g.D.Disk.content g.D.Disk.armed g.D.Disk.starved (calls_to_mend w.mending + 4) w.disk c.add.new.self.disk)
+    c.self.view_is
+    (does_then_fails g.D.Disk.content g.D.Disk.armed g.D.Disk.starved g.D.Disk.faults (calls_to_mend c.self.inside.writer.mending) 4
+    c.self.inside.writer.disk c.mend.new.self.disk c.add.new.self.disk (λ told. c.mend.ensures.runs.told ∙ told)
+    c.in_default.ensures.calls c.in-Err-add.ensures.fails)

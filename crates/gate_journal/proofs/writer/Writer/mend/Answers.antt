@@ -1,6 +1,10 @@
 use Rattle.gate_journal.specs.Frames.{StandsFor, IsBeforeOrAfter, IsWithPending}
 use Rattle.edge_io.proofs.Moments.{joined}
 use Rattle.gate_journal.proofs.Shaped.{on_err, at_gate, from_gate, from_behind, with_pending, without}
+use Rattle.std.proofs.Common.{sym, ap, ◌∙◌, subst, ℕ}
+use Rattle.edge_io.specs.Counting.{FailsInCalls}
+use Rattle.edge_io.proofs.Counting.{does_then_fails}
+use Rattle.gate_journal.specs.Journals.{calls_to_mend}
 use Rattle.gate_journal.proofs.writer.Writer.mend.Goals as goal
 
 pub returns-in_err-close_gate-in-Gate-clause-kept : goal.returns-in_err-close_gate-in-Gate-clause-kept
@@ -35,3 +39,11 @@ returns-in_ok-cut_behind-in-Gate-clause-any_moment g c = λ frames pending h.
     (IsBeforeOrAfter frames s.0) (λ x. StandsFor x frames) (IsWithPending frames pending)
     (c.close_gate.ensures.any_moment frames s.0 s.3 s.2) (c.cut_behind-in-Gate.ensures.any_moment frames
     (c.in_ok-close_gate-in-Gate.ensures.ok frames s.0 s.3)) (λ x p. with_pending frames pending s.0 x s.1 p) (λ x p. without frames pending x p)
+
+pub returns-in_err-cut_behind-in-Gate-clause-fails : goal.returns-in_err-cut_behind-in-Gate-clause-fails
+returns-in_err-cut_behind-in-Gate-clause-fails g c = on_err c.from_residual-in_err-cut_behind-in-Gate.result _
+    (subst (λ (n : ℕ). FailsInCalls g.D.Disk.content g.D.Disk.armed g.D.Disk.starved n c.args.self.now.disk c.cut_behind-in-Gate.new.self.disk)
+    (sym (ap calls_to_mend c.in-Gate.is))
+    (does_then_fails g.D.Disk.content g.D.Disk.armed g.D.Disk.starved g.D.Disk.faults 2 2 c.args.self.now.disk c.close_gate.new.self.disk
+    c.cut_behind-in-Gate.new.self.disk (λ told. c.close_gate.ensures.runs.told ∙ told)
+    c.in_ok-close_gate-in-Gate.ensures.calls c.in_err-cut_behind-in-Gate.ensures.fails))

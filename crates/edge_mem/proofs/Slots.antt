@@ -4,7 +4,7 @@ use Rattle.std.proofs.Common.{if◌then◌else◌, Bool, true, false, List, [], 
 use Rattle.std.proofs.Math.ListN.{set}
 use Rattle.std.proofs.lemmas.Bool.{cases_Bool}
 use Rattle.std.specs.Cmp.Lexicographic.{same_text, other_text}
-use Rattle.edge_mem.specs.Bays.{same_name, place, found, behind, disk_in, out_in, taken_in, is_empty, fresh, BayState, disk_at, out_at, taken_at, Taken, Put}
+use Rattle.edge_mem.specs.Bays.{same_name, slot_index, found, behind, disk_in, out_in, taken_in, is_empty, fresh, BayState, disk_at, out_at, taken_at, Taken, Put}
 use Rattle.edge_io.specs.Bays.{SameSlot}
 use Rattle.edge_mem.specs.Past.{DiskState}
 use Rattle.edge_mem.specs.declared.bay.Slot.{Slot}
@@ -24,7 +24,7 @@ here s slots name is = let b : same_name s.name name ≡ true = same_yes s.name 
 there : (s : Slot) (slots : List Slot) (name : List ℕ) → s.name ≢ name → found (s ∷ slots) name ≡ found slots name
 there s slots name other = let b : same_name s.name name ≡ false = same_no s.name name other in ap (λ (b : Bool). if b then Some s else found slots name) b
 
--- what stands at the place that was found, and what a change there does
+-- what stands at the slot_index that was found, and what a change there does
 pub record IsAt (slots : List Slot) (name : List ℕ) (n : ℕ) : Type 0 where
   pub within : n < length slots
   pub is : (d : Slot) → found slots name ≡ Some (get_or slots n d)
@@ -59,14 +59,14 @@ first s slots name same = record {
   others = λ y m on away. there y slots m (λ e. away (sym e ∙ on)) ∙ sym (there s slots m (λ e. away (sym e ∙ same)));
 }
 
-pub looked : (slots : List Slot) (name : List ℕ) → Looked slots name (place slots name)
+pub looked : (slots : List Slot) (name : List ℕ) → Looked slots name (slot_index slots name)
 looked [] name = refl
 looked (s ∷ slots) name = elim (name_cases s.name name) [
   | inl same ↦ let b : same_name s.name name ≡ true = same_yes s.name name same in
-      subst (Looked (s ∷ slots) name) (sym (ap (λ (b : Bool). if b then Some 0 else behind (place slots name)) b)) (first s slots name same)
+      subst (Looked (s ∷ slots) name) (sym (ap (λ (b : Bool). if b then Some 0 else behind (slot_index slots name)) b)) (first s slots name same)
   | inr other ↦ let b : same_name s.name name ≡ false = same_no s.name name other in
-      subst (Looked (s ∷ slots) name) (sym (ap (λ (b : Bool). if b then Some 0 else behind (place slots name)) b))
-      (more s slots name other (place slots name) (looked slots name))
+      subst (Looked (s ∷ slots) name) (sym (ap (λ (b : Bool). if b then Some 0 else behind (slot_index slots name)) b))
+      (more s slots name other (slot_index slots name) (looked slots name))
 ]
 
 pub pushed : (slots : List Slot) (y : Slot) (name : List ℕ) → found slots name ≡ None → y.name ≡ name → found (slots ++ y ∷ []) name ≡ Some y
@@ -86,12 +86,12 @@ pushed_others (s ∷ slots) y name m on away = ap (λ (o : Option Slot). if same
 -- ---- taking and putting back
 
 -- what was found under the name's bytes
-pub is_at : (slots now : List Slot) (name bytes : List ℕ) (n : ℕ) → now ≡ slots → bytes ≡ name → Some n ≡ place now bytes → IsAt slots name n
-is_at slots now name bytes n same on e = subst (Looked slots name) (sym (e ∙ ap (λ (l : List Slot). place l bytes) same ∙ ap (place slots) on))
+pub is_at : (slots now : List Slot) (name bytes : List ℕ) (n : ℕ) → now ≡ slots → bytes ≡ name → Some n ≡ slot_index now bytes → IsAt slots name n
+is_at slots now name bytes n same on e = subst (Looked slots name) (sym (e ∙ ap (λ (l : List Slot). slot_index l bytes) same ∙ ap (slot_index slots) on))
     (looked slots name)
 
-pub is_absent : (slots now : List Slot) (name bytes : List ℕ) → now ≡ slots → bytes ≡ name → None ≡ place now bytes → found slots name ≡ None
-is_absent slots now name bytes same on e = subst (Looked slots name) (sym (e ∙ ap (λ (l : List Slot). place l bytes) same ∙ ap (place slots) on))
+pub is_absent : (slots now : List Slot) (name bytes : List ℕ) → now ≡ slots → bytes ≡ name → None ≡ slot_index now bytes → found slots name ≡ None
+is_absent slots now name bytes same on e = subst (Looked slots name) (sym (e ∙ ap (λ (l : List Slot). slot_index l bytes) same ∙ ap (slot_index slots) on))
     (looked slots name)
 
 pub some_slot : Slot

@@ -1,0 +1,49 @@
+-- Counted calls in a row, on a disk that tells its content, where the first that fails is the last one: reads, writes, cuts
+-- and syncs. This project's own. Worked example: four calls of a disk whose fault is armed after four calls or more pass; of
+-- a disk whose fault is armed after one the second fails, and there is no third.
+use Rattle.std.specs.Prelude.{◌≡◌, ◌⊎◌, ℕ, ◌-◌, ◌≤◌, ◌<◌, Bool, true, List}
+use Rattle.std.specs.declared.option.Option.{Option}
+use Rattle.edge_io.specs.declared.fault.Armed.{Armed}
+use Rattle.edge_io.specs.declared.fault.Armed.TheVariants.{Nothing, After, Broken}
+use Rattle.edge_io.specs.Armed.{breaks, next_armed}
+use Rattle.edge_io.specs.Disk.{IsTold}
+
+-- the armed fault breaks none of the next n calls
+abbrev pub LetsPass : ℕ → Armed → Type 0
+LetsPass n Nothing = Unit {0}
+LetsPass n (After passes mode) = n ≤ passes
+LetsPass n Broken = n ≡ 0
+
+-- what is armed behind these n calls
+abbrev pub armed_after : ℕ → Armed → Armed
+armed_after n Nothing = Nothing
+armed_after n (After passes mode) = After (passes - n) mode
+armed_after n Broken = Broken
+
+-- n calls were made, and each was done
+pub record AreDone (n : ℕ) (was armed : Armed) (was_starved starved : Bool) (before now : ℕ) : Type 0 where
+  pub passes : LetsPass n was
+  pub left : armed ≡ armed_after n was
+  pub same_starved : starved ≡ was_starved
+  pub same_faults : now ≡ before
+
+-- Of n calls so many were done, and the next one was broken or found no memory. There was none behind it.
+pub record EndAtFault (n : ℕ) (was armed : Armed) (starved : Bool) : Type 0 where
+  pub count : ℕ
+  pub within : count < n
+  pub passes : LetsPass count was
+  pub left : armed ≡ next_armed (armed_after count was)
+  pub cause : (breaks (armed_after count was) ≡ true) ⊎ (starved ≡ true)
+
+-- n calls of a disk, each done, where it tells its content. The members of the disk come first.
+abbrev pub DoesCalls : {D : Type 0} → (D → Option (List ℕ)) → (D → Armed) → (D → Bool) → (D → ℕ) → ℕ → D → D → Type 0
+DoesCalls content armed starved faults n old new =
+    IsTold (content old) → AreDone n (armed old) (armed new) (starved old) (starved new) (faults old) (faults new)
+
+-- and where one of the n failed
+abbrev pub FailsInCalls : {D : Type 0} → (D → Option (List ℕ)) → (D → Armed) → (D → Bool) → ℕ → D → D → Type 0
+FailsInCalls content armed starved n old new = IsTold (content old) → EndAtFault n (armed old) (armed new) (starved new)
+
+-- at most so many calls, each done
+abbrev pub DoesUpTo : {D : Type 0} → (D → Option (List ℕ)) → (D → Armed) → (D → Bool) → (D → ℕ) → ℕ → D → D → Type 0
+DoesUpTo content armed starved faults most old new = (n : ℕ) × (n ≤ most) × DoesCalls content armed starved faults n old new
