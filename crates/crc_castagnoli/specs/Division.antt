@@ -7,6 +7,7 @@
 --
 -- Worked example: the nine bytes of the text 123456789 have the check e3069283 (the test published_vectors).
 use Rattle.std.specs.Prelude.{◌≡◌, ℕ, zero, suc, ◌+◌, ◌*◌, ◌/◌, ◌%◌, ◌^◌, ◌<◌, ◌==◌, if◌then◌else◌, List, [], ◌∷◌, length, flat_map, bit_xor}
+use Rattle.std.specs.List.{AllByRecursion}
 
 -- the polynomial without its highest power: that of the power 31 in bit 0, that of the power 0 in bit 31
 unfoldable pub castagnoli : ℕ
@@ -30,17 +31,17 @@ unfoldable pub low_bits : ℕ → ℕ → List ℕ
 low_bits zero n = []
 low_bits (suc k) n = n % 2 ∷ low_bits k (n / 2)
 
--- The division of the bits that follow, from what the bits before them left.
-unfoldable pub divided : ℕ → List ℕ → ℕ
-divided left [] = left
-divided left (bit ∷ bits) = divided (step (bit_xor left bit)) bits
+-- What is left once these bits are divided as well, from what the bits before them left.
+unfoldable pub remainder_after : ℕ → List ℕ → ℕ
+remainder_after left [] = left
+remainder_after left (bit ∷ bits) = remainder_after (step (bit_xor left bit)) bits
 
 unfoldable pub bits_of : List ℕ → List ℕ
 bits_of bytes = flat_map (low_bits 8) bytes
 
 -- the check of the bytes
 unfoldable pub crc_of : List ℕ → ℕ
-crc_of bytes = bit_xor (divided all_ones (bits_of bytes)) all_ones
+crc_of bytes = bit_xor (remainder_after all_ones (bits_of bytes)) all_ones
 
 -- The message as one number, its first bit the lowest.
 unfoldable pub number_of : List ℕ → ℕ
@@ -54,9 +55,10 @@ times_polynomial [] = 0
 times_polynomial (q ∷ quotient) = bit_xor (q * (1 + 2 * castagnoli)) (2 * times_polynomial quotient)
 
 -- What the remainder of a division means: the message, its first 32 bits inverted, is a multiple of the polynomial and,
--- behind it, the remainder.
+-- behind it, the remainder. For example the one byte 61 has the remainder 3e2fbccf.
 pub record IsRemainder (bytes : List ℕ) (remainder : ℕ) : Type 0 where
   pub below : remainder < 2 ^ 32
   pub quotient : List ℕ
   pub bits : length quotient ≡ 8 * length bytes
+  pub coefficients : AllByRecursion (λ q. q < 2) quotient
   pub sum : bit_xor (number_of bytes) all_ones ≡ bit_xor (times_polynomial quotient) (remainder * 2 ^ (8 * length bytes))

@@ -2,8 +2,8 @@
 //! and iSCSI have it.
 #![tactic(auto)]
 
-ghost use Rattle.std.specs.Prelude.{◌≡◌, bit_xor};
-ghost use Rattle.crc_castagnoli.specs.Division.{IsRemainder, bits_of, crc_of, divided};
+ghost use Rattle.std.specs.Prelude.{◌≡◌, ℕ, List, bit_xor};
+ghost use Rattle.crc_castagnoli.specs.Division.{IsRemainder, bits_of, crc_of, remainder_after};
 
 mod tables;
 #[cfg(test)]
@@ -27,10 +27,10 @@ pub fn crc32c(bytes: &[u8]) -> u32
     by_byte(left, rest) ^ ALL_ONES
 }
 
-// Eight bytes at once. The division is linear, so each byte of the sum is divided by itself, behind it the bytes that
+// Eight bytes at once. The division is linear, so each byte of the sum is remainder_after by itself, behind it the bytes that
 // follow it.
 fn by_word(left: u32, word: &[u8; 8]) -> u32
-    ensures { result ≡ divided left (bits_of word.now) }
+    ensures { result ≡ remainder_after left (bits_of word.now) }
 {
     let sum = u64::from_le_bytes(*word) ^ left as u64;
     let [a, b, c, d, e, f, g, h] = sum.to_le_bytes();
@@ -41,10 +41,15 @@ fn by_word(left: u32, word: &[u8; 8]) -> u32
 
 // A byte at a time.
 fn by_byte(mut left: u32, bytes: &[u8]) -> u32
-    ensures { result ≡ divided left (bits_of bytes.now) }
+    ensures { result ≡ remainder_after left (bits_of bytes.now) }
 {
     for byte in bytes {
         left = steps_8(((left & 0xff) as u8) ^ *byte) ^ (left >> 8);
     }
     left
 }
+
+/// A message has one remainder.
+pub fn remainders_are_unique()
+    ensures { (bytes : List ℕ) (remainder other : ℕ) → IsRemainder bytes remainder → IsRemainder bytes other → remainder ≡ other }
+{}

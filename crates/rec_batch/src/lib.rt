@@ -3,7 +3,7 @@
 
 mod form;
 mod header;
-mod law;
+mod laws;
 mod passing;
 mod place;
 mod read;
@@ -12,7 +12,7 @@ mod walk;
 mod write;
 
 pub use form::{BatchView, Form};
-pub use law::bytes_have_one_first_fault;
+pub use laws::bytes_have_one_first_fault;
 pub use place::place_batch;
 pub use read::read_batch;
 pub use rec::Rec;

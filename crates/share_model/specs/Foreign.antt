@@ -2,12 +2,14 @@
 -- by the share-group state calls of KIP-932.
 -- For example a key is unknown until it is initialized, and once it has state epoch 3 one with 2 is fenced (the test
 -- a_key_is_unknown_until_it_is_initialized_and_a_lower_epoch_is_fenced of share_top).
-use Rattle.std.specs.Prelude.{ℤ, pos, negsuc, Bool, true, false, List, [], ◌∷◌, Option, Some, None, int_lt, if◌then◌else◌}
+use Rattle.std.specs.Prelude.{◌≡◌, ℤ, pos, negsuc, Bool, true, false, List, [], ◌∷◌, Option, Some, None, int_le, int_lt, ◌&&◌, if◌then◌else◌}
 use Rattle.std.specs.Ordering.{is_eq}
 use Rattle.share_model.specs.Keys.{KeyParts, key_cmp}
-use Rattle.share_model.specs.declared.fault.TheConstants.Code.{NONE, UNKNOWN_TOPIC_OR_PARTITION, FENCED_LEADER_EPOCH, FENCED_STATE_EPOCH}
+use Rattle.share_model.specs.declared.fault.TheConstants.Code.{NONE, INVALID_REQUEST, UNKNOWN_TOPIC_OR_PARTITION, FENCED_LEADER_EPOCH, FENCED_STATE_EPOCH}
 use Rattle.share_model.specs.declared.fault.Code.{Code}
 use Rattle.share_model.specs.declared.foreign.ForeignAnswer.{ForeignAnswer}
+use Rattle.share_model.specs.declared.foreign.ForeignOp.{ForeignOp}
+use Rattle.share_model.specs.declared.foreign.ForeignOp.TheVariants.{Init, Read, Write, Delete}
 
 -- what the last accepted calls on a key gave
 pub record ForeignState : Type 0 where
@@ -54,3 +56,19 @@ read_answer None leader_epoch = code_alone UNKNOWN_TOPIC_OR_PARTITION
 read_answer (Some state) leader_epoch =
     if int_lt leader_epoch state.leader_epoch then code_alone FENCED_LEADER_EPOCH
     else record { code = NONE; state_epoch = state.state_epoch; start = state.start; runs = [] }
+
+-- epochs begin at 0, and a start offset may be -1; with other numbers a call is an invalid request
+abbrev pub is_fair : ℤ → ℤ → Bool
+is_fair epoch start = int_le (pos 0) epoch && int_le (negsuc 0) start
+
+-- A call on foreign state, its answer, and what stands after it. For example an initialize with state epoch -1 is answered
+-- with code 42, a read of a key that isn't there with code 3, and neither changes a state. No served request writes or
+-- deletes yet.
+abbrev pub ForeignStep : List ForeignEntry → ForeignOp → ForeignAnswer → List ForeignEntry → Type 0
+ForeignStep old (Init key state_epoch start) answer new =
+    (answer ≡ (if is_fair state_epoch start then initialize_answer (known_at key old) state_epoch else code_alone INVALID_REQUEST))
+    × (new ≡ (if is_fair state_epoch start then initialized key state_epoch start old else old))
+ForeignStep old (Read key leader_epoch) answer new =
+    (answer ≡ (if is_fair leader_epoch (pos 0) then read_answer (known_at key old) leader_epoch else code_alone INVALID_REQUEST)) × (new ≡ old)
+ForeignStep old (Write key state_epoch leader_epoch start batches) answer new = (answer ≡ code_alone INVALID_REQUEST) × (new ≡ old)
+ForeignStep old (Delete key) answer new = (answer ≡ code_alone INVALID_REQUEST) × (new ≡ old)

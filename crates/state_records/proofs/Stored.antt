@@ -1,5 +1,5 @@
 -- The runs of a record: what each that is read keeps, and the bytes that it has.
-use Rattle.std.proofs.Common.{◌≡◌, ◌≢◌, ℕ, zero, suc, ◌+◌, ◌-◌, ◌^◌, ◌<◌, ◌≤◌, Bool, true, false, cond, List, [], ◌∷◌, ◌++◌}
+use Rattle.std.proofs.Common.{◌≡◌, ◌≢◌, ℕ, zero, suc, ◌+◌, ◌^◌, ◌<◌, ◌≤◌, Bool, true, false, cond, List, [], ◌∷◌, ◌++◌}
 use Rattle.std.proofs.Common.{length, Option, Some, None, Result, Ok, Err, refl, sym, ap, subst, ◌∙◌, append_assoc, arith}
 use Rattle.std.specs.Prelude.{nat_lt}
 use Rattle.std.specs.Int.{w16, w32, w64, to_be_bytes}
@@ -16,7 +16,7 @@ use Rattle.offset_runs.proofs.Joins.{touches_true, touches_false}
 use Rattle.state_records.specs.States.{IsStoredRun, AreStoredRuns}
 use Rattle.state_records.specs.Spelling.{run_bytes, runs_bytes}
 use Rattle.flex_fields.specs.Reading.{At}
-use Rattle.state_records.specs.Reading.{◌>>=◌, only_at, byte_at, number_at, below_at, row_state_at, is_behind, could_join, run_at, runs_at, all_runs_at}
+use Rattle.state_records.specs.Reading.{◌>>=◌, only_at, byte_at, number_at, below_at, row_state_at, is_behind, is_backward, could_join, run_at, runs_at, all_runs_at}
 use Rattle.state_records.proofs.Spells.{IsBytes, bind_ok, guard_else, guard_then, ok_is, Takes, Takes-then, Again, Spells}
 use Rattle.state_records.proofs.Spells.{only_spells, found_spells, number_spells, byte_spells, wide16, wide32, wide64}
 
@@ -43,6 +43,15 @@ low32 limit small = only_spells (λ n. nat_lt n limit) (number_at w32) (to_be_by
 pub low16 : Spells (below_at w16 (2 ^ 15)) (to_be_bytes w16) (λ n. n < 2 ^ 15)
 low16 = only_spells (λ n. nat_lt n (2 ^ 15)) (number_at w16) (to_be_bytes w16) (λ n. n < 2 ^ 16) (λ n. n < 2 ^ 15)
     (λ n fits e. lt_yes n (2 ^ 15) e) (λ n h. (omega arith, yes_lt n (2 ^ 15) h)) (number_spells w16 (2 ^ 16) wide16)
+
+all64 : Spells (number_at w64) (to_be_bytes w64) (λ n. n < 2 ^ 64)
+all64 = number_spells w64 (2 ^ 64) wide64
+
+forward : (first last : ℕ) → is_backward first last ≡ false → (first ≤ last) × (last < 2 ^ 63)
+forward first last e = grind (arith, nat_tests)
+
+is_forward : (first last : ℕ) → first ≤ last → last < 2 ^ 63 → is_backward first last ≡ false
+is_forward first last le low = grind (arith, nat_tests)
 
 -- ---- states of rows
 
@@ -79,8 +88,9 @@ record RunRead (before : Option Run) (at : At) (run : Run) (after : At) : Type 0
   mid2 : At
   mid3 : At
   first : only_at (is_behind before) (below_at w64 (2 ^ 63)) at ≡ Ok (run.first, mid1)
-  last : below_at w64 (2 ^ 63) mid1 ≡ Ok (run.last, mid2)
+  last : number_at w64 mid1 ≡ Ok (run.last, mid2)
   order : run.first ≤ run.last
+  low : run.last < 2 ^ 63
   state : row_state_at mid2 ≡ Ok (run.state, mid3)
   count : below_at w16 (2 ^ 15) mid3 ≡ Ok (run.count, after)
   apart : could_join before run ≡ false
@@ -90,12 +100,12 @@ unfolding run_at
 run_read before at run after e =
     let made = λ (f l : ℕ) (s : RowState) (c : ℕ). let r : Run = record { first = f; last = l; state = s; count = c } in r in
     let a = bind_ok (only_at (is_behind before) (below_at w64 (2 ^ 63)) at)
-    (λ first. below_at w64 (2 ^ 63) first.1 >>= λ last. cond (nat_lt last.0 first.0) (Err at.place) (row_state_at last.1 >>= λ state. below_at w16 (2 ^ 15) state.1 >>= λ count.
+    (λ first. number_at w64 first.1 >>= λ last. cond (is_backward first.0 last.0) (Err at.place) (row_state_at last.1 >>= λ state. below_at w16 (2 ^ 15) state.1 >>= λ count.
     cond (could_join before (made first.0 last.0 state.0 count.0)) (Err at.place) (Ok (made first.0 last.0 state.0 count.0, count.1)))) (run, after) e in
-    let b = bind_ok (below_at w64 (2 ^ 63) a.0.1)
-    (λ last. cond (nat_lt last.0 a.0.0) (Err at.place) (row_state_at last.1 >>= λ state. below_at w16 (2 ^ 15) state.1 >>= λ count.
+    let b = bind_ok (number_at w64 a.0.1)
+    (λ last. cond (is_backward a.0.0 last.0) (Err at.place) (row_state_at last.1 >>= λ state. below_at w16 (2 ^ 15) state.1 >>= λ count.
     cond (could_join before (made a.0.0 last.0 state.0 count.0)) (Err at.place) (Ok (made a.0.0 last.0 state.0 count.0, count.1)))) (run, after) a.2 in
-    let g = guard_else (nat_lt b.0.0 a.0.0) at.place (row_state_at b.0.1 >>= λ state. below_at w16 (2 ^ 15) state.1 >>= λ count.
+    let g = guard_else (is_backward a.0.0 b.0.0) at.place (row_state_at b.0.1 >>= λ state. below_at w16 (2 ^ 15) state.1 >>= λ count.
     cond (could_join before (made a.0.0 b.0.0 state.0 count.0)) (Err at.place) (Ok (made a.0.0 b.0.0 state.0 count.0, count.1))) (run, after) b.2 in
     let c = bind_ok (row_state_at b.0.1) (λ state. below_at w16 (2 ^ 15) state.1 >>= λ count.
     cond (could_join before (made a.0.0 b.0.0 state.0 count.0)) (Err at.place) (Ok (made a.0.0 b.0.0 state.0 count.0, count.1))) (run, after) g.1 in
@@ -104,7 +114,7 @@ run_read before at run after e =
     let h = guard_else (could_join before (made a.0.0 b.0.0 c.0.0 d.0.0)) at.place (Ok (made a.0.0 b.0.0 c.0.0 d.0.0, d.0.1)) (run, after) d.2 in
     let whole : Run × At = (made a.0.0 b.0.0 c.0.0 d.0.0, d.0.1) in
     subst (λ (z : Run × At). RunRead before at z.0 z.1) (ok_is whole (run, after) h.1)
-    (record { mid1 = a.0.1; mid2 = b.0.1; mid3 = c.0.1; first = a.1; last = b.1; order = lt_no b.0.0 a.0.0 g.0; state = c.1; count = d.1; apart = h.0 })
+    (record { mid1 = a.0.1; mid2 = b.0.1; mid3 = c.0.1; first = a.1; last = b.1; order = (forward a.0.0 b.0.0 g.0).0; low = (forward a.0.0 b.0.0 g.0).1; state = c.1; count = d.1; apart = h.0 })
 
 test_of : {A : Type 0} (test : A → Bool) (read : At → Result (A × At) ℕ) (at : At) (x : A) (after : At) → only_at test read at ≡ Ok (x, after) → (test x ≡ true) × (read at ≡ Ok (x, after))
 test_of {A} test read at x after e =
@@ -121,11 +131,10 @@ pub run_sound : (before : Option Run) (at : At) (run : Run) (after : At) → run
 run_sound before at run after e =
     let r = run_read before at run after e in
     let first = test_of (is_behind before) (below_at w64 (2 ^ 63)) at run.first r.mid1 r.first in
-    let last = test_of (λ n. nat_lt n (2 ^ 63)) (number_at w64) r.mid1 run.last r.mid2 r.last in
     let count = test_of (λ n. nat_lt n (2 ^ 15)) (number_at w16) r.mid3 run.count after r.count in
     record {
       order = r.order;
-      stored = (lt_yes run.last (2 ^ 63) last.0, lt_yes run.count (2 ^ 15) count.0);
+      stored = (r.low, lt_yes run.count (2 ^ 15) count.0);
       behind = in_order before run first.0 r.apart;
     }
 
@@ -151,7 +160,7 @@ run_spells before =
       takes = λ at run after fits e.
           let r = run_read before at run after e in
           let t1 = first_spells.takes at run.first r.mid1 fits r.first in
-          let t2 = low64.takes r.mid1 run.last r.mid2 t1.0.rest_fits r.last in
+          let t2 = all64.takes r.mid1 run.last r.mid2 t1.0.rest_fits r.last in
           let t3 = row_state_spells.takes r.mid2 run.state r.mid3 t2.0.rest_fits r.state in
           let t4 = low16.takes r.mid3 run.count after t3.0.rest_fits r.count in
           let e34 = Takes-then r.mid2.left (state_number run.state ∷ []) r.mid3.left (to_be_bytes w16 run.count) after.left t3.0 t4.0 in
@@ -164,10 +173,10 @@ run_spells before =
           let s3 = (state_number run.state ∷ []) ++ s4 in
           let s2 = to_be_bytes w64 run.last ++ s3 in
           let g1 = first_spells.again at run.first (s2 ++ rest) (omega (arith, next.order, next.stored.0), behind_test before run next.behind) (e ∙ append_assoc (to_be_bytes w64 run.first) s2 rest) in
-          let g2 = low64.again g1.after run.last (s3 ++ rest) next.stored.0 (g1.left ∙ append_assoc (to_be_bytes w64 run.last) s3 rest) in
+          let g2 = all64.again g1.after run.last (s3 ++ rest) (omega (arith, next.stored.0)) (g1.left ∙ append_assoc (to_be_bytes w64 run.last) s3 rest) in
           let g3 = row_state_spells.again g2.after run.state (s4 ++ rest) tt (g2.left ∙ append_assoc (state_number run.state ∷ []) s4 rest) in
           let g4 = low16.again g3.after run.count rest next.stored.1 g3.left in
-          let order : nat_lt run.last run.first ≡ false = no_lt run.last run.first next.order in
+          let order : is_backward run.first run.last ≡ false = is_forward run.first run.last next.order next.stored.0 in
           let apart : could_join before run ≡ false = apart_test before run next.behind in
           record {
             after = g4.after;
@@ -257,30 +266,25 @@ runs_again (suc n) before at (run ∷ runs) rest next e =
 
 pub record AreAllRuns (runs : List Run) : Type 0 where
   pub stored : AreStoredRuns runs
-  pub few : length runs + 1 < 2 ^ 32
+  pub few : length runs < 2 ^ 32
 
-pub all_runs_sound : (at : At) (runs : List Run) (after : At) → all_runs_at at ≡ Ok (runs, after) → AreAllRuns runs
-unfolding all_runs_at
-all_runs_sound at runs after e =
-    let a = bind_ok (below_at w32 (2 ^ 32 - 1) at) (λ n. runs_at n.0 None n.1) (runs, after) e in
-    let low = test_of (λ n. nat_lt n (2 ^ 32 - 1)) (number_at w32) at a.0.0 a.0.1 a.1 in
-    let next = runs_sound a.0.0 None a.0.1 runs after a.2 in
-    record { stored = next.stored; few = omega (arith, next.count, lt_yes a.0.0 (2 ^ 32 - 1) low.0) }
+all32 : Spells (number_at w32) (to_be_bytes w32) (λ n. n < 2 ^ 32)
+all32 = number_spells w32 (2 ^ 32) wide32
 
 pub all_runs_spells : Spells all_runs_at runs_bytes AreAllRuns
 unfolding all_runs_at
 all_runs_spells = record {
   takes = λ at runs after fits e.
-      let a = bind_ok (below_at w32 (2 ^ 32 - 1) at) (λ n. runs_at n.0 None n.1) (runs, after) e in
-      let t1 = (low32 (2 ^ 32 - 1) (omega arith)).takes at a.0.0 a.0.1 fits a.1 in
+      let a = bind_ok (number_at w32 at) (λ n. runs_at n.0 None n.1) (runs, after) e in
+      let t1 = all32.takes at a.0.0 a.0.1 fits a.1 in
       let t2 = runs_take a.0.0 None a.0.1 runs after t1.0.rest_fits a.2 in
       let next = runs_sound a.0.0 None a.0.1 runs after a.2 in (
         subst (λ (n : ℕ). Takes at.left (to_be_bytes w32 n ++ flat_map run_bytes runs) after.left) (sym next.count)
             (Takes-then at.left (to_be_bytes w32 a.0.0) a.0.1.left (flat_map run_bytes runs) after.left t1.0 t2),
-        all_runs_sound at runs after e,
+        record { stored = next.stored; few = omega (arith, next.count, t1.1) },
       );
   again = λ at runs rest all e.
-      let g1 = (low32 (2 ^ 32 - 1) (omega arith)).again at (length runs) (flat_map run_bytes runs ++ rest) (omega (arith, all.few))
+      let g1 = all32.again at (length runs) (flat_map run_bytes runs ++ rest) all.few
       (e ∙ append_assoc (to_be_bytes w32 (length runs)) (flat_map run_bytes runs) rest) in
       let g2 = runs_again (length runs) None g1.after runs rest (record { count = refl; behind = tt; stored = all.stored }) g1.left in
       record {

@@ -3,7 +3,7 @@
 -- For example 53 bytes of a snapshot of 54 are wrong at byte 50, where the number of runs begins (the test
 -- a_snapshot_is_written_and_read_again), and an update whose second run begins where the first one ends is wrong at the
 -- second's first byte, 73 (the test a_fault_is_at_its_field).
-use Rattle.std.specs.Prelude.{◌≡◌, ◌+◌, ◌-◌, ◌^◌, ℕ, zero, suc, ℤ, pos, negsuc, Bool, true, false, ◌==◌, ◌&&◌, List, [], ◌∷◌}
+use Rattle.std.specs.Prelude.{◌≡◌, ◌+◌, ◌-◌, ◌^◌, ℕ, zero, suc, ℤ, pos, negsuc, Bool, true, false, ◌==◌, ◌&&◌, ◌||◌, List, [], ◌∷◌}
 use Rattle.std.specs.Prelude.{length, take, Option, Some, None, Result, Ok, Err, nat_le, nat_lt, if◌then◌else◌}
 use Rattle.std.specs.Int.{Width, w16, w32, w64, byte_len, from_be_bytes}
 use Rattle.std.specs.Str.{is_utf8}
@@ -125,13 +125,17 @@ abbrev pub could_join : Option Run → Run → Bool
 could_join None run = false
 could_join (Some before) run = touches before run
 
+-- Offsets are signed, and a run goes forward: its last offset is neither negative nor below its first one.
+abbrev pub is_backward : ℕ → ℕ → Bool
+is_backward first last = nat_le (2 ^ 63) last || nat_lt last first
+
 -- Offsets, state and count. A run that isn't in order, or could be joined with the one before it, is a fault at its
 -- first byte, which comes before the faults of its later fields.
 unfoldable pub run_at : Option Run → At → Result (Run × At) ℕ
 run_at before at = do
   first ← only_at (is_behind before) (below_at w64 (2 ^ 63)) at
-  last ← below_at w64 (2 ^ 63) first.1
-  if nat_lt last.0 first.0 then Err at.place else do
+  last ← number_at w64 first.1
+  if is_backward first.0 last.0 then Err at.place else do
     state ← row_state_at last.1
     count ← below_at w16 (2 ^ 15) state.1
     if could_join before (record { first = first.0; last = last.0; state = state.0; count = count.0 }) then Err at.place
@@ -147,7 +151,7 @@ runs_at (suc n) before at = do
 -- the number of runs, and the runs
 unfoldable pub all_runs_at : At → Result (List Run × At) ℕ
 all_runs_at at = do
-  n ← below_at w32 (2 ^ 32 - 1) at
+  n ← number_at w32 at
   runs_at n.0 None n.1
 
 abbrev pub state_of_parts : KeyParts × (ℕ × (ℤ × (ℤ × (ℤ × List Run)))) → StateParts

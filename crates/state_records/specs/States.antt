@@ -1,7 +1,7 @@
 -- The state of a share partition, as a record of the state journal carries it (KIP-932, share-partition state).
 -- For example the group `g1` on partition 0 of a topic has state epoch 3, leader epoch 0, start 7 and no runs (the test
 -- a_snapshot_is_written_and_read_again).
-use Rattle.std.specs.Prelude.{◌≡◌, ◌<◌, ◌+◌, ◌^◌, ℕ, ℤ, pos, negsuc, List, length}
+use Rattle.std.specs.Prelude.{◌≡◌, ◌<◌, ◌^◌, ℕ, ℤ, pos, negsuc, List, length}
 use Rattle.std.specs.List.{AllByRecursion}
 use Rattle.share_model.specs.Keys.{KeyParts}
 use Rattle.share_model.specs.Names.{IsName}
@@ -41,7 +41,7 @@ pub record IsKey (key : KeyParts) : Type 0 where
   pub topic : length key.topic ≡ 16
   pub part : key.part < 2 ^ 31
 
--- the ranges of a state; its runs are few enough for a list of messages
+-- the ranges of a state; its runs are counted in four bytes
 pub record IsState (state : StateParts) : Type 0 where
   pub key : IsKey state.key
   pub snapshot : state.snapshot < 2 ^ 64
@@ -49,4 +49,4 @@ pub record IsState (state : StateParts) : Type 0 where
   pub leader_epoch : IsEpoch state.leader_epoch
   pub start : IsStart state.start
   pub runs : AreStoredRuns state.runs
-  pub few : length state.runs + 1 < 2 ^ 32
+  pub few : length state.runs < 2 ^ 32

@@ -152,8 +152,8 @@ pub(crate) fn read_run(reader: &mut Reader<'_>, before: Option<Run>) -> Result<R
 {
     let place = reader.place();
     let first = read_first(reader, before)?;
-    let last = read_u64_below(reader, 1 << 63)?;
-    if last < first {
+    let last = reader.take_u64()?;
+    if last >= 1 << 63 || last < first {
         return bad(place);
     }
     let state = read_row_state(reader)?;

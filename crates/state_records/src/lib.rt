@@ -3,7 +3,7 @@
 
 mod fault;
 mod fields;
-mod law;
+mod laws;
 mod reader;
 mod reading;
 mod record;
@@ -12,7 +12,7 @@ mod tests;
 mod writing;
 
 pub use fault::RecordFault;
-pub use law::records_have_one_spelling;
+pub use laws::records_have_one_spelling;
 pub use reading::read_record;
 pub use record::{KeyState, StateRecord};
 pub use writing::write_record;

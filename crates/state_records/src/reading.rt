@@ -5,7 +5,7 @@ ghost use Rattle.state_records.specs.States.{AreStoredRuns};
 ghost use Rattle.state_records.specs.Spelling.{IsRecord, record_bytes};
 
 use crate::fault::RecordFault;
-use crate::fields::{read_epoch, read_key, read_run, read_start, read_u8_below, read_u32_below};
+use crate::fields::{read_epoch, read_key, read_run, read_start, read_u8_below};
 use crate::reader::Reader;
 use crate::record::{KeyState, StateRecord};
 use flex_fields::Items;
@@ -30,13 +30,17 @@ fn read_runs(alloc: Global, reader: &mut Reader<'_>, count: u32) -> Result<Vec<R
     Ok(runs)
 }
 
+// A count of all ones is no fault by itself. So many runs find no memory, since a list holds one fewer.
 #[tactic(auto, unfolding(crate::specs::Reading::all_runs_at))]
 fn read_all_runs(alloc: Global, reader: &mut Reader<'_>) -> Result<RunList, RecordFault>
     ensures read { Moves (λ v. v) reader.new result (all_runs_at reader.old) }
     ensures stored { IfOk result AreStoredRuns }
 {
-    let count = read_u32_below(reader, u32::MAX)?;
+    let count = reader.take_u32()?;
     let runs = read_runs(alloc, reader, count)?;
+    if count == u32::MAX {
+        return Err(RecordFault::NoMemory);
+    }
     Ok(Items::new(runs))
 }
 

@@ -32,7 +32,7 @@ const UPDATE: [u8; 92] = [
 ];
 
 // A byte of the update that is changed, what it becomes, and the place of the fault.
-const FAULTS: [(usize, u8, u64); 18] = [
+const FAULTS: [(usize, u8, u64); 19] = [
     (0, 3, 0),
     (1, 1, 1),
     (3, 0, 2),
@@ -42,10 +42,11 @@ const FAULTS: [(usize, u8, u64); 18] = [
     (38, 0x80, 38),
     (42, 0x80, 42),
     (53, 1, 73),
+    (50, 0xff, 92),
     (53, 3, 92),
     (54, 0x80, 54),
     (61, 5, 54),
-    (62, 0x80, 62),
+    (62, 0x80, 54),
     (70, 1, 70),
     (70, 3, 70),
     (71, 0x80, 71),

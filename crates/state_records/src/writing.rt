@@ -81,7 +81,7 @@ fn put_each(out: &mut Vec<u8>, runs: &[Run]) -> Result<(), AllocError>
 
 fn put_runs(out: &mut Vec<u8>, runs: &RunList) -> Result<(), AllocError>
     ensures written { OnOk result (out.new.items ≡ out.old.items ++ runs_bytes runs.now) }
-    ensures few { OnOk result (length runs.now + 1 < 2 ^ 32) }
+    ensures few { OnOk result (length runs.now < 2 ^ 32) }
 {
     let runs = runs.as_slice();
     put_u32(out, runs.len() as u32)?;

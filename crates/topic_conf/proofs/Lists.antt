@@ -1,8 +1,10 @@
 -- What the front topic adds to what is said of the others.
-use Rattle.std.proofs.Common.{◌≡◌, ◌≤◌, ◌+◌, ◌-◌, ℕ, zero, suc, List, [], ◌∷◌, All, AllPairs, length, arith}
+use Rattle.std.proofs.Common.{◌≡◌, ◌≤◌, ◌<◌, ◌+◌, ◌-◌, inl, refl, ℕ, zero, suc, List, [], ◌∷◌, All, AllPairs, length, arith}
 use Rattle.std.proofs.lemmas.Grind.{common_steps}
+use Rattle.edge_io.specs.Names.{IsDiskName, hosted_name}
+use Rattle.edge_io.specs.declared.name.DiskPlace.{DiskPlace}
 use Rattle.topic_conf.specs.declared.topic.Topic.{Topic}
-use Rattle.topic_conf.specs.Topics.{partitions, IsTopicList}
+use Rattle.topic_conf.specs.Topics.{most_partitions, partitions, IsTopic, IsTopicList}
 
 -- each has a partition, and together they have no more than there is room for
 abbrev pub FitInto : ℕ → List Topic → Type 0
@@ -45,5 +47,17 @@ topics_few (topic ∷ topics) all =
     let few = topics_few topics (all_others (λ (topic : Topic). 1 ≤ topic.parts) topic topics all) in
     omega (arith, few, partitions_cons topic topics, all_front (λ (topic : Topic). 1 ≤ topic.parts) topic topics all)
 
-pub list_few : (topics : List Topic) → IsTopicList topics → length topics ≤ 64
+pub list_few : (topics : List Topic) → IsTopicList topics → length topics ≤ most_partitions
 list_few topics list = omega (arith, topics_few topics (λ k d lt. (list.each k d lt).parts), list.few)
+
+-- no topic has more partitions than all together
+parts_few : (topics : List Topic) → All (λ topic. topic.parts ≤ partitions topics) topics
+parts_few [] = λ k d lt. absurd (omega arith)
+parts_few (topic ∷ topics) = all_cons (λ (t : Topic). t.parts ≤ partitions (topic ∷ topics)) topic topics
+    (omega (arith, partitions_cons topic topics))
+    (λ k d lt. omega (arith, parts_few topics k d lt, partitions_cons topic topics))
+
+pub have_disks : (topics : List Topic) → IsTopicList topics
+    → All (λ topic. (number : ℕ) → number < topic.parts → (disk : DiskPlace) → IsDiskName (hosted_name topic.name number disk)) topics
+have_disks topics list = λ k d lt. λ number below disk.
+    inl (_, number, disk, (list.each k d lt).name, omega (arith, below, parts_few topics k d lt, list.few), refl)

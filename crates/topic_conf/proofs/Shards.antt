@@ -20,7 +20,7 @@ mapped f None y e = absurd (cc)
 mapped f (Some x) y e = (x, refl, cc)
 
 -- the number of a partition among those of its topic
-partition_found : (part : ℤ) (parts shard : ℕ) → partition_at part parts ≡ Some shard → (shard < parts) × (part ≡ pos shard)
+partition_found : (partition : ℤ) (parts shard : ℕ) → partition_at partition parts ≡ Some shard → (shard < parts) × (partition ≡ pos shard)
 partition_found (pos n) parts shard e =
     let found = cond_some (nat_lt n parts) n shard e in
     let lt : n < parts = grind (arith, nat_tests, found.0) in
@@ -28,47 +28,47 @@ partition_found (pos n) parts shard e =
 partition_found (negsuc n) parts shard e = absurd (cc)
 
 -- the shard is one of the front topic's
-record IsHere (id : List ℕ) (part : ℤ) (topic : Topic) (shard : ℕ) : Type 0 where
+record IsHere (id : List ℕ) (partition : ℤ) (topic : Topic) (shard : ℕ) : Type 0 where
   same : topic.id ≡ id
   few : shard < topic.parts
-  number : part ≡ pos shard
+  number : partition ≡ pos shard
 
 -- the shard is one of the others'
-record IsLater (id : List ℕ) (part : ℤ) (topic : Topic) (topics : List Topic) (shard : ℕ) : Type 0 where
+record IsLater (id : List ℕ) (partition : ℤ) (topic : Topic) (topics : List Topic) (shard : ℕ) : Type 0 where
   later : ℕ
-  found : shard_at id part topics ≡ Some later
+  found : shard_at id partition topics ≡ Some later
   number : shard ≡ topic.parts + later
 
-shard_cases : (id : List ℕ) (part : ℤ) (topic : Topic) (topics : List Topic) (shard : ℕ) → shard_at id part (topic ∷ topics) ≡ Some shard
-    → IsHere id part topic shard ⊎ IsLater id part topic topics shard
-shard_cases id part topic topics shard e = go (chosen (bytes_eq topic.id id) _ _ _ e) where
-  go : ((bytes_eq topic.id id ≡ true) × (partition_at part topic.parts ≡ Some shard))
-      ⊎ ((bytes_eq topic.id id ≡ false) × (option_map (λ later. topic.parts + later) (shard_at id part topics) ≡ Some shard))
-      → IsHere id part topic shard ⊎ IsLater id part topic topics shard
+shard_cases : (id : List ℕ) (partition : ℤ) (topic : Topic) (topics : List Topic) (shard : ℕ) → shard_at id partition (topic ∷ topics) ≡ Some shard
+    → IsHere id partition topic shard ⊎ IsLater id partition topic topics shard
+shard_cases id partition topic topics shard e = go (chosen (bytes_eq topic.id id) _ _ _ e) where
+  go : ((bytes_eq topic.id id ≡ true) × (partition_at partition topic.parts ≡ Some shard))
+      ⊎ ((bytes_eq topic.id id ≡ false) × (option_map (λ later. topic.parts + later) (shard_at id partition topics) ≡ Some shard))
+      → IsHere id partition topic shard ⊎ IsLater id partition topic topics shard
   go (inl h) =
-      let found = partition_found part topic.parts shard h.1 in
+      let found = partition_found partition topic.parts shard h.1 in
       inl (record { same = (bytes_eq-Decides topic.id id).0 h.0; few = found.0; number = found.1 })
   go (inr h) =
-      let found = mapped (λ later. topic.parts + later) (shard_at id part topics) shard h.1 in
+      let found = mapped (λ later. topic.parts + later) (shard_at id partition topics) shard h.1 in
       inr (record { later = found.0; found = found.1; number = found.2 })
 
-pub shard_below : (topics : List Topic) (id : List ℕ) (part : ℤ) (shard : ℕ) → shard_at id part topics ≡ Some shard → shard < partitions topics
-shard_below [] id part shard e = absurd (cc)
-shard_below (topic ∷ topics) id part shard e = go (shard_below topics id part) (shard_cases id part topic topics shard e) where
-  go : ((later : ℕ) → shard_at id part topics ≡ Some later → later < partitions topics) → IsHere id part topic shard ⊎ IsLater id part topic topics shard
+pub shard_below : (topics : List Topic) (id : List ℕ) (partition : ℤ) (shard : ℕ) → shard_at id partition topics ≡ Some shard → shard < partitions topics
+shard_below [] id partition shard e = absurd (cc)
+shard_below (topic ∷ topics) id partition shard e = go (shard_below topics id partition) (shard_cases id partition topic topics shard e) where
+  go : ((later : ℕ) → shard_at id partition topics ≡ Some later → later < partitions topics) → IsHere id partition topic shard ⊎ IsLater id partition topic topics shard
       → shard < partitions (topic ∷ topics)
   go below (inl here) = omega (arith, here.few, partitions_cons topic topics)
   go below (inr h) = omega (arith, h.number, below h.later h.found, partitions_cons topic topics)
 
 -- one shard, one partition
-pub shard_of_one : (topics : List Topic) (id other : List ℕ) (part next : ℤ) (shard : ℕ) → shard_at id part topics ≡ Some shard → shard_at other next topics ≡ Some shard
-    → (id ≡ other) × (part ≡ next)
-shard_of_one [] id other part next shard e f = absurd (cc)
-shard_of_one (topic ∷ topics) id other part next shard e f =
-    go (shard_of_one topics id other part next) (shard_cases id part topic topics shard e) (shard_cases other next topic topics shard f) where
-      go : ((later : ℕ) → shard_at id part topics ≡ Some later → shard_at other next topics ≡ Some later → (id ≡ other) × (part ≡ next))
-          → IsHere id part topic shard ⊎ IsLater id part topic topics shard → IsHere other next topic shard ⊎ IsLater other next topic topics shard
-          → (id ≡ other) × (part ≡ next)
+pub shard_of_one : (topics : List Topic) (id other : List ℕ) (partition next : ℤ) (shard : ℕ) → shard_at id partition topics ≡ Some shard → shard_at other next topics ≡ Some shard
+    → (id ≡ other) × (partition ≡ next)
+shard_of_one [] id other partition next shard e f = absurd (cc)
+shard_of_one (topic ∷ topics) id other partition next shard e f =
+    go (shard_of_one topics id other partition next) (shard_cases id partition topic topics shard e) (shard_cases other next topic topics shard f) where
+      go : ((later : ℕ) → shard_at id partition topics ≡ Some later → shard_at other next topics ≡ Some later → (id ≡ other) × (partition ≡ next))
+          → IsHere id partition topic shard ⊎ IsLater id partition topic topics shard → IsHere other next topic shard ⊎ IsLater other next topic topics shard
+          → (id ≡ other) × (partition ≡ next)
       go one (inl a) (inl b) = (sym a.same ∙ b.same, a.number ∙ sym b.number)
       go one (inl a) (inr b) = absurd (omega (arith, a.few, b.number))
       go one (inr a) (inl b) = absurd (omega (arith, b.few, a.number))
@@ -77,11 +77,11 @@ shard_of_one (topic ∷ topics) id other part next shard e f =
           one a.later a.found (b.found ∙ ap Some (sym same))
 
 -- a topic that is apart from the others has none of their shards
-found_apart : (topic : Topic) (topics : List Topic) (id : List ℕ) (part : ℤ) (shard : ℕ) → All (AreApart topic) topics → shard_at id part topics ≡ Some shard → topic.id ≢ id
-found_apart topic [] id part shard apart e = absurd (cc)
-found_apart topic (other ∷ topics) id part shard apart e =
-    go (λ later. found_apart topic topics id part later (all_others (AreApart topic) other topics apart)) (shard_cases id part other topics shard e) where
-      go : ((later : ℕ) → shard_at id part topics ≡ Some later → topic.id ≢ id) → IsHere id part other shard ⊎ IsLater id part other topics shard → topic.id ≢ id
+found_apart : (topic : Topic) (topics : List Topic) (id : List ℕ) (partition : ℤ) (shard : ℕ) → All (AreApart topic) topics → shard_at id partition topics ≡ Some shard → topic.id ≢ id
+found_apart topic [] id partition shard apart e = absurd (cc)
+found_apart topic (other ∷ topics) id partition shard apart e =
+    go (λ later. found_apart topic topics id partition later (all_others (AreApart topic) other topics apart)) (shard_cases id partition other topics shard e) where
+      go : ((later : ℕ) → shard_at id partition topics ≡ Some later → topic.id ≢ id) → IsHere id partition other shard ⊎ IsLater id partition other topics shard → topic.id ≢ id
       go rest (inl here) = λ same. (all_front (AreApart topic) other topics apart).ids (same ∙ sym here.same)
       go rest (inr h) = rest h.later h.found
 
@@ -96,11 +96,11 @@ here_found topic topics shard few =
     ap (λ (b : Bool). cond b (cond (nat_lt shard topic.parts) (Some shard) None) (option_map (λ later. topic.parts + later) (shard_at topic.id (pos shard) topics))) same
     ∙ ap (λ (b : Bool). cond b (Some shard) None) within
 
-later_found : (topic : Topic) (topics : List Topic) (id : List ℕ) (part : ℤ) (later : ℕ) → topic.id ≢ id → shard_at id part topics ≡ Some later
-    → shard_at id part (topic ∷ topics) ≡ Some (topic.parts + later)
-later_found topic topics id part later apart found =
+later_found : (topic : Topic) (topics : List Topic) (id : List ℕ) (partition : ℤ) (later : ℕ) → topic.id ≢ id → shard_at id partition topics ≡ Some later
+    → shard_at id partition (topic ∷ topics) ≡ Some (topic.parts + later)
+later_found topic topics id partition later apart found =
     let differ : bytes_eq topic.id id ≡ false = is_false (bytes_eq topic.id id) (λ e. apart ((bytes_eq-Decides topic.id id).0 e)) in
-    ap (λ (b : Bool). cond b (partition_at part topic.parts) (option_map (λ later. topic.parts + later) (shard_at id part topics))) differ
+    ap (λ (b : Bool). cond b (partition_at partition topic.parts) (option_map (λ later. topic.parts + later) (shard_at id partition topics))) differ
     ∙ ap (option_map (λ later. topic.parts + later)) found
 
 pub each_shard : (topics : List Topic) (shard : ℕ) → AllPairs AreApart topics → shard < partitions topics → IsShard topics shard
@@ -110,12 +110,12 @@ each_shard (topic ∷ topics) shard apart lt =
       behind : topic.parts ≤ shard → (shard - topic.parts < partitions topics → IsShard topics (shard - topic.parts)) → IsShard (topic ∷ topics) shard
       behind many rest =
           let later = rest (omega (arith, many, lt, partitions_cons topic topics)) in
-          let differ = found_apart topic topics later.id later.part (shard - topic.parts) (pairs_front AreApart topic topics apart) later.found in
+          let differ = found_apart topic topics later.id later.partition (shard - topic.parts) (pairs_front AreApart topic topics apart) later.found in
           let number : topic.parts + (shard - topic.parts) ≡ shard = omega (arith, many) in
-          record { id = later.id; part = later.part; found = later_found topic topics later.id later.part (shard - topic.parts) differ later.found ∙ ap Some number }
+          record { id = later.id; partition = later.partition; found = later_found topic topics later.id later.partition (shard - topic.parts) differ later.found ∙ ap Some number }
 
       go : (shard - topic.parts < partitions topics → IsShard topics (shard - topic.parts)) → (shard ≡ topic.parts) ⊎ ((shard < topic.parts) ⊎ (topic.parts < shard))
           → IsShard (topic ∷ topics) shard
-      go rest (inr (inl few)) = record { id = topic.id; part = pos shard; found = here_found topic topics shard few }
+      go rest (inr (inl few)) = record { id = topic.id; partition = pos shard; found = here_found topic topics shard few }
       go rest (inl same) = behind (omega (arith, same)) rest
       go rest (inr (inr more)) = behind (omega (arith, more)) rest

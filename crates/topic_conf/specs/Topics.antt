@@ -21,6 +21,10 @@ pub record AreApart (topic other : Topic) : Type 0 where
   pub names : topic.name ≢ other.name
   pub ids : topic.id ≢ other.id
 
+-- the greatest number of partitions that a broker hosts
+abbrev pub most_partitions : ℕ
+most_partitions = 64
+
 -- how many partitions the topics have together
 abbrev pub partitions : List Topic → ℕ
 partitions topics = sum_by (λ topic. topic.parts) topics
@@ -30,7 +34,7 @@ pub record IsTopicList (topics : List Topic) : Type 0 where
   pub some : 1 ≤ length topics
   pub each : All IsTopic topics
   pub apart : AllPairs AreApart topics
-  pub few : partitions topics ≤ 64
+  pub few : partitions topics ≤ most_partitions
 
 -- Where the topic of this name stands, counted from 0. In `orders`, `audit` the name `audit` stands at 1 (the test
 -- a_topic_stands_where_it_was_listed).
@@ -43,19 +47,19 @@ place_by_id id topics = position (λ topic. bytes_eq topic.id id) topics
 
 -- a partition of a topic, whose partitions are numbered from 0
 abbrev pub partition_at : ℤ → ℕ → Option ℕ
-partition_at (pos part) parts = if nat_lt part parts then Some part else None
+partition_at (pos partition) parts = if nat_lt partition parts then Some partition else None
 partition_at (negsuc _) parts = None
 
 -- The number of a partition's shard. Shards are numbered from 0, topic by topic and partition by partition: with three
 -- partitions of `orders` and one of `audit` they are orders 0, orders 1, orders 2, audit 0 (the test
 -- shards_are_numbered_topic_by_topic).
 abbrev pub shard_at : List ℕ → ℤ → List Topic → Option ℕ
-shard_at id part [] = None
-shard_at id part (topic ∷ topics) =
-    if bytes_eq topic.id id then partition_at part topic.parts else option_map (λ shard. topic.parts + shard) (shard_at id part topics)
+shard_at id partition [] = None
+shard_at id partition (topic ∷ topics) =
+    if bytes_eq topic.id id then partition_at partition topic.parts else option_map (λ shard. topic.parts + shard) (shard_at id partition topics)
 
 -- the shard of this number is that of a partition
 pub record IsShard (topics : List Topic) (shard : ℕ) : Type 0 where
   pub id : List ℕ
-  pub part : ℤ
-  pub found : shard_at id part topics ≡ Some shard
+  pub partition : ℤ
+  pub found : shard_at id partition topics ≡ Some shard

@@ -4,7 +4,7 @@
 #![tactic(auto)]
 
 mod config;
-mod law;
+mod laws;
 mod name;
 mod places;
 #[cfg(test)]
@@ -12,5 +12,5 @@ mod tests;
 mod topic;
 
 pub use config::Config;
-pub use law::each_shard_is_of_one_partition;
-pub use topic::{Topic, TopicList};
+pub use laws::{each_partition_has_disks, each_shard_is_of_one_partition};
+pub use topic::{MAX_PARTITIONS, Topic, TopicList};

@@ -22,23 +22,23 @@ pub fn place_by_id(id: Uuid, topics: &[Topic]) -> Option<usize>
 }
 
 // The partition, where the topic has it.
-fn partition_at(part: i32, parts: u32) -> Option<u32>
-    ensures { result ≡ partition_at part parts }
+fn partition_at(partition: i32, parts: u32) -> Option<u32>
+    ensures { result ≡ partition_at partition parts }
 {
-    let part = u32::try_from(part).ok()?;
-    (part < parts).then_some(part)
+    let partition = u32::try_from(partition).ok()?;
+    (partition < parts).then_some(partition)
 }
 
 // The number of the partition's shard.
-pub fn shard_at(id: Uuid, part: i32, topics: &[Topic]) -> Option<u32>
+pub fn shard_at(id: Uuid, partition: i32, topics: &[Topic]) -> Option<u32>
     requires { IsTopicList topics.now }
-    ensures { result ≡ shard_at id part topics.now }
+    ensures { result ≡ shard_at id partition topics.now }
 {
     let mut before = 0;
     let mut rest = topics;
     while let Some((topic, others)) = rest.split_first() {
         if topic.id == id {
-            return Some(before + partition_at(part, topic.parts)?);
+            return Some(before + partition_at(partition, topic.parts)?);
         }
         before += topic.parts;
         rest = others;

@@ -2,7 +2,7 @@
 ghost use Rattle.std.specs.Prelude.{◌≡◌, ◌≢◌, ◌↔◌, ◌≤◌, IsTrue, IfSome, IfNone, All, AllPairs, length};
 ghost use Rattle.uuid.specs.Parts.{zero_bytes};
 ghost use Rattle.edge_io.specs.Names.{IsTopicName};
-ghost use Rattle.topic_conf.specs.Topics.{IsTopic, AreApart, IsTopicList, partitions};
+ghost use Rattle.topic_conf.specs.Topics.{IsTopic, AreApart, IsTopicList, most_partitions, partitions};
 ghost use Rattle.topic_conf.specs.declared.topic.Topic.{Topic};
 
 use crate::name::is_topic_name;
@@ -11,7 +11,7 @@ use std::marker::Model;
 use uuid::Uuid;
 
 /// The greatest number of partitions that a broker hosts.
-const MAX_PARTITIONS: u32 = 64;
+pub const MAX_PARTITIONS: u32 = 64;
 
 /// A hosted topic: its name, how many partitions it has, and its id.
 #[derive(Clone, Copy)]
@@ -45,7 +45,7 @@ impl Model for TopicList {
 
 // Whether each topic has a partition, and all have at most 64. It looks at no more than 65 topics.
 fn are_few(topics: &[Topic]) -> bool
-    ensures { IsTrue result ↔ (All (λ topic. 1 ≤ topic.parts) topics.now × (partitions topics.now ≤ 64)) }
+    ensures { IsTrue result ↔ (All (λ topic. 1 ≤ topic.parts) topics.now × (partitions topics.now ≤ most_partitions)) }
 {
     let mut room = MAX_PARTITIONS;
     let mut rest = topics;
@@ -107,7 +107,7 @@ impl TopicList {
     pub fn as_slice(&self) -> &[Topic]
         ensures same { result.now ≡ self.now }
         ensures list { IsTopicList self.now }
-        ensures few { length self.now ≤ 64 }
+        ensures few { length self.now ≤ most_partitions }
     {
         &self.topics
     }

@@ -3,8 +3,8 @@ use Rattle.std.proofs.Math.Seq.{drop-cons}
 use Rattle.std.proofs.lemmas.List.{drop_all}
 use Rattle.std.proofs.lemmas.Nat.{and_mask}
 use Rattle.std.specs.Int.Bits.{bit_xor}
-use Rattle.crc_castagnoli.specs.Division.{divided, bits_of, steps}
-use Rattle.crc_castagnoli.proofs.Bytes.{divided-byte, steps-next}
+use Rattle.crc_castagnoli.specs.Division.{remainder_after, bits_of, steps}
+use Rattle.crc_castagnoli.proofs.Bytes.{remainder_after-byte, steps-next}
 use Rattle.crc_castagnoli.proofs.by_byte.Goals as goal
 
 pub loop-byte-preserved : goal.loop-byte-preserved
@@ -18,13 +18,13 @@ loop-byte-preserved c =
     ∙ sym (steps-next left byte (omega (arith, c.type_inv.bytes i))) in
     let within : i < length bytes = omega arith in
     let front : drop i bytes ≡ byte ∷ drop (i + 1) bytes = rw (add-one, drop-cons bytes i 0) refl in
-    ap (λ (x : ℕ). divided x (bits_of (drop (i + 1) bytes))) next
-    ∙ sym (divided-byte left byte (drop (i + 1) bytes) (omega (arith, c.type_inv.bytes i)))
-    ∙ sym (ap (λ xs. divided left (bits_of xs)) front)
+    ap (λ (x : ℕ). remainder_after x (bits_of (drop (i + 1) bytes))) next
+    ∙ sym (remainder_after-byte left byte (drop (i + 1) bytes) (omega (arith, c.type_inv.bytes i)))
+    ∙ sym (ap (λ xs. remainder_after left (bits_of xs)) front)
     ∙ c.loop-byte.invariant
 
 pub returns : goal.returns
-unfolding divided bits_of
+unfolding remainder_after bits_of
 returns c =
     let none : drop c.loop-byte.byte-index c.args.bytes.now ≡ [] = drop_all c.loop-byte.byte-index c.args.bytes.now (omega arith) in
-    sym (ap (λ xs. divided c.loop-byte.left (bits_of xs)) none) ∙ c.loop-byte.invariant
+    sym (ap (λ xs. remainder_after c.loop-byte.left (bits_of xs)) none) ∙ c.loop-byte.invariant

@@ -1,7 +1,7 @@
 use Rattle.std.proofs.Common.{refl, ap, ◌∙◌, take, arith}
 use Rattle.std.specs.Int.Bits.{bit_xor}
-use Rattle.crc_castagnoli.specs.Division.{all_ones, crc_of, divided, bits_of}
-use Rattle.crc_castagnoli.proofs.Bytes.{divided-split}
+use Rattle.crc_castagnoli.specs.Division.{all_ones, crc_of, remainder_after, bits_of}
+use Rattle.crc_castagnoli.proofs.Bytes.{remainder_after-split}
 use Rattle.crc_castagnoli.proofs.Quotient.{remainder_of}
 use Rattle.crc_castagnoli.proofs.crc32c.Goals as goal
 
@@ -13,10 +13,10 @@ pub loop-word-preserved : goal.loop-word-preserved
 loop-word-preserved c =
     let rest = c.loop-word.rest.now in
     let left = c.loop-word.left in
-    ap (λ x. divided x (bits_of c.in-Some.after.now)) c.by_word-left.ensures
-    ∙ ap (λ xs. divided (divided left (bits_of xs)) (bits_of c.in-Some.after.now)) c.in-Some.ensures.cases.0
-    ∙ ap (λ xs. divided (divided left (bits_of (take 8 rest))) (bits_of xs)) c.in-Some.ensures.cases.1
-    ∙ divided-split left 8 rest
+    ap (λ x. remainder_after x (bits_of c.in-Some.after.now)) c.by_word-left.ensures
+    ∙ ap (λ xs. remainder_after (remainder_after left (bits_of xs)) (bits_of c.in-Some.after.now)) c.in-Some.ensures.cases.0
+    ∙ ap (λ xs. remainder_after (remainder_after left (bits_of (take 8 rest))) (bits_of xs)) c.in-Some.ensures.cases.1
+    ∙ remainder_after-split left 8 rest
     ∙ c.loop-word.invariant
 
 pub returns-clause-value : goal.returns-clause-value

@@ -5,7 +5,7 @@ use Rattle.topic_conf.proofs.places.shard_at.Given as goal
 
 abbrev pub invariant-loop-topic : goal.invariant-loop-topic
 invariant-loop-topic l = record {
-  number : option_map (λ shard. l.before + shard) (shard_at l.id l.part l.rest) ≡ shard_at l.id l.part l.topics;
+  number : option_map (λ shard. l.before + shard) (shard_at l.id l.partition l.rest) ≡ shard_at l.id l.partition l.topics;
   counted : l.before + partitions l.rest ≡ partitions l.topics;
 }
 

@@ -1,11 +1,12 @@
 use Rattle.std.proofs.Common.{length}
+use Rattle.topic_conf.specs.Topics.{most_partitions}
 use Rattle.topic_conf.proofs.Lists.{FitInto}
 use Rattle.topic_conf.proofs.topic.are_few.Given as goal
 
 abbrev pub invariant-loop-topic : goal.invariant-loop-topic
 invariant-loop-topic l = record {
-  down : FitInto 64 l.topics → FitInto l.room l.rest;
-  up : FitInto l.room l.rest → FitInto 64 l.topics;
+  down : FitInto most_partitions l.topics → FitInto l.room l.rest;
+  up : FitInto l.room l.rest → FitInto most_partitions l.topics;
 }
 
 abbrev pub decreases-loop-topic : goal.decreases-loop-topic

@@ -1,5 +1,5 @@
 use Rattle.state_records.proofs.Whole.{record_again, one_record}
-use Rattle.state_records.proofs.law.records_have_one_spelling.Goals as goal
+use Rattle.state_records.proofs.laws.records_have_one_spelling.Goals as goal
 
 pub returns-clause-read : goal.returns-clause-read
 returns-clause-read c = record_again

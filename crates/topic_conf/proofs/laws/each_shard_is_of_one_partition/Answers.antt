@@ -1,5 +1,5 @@
 use Rattle.topic_conf.proofs.Shards.{shard_below, shard_of_one, each_shard}
-use Rattle.topic_conf.proofs.law.each_shard_is_of_one_partition.Goals as goal
+use Rattle.topic_conf.proofs.laws.each_shard_is_of_one_partition.Goals as goal
 
 pub returns-clause-below : goal.returns-clause-below
 returns-clause-below c = shard_below

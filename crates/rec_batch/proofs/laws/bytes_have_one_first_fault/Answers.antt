@@ -1,6 +1,6 @@
 use Rattle.rec_batch.proofs.OneFault.{one_first_fault}
 use Rattle.rec_batch.proofs.Uniqueness.{batch_clear}
-use Rattle.rec_batch.proofs.law.bytes_have_one_first_fault.Goals as goal
+use Rattle.rec_batch.proofs.laws.bytes_have_one_first_fault.Goals as goal
 
 pub returns-clause-one : goal.returns-clause-one
 returns-clause-one c = one_first_fault
