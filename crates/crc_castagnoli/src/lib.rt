@@ -27,7 +27,7 @@ pub fn crc32c(bytes: &[u8]) -> u32
     by_byte(left, rest) ^ ALL_ONES
 }
 
-// Eight bytes at once. The division is linear, so each byte of the sum is remainder_after by itself, behind it the bytes that
+// Eight bytes at once. The division is linear, so each byte of the sum is divided by itself, behind it the bytes that
 // follow it.
 fn by_word(left: u32, word: &[u8; 8]) -> u32
     ensures { result ≡ remainder_after left (bits_of word.now) }

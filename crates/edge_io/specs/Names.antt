@@ -27,8 +27,12 @@ disk_word StateB = codes "state-b"
 abbrev pub hosted_name : List ℕ → ℕ → DiskPlace → List ℕ
 hosted_name topic number place = topic ++ (codes "/" ++ (number_word number ++ (codes "/" ++ disk_word place)))
 
--- one of these names; a topic has at most 64 partitions
+-- the greatest number of partitions that a broker hosts, and so of one topic
+abbrev pub most_partitions : ℕ
+most_partitions = 64
+
+-- one of these names
 abbrev pub IsDiskName : List ℕ → Type 0
 IsDiskName name = ((topic : List ℕ) × (number : ℕ) × (place : DiskPlace) ×
-    IsTopicName topic × (number < 64) × (name ≡ hosted_name topic number place))
+    IsTopicName topic × (number < most_partitions) × (name ≡ hosted_name topic number place))
     ⊎ ((name ≡ codes "foreign/state-a") ⊎ (name ≡ codes "foreign/state-b"))

@@ -4,7 +4,8 @@ use Rattle.std.proofs.lemmas.Grind.{common_steps}
 use Rattle.edge_io.specs.Names.{IsDiskName, hosted_name}
 use Rattle.edge_io.specs.declared.name.DiskPlace.{DiskPlace}
 use Rattle.topic_conf.specs.declared.topic.Topic.{Topic}
-use Rattle.topic_conf.specs.Topics.{most_partitions, partitions, IsTopic, IsTopicList}
+use Rattle.edge_io.specs.Names.{most_partitions}
+use Rattle.topic_conf.specs.Topics.{partitions, IsTopic, IsTopicList}
 
 -- each has a partition, and together they have no more than there is room for
 abbrev pub FitInto : ℕ → List Topic → Type 0

@@ -7,7 +7,7 @@ use Rattle.std.specs.List.{position}
 use Rattle.std.specs.Option.{option_map}
 use Rattle.std.specs.Str.{bytes_eq}
 use Rattle.uuid.specs.Parts.{zero_bytes}
-use Rattle.edge_io.specs.Names.{IsTopicName}
+use Rattle.edge_io.specs.Names.{IsTopicName, most_partitions}
 use Rattle.topic_conf.specs.declared.topic.Topic.{Topic}
 
 -- a topic that may be hosted: it has a partition, and an id other than the nil UUID
@@ -20,10 +20,6 @@ pub record IsTopic (topic : Topic) : Type 0 where
 pub record AreApart (topic other : Topic) : Type 0 where
   pub names : topic.name ≢ other.name
   pub ids : topic.id ≢ other.id
-
--- the greatest number of partitions that a broker hosts
-abbrev pub most_partitions : ℕ
-most_partitions = 64
 
 -- how many partitions the topics have together
 abbrev pub partitions : List Topic → ℕ

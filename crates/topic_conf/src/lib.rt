@@ -5,7 +5,6 @@
 
 mod config;
 mod laws;
-mod name;
 mod places;
 #[cfg(test)]
 mod tests;
@@ -13,4 +12,4 @@ mod topic;
 
 pub use config::Config;
 pub use laws::{each_partition_has_disks, each_shard_is_of_one_partition};
-pub use topic::{MAX_PARTITIONS, Topic, TopicList};
+pub use topic::{Topic, TopicList};

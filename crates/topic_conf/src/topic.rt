@@ -1,17 +1,14 @@
 // The list of hosted topics.
 ghost use Rattle.std.specs.Prelude.{◌≡◌, ◌≢◌, ◌↔◌, ◌≤◌, IsTrue, IfSome, IfNone, All, AllPairs, length};
 ghost use Rattle.uuid.specs.Parts.{zero_bytes};
-ghost use Rattle.edge_io.specs.Names.{IsTopicName};
-ghost use Rattle.topic_conf.specs.Topics.{IsTopic, AreApart, IsTopicList, most_partitions, partitions};
+ghost use Rattle.edge_io.specs.Names.{IsTopicName, most_partitions};
+ghost use Rattle.topic_conf.specs.Topics.{IsTopic, AreApart, IsTopicList, partitions};
 ghost use Rattle.topic_conf.specs.declared.topic.Topic.{Topic};
 
-use crate::name::is_topic_name;
+use edge_io::{MAX_PARTITIONS, is_topic_name};
 use share_model::Name;
 use std::marker::Model;
 use uuid::Uuid;
-
-/// The greatest number of partitions that a broker hosts.
-pub const MAX_PARTITIONS: u32 = 64;
 
 /// A hosted topic: its name, how many partitions it has, and its id.
 #[derive(Clone, Copy)]

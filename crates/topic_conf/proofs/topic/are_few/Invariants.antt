@@ -1,5 +1,5 @@
 use Rattle.std.proofs.Common.{length}
-use Rattle.topic_conf.specs.Topics.{most_partitions}
+use Rattle.edge_io.specs.Names.{most_partitions}
 use Rattle.topic_conf.proofs.Lists.{FitInto}
 use Rattle.topic_conf.proofs.topic.are_few.Given as goal
 
