@@ -1,59 +1,36 @@
--- A state call that is being answered, part by part (this project's own).
--- For example a Read of partitions 5 and 6 has the part of 5, and once that is done the part of 6 (the test
--- parts_are_asked_and_told_in_the_order_of_the_request).
-use Rattle.std.specs.Prelude.{ℕ, ℤ, List, [], ◌∷◌, ◌++◌, Option, Some, None}
-use Rattle.share_model.specs.Keys.{KeyParts}
-use Rattle.share_model.specs.declared.foreign.ForeignOp.{ForeignOp}
-use Rattle.share_model.specs.declared.foreign.ForeignOp.TheVariants.{Init, Read}
-use Rattle.conn_core.specs.declared.ask.Wish.{Wish}
-use Rattle.conn_core.specs.declared.ask.Wish.TheVariants.{Initialize as WishInitialize, Read as WishRead}
-use Rattle.conn_core.specs.declared.ask.Call.{Call}
-use Rattle.conn_core.specs.declared.plan.PlannedTopic.{PlannedTopic}
-use Rattle.conn_core.specs.declared.told.Told.{Told}
+-- The calls in hand, each under its own name.
+use Rattle.topic_conf.specs.Configs.{ConfigParts}
+use Rattle.msgs_state.specs.declared.initialize_request.InitializeShareGroupStateRequest.{InitializeShareGroupStateRequest}
+use Rattle.msgs_state.specs.declared.read_request.ReadShareGroupStateRequest.{ReadShareGroupStateRequest}
+use Rattle.conn_core.specs.declared.next.Part.{Part}
+use Rattle.conn_core.specs.declared.next.PartAnswer.{PartAnswer}
+use Rattle.conn_core.specs.declared.call.Stage.{Stage}
+use Rattle.conn_core.specs.declared.call.Stage.TheVariants.{Asks, Says}
+use Rattle.conn_core.specs.declared.hand.Hand.{Hand}
+use Rattle.conn_core.specs.declared.hand.Hand.TheVariants.{Initialize, Read}
+use Rattle.conn_core.specs.Calls.{Acts, AskingParts}
+use Rattle.conn_core.specs.Going.{taken}
+use Rattle.conn_core.specs.StateCalls.{state_acts, state_stage}
+use Rattle.conn_core.specs.Initialize.{initialize_means}
+use Rattle.conn_core.specs.Read.{read_means}
 
--- what is asked of the state of one partition of a topic, for the group of the request
-pub record AskParts : Type 0 where
-  pub topic : List ℕ
-  pub part : ℕ
-  pub wish : Wish
+abbrev pub asked_by : {C Q R : Type 0} → Acts C Q R → AskingParts C Q R → Part
+asked_by acts a = acts.part a.call a.question
 
--- the part of the foreign shard that does it
-abbrev pub wished : KeyParts → Wish → ForeignOp
-wished key (WishInitialize state_epoch start) = Init key state_epoch start
-wished key (WishRead leader_epoch) = Read key leader_epoch
+abbrev pub part_of : Hand → Part
+part_of (Initialize a) = asked_by (state_acts initialize_means) a
+part_of (Read a) = asked_by (state_acts read_means) a
 
-abbrev pub op_of : List ℕ → AskParts → ForeignOp
-op_of group ask = wished (record { group = group; topic = ask.topic; part = ask.part }) ask.wish
+abbrev pub held : {A : Type 0} → (A → Hand) → Stage A → Stage Hand
+held hold (Asks a) = Asks (hold a)
+held hold (Says body) = Says body
 
--- the request in hand: what its reply will have at which place, the parts that are left, and what the parts that are done
--- told, each in order
-pub record HandParts : Type 0 where
-  pub correlation : ℤ
-  pub call : Call
-  pub group : List ℕ
-  pub topics : List PlannedTopic
-  pub left : List AskParts
-  pub done : List Told
+abbrev pub answered : Hand → PartAnswer → Stage Hand
+answered (Initialize a) answer = held (λ b. Initialize b) (taken (state_acts initialize_means) a answer)
+answered (Read a) answer = held (λ b. Read b) (taken (state_acts read_means) a answer)
 
--- the next part that is left
-abbrev pub first_of : List ℕ → List AskParts → Option ForeignOp
-first_of group [] = None
-first_of group (ask ∷ asks) = Some (op_of group ask)
+abbrev pub initialize_stage : ConfigParts → InitializeShareGroupStateRequest → Stage Hand
+initialize_stage conf m = held (λ a. Initialize a) (state_stage initialize_means conf.topics (record {}) m.group_id m.topics)
 
-abbrev pub first_part : HandParts → Option ForeignOp
-first_part hand = first_of hand.group hand.left
-
--- it is done, and told this
-abbrev pub rest_of : List AskParts → List AskParts
-rest_of [] = []
-rest_of (ask ∷ asks) = asks
-
-abbrev pub goes_on : Told → HandParts → HandParts
-goes_on told hand = record {
-  correlation = hand.correlation;
-  call = hand.call;
-  group = hand.group;
-  topics = hand.topics;
-  left = rest_of hand.left;
-  done = hand.done ++ told ∷ [];
-}
+abbrev pub read_stage : ConfigParts → ReadShareGroupStateRequest → Stage Hand
+read_stage conf m = held (λ a. Read a) (state_stage read_means conf.topics (record {}) m.group_id m.topics)

@@ -1,19 +1,18 @@
-ghost use Rattle.std.specs.Prelude.{◌≡◌, ◌≤◌, ◌+◌, ◌∷◌, [], false, length, OnOk, OnErr, IfOk, IfSome, IfNone, None};
-ghost use Rattle.conn_core.specs.Hands.{first_part};
+ghost use Rattle.std.specs.Prelude.{◌≡◌, ◌≤◌, ◌+◌, ◌∷◌, ◌↔◌, [], length, OnOk, OnErr, IfOk, IfSome, IfNone};
+ghost use Rattle.conn_core.specs.Calls.{IsFair};
 ghost use Rattle.conn_core.specs.Stream.{front_of, behind_frame, frame_at};
-ghost use Rattle.conn_core.specs.Turning.{Turns, Asks, Awaits, GoesOn, IsAsking, IsFair, Settles, told_by, settled, opened, ended, fed};
-ghost use Rattle.conn_core.specs.Turning.{given, sent, begun, after, at_front};
-ghost use Rattle.conn_core.specs.Turning.Turn.{closes};
+ghost use Rattle.conn_core.specs.Conns.{opened, fed, ended, releasing_also, without_replies, is_gone};
+ghost use Rattle.conn_core.specs.Turning.{Tells, Waits, closed, releasing, sent, begun, after, at_front, turn, settled, given};
 
+use crate::call::Stage;
 use crate::hand::Hand;
 use crate::judge::{Judged, judge};
 use crate::next::{Next, Part, PartAnswer};
 use crate::sending::framed;
 use crate::stream::{Front, Stream, front_of};
-use crate::told::told_of;
 use crate::work::Work;
 use flex_fields::Bytes;
-use share_model::{Blob, CloseCause, NoMemory};
+use share_model::{Blob, CloseCause, ForeignOp, Key, NoMemory};
 use std::alloc::Global;
 use std::collections::VecDeque;
 use std::marker::Model;
@@ -28,16 +27,16 @@ use topic_conf::Config;
 pub struct Conn {
     stream: Stream,
     work: Work,
+    releases: VecDeque<Key>,
     replies: VecDeque<Blob>,
-    gone: bool,
 }
 
 impl Model for Conn {
-    ghost use Rattle.conn_core.specs.Links.{ConnParts};
+    ghost use Rattle.conn_core.specs.Conns.{ConnParts};
 
     ghost Value = { ConnParts };
 
-    ghost view = { λ c. record { link = record { unread = c.stream; work = c.work }; replies = c.replies.items; gone = c.gone } };
+    ghost view = { λ c. record { unread = c.stream; work = c.work; releases = c.releases.items; replies = c.replies.items } };
 }
 
 // A frame of so many bytes, without its size.
@@ -50,16 +49,6 @@ fn frame(size: u32, stream: &[u8]) -> &[u8]
     frame
 }
 
-// The next part of a request in hand.
-fn asked(hand: &Hand) -> Next
-    ensures { Asks (first_part hand.now) result }
-{
-    match hand.asked() {
-        Some(op) => Next::Ask(Part::Foreign(op)),
-        None => Next::Idle,
-    }
-}
-
 impl Conn {
     /// A connection that has come.
     pub fn open(alloc: Global) -> Conn
@@ -68,34 +57,48 @@ impl Conn {
         Conn {
             stream: Stream::new(alloc),
             work: Work::Free,
+            releases: VecDeque::new(alloc),
             replies: VecDeque::new(alloc),
-            gone: false,
         }
     }
 
-    /// Bytes have come from the client. A connection that is gone drops them. After want of memory all is as before.
+    /// Bytes have come from the client. A connection that is closing drops them. After want of memory all is as before.
     pub fn feed(&mut self, piece: &[u8]) -> Result<(), NoMemory>
         ensures fed { OnOk result (self.new ≡ fed piece.now self.old) }
         ensures kept { OnErr result (self.new ≡ self.old) }
     {
-        if self.gone {
-            return Ok(());
+        match &self.work {
+            Work::Closing => Ok(()),
+            _ => self.stream.feed(piece),
         }
-        self.stream.feed(piece)
     }
 
     /// The connection is closed, by either side. Bytes that no request took and the request in hand go; replies that are
-    /// finished can still be taken.
+    /// finished can still be taken. What is to be released is asked next.
     pub fn end(&mut self)
         ensures { self.new ≡ ended self.old }
     {
-        self.stream.clear();
-        self.work = Work::Free;
-        self.gone = true;
+        match &self.work {
+            Work::Closing => {}
+            _ => {
+                self.stream.clear();
+                self.work = Work::Closing;
+            }
+        }
+    }
+
+    /// This is to be released when the connection closes.
+    #[cfg(test)]
+    pub fn must_release(&mut self, key: Key) -> Result<(), NoMemory>
+        ensures ok { OnOk result (self.new ≡ releasing_also key self.old) }
+        ensures err { OnErr result (self.new ≡ self.old) }
+    {
+        self.releases.push_back(key)?;
+        Ok(())
     }
 
     fn close(&mut self, cause: CloseCause) -> Next
-        ensures { Turns (closes cause) self.old result self.new }
+        ensures { Tells (closed cause self.old) result self.new }
     {
         self.end();
         Next::Closed(cause)
@@ -110,11 +113,9 @@ impl Conn {
         correlation: i32,
         body: &Bytes,
     ) -> Result<Next, NoMemory>
-        requires whole { 4 + size ≤ length self.old.link.unread }
-        requires there { self.old.gone ≡ false }
-        requires idle { self.old.link.work ≡ Work.Free }
-        ensures next { IfOk result (λ next. Turns (sent (behind_frame size self.old.link.unread) tags correlation body.now) self.old next self.new) }
-        ensures asking { IfOk result (λ next. Awaits next self.new) }
+        requires whole { 4 + size ≤ length self.old.unread }
+        requires idle { self.old.work ≡ Work.Free }
+        ensures next { IfOk result (λ next. Tells (sent self.old (behind_frame size self.old.unread) tags correlation body.now) next self.new) }
         ensures kept { OnErr result (self.new ≡ self.old) }
     {
         match framed(alloc, tags, correlation, body)? {
@@ -128,54 +129,47 @@ impl Conn {
     }
 
     // A frame of so many bytes begins this request.
-    fn begin(&mut self, alloc: Global, size: u32, hand: Hand) -> Result<Next, NoMemory>
-        requires whole { 4 + size ≤ length self.old.link.unread }
-        requires there { self.old.gone ≡ false }
-        requires idle { self.old.link.work ≡ Work.Free }
-        ensures next { IfOk result (λ next. Turns (begun (behind_frame size self.old.link.unread) hand (first_part hand)) self.old next self.new) }
-        ensures asking { IfOk result (λ next. Awaits next self.new) }
+    fn begin(
+        &mut self,
+        alloc: Global,
+        size: u32,
+        correlation: i32,
+        hand: Hand,
+    ) -> Result<Next, NoMemory>
+        requires whole { 4 + size ≤ length self.old.unread }
+        ensures next { IfOk result (λ next. Tells (begun self.old (behind_frame size self.old.unread) correlation hand) next self.new) }
         ensures kept { OnErr result (self.new ≡ self.old) }
     {
-        match hand.asked() {
-            Some(op) => {
-                self.stream.take(4 + size as usize);
-                self.work = Work::Busy(hand);
-                Ok(Next::Ask(Part::Foreign(op)))
-            }
-            None => {
-                let correlation = hand.correlation();
-                let body = hand.into_body(alloc)?;
-                self.send(alloc, size, true, correlation, &body)
-            }
-        }
+        let part = hand.part(alloc)?;
+        self.stream.take(4 + size as usize);
+        self.work = Work::Busy { correlation, hand };
+        Ok(Next::Ask(part))
     }
 
     // A frame of so many bytes was judged.
     fn take_up(&mut self, alloc: Global, size: u32, judged: Judged) -> Result<Next, NoMemory>
-        requires whole { 4 + size ≤ length self.old.link.unread }
-        requires there { self.old.gone ≡ false }
-        requires idle { self.old.link.work ≡ Work.Free }
-        ensures next { IfOk result (λ next. Turns (after (behind_frame size self.old.link.unread) judged) self.old next self.new) }
-        ensures asking { IfOk result (λ next. Awaits next self.new) }
+        requires whole { 4 + size ≤ length self.old.unread }
+        requires idle { self.old.work ≡ Work.Free }
+        ensures next { IfOk result (λ next. Tells (after self.old (behind_frame size self.old.unread) judged) next self.new) }
         ensures kept { OnErr result (self.new ≡ self.old) }
     {
         match judged {
             Judged::Refused(cause) => Ok(self.close(cause)),
-            Judged::Answered {
+            Judged::Taken {
                 tags,
                 correlation,
-                body,
-            } => self.send(alloc, size, tags, correlation, &body),
-            Judged::Begun(hand) => self.begin(alloc, size, hand),
+                stage,
+            } => match stage {
+                Stage::Says(body) => self.send(alloc, size, tags, correlation, &body),
+                Stage::Asks(hand) => self.begin(alloc, size, correlation, hand),
+            },
         }
     }
 
     // The next frame, if it is there.
     fn next_frame(&mut self, alloc: Global, conf: &Config) -> Result<Next, NoMemory>
-        requires there { self.old.gone ≡ false }
-        requires idle { self.old.link.work ≡ Work.Free }
-        ensures next { IfOk result (λ next. Turns (at_front conf.now self.old.link.unread (front_of self.old.link.unread)) self.old next self.new) }
-        ensures asking { IfOk result (λ next. Awaits next self.new) }
+        requires idle { self.old.work ≡ Work.Free }
+        ensures next { IfOk result (λ next. Tells (at_front conf.now self.old (front_of self.old.unread)) next self.new) }
         ensures kept { OnErr result (self.new ≡ self.old) }
     {
         match front_of(self.stream.as_slice()) {
@@ -188,70 +182,75 @@ impl Conn {
         }
     }
 
-    /// What the connection does next: it waits, asks a part, has answered a request that needs no further part, closes, or
-    /// is gone. Until a `give` or an `end` it answers the same part. After want of memory all is as before.
-    pub fn next_part(&mut self, alloc: Global, conf: &Config) -> Result<Next, NoMemory>
-        ensures next { IfOk result (λ next. GoesOn conf.now self.old next self.new) }
-        ensures asking { IfOk result (λ next. Awaits next self.new) }
-        ensures kept { OnErr result (self.new ≡ self.old) }
+    // The next release of a connection that is closing.
+    fn release(&self) -> Next
+        ensures { result ≡ releasing self.now.releases }
     {
-        if self.gone {
-            return Ok(Next::Gone);
-        }
-        match &self.work {
-            Work::Free => self.next_frame(alloc, conf),
-            Work::Busy(hand) => Ok(asked(hand)),
-            Work::Overlong => Ok(self.close(CloseCause::LongReply)),
+        match self.releases.front() {
+            Some(key) => Next::Ask(Part::Foreign(ForeignOp::Delete { key: *key })),
+            None => Next::Gone,
         }
     }
 
-    // The parts of the request in hand are done.
-    fn finish(&mut self, alloc: Global, hand: Hand) -> Result<(), NoMemory>
-        requires there { self.old.gone ≡ false }
-        requires done { first_part hand ≡ None }
-        ensures ok { OnOk result (Settles (settled self.old.link.unread hand None) self.old self.new) }
-        ensures err { OnErr result (self.new.replies ≡ self.old.replies) }
+    /// What the connection does next: it waits, asks a part, has answered a request that needs no further part, closes, or
+    /// is gone. Until a `give` or an `end` it answers the same part. After want of memory all is as before.
+    pub fn next_part(&mut self, alloc: Global, conf: &Config) -> Result<Next, NoMemory>
+        ensures next { IfOk result (λ next. Tells (turn conf.now self.old) next self.new) }
+        ensures idle { IfOk result (λ next. (next ≡ Next.Idle) ↔ Waits self.old) }
+        ensures kept { OnErr result (self.new ≡ self.old) }
     {
-        let correlation = hand.correlation();
-        let body = hand.into_body(alloc)?;
-        match framed(alloc, true, correlation, &body)? {
-            None => self.work = Work::Overlong,
-            Some(frame) => {
-                self.replies.push_back(frame)?;
-                self.work = Work::Free;
+        match &self.work {
+            Work::Free => self.next_frame(alloc, conf),
+            Work::Busy { hand, .. } => {
+                let part = hand.part(alloc)?;
+                Ok(Next::Ask(part))
             }
+            Work::Overlong => Ok(self.close(CloseCause::LongReply)),
+            Work::Closing => Ok(self.release()),
+        }
+    }
+
+    // The request in hand is at this stage.
+    fn settle(
+        &mut self,
+        alloc: Global,
+        correlation: i32,
+        stage: Stage<Hand>,
+    ) -> Result<(), NoMemory>
+        requires idle { self.old.work ≡ Work.Free }
+        ensures ok { OnOk result (self.new ≡ settled self.old correlation stage) }
+        ensures err { OnErr result (self.new ≡ self.old) }
+    {
+        match stage {
+            Stage::Asks(hand) => self.work = Work::Busy { correlation, hand },
+            Stage::Says(body) => match framed(alloc, true, correlation, &body)? {
+                None => self.work = Work::Overlong,
+                Some(frame) => self.replies.push_back(frame)?,
+            },
         }
         Ok(())
     }
 
-    // The next part of the request in hand was done.
-    fn go_on(&mut self, alloc: Global, hand: Hand) -> Result<(), NoMemory>
-        requires there { self.old.gone ≡ false }
-        ensures ok { OnOk result (Settles (settled self.old.link.unread hand (first_part hand)) self.old self.new) }
-        ensures err { OnErr result (self.new.replies ≡ self.old.replies) }
-    {
-        if hand.is_done() {
-            self.finish(alloc, hand)
-        } else {
-            self.work = Work::Busy(hand);
-            Ok(())
-        }
-    }
-
     fn take_answer(&mut self, alloc: Global, answer: PartAnswer) -> Result<(), NoMemory>
-        requires asking { IsAsking self.old }
         requires fair { IsFair answer }
-        ensures ok { OnOk result (self.new ≡ given (told_by answer) self.old) }
-        ensures err { OnErr result (self.new.replies ≡ self.old.replies) }
+        ensures ok { OnOk result (self.new ≡ given answer self.old) }
+        ensures err { OnErr result (ended self.new ≡ ended self.old) }
     {
-        let PartAnswer::Foreign(answer) = answer;
-        let told = told_of(alloc, answer)?;
         match mem::replace(&mut self.work, Work::Free) {
-            Work::Busy(mut hand) => {
-                hand.take_answer(told)?;
-                self.go_on(alloc, hand)
+            Work::Busy { correlation, hand } => {
+                let stage = hand.answer(alloc, answer)?;
+                self.settle(alloc, correlation, stage)
             }
-            Work::Free | Work::Overlong => Ok(()),
+            Work::Closing => {
+                let _ = self.releases.pop_front();
+                self.work = Work::Closing;
+                Ok(())
+            }
+            Work::Overlong => {
+                self.work = Work::Overlong;
+                Ok(())
+            }
+            Work::Free => Ok(()),
         }
     }
 
@@ -265,9 +264,8 @@ impl Conn {
         _conf: &Config,
         answer: PartAnswer,
     ) -> Result<(), NoMemory>
-        requires asking { IsAsking self.old }
         requires fair { IsFair answer }
-        ensures given { OnOk result (self.new ≡ given (told_by answer) self.old) }
+        ensures given { OnOk result (self.new ≡ given answer self.old) }
         ensures ended { OnErr result (self.new ≡ ended self.old) }
     {
         match self.take_answer(alloc, answer) {
@@ -279,11 +277,21 @@ impl Conn {
         }
     }
 
+    /// Whether it has closed, and has nothing left to release.
+    pub fn is_gone(&self) -> bool
+        ensures { result ≡ is_gone self.now }
+    {
+        match &self.work {
+            Work::Closing => self.releases.is_empty(),
+            _ => false,
+        }
+    }
+
     /// The oldest finished reply, the whole frame with its size.
     pub fn take_reply(&mut self) -> Option<Blob>
         ensures some { IfSome result (λ reply. self.old.replies ≡ reply ∷ self.new.replies) }
         ensures none { IfNone result ((self.old.replies ≡ []) × (self.new ≡ self.old)) }
-        ensures rest { (self.new.link ≡ self.old.link) × (self.new.gone ≡ self.old.gone) }
+        ensures rest { without_replies self.new ≡ without_replies self.old }
     {
         self.replies.pop_front()
     }

@@ -1,81 +1,87 @@
-ghost use Rattle.std.specs.Prelude.{◌≡◌, ◌↔◌, OnOk, IfOk, IsTrue, None};
-ghost use Rattle.conn_core.specs.Hands.{first_part, goes_on};
-ghost use Rattle.conn_core.specs.Replies.{body_of};
+//! The calls in hand, each under its own name: what has to know all of them.
+ghost use Rattle.std.specs.Prelude.{◌≡◌, IfOk};
+ghost use Rattle.conn_core.specs.Calls.{IsFair};
+ghost use Rattle.conn_core.specs.Hands.{part_of, answered, initialize_stage, read_stage};
 
-use crate::ask::{Ask, Call, op_of};
-use crate::fill::reply_body;
-use crate::plan::PlannedTopic;
-use crate::told::Told;
-use flex_fields::{Bytes, Items};
-use share_model::{ForeignOp, Name, NoMemory};
+use crate::call::{Asking, Stage, part, take};
+use crate::initialize::{Beginning, Initialize};
+use crate::next::{Part, PartAnswer};
+use crate::read::{Read, Reading};
+use crate::state::{StateHand, Wished, state_call};
+use msgs_state::{
+    InitializeShareGroupStateRequest, PartitionResult, ReadPartitionResult,
+    ReadShareGroupStateRequest,
+};
+use share_model::NoMemory;
 use std::alloc::Global;
-use std::collections::VecDeque;
-use std::marker::Model;
+use topic_conf::Config;
 
-/// A state call that is being answered: what its reply will have at which place, the parts that are left, and what the
-/// parts that are done told, each in order.
-#[derive(Drop)]
-pub struct Hand {
-    pub correlation: i32,
-    pub call: Call,
-    pub group: Name,
-    pub topics: Items<PlannedTopic>,
-    pub left: VecDeque<Ask>,
-    pub done: VecDeque<Told>,
+// A call's stage, under its name in hand.
+macro_rules! held {
+    ($name:ident, $stage:expr) => {
+        match $stage {
+            Stage::Asks(asking) => Ok(Stage::Asks(Hand::$name(asking))),
+            Stage::Says(body) => Ok(Stage::Says(body)),
+        }
+    };
 }
 
-impl Model for Hand {
-    ghost use Rattle.conn_core.specs.Hands.{HandParts};
-
-    ghost Value = { HandParts };
-
-    ghost view = { λ h. record { correlation = h.correlation; call = h.call; group = h.group; topics = h.topics; left = h.left.items; done = h.done.items } };
+/// A request in hand: a part of it is asked.
+#[derive(Drop)]
+pub enum Hand {
+    Initialize(Asking<StateHand<Initialize>, Wished<Beginning>, PartitionResult>),
+    Read(Asking<StateHand<Read>, Wished<Reading>, ReadPartitionResult>),
 }
 
 impl Hand {
-    /// The next part that is left.
-    pub fn asked(&self) -> Option<ForeignOp>
-        ensures { result ≡ first_part self.now }
+    /// The part that is asked.
+    pub fn part(&self, alloc: Global) -> Result<Part, NoMemory>
+        ensures { IfOk result (λ part. part ≡ part_of self.now) }
     {
-        match self.left.front() {
-            Some(ask) => Some(op_of(&self.group, ask)),
-            None => None,
+        match self {
+            Hand::Initialize(asking) => part(alloc, asking),
+            Hand::Read(asking) => part(alloc, asking),
         }
     }
 
-    /// Whether no part is left.
-    pub fn is_done(&self) -> bool
-        ensures { IsTrue result ↔ (first_part self.now ≡ None) }
+    /// It has this answer.
+    pub fn answer(self, alloc: Global, answer: PartAnswer) -> Result<Stage<Hand>, NoMemory>
+        requires { IsFair answer }
+        ensures { IfOk result (λ stage. stage ≡ answered self answer) }
     {
-        self.left.is_empty()
+        match self {
+            Hand::Initialize(asking) => held!(Initialize, take(alloc, asking, answer)?),
+            Hand::Read(asking) => held!(Read, take(alloc, asking, answer)?),
+        }
     }
+}
 
-    /// The next part is done, and told this.
-    pub fn take_answer(&mut self, told: Told) -> Result<(), NoMemory>
-        ensures { OnOk result (self.new ≡ goes_on told self.old) }
-    {
-        self.done.push_back(told)?;
-        let _ = self.left.pop_front();
-        Ok(())
-    }
+/// An Initialize begins.
+pub fn initialize_begins(
+    alloc: Global,
+    conf: &Config,
+    message: InitializeShareGroupStateRequest,
+) -> Result<Stage<Hand>, NoMemory>
+    ensures { IfOk result (λ stage. stage ≡ initialize_stage conf.now message) }
+{
+    let InitializeShareGroupStateRequest { group_id, topics } = message;
+    held!(
+        Initialize,
+        state_call(alloc, conf, Initialize, group_id.as_str(), topics)?
+    )
+}
 
-    /// The correlation id of the request.
-    pub fn correlation(&self) -> i32
-        ensures { result ≡ self.now.correlation }
-    {
-        self.correlation
-    }
-
-    /// The body of the reply.
-    pub fn into_body(self, alloc: Global) -> Result<Bytes, NoMemory>
-        ensures { IfOk result (λ body. body ≡ body_of self) }
-    {
-        let Hand {
-            call,
-            topics,
-            done,
-            ..
-        } = self;
-        reply_body(alloc, call, &topics, done)
-    }
+/// A Read begins.
+pub fn read_begins(
+    alloc: Global,
+    conf: &Config,
+    message: ReadShareGroupStateRequest,
+) -> Result<Stage<Hand>, NoMemory>
+    ensures { IfOk result (λ stage. stage ≡ read_stage conf.now message) }
+{
+    let ReadShareGroupStateRequest { group_id, topics } = message;
+    held!(
+        Read,
+        state_call(alloc, conf, Read, group_id.as_str(), topics)?
+    )
 }

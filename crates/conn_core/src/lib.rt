@@ -3,17 +3,18 @@
 #![tactic(auto)]
 
 mod api;
-mod ask;
+mod call;
 mod conn;
 mod coordinators;
-mod fill;
 mod hand;
+mod initialize;
 mod judge;
 mod law;
 mod metadata;
 mod next;
-mod plan;
+mod read;
 mod sending;
+mod state;
 mod stream;
 #[cfg(test)]
 mod tests_answers;
@@ -27,7 +28,7 @@ mod work;
 
 pub use conn::Conn;
 pub use law::{
-    connections_stay_sound, each_entry_is_told_by_its_own_part,
-    each_request_is_taken_for_what_it_says,
+    connections_depend_on_the_stream, each_request_is_taken_for_what_it_says,
+    requests_keep_to_their_talk,
 };
 pub use next::{Next, Part, PartAnswer};

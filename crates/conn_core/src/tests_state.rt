@@ -1,13 +1,17 @@
-use crate::ask::{Ask, Call, Wish, op_of};
-use crate::fill::reply_body;
-use crate::plan::{PlannedPartition, PlannedTopic, plan_initialize, plan_read};
+ghost use Rattle.std.specs.Prelude.{All, IfOk};
+ghost use Rattle.conn_core.specs.Calls.{IsTellable};
+
+use crate::call::Stage;
+use crate::hand::{Hand, initialize_begins, read_begins};
+use crate::next::{Part, PartAnswer};
 use crate::tests_answers::orders;
-use crate::told::{told_code, told_of};
-use flex_fields::Items;
-use msgs_state::{InitializePartition, InitializeTopic, ReadPartition, ReadTopic};
+use flex_fields::{Items, Text};
+use msgs_state::{
+    InitializePartition, InitializeShareGroupStateRequest, InitializeTopic, ReadPartition,
+    ReadShareGroupStateRequest, ReadTopic,
+};
 use share_model::{Code, ForeignAnswer, ForeignOp, Name, RowState, Run};
 use std::alloc::Global;
-use std::collections::VecDeque;
 use std::test::Fail;
 use uuid::Uuid;
 
@@ -16,7 +20,7 @@ const STATE_REPLY: &[u8] = b"\
     \x04\
     \x11\x11\x11\x11\x11\x11\x11\x11\x11\x11\x11\x11\x11\x11\x11\x11\
     \x05\
-    \0\0\0\x05\0\x2a\0\0\
+    \xff\xff\xff\xf9\0\x2a\0\0\
     \0\0\0\0\0\0\0\0\
     \xff\xff\xff\xff\0\x2a\0\0\
     \0\0\0\x01\0\x7c\0\0\
@@ -54,161 +58,27 @@ fn initialize(partition: i32) -> InitializePartition {
     }
 }
 
-fn known(partition: i32, code: Code) -> PlannedPartition {
-    PlannedPartition {
+fn read(partition: i32) -> ReadPartition {
+    ReadPartition {
         partition,
-        known: Some(code),
+        leader_epoch: 5,
     }
 }
 
-fn asked(partition: i32) -> PlannedPartition {
-    PlannedPartition {
-        partition,
-        known: None,
+fn with_code(alloc: Global, code: Code) -> ForeignAnswer
+    ensures { All IsTellable result.runs }
+{
+    ForeignAnswer {
+        code,
+        state_epoch: 0,
+        start: -1,
+        runs: Items::new(Vec::new(alloc)),
     }
 }
 
-#[test]
-fn partitions_that_are_not_hosted_are_asked(rt: HostRuntime) -> Result<(), Fail> {
-    let alloc = rt.alloc();
-    let conf = orders(alloc)?;
-    let ours = vec![in alloc; initialize(0)]?;
-    let others = vec![in alloc; initialize(-1), initialize(4), initialize(2)]?;
-    let topics = vec![in alloc;
-        InitializeTopic {
-            topic_id: hosted(),
-            partitions: Items::new(ours)
-        },
-        InitializeTopic {
-            topic_id: foreign(),
-            partitions: Items::new(others)
-        },
-    ]?;
-    let plan = plan_initialize(alloc, &conf, true, &topics)?;
-    let [first, second] = plan.topics.as_slice() else {
-        return Err("two topics".into());
-    };
-    assert_eq!(rt; first.topic_id, hosted());
-    let want = [known(0, Code::INVALID_REQUEST)];
-    assert_eq!(rt; first.partitions.as_slice(), want.as_slice());
-    assert_eq!(rt; second.topic_id, foreign());
-    let want = [known(-1, Code::INVALID_REQUEST), asked(4), asked(2)];
-    assert_eq!(rt; second.partitions.as_slice(), want.as_slice());
-    let mut parts = Vec::new(alloc);
-    for ask in &plan.left {
-        assert_eq!(rt; ask.topic, foreign());
-        assert_eq!(rt;
-            ask.wish,
-            Wish::Initialize {
-                state_epoch: 3,
-                start: 7
-            }
-        );
-        parts.push(ask.part)?;
-    }
-    assert_eq!(rt; parts.as_slice(), [4, 2].as_slice());
-    Ok(())
-}
-
-#[test]
-fn nothing_is_asked_for_a_group_that_is_none(rt: HostRuntime) -> Result<(), Fail> {
-    let alloc = rt.alloc();
-    let conf = orders(alloc)?;
-    for (fits, code, left) in [
-        (true, Code::UNKNOWN_TOPIC_OR_PARTITION, 1),
-        (false, Code::INVALID_GROUP_ID, 0),
-    ] {
-        let ours = vec![in alloc;
-            ReadPartition {
-                partition: 0,
-                leader_epoch: 5
-            },
-        ]?;
-        let others = vec![in alloc;
-            ReadPartition {
-                partition: 6,
-                leader_epoch: 5
-            },
-        ]?;
-        let topics = vec![in alloc;
-            ReadTopic {
-                topic_id: hosted(),
-                partitions: Items::new(ours)
-            },
-            ReadTopic {
-                topic_id: foreign(),
-                partitions: Items::new(others)
-            },
-            ReadTopic {
-                topic_id: foreign(),
-                partitions: Items::new(Vec::new(alloc))
-            },
-        ]?;
-        let plan = plan_read(alloc, &conf, fits, &topics)?;
-        let [first, _, third] = plan.topics.as_slice() else {
-            return Err("three topics".into());
-        };
-        assert_eq!(rt; first.partitions.as_slice(), [known(0, code)].as_slice());
-        assert!(rt; third.partitions.as_slice().is_empty());
-        assert_eq!(rt; plan.left.len(), left);
-    }
-    Ok(())
-}
-
-#[test]
-fn an_ask_is_a_call_on_the_key_of_its_partition(rt: HostRuntime) -> Result<(), Fail> {
-    let group = Name::new("g1").ok_or("a name")?;
-    let ask = Ask {
-        topic: foreign(),
-        part: 6,
-        wish: Wish::Read { leader_epoch: 5 },
-    };
-    let ForeignOp::Read { key, leader_epoch } = op_of(&group, &ask) else {
-        return Err("a read".into());
-    };
-    assert_eq!(rt; key.group, group);
-    assert_eq!(rt; key.topic, foreign());
-    assert_eq!(rt; key.part, 6);
-    assert_eq!(rt; leader_epoch, 5);
-    Ok(())
-}
-
-#[test]
-fn answers_stand_at_their_places_with_known_ones_between(rt: HostRuntime) -> Result<(), Fail> {
-    let alloc = rt.alloc();
-    let refused = Code::INVALID_REQUEST;
-    let first = vec![in alloc; known(5, refused), asked(0), known(-1, refused), asked(1)]?;
-    let third = vec![in alloc; asked(2)]?;
-    let topics = vec![in alloc;
-        PlannedTopic {
-            topic_id: foreign(),
-            partitions: Items::new(first)
-        },
-        PlannedTopic {
-            topic_id: hosted(),
-            partitions: Items::new(Vec::new(alloc))
-        },
-        PlannedTopic {
-            topic_id: foreign(),
-            partitions: Items::new(third)
-        },
-    ]?;
-    let mut done = VecDeque::new(alloc);
-    for code in [
-        Code::NONE,
-        Code::FENCED_STATE_EPOCH,
-        Code::UNKNOWN_TOPIC_OR_PARTITION,
-    ] {
-        done.push_back(told_code(alloc, code))?;
-    }
-    let body = reply_body(alloc, Call::Initialize, &Items::new(topics), done)?;
-    assert_eq!(rt; body.as_slice(), STATE_REPLY);
-    Ok(())
-}
-
-#[test]
-fn a_read_reply_has_the_batches_of_its_answer(rt: HostRuntime) -> Result<(), Fail> {
-    let alloc = rt.alloc();
+fn two_runs(alloc: Global) -> Result<ForeignAnswer, Fail>
+    ensures { IfOk result (λ answer. All IsTellable answer.runs) }
+{
     let runs = vec![in alloc;
         Run {
             first: 7,
@@ -223,22 +93,101 @@ fn a_read_reply_has_the_batches_of_its_answer(rt: HostRuntime) -> Result<(), Fai
             count: 5
         },
     ]?;
-    let answer = ForeignAnswer {
+    Ok(ForeignAnswer {
         code: Code::NONE,
         state_epoch: 3,
         start: 7,
         runs: Items::new(runs),
-    };
-    let mut done = VecDeque::new(alloc);
-    done.push_back(told_of(alloc, answer)?)?;
-    let places = vec![in alloc; asked(0)]?;
+    })
+}
+
+/// The part that is asked, and the request.
+fn asked(alloc: Global, stage: Stage<Hand>) -> Result<(ForeignOp, Hand), Fail> {
+    match stage {
+        Stage::Asks(hand) => {
+            let Part::Foreign(op) = hand.part(alloc)?;
+            Ok((op, hand))
+        }
+        Stage::Says(_) => Err("a part".into()),
+    }
+}
+
+#[test]
+fn answers_stand_at_their_places_with_known_ones_between(rt: HostRuntime) -> Result<(), Fail> {
+    let alloc = rt.alloc();
+    let conf = orders(alloc)?;
+    let first = vec![in alloc;
+        initialize(-7),
+        initialize(0),
+        initialize(-1),
+        initialize(1),
+    ]?;
+    let third = vec![in alloc; initialize(2)]?;
     let topics = vec![in alloc;
-        PlannedTopic {
+        InitializeTopic {
+            topic_id: foreign(),
+            partitions: Items::new(first)
+        },
+        InitializeTopic {
+            topic_id: hosted(),
+            partitions: Items::new(Vec::new(alloc))
+        },
+        InitializeTopic {
+            topic_id: foreign(),
+            partitions: Items::new(third)
+        },
+    ]?;
+    let message = InitializeShareGroupStateRequest {
+        group_id: Text::new(alloc, "g1")?,
+        topics: Items::new(topics),
+    };
+    let mut stage = initialize_begins(alloc, &conf, message)?;
+    for (part, code) in [
+        (0, Code::NONE),
+        (1, Code::FENCED_STATE_EPOCH),
+        (2, Code::UNKNOWN_TOPIC_OR_PARTITION),
+    ] {
+        let (op, hand) = asked(alloc, stage)?;
+        let ForeignOp::Init {
+            key,
+            state_epoch,
+            start,
+        } = op
+        else {
+            return Err("an initialize".into());
+        };
+        assert!(rt; key.group == Name::new("g1").ok_or("a name")? && key.topic == foreign());
+        assert_eq!(rt; (key.part, state_epoch, start), (part, 3, 7));
+        stage = hand.answer(alloc, PartAnswer::Foreign(with_code(alloc, code)))?;
+    }
+    let Stage::Says(body) = stage else {
+        return Err("a reply".into());
+    };
+    assert_eq!(rt; body.as_slice(), STATE_REPLY);
+    Ok(())
+}
+
+#[test]
+fn a_read_reply_has_the_batches_of_its_answer(rt: HostRuntime) -> Result<(), Fail> {
+    let alloc = rt.alloc();
+    let conf = orders(alloc)?;
+    let places = vec![in alloc; read(0)]?;
+    let topics = vec![in alloc;
+        ReadTopic {
             topic_id: foreign(),
             partitions: Items::new(places)
         },
     ]?;
-    let body = reply_body(alloc, Call::Read, &Items::new(topics), done)?;
-    assert_eq!(rt; body.as_slice(), READ_REPLY);
-    Ok(())
+    let message = ReadShareGroupStateRequest {
+        group_id: Text::new(alloc, "g1")?,
+        topics: Items::new(topics),
+    };
+    let (_, hand) = asked(alloc, read_begins(alloc, &conf, message)?)?;
+    match hand.answer(alloc, PartAnswer::Foreign(two_runs(alloc)?))? {
+        Stage::Says(body) => {
+            assert_eq!(rt; body.as_slice(), READ_REPLY);
+            Ok(())
+        }
+        Stage::Asks(_) => Err("a reply".into()),
+    }
 }
