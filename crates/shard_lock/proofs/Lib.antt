@@ -1,3 +1,4 @@
+pub mod Deals
 pub mod Seats
 pub mod Steps
 pub mod Views

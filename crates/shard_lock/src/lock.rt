@@ -169,7 +169,7 @@ impl<S: Shard> ShardLock<S> {
     }
 
     // The words begin at `base`.
-    fn make_at(
+    pub(crate) fn make_at(
         alloc: Global,
         shard: S,
         seats: u32,
