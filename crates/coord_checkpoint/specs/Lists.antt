@@ -1,7 +1,6 @@
 -- The list of frames that the two disks of a store keep. This project's own. Today the first disk has the frames, and the second
 -- one is kept free of frames.
--- For example the contents `01 00000001 61 00` and `00` keep the one frame `61` (the test
--- frames_come_back_and_the_second_disk_stays_as_it_was).
+-- For example the contents `01 00000001 61 00` and `00` keep the one frame `61`.
 use Rattle.std.specs.Prelude.{◌≡◌, ℕ, List, [], ◌∷◌, ◌++◌, Bool, true, false}
 use Rattle.std.specs.Option.{option_map}
 use Rattle.std.specs.declared.option.Option.{Option}

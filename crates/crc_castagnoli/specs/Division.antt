@@ -5,7 +5,7 @@
 -- message inverted, 32 bits of 0 behind it, and each bit of the remainder inverted. A number holds coefficients in the
 -- same order, the highest power in its lowest bit, so bit i of a remainder is the coefficient of the power 31 - i.
 --
--- Worked example: the nine bytes of the text 123456789 have the check e3069283 (the test published_vectors).
+-- Worked example: the nine bytes of the text 123456789 have the check e3069283.
 use Rattle.std.specs.Prelude.{◌≡◌, ℕ, zero, suc, ◌+◌, ◌*◌, ◌/◌, ◌%◌, ◌^◌, ◌<◌, ◌==◌, if◌then◌else◌, List, [], ◌∷◌, length, flat_map, bit_xor}
 use Rattle.std.specs.List.{AllByRecursion}
 

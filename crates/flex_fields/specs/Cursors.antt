@@ -1,6 +1,5 @@
 -- What the readers of a cursor answer, beside what reading gives (this project's own).
--- For example `00` is no string, which is refused at 0, and so are the bytes `02 e9`, which aren't UTF-8 (the test
--- tags_are_skipped_and_faults_name_their_field).
+-- For example `00` is no string, which is refused at 0, and so are the bytes `02 e9`, which aren't UTF-8.
 use Rattle.std.specs.Prelude.{◌≡◌, Result, Ok, Err}
 use Rattle.std.specs.Result.{IsOk}
 use Rattle.flex_fields.specs.declared.fault.WireFault.{WireFault}

@@ -1,7 +1,7 @@
 -- A message is described once, as its schema: fields one after the other, structures and arrays of them, as Kafka's
 -- message schemas have them (KIP-482 for the tags). From that follow which bytes stand for which value, what reading
 -- gives, and which bytes are written.
--- For example the array of 1 and -1 is `03 00000001 ffffffff` (the test an_array_is_read_as_it_is_written).
+-- For example the array of 1 and -1 is `03 00000001 ffffffff`.
 use Rattle.std.specs.Prelude.{◌≡◌, ◌≤◌, ℕ, ℤ, Bool, List, ◌++◌, length, take, Option, Result, Ok, IfOk}
 use Rattle.std.specs.Int.{w8, w16, w32, w64}
 use Rattle.flex_fields.specs.declared.fault.WireFault.{WireFault}

@@ -1,7 +1,6 @@
 -- Which bytes stand for which values: the fields of the Kafka protocol guide ("Protocol primitive types") in the
 -- flexible encoding (KIP-482). Numbers have their high byte first; a variable-length number its low group.
--- For example `ff fe` is -2 in two bytes, and the variable-length number `01` is -1 (the test
--- a_number_is_read_in_any_spelling).
+-- For example `ff fe` is -2 in two bytes, and the variable-length number `01` is -1.
 use Rattle.std.specs.Prelude.{◌≡◌, ◌<◌, ◌≤◌, ◌+◌, ◌*◌, ◌^◌, ℕ, ℤ, zero, suc, Bool, List, [], ◌∷◌, ◌++◌, length, true, slice_index, Option, Some, None}
 use Rattle.std.specs.Int.{Width, byte_len, from_be_bytes, cast_signed}
 use Rattle.std.specs.Str.{is_utf8}

@@ -1,6 +1,5 @@
 -- What joins a reading function to the relation of the bytes that stand for values (this project's own).
--- For example ten fields in 30 bytes are read as they were written (the test
--- strings_and_bytes_are_read_as_they_are_written).
+-- For example ten fields in 30 bytes are read as they were written.
 use Rattle.std.specs.Prelude.{◌≡◌, ◌+◌, ◌<◌, ◌≤◌, ℕ, List, ◌++◌, length, Result, Ok}
 use Rattle.flex_fields.specs.declared.fault.WireFault.{WireFault}
 use Rattle.flex_fields.specs.Reading.{At, array_len_at}

@@ -1,8 +1,7 @@
 -- Reading fields from left to right: the value and what follows it, or the first fault with its place.
 -- The fields are those of the Kafka protocol guide ("Protocol primitive types") in the flexible encoding (KIP-482).
 -- Each function here is joined to the relation of `Grammar.antt` by the law `IsReader` of `Laws.antt`.
--- For example `ac 02` is 300, `80 00` is 0, and `ff ff ff ff 1f` is a bad number at 0 (the test
--- a_number_is_read_in_any_spelling).
+-- For example `ac 02` is 300, `80 00` is 0, and `ff ff ff ff 1f` is a bad number at 0.
 use Rattle.std.specs.Prelude.{◌+◌, ◌-◌, ◌*◌, ◌/◌, ◌%◌, ℕ, ℤ, pos, negsuc, zero, suc, Bool, true, false, not, List, [], ◌∷◌, length, take}
 use Rattle.std.specs.Prelude.{drop, slice_index_or, Option, Some, None, Result, Ok, Err, nat_lt, ◌==◌, if◌then◌else◌}
 use Rattle.std.specs.Int.{Width, byte_len, from_be_bytes, cast_signed}

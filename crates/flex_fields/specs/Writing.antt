@@ -1,6 +1,6 @@
 -- The one spelling that is written: the shortest, and no tags. The fields are those of the Kafka protocol guide
 -- ("Protocol primitive types") in the flexible encoding (KIP-482).
--- For example 300 is `ac 02` and -1 is `01` (the test numbers_are_written_in_their_shortest_form).
+-- For example 300 is `ac 02` and -1 is `01`.
 use Rattle.std.specs.Int.{Width, to_be_bytes, cast_unsigned}
 use Rattle.std.specs.List.{flat_map}
 use Rattle.std.specs.Prelude.{ℤ, pos, negsuc, ℕ, zero, suc, ◌+◌, ◌*◌, ◌/◌, ◌%◌, Bool, List, [], ◌∷◌, ◌++◌, length, Option, Some, None}

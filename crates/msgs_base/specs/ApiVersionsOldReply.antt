@@ -1,6 +1,6 @@
 -- The reply to ApiVersions of version 0 (ApiVersionsResponse.json), which a client gets whose version isn't served
 -- (KIP-511). It has no tags.
--- For example `0023 00000001 0012 0003 0003` (the test a_client_of_another_version_gets_the_old_reply).
+-- For example `0023 00000001 0012 0003 0003`.
 use Rattle.std.specs.Prelude.{ℤ, List, refl}
 use Rattle.flex_fields.specs.Reading.{as_at}
 use Rattle.flex_fields.specs.Formats.{Format, Shape, ◌▹◌, int16}

@@ -1,6 +1,5 @@
 -- The reply to ApiVersions of version 3 (KIP-511, ApiVersionsResponse.json).
--- For example `0000 02 0003 000c 000c 00 00000000 00` tells api key 3 at version 12 (the test
--- api_versions_are_read_and_written).
+-- For example `0000 02 0003 000c 000c 00 00000000 00` tells api key 3 at version 12.
 use Rattle.std.specs.Prelude.{ℤ, List, refl}
 use Rattle.flex_fields.specs.Formats.{Format, Shape, structure, array, ◌▹◌, int16, int32}
 use Rattle.msgs_base.specs.declared.api_versions_reply.ApiVersion.{ApiVersion}

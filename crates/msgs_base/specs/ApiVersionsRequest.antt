@@ -1,5 +1,5 @@
 -- The ApiVersions request of version 3 (KIP-511, ApiVersionsRequest.json).
--- For example `02 61 02 31 00` is that of the software `a`, version `1` (the test api_versions_are_read_and_written).
+-- For example `02 61 02 31 00` is that of the software `a`, version `1`.
 use Rattle.std.specs.Prelude.{ℕ, List, refl}
 use Rattle.flex_fields.specs.Formats.{Format, Shape, structure, ◌▹◌, string}
 use Rattle.msgs_base.specs.declared.api_versions_request.ApiVersionsRequest.{ApiVersionsRequest}

@@ -1,7 +1,6 @@
 -- The forms of the older, inflexible messages, of which the reply to ApiVersions of version 0 is one: a structure is its
 -- fields alone, and an array begins with its number of elements in four bytes ("ARRAY" of the protocol guide).
--- For example `00000001 0012 0003 0003` is an array of one entry (the test
--- a_client_of_another_version_gets_the_old_reply).
+-- For example `00000001 0012 0003 0003` is an array of one entry.
 use Rattle.std.specs.Prelude.{◌≡◌, ℕ, ℤ, pos, negsuc, List, ◌++◌, length, Result, Err, nat_lt, if◌then◌else◌}
 use Rattle.std.specs.Int.{w32}
 use Rattle.std.specs.List.{flat_map}

@@ -1,5 +1,5 @@
 -- The reply to FindCoordinator of version 4 (KIP-699, FindCoordinatorResponse.json).
--- For example the 23 bytes of the test coordinators_are_read_and_written tell node 1, at port 9092, for `g1`.
+-- For example one that tells node 1, at port 9092, for `g1` with a host of one letter has 23 bytes.
 use Rattle.std.specs.Prelude.{ℕ, ℤ, List, Option, refl}
 use Rattle.flex_fields.specs.Formats.{Format, Shape, structure, array, ◌▹◌, string, null_string, int16, int32}
 use Rattle.msgs_base.specs.declared.find_coordinator_reply.Coordinator.{Coordinator}

@@ -1,5 +1,5 @@
 -- The FindCoordinator request of version 4 (KIP-699, FindCoordinatorRequest.json).
--- For example `00 02 03 67 31 00` asks for the coordinator of group `g1` (the test coordinators_are_read_and_written).
+-- For example `00 02 03 67 31 00` asks for the coordinator of group `g1`.
 use Rattle.std.specs.Prelude.{ℕ, ℤ, List, refl}
 use Rattle.flex_fields.specs.Formats.{Format, Shape, structure, array, ◌▹◌, string, int8}
 use Rattle.msgs_base.specs.declared.find_coordinator_request.FindCoordinatorRequest.{FindCoordinatorRequest}

@@ -1,6 +1,5 @@
 -- The reply to Metadata of version 12 (MetadataResponse.json).
--- For example the bytes of the test metadata_is_read_and_written tell one broker, at port 9092, and one topic with one
--- partition.
+-- For example one tells one broker, at port 9092, and one topic with one partition.
 use Rattle.std.specs.Prelude.{ℕ, ℤ, Bool, List, Option, refl}
 use Rattle.flex_fields.specs.Formats.{Format, Shape, structure, array, ◌▹◌, string, null_string, uuid, boolean, int16, int32}
 use Rattle.msgs_base.specs.declared.metadata_reply.MetadataBroker.{MetadataBroker}

@@ -1,6 +1,5 @@
 -- The Metadata request of version 12 (MetadataRequest.json).
--- For example `00 01 00 00` asks for all topics, and allows that topics are made (the test
--- metadata_is_read_and_written).
+-- For example `00 01 00 00` asks for all topics, and allows that topics are made.
 use Rattle.std.specs.Prelude.{ℕ, Bool, List, Option, refl}
 use Rattle.flex_fields.specs.Formats.{Format, Shape, structure, null_array, ◌▹◌, null_string, uuid, boolean}
 use Rattle.msgs_base.specs.declared.metadata_request.MetadataRequestTopic.{MetadataRequestTopic}

@@ -1,6 +1,5 @@
 -- The InitializeShareGroupState request of version 0 (KIP-932, InitializeShareGroupStateRequest.json).
--- For example the 40 bytes of the test requests_are_read_and_written are that of group `g1` for partition 0 with state
--- epoch 3 and start 7.
+-- For example that of group `g1` for partition 0 with state epoch 3 and start 7 has 40 bytes.
 use Rattle.std.specs.Prelude.{ℕ, ℤ, List, refl}
 use Rattle.flex_fields.specs.Formats.{Format, Shape, structure, array, ◌▹◌, string, uuid, int32, int64}
 use Rattle.msgs_state.specs.declared.initialize_request.InitializePartition.{InitializePartition}

@@ -1,5 +1,5 @@
 -- The reply to ReadShareGroupState of version 0 (KIP-932, ReadShareGroupStateResponse.json).
--- For example the 41 bytes of the test a_read_reply_is_read_and_written have state epoch 3 and start 7 for partition 0.
+-- For example one with state epoch 3 and start 7 for partition 0 and no batches has 41 bytes.
 use Rattle.std.specs.Prelude.{ℕ, ℤ, List, Option, refl}
 use Rattle.flex_fields.specs.Formats.{Format, Shape, structure, array, ◌▹◌, null_string, uuid, int16, int32, int64}
 use Rattle.msgs_state.specs.declared.read_reply.ReadPartitionResult.{ReadPartitionResult}

@@ -1,5 +1,5 @@
 -- The ReadShareGroupState request of version 0 (KIP-932, ReadShareGroupStateRequest.json).
--- For example the 32 bytes of the test requests_are_read_and_written are that of group `g1` for partition 0.
+-- For example that of group `g1` for partition 0 has 32 bytes.
 use Rattle.std.specs.Prelude.{ℕ, ℤ, List, refl}
 use Rattle.flex_fields.specs.Formats.{Format, Shape, structure, array, ◌▹◌, string, uuid, int32}
 use Rattle.msgs_state.specs.declared.read_request.ReadPartition.{ReadPartition}

@@ -1,6 +1,6 @@
 -- A batch of records in one delivery state (KIP-932), as the replies to ReadShareGroupState and the requests of
 -- WriteShareGroupState have them.
--- For example the reply of the test a_read_reply_has_the_batches_of_its_answer of conn_core has two of them.
+-- For example offsets 0 to 4, acknowledged and delivered once, are `0000000000000000 0000000000000004 02 0001 00`.
 use Rattle.std.specs.Prelude.{ℤ, refl}
 use Rattle.flex_fields.specs.Formats.{Format, Shape, structure, ◌▹◌, int8, int16, int64}
 use Rattle.msgs_state.specs.declared.state_batch.StateBatch.{StateBatch}

@@ -1,6 +1,6 @@
 -- The reply to InitializeShareGroupState, WriteShareGroupState and DeleteShareGroupState of version 0 (KIP-932,
 -- InitializeShareGroupStateResponse.json and its two likes).
--- For example the 28 bytes of the test replies_are_written_and_read have code 0 for partition 0.
+-- For example one with code 0 for partition 0 has 28 bytes.
 use Rattle.std.specs.Prelude.{ℕ, ℤ, List, Option, refl}
 use Rattle.flex_fields.specs.Formats.{Format, Shape, structure, array, ◌▹◌, null_string, uuid, int16, int32}
 use Rattle.msgs_state.specs.declared.state_reply.PartitionResult.{PartitionResult}

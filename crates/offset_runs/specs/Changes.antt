@@ -1,7 +1,6 @@
 -- What the calls of `Runs` change: the look-up before, and the look-up after. A look-up is told by its canonical runs
 -- (this project's own, over the state batches of KIP-932).
--- For example a row put at 4 and 5 over a run from 0 to 9 leaves the rows at 0 to 3 and 6 to 9 as they were (the test
--- a_row_that_is_put_back_makes_one_run_again).
+-- For example a row put at 4 and 5 over a run from 0 to 9 leaves the rows at 0 to 3 and 6 to 9 as they were.
 use Rattle.std.specs.Prelude.{◌≡◌, ℕ, List, Some, None, nat_le, nat_lt, ◌&&◌, if◌then◌else◌}
 use Rattle.std.specs.Option.{option_or}
 use Rattle.share_model.specs.Runs.{row_at}

@@ -1,6 +1,5 @@
 -- Lists of runs, cut and joined (this project's own).
--- For example the runs from 0 to 9 and from 10 to 19 of one row touch, and are joined to the run from 0 to 19 (the test
--- ranges_overlap_a_run_at_the_ends_of_the_offsets).
+-- For example the runs from 0 to 9 and from 10 to 19 of one row touch, and are joined to the run from 0 to 19.
 use Rattle.std.specs.Prelude.{◌≤◌, ◌<◌, ◌+◌, ◌-◌, ℕ, suc, min, max, Bool, List, [], ◌∷◌, Option, Some, None, nat_eq, nat_lt, ◌&&◌, if◌then◌else◌}
 use Rattle.share_model.specs.Rows.{state_number}
 use Rattle.share_model.specs.declared.run.Run.{Run}

@@ -1,7 +1,6 @@
 -- Record batches, and why bytes aren't one (Apache Kafka documentation, "Record Batch").
 --
--- Worked example: the 85 bytes of the test three_records are a batch in both forms, with the records a, b and c at the
--- offsets 0, 1 and 2.
+-- Worked example: 85 bytes are a batch in both forms, with the records a, b and c at the offsets 0, 1 and 2.
 use Rattle.std.specs.Prelude.{◌≡◌, ◌≢◌, ℕ, ℤ, pos, negsuc, ◌+ℤ◌, ◌≤ℤ◌, ◌<ℤ◌, ◌<◌, ◌≤◌, ◌^◌, ◌⊎◌, List, [], ◌∷◌, ◌++◌, length, bit_and}
 use Rattle.share_model.specs.declared.fault.BatchFault.{BatchFault}
 use Rattle.share_model.specs.declared.fault.BatchFault.TheVariants.{TooLarge, Short, BadMagic, BadCrc, Compressed, Transactional}

@@ -1,8 +1,8 @@
 -- The fixed fields of a record batch of version 2, each at its place, high byte first (Apache Kafka documentation,
 -- "Record Batch"; the same layout is that of DefaultRecordBatch). Records follow from byte 61 on.
 --
--- Worked example: in the 85 bytes of the test three_records the length is 73, the last offset delta 2 and the number of
--- records 3.
+-- Worked example: in a batch of 85 bytes with the records a, b and c the length is 73, the last offset delta 2 and the
+-- number of records 3.
 use Rattle.std.specs.Prelude.{ℕ, ℤ, List, take, drop}
 use Rattle.std.specs.Int.{Width, w8, w16, w32, w64, byte_len, from_be_bytes, cast_signed}
 

@@ -1,7 +1,6 @@
 -- Which bytes stand for which record of a batch (Apache Kafka documentation, "Record" and "Record Header").
 --
--- Worked example: 0e 00 00 04 01 02 63 00 is the record at offset delta 2 with no key and the value c (the test
--- three_records).
+-- Worked example: 0e 00 00 04 01 02 63 00 is the record at offset delta 2 with no key and the value c.
 use Rattle.std.specs.Prelude.{◌≡◌, ℕ, ℤ, pos, negsuc, List, ◌++◌, length, Option, Some, None}
 use Rattle.std.specs.Int.{w8}
 use Rattle.flex_fields.specs.Grammar.{IsInt, IsVarint, IsVarlong, Then, AreMany}

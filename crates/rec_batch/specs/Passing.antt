@@ -2,7 +2,7 @@
 -- or nothing where no such part stands in front. The relations of `Grammar.antt` say what the parts are. The clauses of
 -- private functions cite what stands here, and no public one does.
 --
--- Worked example: 0e 00 00 04 01 02 63 00 is passed whole, with the offset delta 2 (the test three_records).
+-- Worked example: 0e 00 00 04 01 02 63 00 is passed whole, with the offset delta 2.
 use Rattle.std.specs.Prelude.{ℕ, ℤ, pos, negsuc, zero, suc, List, [], ◌∷◌, length, take, drop, Option, Some, None, Result, Ok, Err, nat_lt, ◌==◌, if◌then◌else◌}
 use Rattle.flex_fields.specs.declared.fault.WireFault.{WireFault}
 use Rattle.flex_fields.specs.Reading.{At, varint_at, varlong_at}

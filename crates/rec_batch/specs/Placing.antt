@@ -1,8 +1,7 @@
 -- A batch at its place in a log: the broker sets its base offset and leader epoch, over which the checksum isn't taken
 -- (Apache Kafka documentation, "Record Batch"). This broker's leader epoch is 0.
 --
--- Worked example: at the base 0102030405060708 a batch begins with these eight bytes, and all bytes from 16 on stay (the
--- test a_batch_gets_its_place).
+-- Worked example: at the base 0102030405060708 a batch begins with these eight bytes, and all bytes from 16 on stay.
 use Rattle.std.specs.Prelude.{ℕ, List, ◌++◌, take, drop, replicate}
 use Rattle.std.specs.Int.{w64, to_be_bytes}
 

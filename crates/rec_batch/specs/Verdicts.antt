@@ -1,7 +1,7 @@
 -- What the steps of the reader find out of a batch (Apache Kafka documentation, "Record Batch"). The clauses of private
 -- functions cite it, and no public one does.
 --
--- Worked example: 1048589 bytes have the size fault TooLarge, and 60 have Short (the test faults_of_the_size).
+-- Worked example: 1048589 bytes have the size fault TooLarge, and 60 have Short.
 use Rattle.std.specs.Prelude.{◌≡◌, ◌≢◌, ℕ, ℤ, pos, negsuc, ◌+ℤ◌, ◌<◌, ◌≤◌, ◌⊎◌, List, [], ◌∷◌, length}
 use Rattle.std.specs.Prelude.{Option, Some, None, MatchOption, MatchBool, Bool, bit_and}
 use Rattle.share_model.specs.declared.fault.BatchFault.{BatchFault}

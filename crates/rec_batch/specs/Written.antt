@@ -1,7 +1,7 @@
 -- The one spelling of a batch that is written: its offsets count up from 0, and all that it doesn't say is 0 or -1. The
 -- layout is Kafka's (Apache Kafka documentation, "Record Batch" and "Record"); these values are this project's own.
 --
--- Worked example: the records a, b and c without keys are written as the 85 bytes of the test three_records.
+-- Worked example: the records a, b and c without keys are written in 85 bytes.
 use Rattle.std.specs.Prelude.{ℕ, pos, negsuc, ◌+◌, ◌-◌, List, [], ◌∷◌, ◌++◌, length, Option, Some, None}
 use Rattle.std.specs.Int.{w8, w16, w32, w64, to_be_bytes}
 use Rattle.flex_fields.specs.Writing.{int_bytes, varint_bytes, varlong_bytes}

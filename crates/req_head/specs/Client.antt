@@ -1,6 +1,6 @@
 -- The client id of a request header: two bytes of length and the string, or -1 for null. Kafka keeps it in the
 -- form of the older, inflexible messages ("NULLABLE_STRING" of the protocol guide, RequestHeader.json).
--- For example `ff ff` is null and `00 02 67 31` is `g1` (the test a_request_header_is_read_and_written).
+-- For example `ff ff` is null and `00 02 67 31` is `g1`.
 use Rattle.std.specs.Prelude.{◌≡◌, ℕ, ℤ, pos, negsuc, zero, suc, true, List, ◌++◌, length, take, Option, Some, None, Result, Ok, Err}
 use Rattle.std.specs.Prelude.{nat_lt, if◌then◌else◌}
 use Rattle.std.specs.Int.{w16}

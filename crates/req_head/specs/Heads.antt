@@ -1,7 +1,6 @@
 -- The headers of requests and replies: request header version 2 and response header versions 1 and 0 (KIP-482,
 -- RequestHeader.json and ResponseHeader.json).
--- For example `0053 0000 00000001 ffff 00` is the header of key 83, version 0 and correlation id 1 (the test
--- a_request_header_is_read_and_written).
+-- For example `0053 0000 00000001 ffff 00` is the header of key 83, version 0 and correlation id 1.
 use Rattle.std.specs.Prelude.{ℕ, ℤ, Bool, true, false, List, Option, refl}
 use Rattle.flex_fields.specs.Formats.{Format, Shape, structure, ◌▹◌, int16, int32}
 use Rattle.req_head.specs.Client.{IsClient, client_at, client_bytes}

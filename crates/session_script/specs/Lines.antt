@@ -1,6 +1,5 @@
 -- Lines and words as lists of bytes: where they are cut, and what they say (this project's own).
--- For example `open  1`, with two blanks, is cut into `open` and ` 1`, which is no number (the test
--- the_first_malformed_line_is_named_by_its_place).
+-- For example `open  1`, with two blanks, is cut into `open` and ` 1`, which is no number.
 use Rattle.std.specs.Prelude.{◌≡◌, ◌≢◌, ◌<◌, ◌≤◌, ◌^◌, ◌∷◌, ◌++◌, ℕ, List, take, drop, length, slice_index, ◌-◌, ◌+◌, ◌⊎◌}
 use Rattle.std.specs.declared.option.Option.{Option}
 use Rattle.std.specs.Io.KnownBytes.{IsAtEnd}

@@ -1,6 +1,6 @@
 -- The output of a replay: one line for each outcome, and a last line where the script is malformed. The format is this
 -- project's own; docs/SCRIPT.md shows it.
--- For example a reply of the bytes 0, 255 and 26 to connection 1 is `reply 1 00ff1a` (the test outcomes_are_written_as_lines).
+-- For example a reply of the bytes 0, 255 and 26 to connection 1 is `reply 1 00ff1a`.
 use Rattle.std.specs.Prelude.{List, ℕ, [], ◌∷◌, ◌++◌, codes}
 use Rattle.std.specs.List.{flat_map}
 use Rattle.std.specs.Fmt.{decimal, signed_decimal}

@@ -1,6 +1,5 @@
 -- What a reader of scripts does to the text that is still to come (this project's own).
--- For example of `end` and, behind its line feed, `x` nothing is taken, and the fault is at 4 (the test
--- the_first_malformed_line_is_named_by_its_place).
+-- For example of `end` and, behind its line feed, `x` nothing is taken, and the fault is at 4.
 use Rattle.std.specs.Prelude.{◌≡◌, ◌≤◌, ◌+◌, List, [], ◌++◌, ℕ, Bool, true, length, Result, Ok, Err, IfSome}
 use Rattle.std.specs.declared.option.Option.{Option}
 use Rattle.std.specs.Io.KnownBytes.{Consumes, IsAtEnd}

@@ -2,8 +2,7 @@
 -- are decimal without leading zeros, and bytes are lower-case hexadecimal digits. The format is this project's own;
 -- docs/SCRIPT.md shows it.
 -- For example `bytes 7 00ff1a` brings three bytes to connection 7, and of the lines `open 1`, `opne 2`, `end` the second, at
--- byte 7, is malformed (the tests events_are_read_and_written_line_by_line_up_to_the_end and
--- the_first_malformed_line_is_named_by_its_place).
+-- byte 7, is malformed.
 use Rattle.std.specs.Prelude.{◌≡◌, ◌<◌, ◌≤◌, ◌+◌, ◌^◌, ◌⊎◌, ℕ, List, [], ◌∷◌, ◌++◌, length, codes}
 use Rattle.std.specs.List.{flat_map, AllByRecursion}
 use Rattle.std.specs.Fmt.{decimal}

@@ -1,6 +1,5 @@
 -- What a reader of scripts holds (this project's own).
--- For example once the line `open 1` is taken what is pending has the place 7 (the test
--- the_first_malformed_line_is_named_by_its_place).
+-- For example once the line `open 1` is taken what is pending has the place 7.
 use Rattle.std.specs.Prelude.{◌≢◌, ◌≤◌, ◌-◌, ◌^◌, List, ℕ, length, take, drop}
 use Rattle.std.specs.List.{AllByRecursion}
 

@@ -1,5 +1,5 @@
 -- What a call that writes a text does to its sink (this project's own).
--- For example `malformed 27` stands whole behind the reply before it (the test outcomes_are_written_as_lines).
+-- For example `malformed 27` stands whole behind the reply before it.
 use Rattle.std.specs.Prelude.{◌≡◌, ◌≤◌, List, ℕ, OnOk, Result, Err}
 use Rattle.std.specs.declared.option.Option.{Option}
 use Rattle.std.specs.Io.KnownBytes.{Appends, Keeps}

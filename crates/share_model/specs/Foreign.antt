@@ -1,7 +1,6 @@
 -- Foreign state: the share-partition states of partitions that this broker doesn't host. Their coordinators keep them here
 -- by the share-group state calls of KIP-932.
--- For example a key is unknown until it is initialized, and once it has state epoch 3 one with 2 is fenced (the test
--- a_key_is_unknown_until_it_is_initialized_and_a_lower_epoch_is_fenced of share_top).
+-- For example a key is unknown until it is initialized, and once it has state epoch 3 one with 2 is fenced.
 use Rattle.std.specs.Prelude.{◌≡◌, ℤ, pos, negsuc, Bool, true, false, List, [], ◌∷◌, Option, Some, None, int_le, int_lt, ◌&&◌, if◌then◌else◌}
 use Rattle.std.specs.Ordering.{is_eq}
 use Rattle.share_model.specs.Keys.{KeyParts, key_cmp}

@@ -1,7 +1,6 @@
 -- A key of share-partition state: a group on a topic's partition (KIP-932, the share-group state). The order of keys is
 -- this project's own.
--- For example `g` comes before `g1`, and partition 2 before partition 10 (the test
--- keys_stand_in_order_of_group_topic_and_partition).
+-- For example `g` comes before `g1`, and partition 2 before partition 10.
 use Rattle.std.specs.Prelude.{ℕ, List}
 use Rattle.std.specs.declared.cmp.Ordering.{Ordering}
 use Rattle.std.specs.Ordering.{nat_cmp, on, then_cmp}

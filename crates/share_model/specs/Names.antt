@@ -1,7 +1,6 @@
 -- A name: 1 to 255 bytes of UTF-8 (RFC 3629), kept in an array of 255 bytes with zeros behind them. The bound is this
 -- project's own.
--- For example `größe` is a name of 7 bytes; no bytes, 256 of them and the byte ff are none (the test
--- a_name_has_1_to_255_bytes_of_utf_8).
+-- For example `größe` is a name of 7 bytes; no bytes, 256 of them and the byte ff are none.
 use Rattle.std.specs.Prelude.{◌≡◌, ◌≤◌, ◌-◌, ℕ, List, ◌++◌, length, take, replicate, true}
 use Rattle.std.specs.Str.{is_utf8}
 use Rattle.std.proofs.Common.{ap, ◌∙◌, sym, arith}

@@ -1,7 +1,6 @@
 -- What a store may be found with after a crash. A write that failed on a device, and that no later write has mended away, is
 -- pending: a crash may leave it done or undone (POSIX `fdatasync` promises nothing of it). This project's own.
--- For example a journal of no frames whose append of `61` failed at its last sync is found with no frames, or with `61` (the
--- test a_frame_lands_only_where_the_last_sync_failed_and_the_write_was_kept of gate_journal).
+-- For example a journal of no frames whose append of `61` failed at its last sync is found with no frames, or with `61`.
 use Rattle.std.specs.Prelude.{◌⊎◌, Some, None}
 use Rattle.std.specs.declared.option.Option.{Option}
 

@@ -1,6 +1,5 @@
 -- A room: bytes, and how many more it takes with no memory (this project's own).
--- For example one that has set 2 bytes aside holds 1, 2 and 3 once 1, 2 and then 3 were appended (the test
--- a_room_takes_what_was_set_aside).
+-- For example one that has set 2 bytes aside holds 1, 2 and 3 once 1, 2 and then 3 were appended.
 use Rattle.std.specs.Prelude.{◌≡◌, ◌≤◌, ◌+◌, ◌++◌, ℕ, List, length}
 
 -- the bytes, and the number of bytes that may be appended with no memory

@@ -1,6 +1,5 @@
 -- A stored row of share-partition state, as the share-group state calls carry it (KIP-932, DeliveryState).
--- For example 4 is the number of an archived row, and 1 and 3 are those of none (the test
--- the_states_of_stored_rows_have_the_numbers_0_2_and_4).
+-- For example 4 is the number of an archived row, and 1 and 3 are those of none.
 use Rattle.std.specs.Prelude.{ℕ, Option, Some, None, nat_eq, if◌then◌else◌}
 use Rattle.share_model.specs.declared.row.RowState.{RowState}
 use Rattle.share_model.specs.declared.row.RowState.TheVariants.{Available, Acknowledged, Archived}

@@ -1,7 +1,6 @@
 -- Runs of offsets: a look-up from offset to row as a list of (first offset, last offset, row), the form in which
 -- KIP-932's state batches carry it.
--- For example `(0, 9, acknowledged, 1)` stands for ten rows (the test a_row_that_is_put_back_makes_one_run_again of
--- offset_runs).
+-- For example `(0, 9, acknowledged, 1)` stands for ten rows.
 use Rattle.std.specs.Prelude.{◌≡◌, ◌≢◌, ◌+◌, ◌≤◌, ◌<◌, ℕ, List, [], ◌∷◌, Option, Some, None, nat_le, ◌&&◌, if◌then◌else◌}
 use Rattle.share_model.specs.declared.row.Row.{Row}
 use Rattle.share_model.specs.declared.run.Run.{Run}

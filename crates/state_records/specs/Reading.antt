@@ -1,8 +1,7 @@
 -- Reading a state record from left to right: the value, or the place of the first field that is wrong (this project's own).
 -- Which bytes are read at all is said by `Spelling.antt`; this says of the others where they are wrong.
--- For example 53 bytes of a snapshot of 54 are wrong at byte 50, where the number of runs begins (the test
--- a_snapshot_is_written_and_read_again), and an update whose second run begins where the first one ends is wrong at the
--- second's first byte, 73 (the test a_fault_is_at_its_field).
+-- For example 53 bytes of a snapshot of 54 are wrong at byte 50, where the number of runs begins, and an update whose second
+-- run begins where the first one ends is wrong at the second's first byte, 73.
 use Rattle.std.specs.Prelude.{◌≡◌, ◌+◌, ◌-◌, ◌^◌, ℕ, zero, suc, ℤ, pos, negsuc, Bool, true, false, ◌==◌, ◌&&◌, ◌||◌, List, [], ◌∷◌}
 use Rattle.std.specs.Prelude.{length, take, Option, Some, None, Result, Ok, Err, nat_le, nat_lt, if◌then◌else◌}
 use Rattle.std.specs.Int.{Width, w16, w32, w64, byte_len, from_be_bytes}

@@ -1,6 +1,5 @@
 -- The bytes of a state record, of which each record has just these (this project's own). Numbers have their high byte first.
--- For example the snapshot of the state in `States.antt` has 54 bytes, of which 00 00 0002 67 31 are the first (the test
--- a_snapshot_is_written_and_read_again).
+-- For example the snapshot of the state in `States.antt` has 54 bytes, of which 00 00 0002 67 31 are the first.
 use Rattle.std.specs.Prelude.{◌-◌, ◌^◌, ℕ, ℤ, pos, negsuc, List, [], ◌∷◌, ◌++◌, length}
 use Rattle.std.specs.Int.{w16, w32, w64, to_be_bytes}
 use Rattle.std.specs.List.{flat_map}

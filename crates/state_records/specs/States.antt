@@ -1,6 +1,5 @@
 -- The state of a share partition, as a record of the state journal carries it (KIP-932, share-partition state).
--- For example the group `g1` on partition 0 of a topic has state epoch 3, leader epoch 0, start 7 and no runs (the test
--- a_snapshot_is_written_and_read_again).
+-- For example the group `g1` on partition 0 of a topic has state epoch 3, leader epoch 0, start 7 and no runs.
 use Rattle.std.specs.Prelude.{◌≡◌, ◌<◌, ◌^◌, ℕ, ℤ, pos, negsuc, List, length}
 use Rattle.std.specs.List.{AllByRecursion}
 use Rattle.share_model.specs.Keys.{KeyParts}

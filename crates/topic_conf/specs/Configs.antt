@@ -1,5 +1,5 @@
 -- What a broker is configured with (this project's own).
--- For example a lock time of 30000 and a limit of 5 are told as they were given (the test a_configuration_tells_its_parts).
+-- For example a lock time of 30000 and a limit of 5 are told as they were given.
 use Rattle.std.specs.Prelude.{◌≤◌, ℕ, List}
 use Rattle.share_model.specs.declared.reset.Reset.{Reset}
 use Rattle.topic_conf.specs.declared.topic.Topic.{Topic}

@@ -1,7 +1,6 @@
 -- The topics that a broker hosts, and the numbers of their partitions' shards (this project's own). A topic is named by its
 -- name, which is one that Kafka allows, or by its id, which has 16 bytes.
--- For example 63 partitions of `orders` and one of `audit` may be hosted together, and 64 and one may not (the test
--- topics_are_refused_that_one_broker_can_not_host).
+-- For example 63 partitions of `orders` and one of `audit` may be hosted together, and 64 and one may not.
 use Rattle.std.specs.Prelude.{◌≡◌, ◌≢◌, ◌≤◌, ◌+◌, ℕ, ℤ, pos, negsuc, List, [], ◌∷◌, Option, Some, None, length, All, AllPairs, sum_by, nat_lt, if◌then◌else◌}
 use Rattle.std.specs.List.{position}
 use Rattle.std.specs.Option.{option_map}
@@ -32,8 +31,7 @@ pub record IsTopicList (topics : List Topic) : Type 0 where
   pub apart : AllPairs AreApart topics
   pub few : partitions topics ≤ most_partitions
 
--- Where the topic of this name stands, counted from 0. In `orders`, `audit` the name `audit` stands at 1 (the test
--- a_topic_stands_where_it_was_listed).
+-- Where the topic of this name stands, counted from 0. In `orders`, `audit` the name `audit` stands at 1.
 abbrev pub place_by_name : List ℕ → List Topic → Option ℕ
 place_by_name name topics = position (λ topic. bytes_eq topic.name name) topics
 
@@ -47,8 +45,7 @@ partition_at (pos partition) parts = if nat_lt partition parts then Some partiti
 partition_at (negsuc _) parts = None
 
 -- The number of a partition's shard. Shards are numbered from 0, topic by topic and partition by partition: with three
--- partitions of `orders` and one of `audit` they are orders 0, orders 1, orders 2, audit 0 (the test
--- shards_are_numbered_topic_by_topic).
+-- partitions of `orders` and one of `audit` they are orders 0, orders 1, orders 2, audit 0.
 abbrev pub shard_at : List ℕ → ℤ → List Topic → Option ℕ
 shard_at id partition [] = None
 shard_at id partition (topic ∷ topics) =
