@@ -12,8 +12,6 @@ mod faulty;
 mod history;
 mod sink;
 mod source;
-#[cfg(test)]
-mod tests;
 
 pub use bay::{MemBay, Slot};
 pub use disk::MemDisk;

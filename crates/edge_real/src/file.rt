@@ -4,27 +4,31 @@ ghost use Rattle.edge_io.specs.Causes.{HasCause, raised};
 ghost use Rattle.edge_io.specs.Disk.{GrowsTo, ShrinksTo};
 ghost use Rattle.edge_real.specs.Files.{no_content, Calls, Syncs};
 
+use crate::fault::{SystemCall, SystemFault};
+use crate::system::{Folders, OpenedFile, SystemFolders};
 use edge_io::{Disk, DiskName, Failed, FaultMode};
-use std::fs::{File, OpenOptions};
+use std::alloc::Global;
+use std::fs::File;
+use std::io;
 use std::io::ErrorKind;
 use std::marker::Model;
-use std::os::unix::fs::FileExt;
 use std::rt::Files;
-use std::{fs, io};
 
 /// A disk over a file, by positioned reads and writes. It tells no content, and ignores `arm` and `power_loss`.
 ///
 /// A sync is `fdatasync`. After one that failed every later call fails, until the file is opened again: the system may
 /// have dropped what was written, and would not say so at the next sync.
 #[derive(Drop)]
-pub struct FileDisk {
-    file: File,
+pub struct FileDisk<F> {
+    file: F,
+    name: DiskName,
     size: u64,
     broken: bool,
     faults: u64,
+    last: Option<SystemFault>,
 }
 
-impl Model for FileDisk {
+impl<F> Model for FileDisk<F> {
     ghost use Rattle.edge_real.specs.Files.{FileState};
 
     ghost Value = { FileState };
@@ -32,27 +36,23 @@ impl Model for FileDisk {
     ghost view = { λ d. record { size = d.size; broken = d.broken; faults = d.faults } };
 }
 
-// Syncs a folder, so that the names in it last.
-fn sync_folder<R: Files<File = File>>(rt: &R, path: &str) -> io::Result<()> {
-    File::open(rt, path)?.sync_all()
-}
-
-// Syncs the folders of a name, from its own up to the given one.
-fn sync_folders<R: Files<File = File> + AllocGlobal>(
-    rt: &R,
+// Syncs the folders of a name, from its own up to the given one, so that the names in them last.
+fn sync_folders<S: Folders>(
+    alloc: Global,
+    system: &mut S,
     folder: &str,
     name: &str,
 ) -> io::Result<()> {
     let mut rest = name;
     while let Some((parent, _)) = rest.rsplit_once('/') {
-        let above = format!(in rt.alloc(); "{folder}/{parent}")?;
-        sync_folder(rt, &above)?;
+        let above = format!(in alloc; "{folder}/{parent}")?;
+        system.sync_folder(&above)?;
         rest = parent;
     }
-    sync_folder(rt, folder)
+    system.sync_folder(folder)
 }
 
-impl FileDisk {
+impl FileDisk<File> {
     /// Opens the file of that name under a folder. A file that is missing is made, empty, with the folders above it.
     ///
     /// It syncs the file's folder and those above it up to the given one, so that the file's name lasts: three syncs, or
@@ -61,29 +61,52 @@ impl FileDisk {
         rt: &R,
         folder: &str,
         name: &DiskName,
-    ) -> io::Result<FileDisk>
+    ) -> io::Result<FileDisk<File>>
+        ensures { IfOk result (λ d. (d.broken ≡ false) × (d.faults ≡ 0)) }
+    {
+        FileDisk::open_by(rt.alloc(), &mut SystemFolders { rt }, folder, name)
+    }
+}
+
+impl<F: OpenedFile> FileDisk<F> {
+    /// Opens a file as `open` does, by these calls.
+    pub fn open_by<S: Folders<File = F>>(
+        alloc: Global,
+        system: &mut S,
+        folder: &str,
+        name: &DiskName,
+    ) -> io::Result<FileDisk<F>>
         ensures { IfOk result (λ d. (d.broken ≡ false) × (d.faults ≡ 0)) }
     {
         let Ok(text) = str::from_utf8(name.as_bytes()) else {
             return Err(io::Error::from(ErrorKind::InvalidInput));
         };
-        let path = format!(in rt.alloc(); "{folder}/{text}")?;
+        let path = format!(in alloc; "{folder}/{text}")?;
         if let Some((parent, _)) = path.rsplit_once('/') {
-            fs::create_dir_all(rt, parent)?;
+            system.make_folders(parent)?;
         }
-        let file = OpenOptions::new()
-            .read(true)
-            .write(true)
-            .create(true)
-            .open(rt, path.as_str())?;
-        sync_folders(rt, folder, text)?;
-        let size = file.metadata()?.len();
+        let mut file = system.open_file(&path)?;
+        sync_folders(alloc, system, folder, text)?;
+        let size = file.size()?;
         Ok(FileDisk {
             file,
+            name: name.duplicate(),
             size,
             broken: false,
             faults: 0,
+            last: None,
         })
+    }
+
+    /// The name of the disk.
+    pub fn name(&self) -> &DiskName {
+        &self.name
+    }
+
+    /// The last call that the system did not do, and what it said. A call that comes behind a failed sync asks nothing of
+    /// the system, and leaves the words of that sync.
+    pub fn last_fault(&self) -> Option<SystemFault> {
+        self.last
     }
 
     // Counts a fault.
@@ -96,9 +119,20 @@ impl FileDisk {
         self.faults = self.faults.saturating_add(1);
         Failed
     }
+
+    // Counts a fault, and keeps what the system said.
+    fn refuse(&mut self, call: SystemCall, error: io::Error) -> Failed
+        ensures size { self.new.size ≡ self.old.size }
+        ensures broken { self.new.broken ≡ self.old.broken }
+        ensures later { self.old.faults ≤ self.new.faults }
+        ensures faults { self.new.faults ≡ raised self.old.faults }
+    {
+        self.last = Some(SystemFault { call, error });
+        self.fail()
+    }
 }
 
-impl Disk for FileDisk {
+impl<F: OpenedFile> Disk for FileDisk<F> {
     ghost content = { λ _. None };
 
     ghost size = { λ d. d.size };
@@ -143,10 +177,13 @@ impl Disk for FileDisk {
         ensures cause { HasCause self.old.faults self.new.faults result }
         ensures file { Calls self.old self.new result }
     {
-        if self.broken || self.file.read_exact_at(into, place).is_err() {
+        if self.broken {
             return Err(self.fail());
         }
-        Ok(())
+        match self.file.read_exact_at(into, place) {
+            Ok(()) => Ok(()),
+            Err(error) => Err(self.refuse(SystemCall::Read, error)),
+        }
     }
 
     fn write_at(&mut self, place: u64, bytes: &[u8]) -> Result<(), Failed>
@@ -156,8 +193,11 @@ impl Disk for FileDisk {
         ensures cause { HasCause self.old.faults self.new.faults result }
         ensures file { Calls self.old self.new result }
     {
-        if self.broken || self.file.write_all_at(bytes, place).is_err() {
+        if self.broken {
             return Err(self.fail());
+        }
+        if let Err(error) = self.file.write_all_at(bytes, place) {
+            return Err(self.refuse(SystemCall::Write, error));
         }
         self.size = self.size.max(place + bytes.len() as u64);
         Ok(())
@@ -169,8 +209,11 @@ impl Disk for FileDisk {
         ensures cause { HasCause self.old.faults self.new.faults result }
         ensures file { Calls self.old self.new result }
     {
-        if self.broken || self.file.set_len(to).is_err() {
+        if self.broken {
             return Err(self.fail());
+        }
+        if let Err(error) = self.file.set_size(to) {
+            return Err(self.refuse(SystemCall::Cut, error));
         }
         self.size = to;
         Ok(())
@@ -181,11 +224,16 @@ impl Disk for FileDisk {
         ensures cause { HasCause self.old.faults self.new.faults result }
         ensures file { Syncs self.old self.new result }
     {
-        if self.broken || self.file.sync_data().is_err() {
-            self.broken = true;
+        if self.broken {
             return Err(self.fail());
         }
-        Ok(())
+        match self.file.sync_data() {
+            Ok(()) => Ok(()),
+            Err(error) => {
+                self.broken = true;
+                Err(self.refuse(SystemCall::Sync, error))
+            }
+        }
     }
 
     fn power_loss(&mut self, _choice: u64) -> Result<(), Failed>
@@ -198,57 +246,4 @@ impl Disk for FileDisk {
     fn arm(&mut self, _after: u64, _mode: FaultMode)
         ensures ignored { self.new ≡ self.old }
     {}
-}
-
-#[cfg(test)]
-mod tests {
-    use super::*;
-    use edge_io::DiskPlace;
-    use std::{env, process};
-
-    #[test]
-    fn what_was_synced_is_there_when_the_file_is_opened_again(rt: HostRuntime) -> io::Result<()> {
-        let temporary = env::temp_dir(&rt)?;
-        let id = process::id(rt.process());
-        let folder = format!(in rt.alloc();
-            "{}/edge_real_test_{id}",
-            temporary.as_path().display()
-        )?;
-        let Some(name) = DiskName::hosted(b"orders", 0, DiskPlace::Log) else {
-            return Err(io::Error::from(ErrorKind::InvalidInput));
-        };
-        let mut disk = FileDisk::open(&rt, &folder, &name)?;
-        assert_eq!(rt; disk.len(), 0);
-        assert_eq!(rt; disk.write_at(0, b"queue, log"), Ok(()));
-        assert_eq!(rt; disk.write_at(5, b"d"), Ok(()));
-        assert_eq!(rt; disk.cut(6), Ok(()));
-        assert_eq!(rt; disk.sync(), Ok(()));
-        drop(disk);
-        let mut again = FileDisk::open(&rt, &folder, &name)?;
-        assert_eq!(rt; again.len(), 6);
-        let mut bytes = [0; 6];
-        assert_eq!(rt; again.read_at(0, &mut bytes), Ok(()));
-        assert_eq!(rt; &bytes, b"queued");
-        assert_eq!(rt; again.faults(), 0);
-        fs::remove_dir_all(&rt, folder.as_str())
-    }
-
-    #[test]
-    fn a_read_past_the_end_of_the_file_is_a_fault(rt: HostRuntime) -> io::Result<()> {
-        let temporary = env::temp_dir(&rt)?;
-        let id = process::id(rt.process());
-        let folder = format!(in rt.alloc();
-            "{}/edge_real_fault_{id}",
-            temporary.as_path().display()
-        )?;
-        let name = DiskName::foreign_state_a();
-        let mut disk = FileDisk::open(&rt, &folder, &name)?;
-        let mut other = FileDisk::open(&rt, &folder, &name)?;
-        assert_eq!(rt; disk.write_at(0, b"queue"), Ok(()));
-        assert_eq!(rt; other.cut(0), Ok(()));
-        let mut bytes = [0; 5];
-        assert_eq!(rt; disk.read_at(0, &mut bytes), Err(Failed));
-        assert_eq!(rt; disk.faults(), 1);
-        fs::remove_dir_all(&rt, folder.as_str())
-    }
 }

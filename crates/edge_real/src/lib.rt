@@ -2,11 +2,17 @@
 //!
 //! This is the trusted edge: no clause can say what a file, a pipe or a terminal holds, so these adapters tell no
 //! bytes, and their contracts say only how they count faults. That a real file keeps what is asked of a disk is a
-//! premise, and no theorem.
+//! premise, and no theorem. Each adapter keeps what the operating system said at its last fault, for the program to tell.
 #![tactic(auto)]
 
+mod fault;
 mod file;
 mod streams;
+mod system;
+#[cfg(test)]
+mod tests;
 
+pub use fault::{SystemCall, SystemFault};
 pub use file::FileDisk;
 pub use streams::{ReaderSource, WriterSink};
+pub use system::{Folders, OpenedFile};

@@ -3,6 +3,7 @@ ghost use Rattle.std.specs.Io.{ReadsAtMost, WritesAtMost};
 ghost use Rattle.edge_io.specs.Causes.{CountsFault, HasCause};
 ghost use Rattle.edge_io.specs.Streams.{EndsBy, TakesSome};
 
+use crate::fault::{SystemCall, SystemFault};
 use edge_io::{Failed, Sink, Source};
 use std::io;
 use std::io::{ErrorKind, Read, Write};
@@ -14,6 +15,7 @@ pub struct ReaderSource<R> {
     reader: R,
     ended: bool,
     faults: u64,
+    last: Option<SystemFault>,
 }
 
 impl<R> Model for ReaderSource<R> {
@@ -33,7 +35,13 @@ impl<R: Read> ReaderSource<R> {
             reader,
             ended: false,
             faults: 0,
+            last: None,
         }
+    }
+
+    /// What the system said at the last read that it did not do.
+    pub fn last_fault(&self) -> Option<SystemFault> {
+        self.last
     }
 }
 
@@ -70,12 +78,20 @@ impl<R: Read> Source for ReaderSource<R> {
         ensures cause { HasCause self.old.faults self.new.faults result }
         ensures faults { CountsFault self.old.faults self.new.faults result }
     {
-        let Ok(count) = read_retrying(&mut self.reader, into) else {
-            self.faults = self.faults.saturating_add(1);
-            return Err(Failed);
-        };
-        self.ended = self.ended | is_end(count, into);
-        Ok(count)
+        match read_retrying(&mut self.reader, into) {
+            Ok(count) => {
+                self.ended = self.ended | is_end(count, into);
+                Ok(count)
+            }
+            Err(error) => {
+                self.last = Some(SystemFault {
+                    call: SystemCall::Read,
+                    error,
+                });
+                self.faults = self.faults.saturating_add(1);
+                Err(Failed)
+            }
+        }
     }
 }
 
@@ -87,6 +103,7 @@ impl<R: Read> Source for ReaderSource<R> {
 pub struct WriterSink<W> {
     writer: W,
     faults: u64,
+    last: Option<SystemFault>,
 }
 
 impl<W> Model for WriterSink<W> {
@@ -102,20 +119,26 @@ impl<W: Write> WriterSink<W> {
     pub fn new(writer: W) -> Self
         ensures { result ≡ 0 }
     {
-        WriterSink { writer, faults: 0 }
+        WriterSink {
+            writer,
+            faults: 0,
+            last: None,
+        }
+    }
+
+    /// What the system said at the last write or flush that it did not do.
+    pub fn last_fault(&self) -> Option<SystemFault> {
+        self.last
     }
 }
 
-// One write and a flush. The write is tried again where a signal interrupts it.
+// One write, which is tried again where a signal interrupts it.
 fn write_retrying<W: Write>(writer: &mut W, bytes: &[u8]) -> io::Result<usize>
     ensures bound { WritesAtMost result bytes.now }
 {
     for _ in 0..u64::MAX {
         match writer.write(bytes) {
-            Ok(count) => {
-                writer.flush()?;
-                return Ok(count);
-            }
+            Ok(count) => return Ok(count),
             Err(error) if error.kind() == ErrorKind::Interrupted => {}
             Err(error) => return Err(error),
         }
@@ -123,16 +146,29 @@ fn write_retrying<W: Write>(writer: &mut W, bytes: &[u8]) -> io::Result<usize>
     Err(io::Error::from(ErrorKind::Interrupted))
 }
 
-// A write that takes nothing of a piece that isn't empty is none.
-fn write_some<W: Write>(writer: &mut W, bytes: &[u8]) -> io::Result<usize>
+// One write and a flush. A write that takes nothing of a piece that isn't empty is none.
+fn write_out<W: Write>(writer: &mut W, bytes: &[u8]) -> Result<usize, SystemFault>
     ensures bound { WritesAtMost result bytes.now }
     ensures some { TakesSome result bytes.now }
 {
-    let count = write_retrying(writer, bytes)?;
-    if count == 0 && !bytes.is_empty() {
-        return Err(io::Error::from(ErrorKind::WriteZero));
+    let count = match write_retrying(writer, bytes) {
+        Ok(0) if !bytes.is_empty() => return Err(SystemFault {
+            call: SystemCall::Write,
+            error: io::Error::from(ErrorKind::WriteZero),
+        }),
+        Ok(count) => count,
+        Err(error) => return Err(SystemFault {
+            call: SystemCall::Write,
+            error,
+        }),
+    };
+    match writer.flush() {
+        Ok(()) => Ok(count),
+        Err(error) => Err(SystemFault {
+            call: SystemCall::Flush,
+            error,
+        }),
     }
-    Ok(count)
 }
 
 impl<W: Write> Sink for WriterSink<W> {
@@ -146,79 +182,13 @@ impl<W: Write> Sink for WriterSink<W> {
         ensures cause { HasCause self.old self.new result }
         ensures faults { CountsFault self.old self.new result }
     {
-        let Ok(count) = write_some(&mut self.writer, bytes) else {
-            self.faults = self.faults.saturating_add(1);
-            return Err(Failed);
-        };
-        Ok(count)
-    }
-}
-
-#[cfg(test)]
-mod tests {
-    use super::*;
-
-    // A stream whose first call a signal interrupts, whose second does its work and whose third is refused.
-    #[derive(Drop)]
-    struct Flaky {
-        calls: u32,
-        given: u8,
-    }
-
-    impl Flaky {
-        fn call(&mut self) -> io::Result<()> {
-            self.calls = self.calls.saturating_add(1);
-            match self.calls {
-                1 => Err(io::Error::from(ErrorKind::Interrupted)),
-                2 => Ok(()),
-                _ => Err(io::Error::from(ErrorKind::BrokenPipe)),
+        match write_out(&mut self.writer, bytes) {
+            Ok(count) => Ok(count),
+            Err(fault) => {
+                self.last = Some(fault);
+                self.faults = self.faults.saturating_add(1);
+                Err(Failed)
             }
         }
-    }
-
-    impl Read for Flaky {
-        fn read(&mut self, into: &mut [u8]) -> io::Result<usize> {
-            self.call()?;
-            if into.is_empty() {
-                return Ok(0);
-            }
-            into[0] = self.given;
-            Ok(1)
-        }
-    }
-
-    impl Write for Flaky {
-        fn write(&mut self, bytes: &[u8]) -> io::Result<usize> {
-            self.call()?;
-            Ok(bytes.len().min(1))
-        }
-
-        fn flush(&mut self) -> io::Result<()> {
-            Ok(())
-        }
-    }
-
-    #[test]
-    fn interrupted_calls_are_tried_again_and_refused_ones_are_faults(rt: HostRuntime) {
-        let mut source = ReaderSource::new(Flaky { calls: 0, given: 7 });
-        let mut into = [0; 4];
-        assert_eq!(rt; source.read(&mut into), Ok(1));
-        assert_eq!(rt; into[0], 7);
-        assert_eq!(rt; source.read(&mut into), Err(Failed));
-        let mut sink = WriterSink::new(Flaky { calls: 0, given: 0 });
-        assert_eq!(rt; sink.write(b"ab"), Ok(1));
-        assert_eq!(rt; sink.write(b"b"), Err(Failed));
-    }
-
-    #[test]
-    fn the_end_is_told_and_a_write_that_takes_nothing_is_a_fault(rt: HostRuntime) {
-        let mut source = ReaderSource::new(&b"a"[..]);
-        let mut into = [0; 4];
-        assert_eq!(rt; source.read(&mut into), Ok(1));
-        assert_eq!(rt; source.read(&mut into), Ok(0));
-        let mut full = [0; 1];
-        let mut sink = WriterSink::new(&mut full[..]);
-        assert_eq!(rt; sink.write(b"ab"), Ok(1));
-        assert_eq!(rt; sink.write(b"b"), Err(Failed));
     }
 }

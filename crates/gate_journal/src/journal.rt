@@ -66,9 +66,11 @@ impl<D: Disk> Journal<D> {
 
     /// Adds a frame, and answers its number, from 0 on. It takes no memory.
     ///
-    /// `buffer` has the frame, of 1 to 33554432 bytes, behind four bytes of any value and before one: the five are set
-    /// to the frame's length and a closed gate, so that one device write carries all. An append that finds nothing to
-    /// mend makes four device calls: a write, a sync, a write of one byte, a sync.
+    /// `buffer` has the frame, of 1 to 33554432 bytes, behind four bytes of any value and before one. For every answer but
+    /// `Full` the five are set to the frame's length and a closed gate, so that one device write carries all.
+    ///
+    /// An append that finds nothing to mend makes four device calls: a write, a sync, a write of one byte, a sync. Mending
+    /// makes two or four more before them. The first call that fails is the last.
     ///
     /// At `Device` the frame is pending, or the one that was pending still is; the buffer still has the frame, so the same
     /// append can be tried again. At `Full` the frame would end past 2^62 bytes, and nothing is changed, the buffer

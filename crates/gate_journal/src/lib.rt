@@ -11,8 +11,6 @@ mod device;
 mod journal;
 mod opening;
 mod repair;
-#[cfg(test)]
-mod tests;
 mod text;
 mod writer;
 

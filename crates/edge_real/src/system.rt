@@ -1,0 +1,87 @@
+// The calls of the operating system that disks over files make.
+use std::fs::{File, OpenOptions};
+use std::os::unix::fs::FileExt;
+use std::rt::Files;
+use std::{fs, io};
+
+/// The calls that a disk makes of its file, as POSIX `fstat`, `pread`, `pwrite`, `ftruncate` and `fdatasync`.
+///
+/// A fake of it shows which calls a disk makes, as no file can.
+pub trait OpenedFile: Drop {
+    /// The length of the file.
+    fn size(&mut self) -> io::Result<u64>;
+
+    /// Fills `into` with the bytes at `place`.
+    fn read_exact_at(&mut self, into: &mut [u8], place: u64) -> io::Result<()>;
+
+    /// Writes all bytes at `place`.
+    fn write_all_at(&mut self, bytes: &[u8], place: u64) -> io::Result<()>;
+
+    /// Makes the file this long.
+    fn set_size(&mut self, size: u64) -> io::Result<()>;
+
+    /// Brings what was written, and the length, to the device.
+    fn sync_data(&mut self) -> io::Result<()>;
+}
+
+impl OpenedFile for File {
+    fn size(&mut self) -> io::Result<u64> {
+        Ok(self.metadata()?.len())
+    }
+
+    fn read_exact_at(&mut self, into: &mut [u8], place: u64) -> io::Result<()> {
+        FileExt::read_exact_at(self, into, place)
+    }
+
+    fn write_all_at(&mut self, bytes: &[u8], place: u64) -> io::Result<()> {
+        FileExt::write_all_at(self, bytes, place)
+    }
+
+    fn set_size(&mut self, size: u64) -> io::Result<()> {
+        self.set_len(size)
+    }
+
+    fn sync_data(&mut self) -> io::Result<()> {
+        File::sync_data(self)
+    }
+}
+
+/// The calls by which a disk opens its file, by paths.
+pub trait Folders {
+    type File: OpenedFile;
+
+    /// Makes a folder and those above it, where they are missing.
+    fn make_folders(&mut self, path: &str) -> io::Result<()>;
+
+    /// Opens a file to read and write it, and makes it where it is missing.
+    fn open_file(&mut self, path: &str) -> io::Result<Self::File>;
+
+    /// Brings the names in a folder to the device.
+    fn sync_folder(&mut self, path: &str) -> io::Result<()>;
+}
+
+// The folders of the operating system.
+#[derive(Drop)]
+pub struct SystemFolders<'a, R> {
+    pub rt: &'a R,
+}
+
+impl<R: Files<File = File>> Folders for SystemFolders<'_, R> {
+    type File = File;
+
+    fn make_folders(&mut self, path: &str) -> io::Result<()> {
+        fs::create_dir_all(self.rt, path)
+    }
+
+    fn open_file(&mut self, path: &str) -> io::Result<File> {
+        OpenOptions::new()
+            .read(true)
+            .write(true)
+            .create(true)
+            .open(self.rt, path)
+    }
+
+    fn sync_folder(&mut self, path: &str) -> io::Result<()> {
+        File::open(self.rt, path)?.sync_all()
+    }
+}
