@@ -30,7 +30,7 @@ name_test bytes h =
     let utf8 = h.utf8 in
     grind (arith, nat_tests)
 
-name_spells : Spells name_at name_bytes IsName
+pub name_spells : Spells name_at name_bytes IsName
 unfolding name_at
 name_spells = record {
   takes = λ at x after fits e.
@@ -74,7 +74,7 @@ epoch_back : (z : ℤ) → IsEpoch z → (epoch_number z < 2 ^ 31) × (pos (epoc
 epoch_back (pos n) h = (h, refl, refl)
 epoch_back (negsuc n) h = absurd h
 
-epoch_spells : Spells epoch_at (λ z. to_be_bytes w32 (epoch_number z)) IsEpoch
+pub epoch_spells : Spells epoch_at (λ z. to_be_bytes w32 (epoch_number z)) IsEpoch
 unfolding epoch_at
 epoch_spells =
     as_spells pos epoch_number (below_at w32 (2 ^ 31)) (to_be_bytes w32) (λ z. to_be_bytes w32 (epoch_number z)) (λ n. n < 2 ^ 31) IsEpoch
@@ -88,12 +88,12 @@ start_coded : (z : ℤ) → IsStart z → (start_number z < 2 ^ 64) × (start_of
 start_coded (pos n) h = (omega arith, ap (λ (b : Bool). cond b (Some (pos n)) (cond (n == 2 ^ 64 - 1) (Some (negsuc 0)) None)) (yes_lt n (2 ^ 63) h))
 start_coded (negsuc n) h = (omega arith, ap (λ (k : ℕ). Some (negsuc k)) (sym h))
 
-start_spells : Spells start_at (λ z. to_be_bytes w64 (start_number z)) IsStart
+pub start_spells : Spells start_at (λ z. to_be_bytes w64 (start_number z)) IsStart
 unfolding start_at
 start_spells =
     found_spells start_of start_number (number_at w64) (to_be_bytes w64) (λ n. n < 2 ^ 64) IsStart start_decoded start_coded (number_spells w64 (2 ^ 64) wide64)
 
-abbrev Parts : Type 0
+abbrev pub Parts : Type 0
 Parts = KeyParts × (ℕ × (ℤ × (ℤ × (ℤ × List Run))))
 
 parts_of : StateParts → Parts

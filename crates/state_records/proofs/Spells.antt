@@ -122,7 +122,7 @@ only_spells {A} test read spell fits good passes back p = record {
       };
 }
 
-found_ok : {A : Type 0} (place : ℕ) (o : Option A) (at : At) (x : A) (after : At) → found_at place o at ≡ Ok (x, after) → (o ≡ Some x) × (at ≡ after)
+pub found_ok : {A : Type 0} (place : ℕ) (o : Option A) (at : At) (x : A) (after : At) → found_at place o at ≡ Ok (x, after) → (o ≡ Some x) × (at ≡ after)
 found_ok {A} place None at x after e = absurd cc
 found_ok {A} place (Some y) at x after e =
     let made : A × At = (y, at) in

@@ -44,10 +44,10 @@ pub low16 : Spells (below_at w16 (2 ^ 15)) (to_be_bytes w16) (λ n. n < 2 ^ 15)
 low16 = only_spells (λ n. nat_lt n (2 ^ 15)) (number_at w16) (to_be_bytes w16) (λ n. n < 2 ^ 16) (λ n. n < 2 ^ 15)
     (λ n fits e. lt_yes n (2 ^ 15) e) (λ n h. (omega arith, yes_lt n (2 ^ 15) h)) (number_spells w16 (2 ^ 16) wide16)
 
-all64 : Spells (number_at w64) (to_be_bytes w64) (λ n. n < 2 ^ 64)
+pub all64 : Spells (number_at w64) (to_be_bytes w64) (λ n. n < 2 ^ 64)
 all64 = number_spells w64 (2 ^ 64) wide64
 
-forward : (first last : ℕ) → is_backward first last ≡ false → (first ≤ last) × (last < 2 ^ 63)
+pub forward : (first last : ℕ) → is_backward first last ≡ false → (first ≤ last) × (last < 2 ^ 63)
 forward first last e = grind (arith, nat_tests)
 
 is_forward : (first last : ℕ) → first ≤ last → last < 2 ^ 63 → is_backward first last ≡ false
@@ -83,19 +83,19 @@ pub record IsNext (before : Option Run) (run : Run) : Type 0 where
   pub behind : InOrder before run
 
 -- the fields of a run that is read
-record RunRead (before : Option Run) (at : At) (run : Run) (after : At) : Type 0 where
-  mid1 : At
-  mid2 : At
-  mid3 : At
-  first : only_at (is_behind before) (below_at w64 (2 ^ 63)) at ≡ Ok (run.first, mid1)
-  last : number_at w64 mid1 ≡ Ok (run.last, mid2)
-  order : run.first ≤ run.last
-  low : run.last < 2 ^ 63
-  state : row_state_at mid2 ≡ Ok (run.state, mid3)
-  count : below_at w16 (2 ^ 15) mid3 ≡ Ok (run.count, after)
-  apart : could_join before run ≡ false
+pub record RunRead (before : Option Run) (at : At) (run : Run) (after : At) : Type 0 where
+  pub mid1 : At
+  pub mid2 : At
+  pub mid3 : At
+  pub first : only_at (is_behind before) (below_at w64 (2 ^ 63)) at ≡ Ok (run.first, mid1)
+  pub last : number_at w64 mid1 ≡ Ok (run.last, mid2)
+  pub order : run.first ≤ run.last
+  pub low : run.last < 2 ^ 63
+  pub state : row_state_at mid2 ≡ Ok (run.state, mid3)
+  pub count : below_at w16 (2 ^ 15) mid3 ≡ Ok (run.count, after)
+  pub apart : could_join before run ≡ false
 
-run_read : (before : Option Run) (at : At) (run : Run) (after : At) → run_at before at ≡ Ok (run, after) → RunRead before at run after
+pub run_read : (before : Option Run) (at : At) (run : Run) (after : At) → run_at before at ≡ Ok (run, after) → RunRead before at run after
 unfolding run_at
 run_read before at run after e =
     let made = λ (f l : ℕ) (s : RowState) (c : ℕ). let r : Run = record { first = f; last = l; state = s; count = c } in r in
@@ -116,7 +116,7 @@ run_read before at run after e =
     subst (λ (z : Run × At). RunRead before at z.0 z.1) (ok_is whole (run, after) h.1)
     (record { mid1 = a.0.1; mid2 = b.0.1; mid3 = c.0.1; first = a.1; last = b.1; order = (forward a.0.0 b.0.0 g.0).0; low = (forward a.0.0 b.0.0 g.0).1; state = c.1; count = d.1; apart = h.0 })
 
-test_of : {A : Type 0} (test : A → Bool) (read : At → Result (A × At) ℕ) (at : At) (x : A) (after : At) → only_at test read at ≡ Ok (x, after) → (test x ≡ true) × (read at ≡ Ok (x, after))
+pub test_of : {A : Type 0} (test : A → Bool) (read : At → Result (A × At) ℕ) (at : At) (x : A) (after : At) → only_at test read at ≡ Ok (x, after) → (test x ≡ true) × (read at ≡ Ok (x, after))
 test_of {A} test read at x after e =
     let a = bind_ok (read at) (λ u. cond (test u.0) (Ok u) (Err at.place)) (x, after) e in
     let g = guard_then (test a.0.0) at.place (Ok a.0) (x, after) a.2 in
@@ -142,7 +142,7 @@ behind_test : (before : Option Run) (run : Run) → InOrder before run → is_be
 behind_test None run order = refl
 behind_test (Some other) run order = yes_lt other.last run.first order.0
 
-not_true : (b : Bool) → (b ≡ true → ⊥) → b ≡ false
+pub not_true : (b : Bool) → (b ≡ true → ⊥) → b ≡ false
 not_true true h = absurd (h refl)
 not_true false h = refl
 
@@ -151,15 +151,17 @@ apart_test None run order = refl
 apart_test (Some other) run order =
     not_true (touches other run) (λ e. let t = touches_true other run e in order.1 t.0 (sym t.1))
 
+pub first_spells : (before : Option Run) → Spells (only_at (is_behind before) (below_at w64 (2 ^ 63))) (to_be_bytes w64) (λ n. (n < 2 ^ 63) × (is_behind before n ≡ true))
+first_spells before = only_spells (is_behind before) (below_at w64 (2 ^ 63)) (to_be_bytes w64) (λ n. n < 2 ^ 63) (λ n. (n < 2 ^ 63) × (is_behind before n ≡ true))
+    (λ n fits e. (fits, e)) (λ n h. h) low64
+
 pub run_spells : (before : Option Run) → Spells (run_at before) run_bytes (IsNext before)
 unfolding run_at
 run_spells before =
-    let first_spells = only_spells (is_behind before) (below_at w64 (2 ^ 63)) (to_be_bytes w64) (λ n. n < 2 ^ 63) (λ n. (n < 2 ^ 63) × (is_behind before n ≡ true))
-    (λ n fits e. (fits, e)) (λ n h. h) low64 in
     record {
       takes = λ at run after fits e.
           let r = run_read before at run after e in
-          let t1 = first_spells.takes at run.first r.mid1 fits r.first in
+          let t1 = (first_spells before).takes at run.first r.mid1 fits r.first in
           let t2 = all64.takes r.mid1 run.last r.mid2 t1.0.rest_fits r.last in
           let t3 = row_state_spells.takes r.mid2 run.state r.mid3 t2.0.rest_fits r.state in
           let t4 = low16.takes r.mid3 run.count after t3.0.rest_fits r.count in
@@ -172,7 +174,7 @@ run_spells before =
           let s4 = to_be_bytes w16 run.count in
           let s3 = (state_number run.state ∷ []) ++ s4 in
           let s2 = to_be_bytes w64 run.last ++ s3 in
-          let g1 = first_spells.again at run.first (s2 ++ rest) (omega (arith, next.order, next.stored.0), behind_test before run next.behind) (e ∙ append_assoc (to_be_bytes w64 run.first) s2 rest) in
+          let g1 = (first_spells before).again at run.first (s2 ++ rest) (omega (arith, next.order, next.stored.0), behind_test before run next.behind) (e ∙ append_assoc (to_be_bytes w64 run.first) s2 rest) in
           let g2 = all64.again g1.after run.last (s3 ++ rest) (omega (arith, next.stored.0)) (g1.left ∙ append_assoc (to_be_bytes w64 run.last) s3 rest) in
           let g3 = row_state_spells.again g2.after run.state (s4 ++ rest) tt (g2.left ∙ append_assoc (state_number run.state ∷ []) s4 rest) in
           let g4 = low16.again g3.after run.count rest next.stored.1 g3.left in
@@ -205,11 +207,11 @@ behind_run : (before : Option Run) (run : Run) (runs : List Run) → InOrder bef
 behind_run None run runs order = tt
 behind_run (Some other) run runs order = order
 
-run_in_order : (before : Option Run) (run : Run) (runs : List Run) → AreBehind before (run ∷ runs) → InOrder before run
+pub run_in_order : (before : Option Run) (run : Run) (runs : List Run) → AreBehind before (run ∷ runs) → InOrder before run
 run_in_order None run runs behind = tt
 run_in_order (Some other) run runs behind = behind
 
-next_runs : (n : ℕ) (before : Option Run) (run : Run) (runs : List Run) → IsNext before run → AreNext n (Some run) runs → AreNext (suc n) before (run ∷ runs)
+pub next_runs : (n : ℕ) (before : Option Run) (run : Run) (runs : List Run) → IsNext before run → AreNext n (Some run) runs → AreNext (suc n) before (run ∷ runs)
 next_runs n before run runs next rest = record {
   count = ap suc rest.count;
   behind = behind_run before run runs next.behind;
@@ -268,7 +270,7 @@ pub record AreAllRuns (runs : List Run) : Type 0 where
   pub stored : AreStoredRuns runs
   pub few : length runs < 2 ^ 32
 
-all32 : Spells (number_at w32) (to_be_bytes w32) (λ n. n < 2 ^ 32)
+pub all32 : Spells (number_at w32) (to_be_bytes w32) (λ n. n < 2 ^ 32)
 all32 = number_spells w32 (2 ^ 32) wide32
 
 pub all_runs_spells : Spells all_runs_at runs_bytes AreAllRuns

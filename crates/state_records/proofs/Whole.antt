@@ -13,29 +13,29 @@ use Rattle.state_records.proofs.Spells.{IsBytes, bind_ok, guard_then, ok_is, Tak
 use Rattle.state_records.proofs.Stored.{lt_yes, yes_lt}
 use Rattle.state_records.proofs.Records.{key_spells, state_spells}
 
-kind_of : StateRecord → ℕ
+unfoldable pub kind_of : StateRecord → ℕ
 kind_of (Snapshot s) = 0
 kind_of (Update s) = 1
 kind_of (Removal k) = 2
 
-body_of : StateRecord → List ℕ
+unfoldable pub body_of : StateRecord → List ℕ
 body_of (Snapshot s) = state_bytes s
 body_of (Update s) = state_bytes s
 body_of (Removal k) = key_bytes k
 
-spelled : (r : StateRecord) → record_bytes r ≡ kind_of r ∷ 0 ∷ body_of r
+pub spelled : (r : StateRecord) → record_bytes r ≡ kind_of r ∷ 0 ∷ body_of r
 unfolding kind_of body_of
 spelled (Snapshot s) = refl
 spelled (Update s) = refl
 spelled (Removal k) = refl
 
 -- the fields of a record that is read
-record FieldsTaken (kind : ℕ) (at : At) (r : StateRecord) (after : At) : Type 0 where
-  takes : Takes at.left (body_of r) after.left
-  good : IsRecord r
-  kind_is : kind_of r ≡ kind
+pub record FieldsTaken (kind : ℕ) (at : At) (r : StateRecord) (after : At) : Type 0 where
+  pub takes : Takes at.left (body_of r) after.left
+  pub good : IsRecord r
+  pub kind_is : kind_of r ≡ kind
 
-fields_take : (kind : ℕ) (at : At) (r : StateRecord) (after : At) → kind < 3 → IsBytes at.left → fields_at kind at ≡ Ok (r, after) → FieldsTaken kind at r after
+pub fields_take : (kind : ℕ) (at : At) (r : StateRecord) (after : At) → kind < 3 → IsBytes at.left → fields_at kind at ≡ Ok (r, after) → FieldsTaken kind at r after
 unfolding fields_at kind_of body_of
 fields_take zero at r after low fits e =
     let a = bind_ok (state_at at) (λ s. Ok (Snapshot s.0, s.1)) (r, after) e in
@@ -54,13 +54,13 @@ fields_take (suc (suc n)) at r after low fits e =
     let two : 2 ≡ suc (suc n) = omega arith in
     subst (λ (z : StateRecord × At). FieldsTaken (suc (suc n)) at z.0 z.1) (ok_is made (r, after) a.2) (record { takes = t.0; good = t.1; kind_is = two })
 
-fields_again : (r : StateRecord) (at : At) (rest : List ℕ) → IsRecord r → at.left ≡ body_of r ++ rest → Again (fields_at (kind_of r)) at r rest
+pub fields_again : (r : StateRecord) (at : At) (rest : List ℕ) → IsRecord r → at.left ≡ body_of r ++ rest → Again (fields_at (kind_of r)) at r rest
 unfolding fields_at kind_of body_of
 fields_again (Snapshot s) at rest good e = let g = state_spells.again at s rest good e in record { after = g.after; is = rw g.is refl; left = g.left }
 fields_again (Update s) at rest good e = let g = state_spells.again at s rest good e in record { after = g.after; is = rw g.is refl; left = g.left }
 fields_again (Removal k) at rest good e = let g = key_spells.again at k rest good e in record { after = g.after; is = rw g.is refl; left = g.left }
 
-byte_below : (limit : ℕ) → Spells (only_at (λ n. nat_lt n limit) byte_at) (λ b. b ∷ []) (λ b. b < limit)
+pub byte_below : (limit : ℕ) → Spells (only_at (λ n. nat_lt n limit) byte_at) (λ b. b ∷ []) (λ b. b < limit)
 byte_below limit = only_spells (λ n. nat_lt n limit) byte_at (λ b. b ∷ []) (λ b. Unit {0}) (λ b. b < limit)
     (λ n fits e. lt_yes n limit e) (λ n h. (tt, yes_lt n limit h)) byte_spells
 
@@ -85,7 +85,7 @@ record_takes bytes r fits e =
     let spelling : bytes ≡ record_bytes c.0.0 = whole ∙ (λ i. sym t3.kind_is i ∷ version i ∷ body_of c.0.0) ∙ sym (spelled c.0.0) in
     subst (λ (z : StateRecord). IsRecord z × (bytes ≡ record_bytes z)) (ok_is c.0.0 r g.1) (t3.good, spelling)
 
-kind_low : (r : StateRecord) → kind_of r < 3
+pub kind_low : (r : StateRecord) → kind_of r < 3
 unfolding kind_of
 kind_low (Snapshot s) = omega arith
 kind_low (Update s) = omega arith

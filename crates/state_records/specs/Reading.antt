@@ -1,5 +1,6 @@
 -- Reading a state record from left to right: the value, or the place of the first field that is wrong (this project's own).
--- Which bytes are read at all is said by `Spelling.antt`; this says of the others where they are wrong.
+-- Which bytes are read at all is said by `Spelling.antt`; this says of the others where they are wrong, and `Faults.antt` what
+-- such a place means for the spelling.
 -- For example 53 bytes of a snapshot of 54 are wrong at byte 50, where the number of runs begins, and an update whose second
 -- run begins where the first one ends is wrong at the second's first byte, 73.
 use Rattle.std.specs.Prelude.{◌≡◌, ◌+◌, ◌-◌, ◌^◌, ℕ, zero, suc, ℤ, pos, negsuc, Bool, true, false, ◌==◌, ◌&&◌, ◌||◌, List, [], ◌∷◌}

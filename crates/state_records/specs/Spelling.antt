@@ -32,15 +32,21 @@ start_number (negsuc n) = 2 ^ 64 - 1
 abbrev pub run_bytes : Run → List ℕ
 run_bytes run = to_be_bytes w64 run.first ++ (to_be_bytes w64 run.last ++ ((state_number run.state ∷ []) ++ to_be_bytes w16 run.count))
 
--- the number of runs in four bytes, and the runs
-abbrev pub runs_bytes : List Run → List ℕ
-runs_bytes runs = to_be_bytes w32 (length runs) ++ flat_map run_bytes runs
+-- a number of runs in four bytes, and runs
+abbrev pub counted_runs : ℕ → List Run → List ℕ
+counted_runs count runs = to_be_bytes w32 count ++ flat_map run_bytes runs
 
--- the key, the snapshot epoch, the state and leader epochs, the start, and the runs
-abbrev pub state_bytes : StateParts → List ℕ
-state_bytes state =
+abbrev pub runs_bytes : List Run → List ℕ
+runs_bytes runs = counted_runs (length runs) runs
+
+-- the key, the snapshot epoch, the state and leader epochs, the start, and the runs with a number before them
+abbrev pub counted_state : ℕ → StateParts → List ℕ
+counted_state count state =
     key_bytes state.key ++ (to_be_bytes w64 state.snapshot ++ (to_be_bytes w32 (epoch_number state.state_epoch)
-    ++ (to_be_bytes w32 (epoch_number state.leader_epoch) ++ (to_be_bytes w64 (start_number state.start) ++ runs_bytes state.runs))))
+    ++ (to_be_bytes w32 (epoch_number state.leader_epoch) ++ (to_be_bytes w64 (start_number state.start) ++ counted_runs count state.runs))))
+
+abbrev pub state_bytes : StateParts → List ℕ
+state_bytes state = counted_state (length state.runs) state
 
 -- the kind, version 0 and the fields
 abbrev pub record_bytes : StateRecord → List ℕ

@@ -12,7 +12,7 @@ mod tests;
 mod writing;
 
 pub use fault::RecordFault;
-pub use laws::records_have_one_spelling;
+pub use laws::{faults_are_at_the_first_wrong_field, records_have_one_spelling};
 pub use reading::read_record;
 pub use record::{KeyState, StateRecord};
 pub use writing::write_record;

@@ -1,0 +1,77 @@
+-- Where bytes that are no record are wrong, told by the spelling of records (this project's own): what stands before the
+-- fault begins some record, and no record has what stands at it.
+-- For example 53 bytes of a snapshot of 54 are wrong at byte 50: the bytes before begin that snapshot, and the number of runs
+-- there, which is a field of four bytes, is cut. Where 03 stands in front there is a fault at 0, since no record begins with it.
+use Rattle.std.specs.Prelude.{◌≡◌, ◌⊎◌, ◌+◌, ◌-◌, ◌^◌, ◌<◌, ◌≤◌, ℕ, zero, suc, List, [], ◌∷◌, ◌++◌, length, take}
+use Rattle.share_model.specs.Keys.{KeyParts}
+use Rattle.share_model.specs.declared.run.Run.{Run}
+use Rattle.state_records.specs.Spelling.{key_bytes, counted_state, record_bytes, IsRecord}
+use Rattle.state_records.specs.declared.record.StateRecord.{StateRecord}
+use Rattle.state_records.specs.declared.record.StateRecord.TheVariants.{Snapshot, Update, Removal}
+
+abbrev pub runs_of : StateRecord → List Run
+runs_of (Snapshot state) = state.runs
+runs_of (Update state) = state.runs
+runs_of (Removal key) = []
+
+-- the bytes of a record, but with this number of runs before its runs
+abbrev pub counted_bytes : ℕ → StateRecord → List ℕ
+counted_bytes count (Snapshot state) = 0 ∷ 0 ∷ counted_state count state
+counted_bytes count (Update state) = 1 ∷ 0 ∷ counted_state count state
+counted_bytes count (Removal key) = 2 ∷ 0 ∷ key_bytes key
+
+-- the last run leaves fewer offsets than so many runs need; offsets are below 2 ^ 63
+abbrev pub LeavesTooFew : List Run → ℕ → Type 0
+LeavesTooFew [] more = ⊥
+LeavesTooFew (run ∷ []) more = 2 ^ 63 ≤ run.last + more
+LeavesTooFew (run ∷ next ∷ runs) more = LeavesTooFew (next ∷ runs) more
+
+-- The bytes of some record begin so. Or more runs are counted than the record has, and its last run leaves no offsets for
+-- them.
+pub record Begins (front : List ℕ) : Type 0 where
+  pub found : StateRecord
+  pub count : ℕ
+  pub rest : List ℕ
+  pub is : IsRecord found
+  pub few : count < 2 ^ 32
+  pub counted : (count ≡ length (runs_of found)) ⊎ LeavesTooFew (runs_of found) (count - length (runs_of found))
+  pub bytes : counted_bytes count found ≡ front ++ rest
+
+-- the fields of a run: the run as a whole, its last offset, its state and its count
+abbrev pub IsRunField : ℕ → ℕ → Type 0
+IsRunField from to = ((from ≡ 0) × (to ≡ 19)) ⊎ (((from ≡ 8) × (to ≡ 16)) ⊎ (((from ≡ 16) × (to ≡ 17)) ⊎ ((from ≡ 17) × (to ≡ 19))))
+
+-- the fields of so many runs, one behind the other
+abbrev pub IsRunsField : ℕ → ℕ → ℕ → Type 0
+IsRunsField zero from to = ⊥
+IsRunsField (suc n) from to = IsRunField from to ⊎ ((19 ≤ from) × (19 ≤ to) × IsRunsField n (from - 19) (to - 19))
+
+-- fields of these sizes, and behind them so many runs
+abbrev pub IsFieldIn : List ℕ → ℕ → ℕ → ℕ → Type 0
+IsFieldIn [] n from to = IsRunsField n from to
+IsFieldIn (size ∷ sizes) n from to = ((from ≡ 0) × (to ≡ size)) ⊎ ((size ≤ from) × (size ≤ to) × IsFieldIn sizes n (from - size) (to - size))
+
+-- the group with its length, the topic and the partition
+abbrev pub key_sizes : KeyParts → List ℕ → List ℕ
+key_sizes key sizes = (2 + length key.group) ∷ length key.topic ∷ 4 ∷ sizes
+
+-- the key, the snapshot epoch, both other epochs, the start and the number of runs
+abbrev pub body_sizes : StateRecord → List ℕ
+body_sizes (Snapshot state) = key_sizes state.key (8 ∷ 4 ∷ 4 ∷ 8 ∷ 4 ∷ [])
+body_sizes (Update state) = key_sizes state.key (8 ∷ 4 ∷ 4 ∷ 8 ∷ 4 ∷ [])
+body_sizes (Removal key) = key_sizes key []
+
+-- the kind and the version before them
+abbrev pub field_sizes : StateRecord → List ℕ
+field_sizes found = 1 ∷ 1 ∷ body_sizes found
+
+-- a field of the record takes the bytes from one place to another
+abbrev pub IsField : StateRecord → ℕ → ℕ → Type 0
+IsField found from to = IsFieldIn (field_sizes found) (length (runs_of found)) from to
+
+-- the bytes are wrong at this place
+pub record IsWrongAt (bytes : List ℕ) (place : ℕ) : Type 0 where
+  pub within : place ≤ length bytes
+  pub before : Begins (take place bytes)
+  pub none : (found : StateRecord) (to : ℕ) (rest : List ℕ) → IsRecord found → IsField found place to → to ≤ length bytes →
+      record_bytes found ≡ take to bytes ++ rest → ⊥
