@@ -1,17 +1,15 @@
 ghost use Rattle.std.specs.Prelude.{◌≡◌, ◌≤◌, ◌+◌, ◌∷◌, ◌↔◌, [], length, OnOk, OnErr, IfOk, IfSome, IfNone};
-ghost use Rattle.conn_core.specs.Calls.{IsFair};
 ghost use Rattle.conn_core.specs.Stream.{front_of, behind_frame, frame_at};
-ghost use Rattle.conn_core.specs.Conns.{opened, fed, ended, releasing_also, without_replies, is_gone};
-ghost use Rattle.conn_core.specs.Turning.{Tells, Waits, closed, releasing, sent, begun, after, at_front, turn, settled, given};
+ghost use Rattle.conn_core.specs.Conns.{opened, fed, ended, releasing_also, replied, without_replies, is_gone};
+ghost use Rattle.conn_core.specs.Turning.{Tells, Waits, Awaits, FitsIn, asked_in, closed, releasing, sent, begun, after, at_front, turn, finished, settled, given};
 
-use crate::call::Stage;
 use crate::hand::Hand;
 use crate::judge::{Judged, judge};
-use crate::next::{Next, Part, PartAnswer};
-use crate::sending::framed;
+use crate::next::Next;
+use crate::sending::{Framed, frame_reply};
 use crate::stream::{Front, Stream, front_of};
 use crate::work::Work;
-use flex_fields::Bytes;
+use call_fold::{Part, PartAnswer, Stage};
 use share_model::{Blob, CloseCause, ForeignOp, Key, NoMemory};
 use std::alloc::Global;
 use std::collections::VecDeque;
@@ -104,28 +102,20 @@ impl Conn {
         Next::Closed(cause)
     }
 
-    // A frame of so many bytes is answered by this body.
-    fn send(
-        &mut self,
-        alloc: Global,
-        size: u32,
-        tags: bool,
-        correlation: i32,
-        body: &Bytes,
-    ) -> Result<Next, NoMemory>
+    // A frame of so many bytes is answered by this.
+    fn send(&mut self, size: u32, reply: Framed) -> Result<Next, NoMemory>
         requires whole { 4 + size ≤ length self.old.unread }
         requires idle { self.old.work ≡ Work.Free }
-        ensures next { IfOk result (λ next. Tells (sent self.old (behind_frame size self.old.unread) tags correlation body.now) next self.new) }
+        ensures next { IfOk result (λ next. Tells (sent self.old (behind_frame size self.old.unread) reply) next self.new) }
         ensures kept { OnErr result (self.new ≡ self.old) }
     {
-        match framed(alloc, tags, correlation, body)? {
-            None => Ok(self.close(CloseCause::LongReply)),
-            Some(frame) => {
-                self.replies.push_back(frame)?;
-                self.stream.take(4 + size as usize);
-                Ok(Next::Ready)
-            }
+        match reply {
+            Framed::TooLong => return Ok(self.close(CloseCause::LongReply)),
+            Framed::Nothing => {}
+            Framed::Frame(frame) => self.replies.push_back(frame)?,
         }
+        self.stream.take(4 + size as usize);
+        Ok(Next::Ready)
     }
 
     // A frame of so many bytes begins this request.
@@ -160,7 +150,10 @@ impl Conn {
                 correlation,
                 stage,
             } => match stage {
-                Stage::Says(body) => self.send(alloc, size, tags, correlation, &body),
+                Stage::Says(body) => {
+                    let reply = frame_reply(alloc, tags, correlation, body)?;
+                    self.send(size, reply)
+                }
                 Stage::Asks(hand) => self.begin(alloc, size, correlation, hand),
             },
         }
@@ -192,11 +185,8 @@ impl Conn {
         }
     }
 
-    /// What the connection does next: it waits, asks a part, has answered a request that needs no further part, closes, or
-    /// is gone. Until a `give` or an `end` it answers the same part. After want of memory all is as before.
-    pub fn next_part(&mut self, alloc: Global, conf: &Config) -> Result<Next, NoMemory>
+    fn turn(&mut self, alloc: Global, conf: &Config) -> Result<Next, NoMemory>
         ensures next { IfOk result (λ next. Tells (turn conf.now self.old) next self.new) }
-        ensures idle { IfOk result (λ next. (next ≡ Next.Idle) ↔ Waits self.old) }
         ensures kept { OnErr result (self.new ≡ self.old) }
     {
         match &self.work {
@@ -208,6 +198,33 @@ impl Conn {
             Work::Overlong => Ok(self.close(CloseCause::LongReply)),
             Work::Closing => Ok(self.release()),
         }
+    }
+
+    /// What the connection does next: it waits, asks a part, has answered a request that needs no further part, closes, or
+    /// is gone. It waits exactly where it isn't closing, no request is in hand, and what is unread begins with neither a whole
+    /// frame nor the size of one that is too long. Until a `give` or an `end` it answers the same part. After want of memory
+    /// all is as before.
+    pub fn next_part(&mut self, alloc: Global, conf: &Config) -> Result<Next, NoMemory>
+        ensures next { IfOk result (λ next. Tells (turn conf.now self.old) next self.new) }
+        ensures idle { IfOk result (λ next. (next ≡ Next.Idle) ↔ Waits self.old) }
+        ensures asks { IfOk result (λ next. Awaits next self.new) }
+        ensures kept { OnErr result (self.new ≡ self.old) }
+    {
+        self.turn(alloc, conf)
+    }
+
+    // The parts of the request in hand are done.
+    fn finish(&mut self, reply: Framed) -> Result<(), NoMemory>
+        requires idle { self.old.work ≡ Work.Free }
+        ensures ok { OnOk result (self.new ≡ finished self.old reply) }
+        ensures err { OnErr result (self.new ≡ self.old) }
+    {
+        match reply {
+            Framed::Nothing => {}
+            Framed::Frame(frame) => self.replies.push_back(frame)?,
+            Framed::TooLong => self.work = Work::Overlong,
+        }
+        Ok(())
     }
 
     // The request in hand is at this stage.
@@ -222,17 +239,19 @@ impl Conn {
         ensures err { OnErr result (self.new ≡ self.old) }
     {
         match stage {
-            Stage::Asks(hand) => self.work = Work::Busy { correlation, hand },
-            Stage::Says(body) => match framed(alloc, true, correlation, &body)? {
-                None => self.work = Work::Overlong,
-                Some(frame) => self.replies.push_back(frame)?,
-            },
+            Stage::Asks(hand) => {
+                self.work = Work::Busy { correlation, hand };
+                Ok(())
+            }
+            Stage::Says(body) => {
+                let reply = frame_reply(alloc, true, correlation, body)?;
+                self.finish(reply)
+            }
         }
-        Ok(())
     }
 
     fn take_answer(&mut self, alloc: Global, answer: PartAnswer) -> Result<(), NoMemory>
-        requires fair { IsFair answer }
+        requires fits { FitsIn (asked_in self.old) answer }
         ensures ok { OnOk result (self.new ≡ given answer self.old) }
         ensures err { OnErr result (ended self.new ≡ ended self.old) }
     {
@@ -254,17 +273,16 @@ impl Conn {
         }
     }
 
-    /// The answer to the part that `next_part` asked. With the last answer the reply is finished, unless it is too long:
-    /// then `next_part` closes the connection. Want of memory ends the connection as `end` does.
-    ///
-    /// In the answer each offset is below 2^63 and each count below 2^15.
+    /// The answer to the part that `next_part` asked: of its kind, each offset at most 2^63 - 1 and each count at most 32767.
+    /// With the last answer the reply is finished, unless it is too long: then `next_part` closes the connection. Where no part
+    /// is asked nothing changes. Want of memory ends the connection as `end` does.
     pub fn give(
         &mut self,
         alloc: Global,
         _conf: &Config,
         answer: PartAnswer,
     ) -> Result<(), NoMemory>
-        requires fair { IsFair answer }
+        requires fits { FitsIn (asked_in self.old) answer }
         ensures given { OnOk result (self.new ≡ given answer self.old) }
         ensures ended { OnErr result (self.new ≡ ended self.old) }
     {
@@ -291,7 +309,7 @@ impl Conn {
     pub fn take_reply(&mut self) -> Option<Blob>
         ensures some { IfSome result (λ reply. self.old.replies ≡ reply ∷ self.new.replies) }
         ensures none { IfNone result ((self.old.replies ≡ []) × (self.new ≡ self.old)) }
-        ensures rest { without_replies self.new ≡ without_replies self.old }
+        ensures rest { self.new ≡ replied self.old }
     {
         self.replies.pop_front()
     }

@@ -1,20 +1,20 @@
-//! The calls in hand, each under its own name: what has to know all of them.
+//! The calls that ask parts, each under its own name: what has to know all of them.
 ghost use Rattle.std.specs.Prelude.{◌≡◌, IfOk};
-ghost use Rattle.conn_core.specs.Calls.{IsFair};
-ghost use Rattle.conn_core.specs.Hands.{part_of, answered, initialize_stage, read_stage};
+ghost use Rattle.call_fold.specs.Parts.{IsAnswerTo};
+ghost use Rattle.conn_core.specs.Hands.{asked_part, answered};
 
-use crate::call::{Asking, Stage, part, take};
-use crate::initialize::{Beginning, Initialize};
-use crate::next::{Part, PartAnswer};
-use crate::read::{Read, Reading};
-use crate::state::{StateHand, Wished, state_call};
-use msgs_state::{
-    InitializeShareGroupStateRequest, PartitionResult, ReadPartitionResult,
-    ReadShareGroupStateRequest,
-};
+use call_fold::{Asking, Part, PartAnswer, Stage, part_of, take};
+use msgs_state::{PartitionResult, ReadPartitionResult};
 use share_model::NoMemory;
+use state_calls::{Beginning, Initialize, Read, Reading, StateHand, Wished};
 use std::alloc::Global;
-use topic_conf::Config;
+
+/// A request in hand: a part of it is asked.
+#[derive(Drop)]
+pub enum Hand {
+    Initialize(Asking<StateHand<Initialize>, Wished<Beginning>, PartitionResult>),
+    Read(Asking<StateHand<Read>, Wished<Reading>, ReadPartitionResult>),
+}
 
 // A call's stage, under its name in hand.
 macro_rules! held {
@@ -26,27 +26,22 @@ macro_rules! held {
     };
 }
 
-/// A request in hand: a part of it is asked.
-#[derive(Drop)]
-pub enum Hand {
-    Initialize(Asking<StateHand<Initialize>, Wished<Beginning>, PartitionResult>),
-    Read(Asking<StateHand<Read>, Wished<Reading>, ReadPartitionResult>),
-}
+pub(crate) use held;
 
 impl Hand {
     /// The part that is asked.
     pub fn part(&self, alloc: Global) -> Result<Part, NoMemory>
-        ensures { IfOk result (λ part. part ≡ part_of self.now) }
+        ensures { IfOk result (λ part. part ≡ asked_part self.now) }
     {
         match self {
-            Hand::Initialize(asking) => part(alloc, asking),
-            Hand::Read(asking) => part(alloc, asking),
+            Hand::Initialize(asking) => part_of(alloc, asking),
+            Hand::Read(asking) => part_of(alloc, asking),
         }
     }
 
     /// It has this answer.
     pub fn answer(self, alloc: Global, answer: PartAnswer) -> Result<Stage<Hand>, NoMemory>
-        requires { IsFair answer }
+        requires fits { IsAnswerTo (asked_part self) answer }
         ensures { IfOk result (λ stage. stage ≡ answered self answer) }
     {
         match self {
@@ -54,34 +49,4 @@ impl Hand {
             Hand::Read(asking) => held!(Read, take(alloc, asking, answer)?),
         }
     }
-}
-
-/// An Initialize begins.
-pub fn initialize_begins(
-    alloc: Global,
-    conf: &Config,
-    message: InitializeShareGroupStateRequest,
-) -> Result<Stage<Hand>, NoMemory>
-    ensures { IfOk result (λ stage. stage ≡ initialize_stage conf.now message) }
-{
-    let InitializeShareGroupStateRequest { group_id, topics } = message;
-    held!(
-        Initialize,
-        state_call(alloc, conf, Initialize, group_id.as_str(), topics)?
-    )
-}
-
-/// A Read begins.
-pub fn read_begins(
-    alloc: Global,
-    conf: &Config,
-    message: ReadShareGroupStateRequest,
-) -> Result<Stage<Hand>, NoMemory>
-    ensures { IfOk result (λ stage. stage ≡ read_stage conf.now message) }
-{
-    let ReadShareGroupStateRequest { group_id, topics } = message;
-    held!(
-        Read,
-        state_call(alloc, conf, Read, group_id.as_str(), topics)?
-    )
 }

@@ -3,32 +3,27 @@
 #![tactic(auto)]
 
 mod api;
-mod call;
 mod conn;
 mod coordinators;
 mod hand;
-mod initialize;
 mod judge;
 mod law;
 mod metadata;
 mod next;
-mod read;
+mod request;
 mod sending;
-mod state;
 mod stream;
 #[cfg(test)]
 mod tests_answers;
 #[cfg(test)]
 mod tests_conn;
-#[cfg(test)]
-mod tests_state;
-mod told;
 mod versions;
 mod work;
 
+pub use call_fold::{Part, PartAnswer};
 pub use conn::Conn;
 pub use law::{
     connections_depend_on_the_stream, each_request_is_taken_for_what_it_says,
     requests_keep_to_their_talk,
 };
-pub use next::{Next, Part, PartAnswer};
+pub use next::Next;

@@ -1,5 +1,8 @@
-pub mod InitializeRequest
-pub mod ReadReply
-pub mod ReadRequest
 pub mod StateBatch
+pub mod StateMessage
+pub mod InitializeRequest
+pub mod ReadRequest
+pub mod WriteRequest
+pub mod DeleteRequest
 pub mod StateReply
+pub mod ReadReply

@@ -1,10 +1,10 @@
 -- The reply to ReadShareGroupState of version 0 (KIP-932, ReadShareGroupStateResponse.json).
 -- For example one with state epoch 3 and start 7 for partition 0 and no batches has 41 bytes.
 use Rattle.std.specs.Prelude.{ℕ, ℤ, List, Option, refl}
-use Rattle.flex_fields.specs.Formats.{Format, Shape, structure, array, ◌▹◌, null_string, uuid, int16, int32, int64}
+use Rattle.flex_fields.specs.Formats.{Format, Shape, structure, array, ◌▹◌, null_string, int16, int32, int64}
 use Rattle.msgs_state.specs.declared.read_reply.ReadPartitionResult.{ReadPartitionResult}
-use Rattle.msgs_state.specs.declared.read_reply.ReadTopicResult.{ReadTopicResult}
-use Rattle.msgs_state.specs.declared.read_reply.ReadShareGroupStateReply.{ReadShareGroupStateReply}
+use Rattle.msgs_state.specs.declared.state_message.StateReply.{StateReply}
+use Rattle.msgs_state.specs.StateMessage.{state_reply}
 use Rattle.msgs_state.specs.declared.state_batch.StateBatch.{StateBatch}
 use Rattle.msgs_state.specs.StateBatch.{state_batch}
 
@@ -26,24 +26,5 @@ read_partition_result_shape = record {
 unfoldable pub read_partition_result : Format ReadPartitionResult
 read_partition_result = structure read_partition_result_shape (int32 ▹ int16 ▹ null_string ▹ int32 ▹ int64 ▹ array state_batch)
 
-abbrev pub read_topic_result_shape : Shape ReadTopicResult (List ℕ × List ReadPartitionResult)
-read_topic_result_shape = record {
-  make = λ x. record { topic_id = x.0; partitions = x.1 };
-  parts = λ s. (s.topic_id, s.partitions);
-  back = λ _. refl;
-  there = λ _. refl;
-}
-
-unfoldable pub read_topic_result : Format ReadTopicResult
-read_topic_result = structure read_topic_result_shape (uuid ▹ array read_partition_result)
-
-abbrev pub read_share_group_state_reply_shape : Shape ReadShareGroupStateReply (List ReadTopicResult)
-read_share_group_state_reply_shape = record {
-  make = λ x. record { results = x };
-  parts = λ s. s.results;
-  back = λ _. refl;
-  there = λ _. refl;
-}
-
-unfoldable pub read_share_group_state_reply : Format ReadShareGroupStateReply
-read_share_group_state_reply = structure read_share_group_state_reply_shape (array read_topic_result)
+abbrev pub read_share_group_state_reply : Format (StateReply ReadPartitionResult)
+read_share_group_state_reply = state_reply read_partition_result

@@ -2,10 +2,10 @@
 -- InitializeShareGroupStateResponse.json and its two likes).
 -- For example one with code 0 for partition 0 has 28 bytes.
 use Rattle.std.specs.Prelude.{ℕ, ℤ, List, Option, refl}
-use Rattle.flex_fields.specs.Formats.{Format, Shape, structure, array, ◌▹◌, null_string, uuid, int16, int32}
+use Rattle.flex_fields.specs.Formats.{Format, Shape, structure, ◌▹◌, null_string, int16, int32}
 use Rattle.msgs_state.specs.declared.state_reply.PartitionResult.{PartitionResult}
-use Rattle.msgs_state.specs.declared.state_reply.TopicResult.{TopicResult}
-use Rattle.msgs_state.specs.declared.state_reply.ShareGroupStateReply.{ShareGroupStateReply}
+use Rattle.msgs_state.specs.declared.state_message.StateReply.{StateReply}
+use Rattle.msgs_state.specs.StateMessage.{state_reply}
 
 abbrev pub partition_result_shape : Shape PartitionResult (ℤ × (ℤ × Option (List ℕ)))
 partition_result_shape = record {
@@ -18,24 +18,5 @@ partition_result_shape = record {
 unfoldable pub partition_result : Format PartitionResult
 partition_result = structure partition_result_shape (int32 ▹ int16 ▹ null_string)
 
-abbrev pub topic_result_shape : Shape TopicResult (List ℕ × List PartitionResult)
-topic_result_shape = record {
-  make = λ x. record { topic_id = x.0; partitions = x.1 };
-  parts = λ s. (s.topic_id, s.partitions);
-  back = λ _. refl;
-  there = λ _. refl;
-}
-
-unfoldable pub topic_result : Format TopicResult
-topic_result = structure topic_result_shape (uuid ▹ array partition_result)
-
-abbrev pub share_group_state_reply_shape : Shape ShareGroupStateReply (List TopicResult)
-share_group_state_reply_shape = record {
-  make = λ x. record { results = x };
-  parts = λ s. s.results;
-  back = λ _. refl;
-  there = λ _. refl;
-}
-
-unfoldable pub share_group_state_reply : Format ShareGroupStateReply
-share_group_state_reply = structure share_group_state_reply_shape (array topic_result)
+abbrev pub share_group_state_reply : Format (StateReply PartitionResult)
+share_group_state_reply = state_reply partition_result

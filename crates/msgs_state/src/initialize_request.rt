@@ -1,12 +1,10 @@
 ghost use Rattle.std.specs.Prelude.{IfOk};
 ghost use Rattle.flex_fields.specs.Formats.{ReadsWhole, IsSpelling};
-ghost use Rattle.msgs_state.specs.InitializeRequest.{initialize_partition, initialize_topic, initialize_share_group_state_request};
+ghost use Rattle.msgs_state.specs.InitializeRequest.{initialize_partition, initialize_share_group_state_request};
 
-use flex_fields::{
-    Bytes, Cursor, Items, NoMemory, Out, Text, Wire, WireFault, read_whole, take_array, write_whole,
-};
+use crate::state_message::StateRequest;
+use flex_fields::{Bytes, Cursor, NoMemory, Out, Wire, WireFault, read_whole, write_whole};
 use std::alloc::Global;
-use uuid::Uuid;
 
 /// What the state of one partition begins with.
 #[derive(Clone, Copy, Debug, PartialEq, Eq)]
@@ -16,19 +14,8 @@ pub struct InitializePartition {
     pub start_offset: i64,
 }
 
-/// The partitions of one topic.
-#[derive(Debug, Drop)]
-pub struct InitializeTopic {
-    pub topic_id: Uuid,
-    pub partitions: Items<InitializePartition>,
-}
-
 /// Begins the state of share partitions anew.
-#[derive(Debug, Drop)]
-pub struct InitializeShareGroupStateRequest {
-    pub group_id: Text,
-    pub topics: Items<InitializeTopic>,
-}
+pub type InitializeShareGroupStateRequest = StateRequest<InitializePartition>;
 
 impl Wire for InitializePartition {
     ghost format = { initialize_partition };
@@ -50,47 +37,6 @@ impl Wire for InitializePartition {
         self.partition.put(out)?;
         self.state_epoch.put(out)?;
         self.start_offset.put(out)?;
-        out.put_tags()?;
-        Ok(())
-    }
-}
-
-impl Wire for InitializeTopic {
-    ghost format = { initialize_topic };
-
-    #[tactic(auto, unfolding(crate::specs::InitializeRequest::initialize_topic))]
-    fn take(alloc: Global, cursor: &mut Cursor<'_>) -> Result<Self, WireFault> {
-        let topic_id = cursor.take_uuid()?;
-        let partitions = take_array(alloc, cursor)?;
-        cursor.skip_tags()?;
-        Ok(InitializeTopic {
-            topic_id,
-            partitions,
-        })
-    }
-
-    fn put(&self, out: &mut Out) -> Result<(), NoMemory> {
-        self.topic_id.put(out)?;
-        self.partitions.put(out)?;
-        out.put_tags()?;
-        Ok(())
-    }
-}
-
-impl Wire for InitializeShareGroupStateRequest {
-    ghost format = { initialize_share_group_state_request };
-
-    #[tactic(auto, unfolding(crate::specs::InitializeRequest::initialize_share_group_state_request))]
-    fn take(alloc: Global, cursor: &mut Cursor<'_>) -> Result<Self, WireFault> {
-        let group_id = cursor.take_str(alloc)?;
-        let topics = take_array(alloc, cursor)?;
-        cursor.skip_tags()?;
-        Ok(InitializeShareGroupStateRequest { group_id, topics })
-    }
-
-    fn put(&self, out: &mut Out) -> Result<(), NoMemory> {
-        self.group_id.put(out)?;
-        self.topics.put(out)?;
         out.put_tags()?;
         Ok(())
     }

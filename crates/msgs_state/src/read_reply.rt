@@ -1,13 +1,13 @@
 ghost use Rattle.std.specs.Prelude.{IfOk};
 ghost use Rattle.flex_fields.specs.Formats.{ReadsWhole, IsSpelling};
-ghost use Rattle.msgs_state.specs.ReadReply.{read_partition_result, read_topic_result, read_share_group_state_reply};
+ghost use Rattle.msgs_state.specs.ReadReply.{read_partition_result, read_share_group_state_reply};
 
 use crate::state_batch::StateBatch;
+use crate::state_message::StateReply;
 use flex_fields::{
     Bytes, Cursor, Items, NoMemory, Out, Text, Wire, WireFault, read_whole, take_array, write_whole,
 };
 use std::alloc::Global;
-use uuid::Uuid;
 
 /// The state of one partition, or an error.
 #[derive(Debug, Drop)]
@@ -20,18 +20,8 @@ pub struct ReadPartitionResult {
     pub state_batches: Items<StateBatch>,
 }
 
-/// The partitions of one topic.
-#[derive(Debug, Drop)]
-pub struct ReadTopicResult {
-    pub topic_id: Uuid,
-    pub partitions: Items<ReadPartitionResult>,
-}
-
 /// The states that were asked for.
-#[derive(Debug, Drop)]
-pub struct ReadShareGroupStateReply {
-    pub results: Items<ReadTopicResult>,
-}
+pub type ReadShareGroupStateReply = StateReply<ReadPartitionResult>;
 
 impl Wire for ReadPartitionResult {
     ghost format = { read_partition_result };
@@ -62,45 +52,6 @@ impl Wire for ReadPartitionResult {
         self.state_epoch.put(out)?;
         self.start_offset.put(out)?;
         self.state_batches.put(out)?;
-        out.put_tags()?;
-        Ok(())
-    }
-}
-
-impl Wire for ReadTopicResult {
-    ghost format = { read_topic_result };
-
-    #[tactic(auto, unfolding(crate::specs::ReadReply::read_topic_result))]
-    fn take(alloc: Global, cursor: &mut Cursor<'_>) -> Result<Self, WireFault> {
-        let topic_id = cursor.take_uuid()?;
-        let partitions = take_array(alloc, cursor)?;
-        cursor.skip_tags()?;
-        Ok(ReadTopicResult {
-            topic_id,
-            partitions,
-        })
-    }
-
-    fn put(&self, out: &mut Out) -> Result<(), NoMemory> {
-        self.topic_id.put(out)?;
-        self.partitions.put(out)?;
-        out.put_tags()?;
-        Ok(())
-    }
-}
-
-impl Wire for ReadShareGroupStateReply {
-    ghost format = { read_share_group_state_reply };
-
-    #[tactic(auto, unfolding(crate::specs::ReadReply::read_share_group_state_reply))]
-    fn take(alloc: Global, cursor: &mut Cursor<'_>) -> Result<Self, WireFault> {
-        let results = take_array(alloc, cursor)?;
-        cursor.skip_tags()?;
-        Ok(ReadShareGroupStateReply { results })
-    }
-
-    fn put(&self, out: &mut Out) -> Result<(), NoMemory> {
-        self.results.put(out)?;
         out.put_tags()?;
         Ok(())
     }

@@ -1,12 +1,10 @@
 ghost use Rattle.std.specs.Prelude.{IfOk};
 ghost use Rattle.flex_fields.specs.Formats.{ReadsWhole, IsSpelling};
-ghost use Rattle.msgs_state.specs.StateReply.{partition_result, topic_result, share_group_state_reply};
+ghost use Rattle.msgs_state.specs.StateReply.{partition_result, share_group_state_reply};
 
-use flex_fields::{
-    Bytes, Cursor, Items, NoMemory, Out, Text, Wire, WireFault, read_whole, take_array, write_whole,
-};
+use crate::state_message::StateReply;
+use flex_fields::{Bytes, Cursor, NoMemory, Out, Text, Wire, WireFault, read_whole, write_whole};
 use std::alloc::Global;
-use uuid::Uuid;
 
 /// What became of one partition: 0 and null, or an error.
 #[derive(Debug, Drop)]
@@ -16,18 +14,8 @@ pub struct PartitionResult {
     pub error_message: Option<Text>,
 }
 
-/// The partitions of one topic.
-#[derive(Debug, Drop)]
-pub struct TopicResult {
-    pub topic_id: Uuid,
-    pub partitions: Items<PartitionResult>,
-}
-
 /// The one form of the replies to Initialize, Write and Delete.
-#[derive(Debug, Drop)]
-pub struct ShareGroupStateReply {
-    pub results: Items<TopicResult>,
-}
+pub type ShareGroupStateReply = StateReply<PartitionResult>;
 
 impl Wire for PartitionResult {
     ghost format = { partition_result };
@@ -49,45 +37,6 @@ impl Wire for PartitionResult {
         self.partition.put(out)?;
         self.error_code.put(out)?;
         self.error_message.put(out)?;
-        out.put_tags()?;
-        Ok(())
-    }
-}
-
-impl Wire for TopicResult {
-    ghost format = { topic_result };
-
-    #[tactic(auto, unfolding(crate::specs::StateReply::topic_result))]
-    fn take(alloc: Global, cursor: &mut Cursor<'_>) -> Result<Self, WireFault> {
-        let topic_id = cursor.take_uuid()?;
-        let partitions = take_array(alloc, cursor)?;
-        cursor.skip_tags()?;
-        Ok(TopicResult {
-            topic_id,
-            partitions,
-        })
-    }
-
-    fn put(&self, out: &mut Out) -> Result<(), NoMemory> {
-        self.topic_id.put(out)?;
-        self.partitions.put(out)?;
-        out.put_tags()?;
-        Ok(())
-    }
-}
-
-impl Wire for ShareGroupStateReply {
-    ghost format = { share_group_state_reply };
-
-    #[tactic(auto, unfolding(crate::specs::StateReply::share_group_state_reply))]
-    fn take(alloc: Global, cursor: &mut Cursor<'_>) -> Result<Self, WireFault> {
-        let results = take_array(alloc, cursor)?;
-        cursor.skip_tags()?;
-        Ok(ShareGroupStateReply { results })
-    }
-
-    fn put(&self, out: &mut Out) -> Result<(), NoMemory> {
-        self.results.put(out)?;
         out.put_tags()?;
         Ok(())
     }

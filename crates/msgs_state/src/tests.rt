@@ -14,6 +14,17 @@ const READ: [u8; 32] = [
     0, 0, 0, 0, 0, 0, 0, 0,
 ];
 
+const WRITE: [u8; 65] = [
+    3, 0x67, 0x31, 2, 17, 17, 17, 17, 17, 17, 17, 17, 17, 17, 17, 17, 17, 17, 17, 17, 2, 0, 0, 0,
+    0, 0, 0, 0, 3, 0, 0, 0, 0, 255, 255, 255, 255, 255, 255, 255, 255, 2, 0, 0, 0, 0, 0, 0, 0, 0,
+    0, 0, 0, 0, 0, 0, 0, 4, 2, 0, 1, 0, 0, 0, 0,
+];
+
+const DELETE: [u8; 28] = [
+    3, 0x67, 0x31, 2, 17, 17, 17, 17, 17, 17, 17, 17, 17, 17, 17, 17, 17, 17, 17, 17, 2, 0, 0, 0,
+    0, 0, 0, 0,
+];
+
 const STATE_REPLY: [u8; 28] = [
     2, 17, 17, 17, 17, 17, 17, 17, 17, 17, 17, 17, 17, 17, 17, 17, 17, 2, 0, 0, 0, 0, 0, 0, 0, 0,
     0, 0,
@@ -77,7 +88,7 @@ fn replies_are_written_and_read(rt: HostRuntime) -> Result<(), Fail> {
     let partitions = one(alloc, partition)?;
     let results = one(
         alloc,
-        TopicResult {
+        StateTopic {
             topic_id,
             partitions,
         },
@@ -100,5 +111,29 @@ fn a_read_reply_is_read_and_written(rt: HostRuntime) -> Result<(), Fail> {
     assert!(rt; states[0].error_message.is_none());
     let written = write_read_share_group_state_reply(alloc, &reply)?;
     assert_eq!(rt; written.as_slice(), READ_REPLY.as_slice());
+    Ok(())
+}
+
+#[test]
+fn write_and_delete_requests_are_read_and_written(rt: HostRuntime) -> Result<(), Fail> {
+    let alloc = rt.alloc();
+    let write = read_write_share_group_state_request(alloc, &WRITE)?;
+    let partitions = write.topics.as_slice()[0].partitions.as_slice();
+    assert_eq!(rt; partitions.len(), 1);
+    assert_eq!(rt; partitions[0].start_offset, -1);
+    let want = StateBatch {
+        first_offset: 0,
+        last_offset: 4,
+        delivery_state: 2,
+        delivery_count: 1,
+    };
+    assert_eq!(rt; partitions[0].state_batches.as_slice(), [want].as_slice());
+    let written = write_write_share_group_state_request(alloc, &write)?;
+    assert_eq!(rt; written.as_slice(), WRITE.as_slice());
+    let delete = read_delete_share_group_state_request(alloc, &DELETE)?;
+    let partitions = delete.topics.as_slice()[0].partitions.as_slice();
+    assert_eq!(rt; partitions, [DeletePartition { partition: 0 }].as_slice());
+    let written = write_delete_share_group_state_request(alloc, &delete)?;
+    assert_eq!(rt; written.as_slice(), DELETE.as_slice());
     Ok(())
 }

@@ -1,3 +1,4 @@
 pub mod Client
 pub mod ClientRead
 pub mod Heads
+pub mod InTwo

@@ -1,0 +1,11 @@
+//! A request in hand as a fold over its entries: which part a shard has to do next, and the reply that its answers make.
+//! Each call of a connection is an instance of it.
+#![tactic(auto)]
+
+mod call;
+mod law;
+mod part;
+
+pub use call::{Asking, Call, Entry, Stage, go_on, part_of, rows_known, take};
+pub use law::each_row_is_of_its_own_entry;
+pub use part::{Part, PartAnswer};

@@ -1,0 +1,15 @@
+-- What becomes of a frame by its first eight bytes.
+use Rattle.std.proofs.Common.{◌≡◌, ℤ, List, ℕ, Result, Ok, Err, IfOk, sym, subst}
+use Rattle.flex_fields.specs.declared.fault.WireFault.{WireFault}
+use Rattle.flex_fields.specs.declared.fault.NoMemory.{NoMemory}
+use Rattle.flex_fields.specs.Reading.{At}
+use Rattle.topic_conf.specs.Configs.{ConfigParts}
+use Rattle.req_head.specs.InTwo.{head_start}
+use Rattle.conn_core.specs.declared.judge.Judged.{Judged}
+use Rattle.conn_core.specs.Judging.{routed, started, judged}
+
+pub started_by : (conf : ConfigParts) (frame : List ℕ) (key version correlation : ℤ) (at : At) (result : Result Judged NoMemory) →
+    head_start.read (record { place = 0; left = frame }) ≡ Ok ((key, (version, correlation)), at) →
+    IfOk result (λ j. j ≡ routed conf key version correlation at) → IfOk result (λ j. j ≡ judged conf frame)
+started_by conf frame key version correlation at result read told =
+    subst (λ r. IfOk result (λ j. j ≡ started conf r)) (sym read) told

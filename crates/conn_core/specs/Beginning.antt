@@ -1,0 +1,46 @@
+-- With what a request begins: its first part, or its reply (KIP-932 and the Kafka protocol guide; see each call's own definition).
+-- For example ApiVersions has its reply at once, and a Read of a partition that isn't hosted a part (the test
+-- however_bytes_are_cut_the_parts_and_the_replies_are_the_same).
+use Rattle.std.specs.Prelude.{Some}
+use Rattle.topic_conf.specs.Configs.{ConfigParts}
+use Rattle.msgs_base.specs.declared.metadata_request.MetadataRequest.{MetadataRequest}
+use Rattle.msgs_base.specs.declared.find_coordinator_request.FindCoordinatorRequest.{FindCoordinatorRequest}
+use Rattle.msgs_base.specs.declared.api_versions_request.ApiVersionsRequest.{ApiVersionsRequest}
+use Rattle.msgs_base.specs.ApiVersionsReply.{api_versions_reply}
+use Rattle.msgs_base.specs.MetadataReply.{metadata_reply}
+use Rattle.msgs_base.specs.FindCoordinatorReply.{find_coordinator_reply}
+use Rattle.msgs_state.specs.declared.state_message.StateRequest.{StateRequest}
+use Rattle.msgs_state.specs.declared.initialize_request.InitializePartition.{InitializePartition}
+use Rattle.msgs_state.specs.declared.read_request.ReadPartition.{ReadPartition}
+use Rattle.msgs_state.specs.StateReply.{partition_result}
+use Rattle.msgs_state.specs.ReadReply.{read_partition_result}
+use Rattle.call_fold.specs.declared.call.Stage.{Stage}
+use Rattle.call_fold.specs.declared.call.Stage.TheVariants.{Says}
+use Rattle.state_calls.specs.StateCalls.{state_stage}
+use Rattle.state_calls.specs.Initialize.{initialize_means}
+use Rattle.state_calls.specs.Read.{read_means}
+use Rattle.conn_core.specs.declared.hand.Hand.{Hand}
+use Rattle.conn_core.specs.declared.hand.Hand.TheVariants.{Initialize, Read}
+use Rattle.conn_core.specs.Versions.{versions_answer}
+use Rattle.conn_core.specs.Metadata.{metadata_answer}
+use Rattle.conn_core.specs.Coordinators.{coordinator_answer}
+use Rattle.conn_core.specs.Hands.{held}
+
+-- A is the request's message
+abbrev pub Begins : Type 0 → Type 0
+Begins A = ConfigParts → A → Stage Hand
+
+abbrev pub metadata_begins : Begins MetadataRequest
+metadata_begins conf m = Says (Some (metadata_reply.bytes (metadata_answer conf m)))
+
+abbrev pub coordinator_begins : Begins FindCoordinatorRequest
+coordinator_begins conf m = Says (Some (find_coordinator_reply.bytes (coordinator_answer conf m)))
+
+abbrev pub versions_begins : Begins ApiVersionsRequest
+versions_begins conf m = Says (Some (api_versions_reply.bytes versions_answer))
+
+abbrev pub initialize_begins : Begins (StateRequest InitializePartition)
+initialize_begins conf m = held (λ a. Initialize a) (state_stage initialize_means partition_result conf.topics (record {}) m)
+
+abbrev pub read_begins : Begins (StateRequest ReadPartition)
+read_begins conf m = held (λ a. Read a) (state_stage read_means read_partition_result conf.topics (record {}) m)

@@ -1,0 +1,74 @@
+//! The requests that are served: with what each begins.
+ghost use Rattle.std.specs.Prelude.{◌≡◌, IfOk};
+ghost use Rattle.conn_core.specs.Beginning.{Begins, metadata_begins, coordinator_begins, versions_begins, initialize_begins, read_begins};
+
+use crate::coordinators::coordinator_reply;
+use crate::hand::{Hand, held};
+use crate::metadata::metadata_reply;
+use crate::versions::versions_reply;
+use call_fold::Stage;
+use flex_fields::Wire;
+use msgs_base::{
+    ApiVersionsRequest, FindCoordinatorRequest, MetadataRequest, write_api_versions_reply,
+    write_find_coordinator_reply, write_metadata_reply,
+};
+use msgs_state::{InitializeShareGroupStateRequest, ReadShareGroupStateRequest};
+use share_model::NoMemory;
+use state_calls::{Initialize, Read, state_call};
+use std::alloc::Global;
+use topic_conf::Config;
+
+/// A message that asks for a served call.
+pub trait Request: Wire {
+    /// With what the call begins: its first part, or its reply.
+    ghost begins: { Begins Self };
+
+    fn begin(self, alloc: Global, conf: &Config) -> Result<Stage<Hand>, NoMemory>
+        ensures { IfOk result (λ stage. stage ≡ begins conf.now self) };
+}
+
+impl Request for MetadataRequest {
+    ghost begins = { metadata_begins };
+
+    fn begin(self, alloc: Global, conf: &Config) -> Result<Stage<Hand>, NoMemory> {
+        let reply = metadata_reply(alloc, conf, &self)?;
+        let body = write_metadata_reply(alloc, &reply)?;
+        Ok(Stage::Says(Some(body)))
+    }
+}
+
+impl Request for FindCoordinatorRequest {
+    ghost begins = { coordinator_begins };
+
+    fn begin(self, alloc: Global, conf: &Config) -> Result<Stage<Hand>, NoMemory> {
+        let reply = coordinator_reply(alloc, conf, self)?;
+        let body = write_find_coordinator_reply(alloc, &reply)?;
+        Ok(Stage::Says(Some(body)))
+    }
+}
+
+impl Request for ApiVersionsRequest {
+    ghost begins = { versions_begins };
+
+    fn begin(self, alloc: Global, _: &Config) -> Result<Stage<Hand>, NoMemory> {
+        let reply = versions_reply(alloc)?;
+        let body = write_api_versions_reply(alloc, &reply)?;
+        Ok(Stage::Says(Some(body)))
+    }
+}
+
+impl Request for InitializeShareGroupStateRequest {
+    ghost begins = { initialize_begins };
+
+    fn begin(self, alloc: Global, conf: &Config) -> Result<Stage<Hand>, NoMemory> {
+        held!(Initialize, state_call(alloc, conf, Initialize, self)?)
+    }
+}
+
+impl Request for ReadShareGroupStateRequest {
+    ghost begins = { read_begins };
+
+    fn begin(self, alloc: Global, conf: &Config) -> Result<Stage<Hand>, NoMemory> {
+        held!(Read, state_call(alloc, conf, Read, self)?)
+    }
+}

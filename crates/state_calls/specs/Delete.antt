@@ -1,0 +1,17 @@
+-- DeleteShareGroupState (KIP-932). A hosted partition is refused with 42, which is this project's own.
+-- For example partition 0 asks a Delete of its key (the test a_write_asks_for_its_batches).
+use Rattle.share_model.specs.declared.foreign.ForeignOp.TheVariants.{Delete as ForeignDelete}
+use Rattle.share_model.specs.declared.fault.TheConstants.Code.{INVALID_REQUEST}
+use Rattle.msgs_state.specs.declared.delete_request.DeletePartition.{DeletePartition}
+use Rattle.msgs_state.specs.declared.state_reply.PartitionResult.{PartitionResult}
+use Rattle.state_calls.specs.declared.delete.Deleting.{Deleting}
+use Rattle.state_calls.specs.States.{StateMeans}
+use Rattle.state_calls.specs.Told.{coded}
+
+abbrev pub delete_means : StateMeans DeletePartition Deleting PartitionResult
+delete_means = record {
+  wish = λ p. (p.partition, record {});
+  hosted = INVALID_REQUEST;
+  op = λ key wish. ForeignDelete key;
+  row = λ partition answer. coded partition answer.code;
+}

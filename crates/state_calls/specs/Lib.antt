@@ -1,0 +1,9 @@
+pub mod Places
+pub mod Told
+pub mod States
+pub mod StateCalls
+pub mod Initialize
+pub mod Read
+pub mod Write
+pub mod Delete
+pub mod StateTalks

@@ -1,0 +1,53 @@
+-- A state call in hand (KIP-932, the share-group state calls: the reply has the topics and partitions of the request).
+-- For example a reply to a Read of partitions 5 and 6 of a topic has that topic with two rows, in this order.
+use Rattle.std.specs.Prelude.{ℕ, pos, true, false, Option, Some, List, [], ◌∷◌, map, flat_map, take, drop, if◌then◌else◌}
+use Rattle.flex_fields.specs.Formats.{Format}
+use Rattle.share_model.specs.declared.foreign.ForeignAnswer.{ForeignAnswer}
+use Rattle.topic_conf.specs.declared.topic.Topic.{Topic}
+use Rattle.msgs_state.specs.declared.state_message.StateTopic.{StateTopic}
+use Rattle.msgs_state.specs.declared.state_message.StateRequest.{StateRequest}
+use Rattle.msgs_state.specs.StateMessage.{state_reply}
+use Rattle.call_fold.specs.declared.part.Part.TheVariants.{Foreign as PartForeign}
+use Rattle.call_fold.specs.declared.part.PartAnswer.{PartAnswer}
+use Rattle.call_fold.specs.declared.part.PartAnswer.TheVariants.{Foreign}
+use Rattle.call_fold.specs.declared.call.Stage.{Stage}
+use Rattle.call_fold.specs.declared.call.Stage.TheVariants.{Says}
+use Rattle.call_fold.specs.Calls.{Acts, AskingParts}
+use Rattle.call_fold.specs.Going.{going_on, rows_known}
+use Rattle.state_calls.specs.declared.plan.Wished.{Wished}
+use Rattle.state_calls.specs.declared.state.StateHand.{StateHand}
+use Rattle.state_calls.specs.Places.{ShapeParts, key_at}
+use Rattle.state_calls.specs.States.{StateMeans, is_group, planned_topic, shape_of}
+
+-- the rows under the topics of the request, in order
+abbrev pub regrouped : {R : Type 0} → List ShapeParts → List R → List (StateTopic R)
+regrouped [] rows = []
+regrouped (one ∷ shape) rows = record { topic_id = one.topic; partitions = take one.count rows } ∷ regrouped shape (drop one.count rows)
+
+abbrev pub body_of : {R : Type 0} → Format R → List (StateTopic R) → Option (List ℕ)
+body_of f topics = Some ((state_reply f).bytes (record { results = topics }))
+
+abbrev pub state_body : {R : Type 0} → Format R → List ShapeParts → List R → Option (List ℕ)
+state_body f shape rows = body_of f (regrouped shape rows)
+
+abbrev pub answer_in : PartAnswer → ForeignAnswer
+answer_in (Foreign answer) = answer
+
+-- each row is made of its own question and of the answer to it
+abbrev pub state_acts : {S P W R : Type 0} → StateMeans P W R → Format R → Acts (StateHand S) (Wished W) R
+state_acts means f = record {
+  part = λ hand q. PartForeign (means.op (key_at hand.group q.place) q.wish);
+  row = λ hand q answer. means.row (pos q.place.part) (answer_in answer);
+  next = λ hand q answer. hand;
+  body = λ hand rows. state_body f hand.shape rows;
+}
+
+abbrev pub hand_of : {S P : Type 0} → S → StateRequest P → StateHand S
+hand_of call request = record { call = call; group = request.group_id; shape = map shape_of request.topics }
+
+-- a request begins; where its group is none, each entry has its code at once
+abbrev pub state_stage : {S P W R : Type 0} → StateMeans P W R → Format R → List Topic → S → StateRequest P → Stage (AskingParts (StateHand S) (Wished W) R)
+state_stage means f topics call request =
+    if is_group request.group_id
+    then going_on (state_acts means f) (hand_of call request) (flat_map (planned_topic means topics true) request.topics) []
+    else Says (state_body f (map shape_of request.topics) (rows_known (flat_map (planned_topic means topics false) request.topics)))

@@ -1,0 +1,84 @@
+-- What a state call means by its request (KIP-932, the share-group state calls): a part of the foreign shard for each partition that
+-- needs one, in the order of the request, and a reply with the topics and partitions of the request, in which each partition has
+-- the row of its own answer, or of the code that is known at once. Answers belong to partitions by their place.
+-- For example partitions -7, 0, -1 and 1 of a topic ask 0 and 1, and have 42, the first answer, 42 and the second (the test
+-- answers_stand_at_their_places_with_known_ones_between).
+use Rattle.std.specs.Prelude.{◌≡◌, ℕ, ℤ, nat_abs, Bool, true, false, suc, Option, Some, None, List, [], ◌∷◌, map, flat_map, take, length}
+use Rattle.flex_fields.specs.Formats.{Format}
+use Rattle.share_model.specs.declared.fault.Code.{Code}
+use Rattle.share_model.specs.declared.fault.TheConstants.Code.{INVALID_GROUP_ID}
+use Rattle.share_model.specs.declared.foreign.ForeignAnswer.{ForeignAnswer}
+use Rattle.share_model.specs.Foreign.{code_alone}
+use Rattle.topic_conf.specs.declared.topic.Topic.{Topic}
+use Rattle.msgs_state.specs.declared.state_message.StateTopic.{StateTopic}
+use Rattle.msgs_state.specs.declared.state_message.StateRequest.{StateRequest}
+use Rattle.call_fold.specs.declared.part.Part.{Part}
+use Rattle.call_fold.specs.declared.part.Part.TheVariants.{Foreign as PartForeign}
+use Rattle.call_fold.specs.declared.part.PartAnswer.{PartAnswer}
+use Rattle.call_fold.specs.declared.part.PartAnswer.TheVariants.{Foreign}
+use Rattle.call_fold.specs.Talks.{Talk, says, asking, stage_talk, asked, said}
+use Rattle.state_calls.specs.States.{StateMeans, is_group, is_hosted, known}
+use Rattle.state_calls.specs.StateCalls.{state_acts, state_stage, body_of}
+
+-- the code that a partition of this topic has at once, if it needs no shard
+abbrev pub code_at : {P W R : Type 0} → StateMeans P W R → List Topic → List ℕ → P → Option Code
+code_at means topics topic p = known true (is_hosted topics topic) means.hosted (means.wish p).0
+
+-- ---- the parts
+
+abbrev pub part_unless : {P W R : Type 0} → Option Code → StateMeans P W R → List ℕ → List ℕ → ℤ × W → List Part
+part_unless (Some code) means group topic x = []
+part_unless None means group topic x = PartForeign (means.op (record { group = group; topic = topic; part = nat_abs x.0 }) x.1) ∷ []
+
+abbrev pub parts_in : {P W R : Type 0} → StateMeans P W R → List Topic → List ℕ → StateTopic P → List Part
+parts_in means topics group t = flat_map (λ p. part_unless (code_at means topics t.topic_id p) means group t.topic_id (means.wish p)) t.partitions
+
+-- a part for each partition that needs one
+abbrev pub parts_of : {P W R : Type 0} → StateMeans P W R → List Topic → StateRequest P → List Part
+parts_of means topics request = flat_map (parts_in means topics request.group_id) request.topics
+
+-- ---- the reply, where each partition stands beside the answer of its part
+
+-- the topic as it is asked
+abbrev pub asked_topic : {P : Type 0} → StateTopic (P × ForeignAnswer) → StateTopic P
+asked_topic t = record { topic_id = t.topic_id; partitions = map (λ x. x.0) t.partitions }
+
+-- a partition that needs no shard has no answer
+abbrev pub answer_unless : Option Code → ForeignAnswer → List PartAnswer
+answer_unless (Some code) answer = []
+answer_unless None answer = Foreign answer ∷ []
+
+abbrev pub answers_in : {P W R : Type 0} → StateMeans P W R → List Topic → StateTopic (P × ForeignAnswer) → List PartAnswer
+answers_in means topics t = flat_map (λ x. answer_unless (code_at means topics t.topic_id x.0) x.1) t.partitions
+
+abbrev pub own_answer : Option Code → ForeignAnswer → ForeignAnswer
+own_answer (Some code) answer = code_alone code
+own_answer None answer = answer
+
+abbrev pub own_row : {P W R : Type 0} → StateMeans P W R → List Topic → List ℕ → P × ForeignAnswer → R
+own_row means topics topic x = means.row (means.wish x.0).0 (own_answer (code_at means topics topic x.0) x.1)
+
+abbrev pub own_topic : {P W R : Type 0} → StateMeans P W R → List Topic → StateTopic (P × ForeignAnswer) → StateTopic R
+own_topic means topics t = record { topic_id = t.topic_id; partitions = map (own_row means topics t.topic_id) t.partitions }
+
+-- where the group is none, each partition is refused
+abbrev pub refused_topic : {P W R : Type 0} → StateMeans P W R → StateTopic P → StateTopic R
+refused_topic means t = record { topic_id = t.topic_id; partitions = map (λ p. means.row (means.wish p).0 (code_alone INVALID_GROUP_ID)) t.partitions }
+
+-- ---- the law
+
+-- what the request asks and says as it is done
+abbrev pub state_talk : {S P W R : Type 0} → StateMeans P W R → Format R → List Topic → S → StateRequest P → Talk
+state_talk means f topics call request = stage_talk (asking (state_acts means f)) (state_stage means f topics call request)
+
+-- S is what the call itself is
+pub record TellsByItsPart (S : Type 0) {P W R : Type 0} (means : StateMeans P W R) (f : Format R) : Type 0 where
+  -- the parts are those of the partitions, each asked once the answers to those before it have come
+  pub asks : (topics : List Topic) (call : S) (request : StateRequest P) (answers : List PartAnswer) → is_group request.group_id ≡ true →
+      asked (state_talk means f topics call request) answers ≡ take (suc (length answers)) (parts_of means topics request)
+  -- once all answers have come, the reply tells each partition by its own
+  pub says_own : (topics : List Topic) (call : S) (group : List ℕ) (told : List (StateTopic (P × ForeignAnswer))) → is_group group ≡ true →
+      said (state_talk means f topics call (record { group_id = group; topics = map asked_topic told })) (flat_map (answers_in means topics) told)
+      ≡ Some (body_of f (map (own_topic means topics) told))
+  pub refuses : (topics : List Topic) (call : S) (request : StateRequest P) → is_group request.group_id ≡ false →
+      state_talk means f topics call request ≡ says (body_of f (map (refused_topic means) request.topics))

@@ -1,0 +1,107 @@
+ghost use Rattle.std.specs.Prelude.{◌≡◌, All, IfOk};
+ghost use Rattle.call_fold.specs.Parts.{IsTellable};
+ghost use Rattle.state_calls.specs.States.{StateMeans};
+ghost use Rattle.state_calls.specs.StateCalls.{state_acts, state_body, state_stage};
+
+use crate::place::Shape;
+use crate::plan::{Plan, Wished, plan_topics};
+use crate::reply::state_body;
+use call_fold::{Asking, Call, Part, PartAnswer, Stage, go_on, rows_known};
+use flex_fields::{Bytes, Items, Wire};
+use msgs_state::StateRequest;
+use share_model::{Code, ForeignAnswer, ForeignOp, Key, Name, NoMemory};
+use std::alloc::Global;
+use std::collections::VecDeque;
+use topic_conf::Config;
+
+/// A call on the states of partitions. It has an entry for each partition of its request, and a reply of the same form.
+pub trait StateCall: Sized + Drop {
+    /// What its request says of one partition.
+    type Partition: Wire;
+    /// What is asked of the partition's state.
+    type Wish: Drop;
+    /// What its reply says of one partition.
+    type Row: Wire;
+
+    /// Its wishes, operations and rows.
+    ghost means: { StateMeans Self.Partition Self.Wish Self.Row };
+
+    /// The partition's number, and what is asked of its state.
+    fn wish(partition: Self::Partition) -> (i32, Self::Wish)
+        ensures { result ≡ means.wish partition };
+
+    /// The code for a partition of a hosted topic.
+    fn hosted() -> Code
+        ensures { result ≡ means.hosted };
+
+    /// The operation on the state of this key.
+    fn op(alloc: Global, key: Key, wish: &Self::Wish) -> Result<ForeignOp, NoMemory>
+        ensures { IfOk result (λ op. op ≡ means.op key wish.now) };
+
+    /// What the reply says of the partition with this answer.
+    fn row(alloc: Global, partition: i32, answer: ForeignAnswer) -> Result<Self::Row, NoMemory>
+        requires { All IsTellable answer.runs }
+        ensures { IfOk result (λ row. row ≡ means.row partition answer) };
+}
+
+/// What a state call keeps from entry to entry: its group, and the form of its request.
+#[derive(Drop)]
+pub struct StateHand<S> {
+    call: S,
+    group: Name,
+    shape: Items<Shape>,
+}
+
+impl<S: StateCall> Call for StateHand<S> {
+    type Question = Wished<S::Wish>;
+
+    type Row = S::Row;
+
+    ghost acts = { state_acts S.means S.Row.format };
+
+    fn part(&self, alloc: Global, question: &Wished<S::Wish>) -> Result<Part, NoMemory> {
+        let op = S::op(alloc, question.place.key(&self.group), &question.wish)?;
+        Ok(Part::Foreign(op))
+    }
+
+    fn row(
+        &mut self,
+        alloc: Global,
+        question: Wished<S::Wish>,
+        answer: PartAnswer,
+    ) -> Result<S::Row, NoMemory> {
+        let PartAnswer::Foreign(answer) = answer;
+        S::row(alloc, question.place.partition(), answer)
+    }
+
+    fn body(self, alloc: Global, rows: VecDeque<S::Row>) -> Result<Option<Bytes>, NoMemory>
+        ensures { IfOk result (λ body. body ≡ state_body S.Row.format self.shape rows.items) }
+    {
+        state_body(alloc, self.shape, rows)
+    }
+}
+
+/// A state call begins. Where its group is none, each entry is refused.
+pub fn state_call<S: StateCall>(
+    alloc: Global,
+    conf: &Config,
+    call: S,
+    request: StateRequest<S::Partition>,
+) -> Result<Stage<Asking<StateHand<S>, Wished<S::Wish>, S::Row>>, NoMemory>
+    ensures { IfOk result (λ stage. stage ≡ state_stage S.means S.Row.format conf.now.topics call request) }
+{
+    let StateRequest { group_id, topics } = request;
+    match Name::new(group_id.as_str()) {
+        Some(group) => {
+            let Plan { shape, left } = plan_topics::<S>(alloc, conf, true, topics)?;
+            let hand = StateHand { call, group, shape };
+            go_on(alloc, hand, left, VecDeque::new(alloc))
+        }
+        None => {
+            let Plan { shape, left } = plan_topics::<S>(alloc, conf, false, topics)?;
+            let rows = rows_known(alloc, left)?;
+            let body = state_body(alloc, shape, rows)?;
+            Ok(Stage::Says(body))
+        }
+    }
+}
