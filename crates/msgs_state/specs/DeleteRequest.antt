@@ -1,5 +1,5 @@
 -- The DeleteShareGroupState request of version 0 (KIP-932, DeleteShareGroupStateRequest.json).
--- For example the 28 bytes of the test write_and_delete_requests_are_read_and_written are that of group `g1` for partition 0.
+-- For example that of group `g1` for partition 0 has 28 bytes.
 use Rattle.std.specs.Prelude.{ℤ, refl}
 use Rattle.flex_fields.specs.Formats.{Format, Shape, structure, int32}
 use Rattle.msgs_state.specs.declared.delete_request.DeletePartition.{DeletePartition}

@@ -1,6 +1,5 @@
 -- The WriteShareGroupState request of version 0 (KIP-932, WriteShareGroupStateRequest.json).
--- For example the 65 bytes of the test write_and_delete_requests_are_read_and_written are that of group `g1` for partition 0
--- with state epoch 3, leader epoch 0, start -1 and one batch.
+-- For example that of group `g1` for partition 0 with state epoch 3, leader epoch 0, start -1 and one batch has 65 bytes.
 use Rattle.std.specs.Prelude.{ℤ, List, refl}
 use Rattle.flex_fields.specs.Formats.{Format, Shape, structure, array, ◌▹◌, int32, int64}
 use Rattle.msgs_state.specs.declared.write_request.WritePartition.{WritePartition}
