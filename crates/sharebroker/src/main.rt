@@ -1,20 +1,15 @@
 //! The program: it hands the real streams to the top call and ends with its status.
 #![tactic(auto)]
 
+mod ending;
 mod usage;
 
 use edge_real::{ReaderSource, WriterSink};
+use ending::{NO_MEMORY, StreamFaults, USAGE, tell_status};
 use share_top::run;
 use std::env;
 use std::io::{ErrorKind, Result};
 use std::process::ExitCode;
-use usage::usage_text;
-
-/// The status where the words are no command, and where one of them isn't UTF-8.
-const USAGE: u8 = 2;
-
-/// The status where no memory is found.
-const NO_MEMORY: u8 = 8;
 
 // The words behind the program's name.
 fn words(rt: &HostRuntime) -> Result<Vec<String>> {
@@ -33,11 +28,10 @@ fn main(rt: HostRuntime) -> ExitCode {
         Err(error) if error.kind() == ErrorKind::OutOfMemory => NO_MEMORY,
         Err(_) => USAGE,
     };
-    if status == USAGE {
-        let _ = eprintln!(rt; "sharebroker: bad words");
-        if let Ok(text) = usage_text(rt.alloc()) {
-            let _ = eprint!(rt; "{text}");
-        }
-    }
+    let faults = StreamFaults {
+        input: input.last_fault(),
+        output: output.last_fault(),
+    };
+    tell_status(&rt, status, faults);
     ExitCode::from(status)
 }
