@@ -1,7 +1,6 @@
 // One connection, and what it is called with.
 ghost use Rattle.std.specs.Prelude.{◌<◌, All, IsTrue, length};
-ghost use Rattle.conn_core.specs.Told.{IsTellable};
-ghost use Rattle.conn_core.specs.Turning.{IsAsking};
+ghost use Rattle.conn_core.specs.Calls.{IsTellable};
 
 use crate::answer::{Answer, are_tellable, read_answer};
 use conn_core::{Conn, Next, Part, PartAnswer};
@@ -92,9 +91,7 @@ fn give_next(
     conf: &Config,
     conn: &mut Conn,
     answers: &mut VecDeque<Answer>,
-) -> io::Result<Turn>
-    requires { IsAsking conn.old }
-{
+) -> io::Result<Turn> {
     let Some(answer) = answers.pop_front() else {
         return Ok(Turn::Stops);
     };

@@ -5,6 +5,3 @@ mod client;
 mod head;
 
 pub use head::{RequestHead, read_head, read_reply_head, write_head, write_reply_head};
-
-#[cfg(test)]
-mod tests;
