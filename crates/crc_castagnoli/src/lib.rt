@@ -6,8 +6,6 @@ ghost use Rattle.std.specs.Prelude.{◌≡◌, ℕ, List, bit_xor};
 ghost use Rattle.crc_castagnoli.specs.Division.{IsRemainder, bits_of, crc_of, remainder_after};
 
 mod tables;
-#[cfg(test)]
-mod tests;
 
 use tables::{steps_8, steps_16, steps_24, steps_32, steps_40, steps_48, steps_56, steps_64};
 

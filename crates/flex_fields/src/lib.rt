@@ -28,6 +28,3 @@ pub use wire::{
     Wire, put_array, put_many, put_null_array, read_front, read_whole, stand_for_one, take_array,
     take_many, take_null_array, write_whole,
 };
-
-#[cfg(test)]
-mod tests;

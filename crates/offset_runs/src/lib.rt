@@ -8,8 +8,6 @@ mod parts;
 mod runs;
 mod search;
 mod shift;
-#[cfg(test)]
-mod tests;
 
 pub use joining::touches;
 pub use runs::Runs;

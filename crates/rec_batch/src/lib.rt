@@ -17,6 +17,3 @@ pub use place::place_batch;
 pub use read::read_batch;
 pub use rec::Rec;
 pub use write::{fits_batch, write_batch};
-
-#[cfg(test)]
-mod tests;

@@ -19,6 +19,3 @@ pub use writer::{LineFault, write_event, write_malformed, write_outcome};
 pub fn scripts_are_read_one_way()
     ensures { (text : List ℕ) → HasOneReading text }
 {}
-
-#[cfg(test)]
-mod tests;

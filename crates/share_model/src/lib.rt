@@ -13,8 +13,6 @@ mod reset;
 mod room;
 mod row;
 mod run;
-#[cfg(test)]
-mod tests;
 
 pub use blob::Blob;
 pub use close_cause::CloseCause;

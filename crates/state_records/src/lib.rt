@@ -7,8 +7,6 @@ mod laws;
 mod reader;
 mod reading;
 mod record;
-#[cfg(test)]
-mod tests;
 mod writing;
 
 pub use fault::RecordFault;

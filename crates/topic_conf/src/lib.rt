@@ -6,8 +6,6 @@
 mod config;
 mod laws;
 mod places;
-#[cfg(test)]
-mod tests;
 mod topic;
 
 pub use config::Config;

@@ -1,0 +1,73 @@
+// The answer to a part, as a line gives it.
+ghost use Rattle.std.specs.Prelude.{All, IsTrue};
+ghost use Rattle.conn_core.specs.Calls.{IsTellable};
+
+use share_model::{RowState, Run};
+use std::alloc::Global;
+use std::io;
+
+/// A code, and what a granted read tells.
+#[derive(Drop)]
+pub struct Answer {
+    pub code: i16,
+    pub state_epoch: i32,
+    pub start: i64,
+    pub runs: Vec<Run>,
+}
+
+fn state_of(name: &str) -> RowState {
+    match name {
+        "acknowledged" => RowState::Acknowledged,
+        "archived" => RowState::Archived,
+        _ => RowState::Available,
+    }
+}
+
+/// A run of four words.
+fn run_of(words: &[&str]) -> Option<Run> {
+    let (first, rest) = words.split_first()?;
+    let (last, rest) = rest.split_first()?;
+    let (state, rest) = rest.split_first()?;
+    let (count, _) = rest.split_first()?;
+    Some(Run {
+        first: first.parse().ok()?,
+        last: last.parse().ok()?,
+        state: state_of(state),
+        count: count.parse().ok()?,
+    })
+}
+
+/// The words of a text.
+fn words_of<'a>(alloc: Global, text: &'a str) -> io::Result<Vec<&'a str>> {
+    let mut words = Vec::new(alloc);
+    for word in text.split(' ') {
+        words.push(word)?;
+    }
+    Ok(words)
+}
+
+/// Reads a code, a state epoch, a start offset and runs.
+pub fn read_answer(alloc: Global, text: &str) -> io::Result<Answer> {
+    let (code, rest) = text.split_once(' ').unwrap_or((text, ""));
+    let (state_epoch, rest) = rest.split_once(' ').unwrap_or((rest, ""));
+    let (start, rest) = rest.split_once(' ').unwrap_or((rest, ""));
+    let mut runs = Vec::new(alloc);
+    for words in words_of(alloc, rest)?.as_slice().chunks(4) {
+        if let Some(run) = run_of(words) {
+            runs.push(run)?;
+        }
+    }
+    Ok(Answer {
+        code: code.parse().unwrap_or(-1),
+        state_epoch: state_epoch.parse().unwrap_or(-1),
+        start: start.parse().unwrap_or(-1),
+        runs,
+    })
+}
+
+/// Whether a batch of a reply can tell each run.
+pub fn are_tellable(runs: &[Run]) -> bool
+    ensures { IsTrue result → All IsTellable runs.now }
+{
+    runs.iter().all(|run| run.first < 1 << 63 && run.last < 1 << 63 && run.count < 1 << 15)
+}

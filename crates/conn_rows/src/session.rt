@@ -1,0 +1,295 @@
+// One connection, and what it is called with.
+ghost use Rattle.std.specs.Prelude.{◌<◌, All, IsTrue, length};
+ghost use Rattle.conn_core.specs.Calls.{IsTellable};
+
+use crate::answer::{Answer, are_tellable, read_answer};
+use conn_core::{Conn, Next, Part, PartAnswer};
+use flex_fields::Items;
+use row_text::{Rows, Taken, bytes_of, compared, without_blanks};
+use share_model::{CloseCause, Code, ForeignAnswer, ForeignOp, Key};
+use std::alloc::Global;
+use std::collections::VecDeque;
+use std::io;
+use topic_conf::Config;
+
+/// How many turns are done in a row.
+const MOST_TURNS: u32 = 100000;
+
+#[derive(Drop)]
+pub struct Session {
+    conf: Config,
+    conn: Conn,
+    answers: VecDeque<Answer>,
+    told: String,
+    wanted: String,
+}
+
+/// Whether the connection goes on by itself.
+#[derive(Clone, Copy, PartialEq, Eq)]
+enum Turn {
+    GoesOn,
+    Stops,
+}
+
+fn push_line(out: &mut String, word: &str, text: &str) -> io::Result<()> {
+    out.push_str(word)?;
+    out.push_str(" ")?;
+    out.push_str(text)?;
+    Ok(out.push_str("\n")?)
+}
+
+fn key_text(alloc: Global, key: &Key) -> io::Result<String> {
+    let (group, topic, part) = (key.group.as_str(), key.topic, key.part);
+    Ok(format!(in alloc; "{group} {topic} {part}")?)
+}
+
+/// A part, in the words of the state calls.
+fn part_text(alloc: Global, op: &ForeignOp) -> io::Result<String> {
+    match op {
+        ForeignOp::Init {
+            key,
+            state_epoch,
+            start,
+        } => {
+            let key = key_text(alloc, key)?;
+            Ok(format!(in alloc; "initialize {key} state-epoch {state_epoch} start {start}")?)
+        }
+        ForeignOp::Read { key, leader_epoch } => {
+            let key = key_text(alloc, key)?;
+            Ok(format!(in alloc; "read {key} leader-epoch {leader_epoch}")?)
+        }
+        _ => Ok(format!(in alloc; "{op:?}")?),
+    }
+}
+
+fn cause_text(alloc: Global, cause: CloseCause) -> io::Result<String> {
+    match cause {
+        CloseCause::TooLong { size } => Ok(format!(in alloc; "too-long {size}")?),
+        CloseCause::UnknownApi { key, version } => {
+            Ok(format!(in alloc; "unknown-api {key} {version}")?)
+        }
+        CloseCause::BadBody { place } => Ok(format!(in alloc; "bad-body {place}")?),
+        CloseCause::BadHeader => Ok(String::from_str(alloc, "bad-header")?),
+        CloseCause::LongReply => Ok(String::from_str(alloc, "long-reply")?),
+    }
+}
+
+fn memory() -> io::Error {
+    io::Error::from(io::ErrorKind::OutOfMemory)
+}
+
+/// What stands in place of an answer that no shard gives.
+fn is_answer(answer: &Answer) -> bool
+    ensures { IsTrue result → (All IsTellable answer.now.runs.items × (length answer.now.runs.items < 1000)) }
+{
+    answer.runs.len() < 1000 && are_tellable(answer.runs.as_slice())
+}
+
+/// Answers the part that is asked, where an answer is there.
+fn give_next(
+    alloc: Global,
+    conf: &Config,
+    conn: &mut Conn,
+    answers: &mut VecDeque<Answer>,
+) -> io::Result<Turn> {
+    let Some(answer) = answers.pop_front() else {
+        return Ok(Turn::Stops);
+    };
+    if !is_answer(&answer) {
+        return Ok(Turn::Stops);
+    }
+    let answer = ForeignAnswer {
+        code: Code(answer.code),
+        state_epoch: answer.state_epoch,
+        start: answer.start,
+        runs: Items::new(answer.runs),
+    };
+    match conn.give(alloc, conf, PartAnswer::Foreign(answer)) {
+        Ok(()) => Ok(Turn::GoesOn),
+        Err(_) => Err(memory()),
+    }
+}
+
+/// Does one turn and tells it. A part is answered where an answer is there.
+fn take_turn(
+    alloc: Global,
+    conf: &Config,
+    conn: &mut Conn,
+    answers: &mut VecDeque<Answer>,
+    told: &mut String,
+) -> io::Result<Turn> {
+    match conn.next_part(alloc, conf) {
+        Ok(Next::Ask(Part::Foreign(op))) => {
+            let text = part_text(alloc, &op)?;
+            push_line(told, "asks", text.as_str())?;
+            give_next(alloc, conf, conn, answers)
+        }
+        Ok(Next::Ready) => {
+            told.push_str("ready\n")?;
+            Ok(Turn::GoesOn)
+        }
+        Ok(Next::Closed(cause)) => {
+            let text = cause_text(alloc, cause)?;
+            push_line(told, "closed", text.as_str())?;
+            Ok(Turn::GoesOn)
+        }
+        Ok(Next::Idle | Next::Gone) => Ok(Turn::Stops),
+        Err(_) => Err(memory()),
+    }
+}
+
+/// What a connection does next.
+fn next_word(alloc: Global, conf: &Config, conn: &mut Conn) -> io::Result<&'static str> {
+    match conn.next_part(alloc, conf) {
+        Ok(Next::Ask(_)) => Ok("asks"),
+        Ok(Next::Ready) => Ok("ready"),
+        Ok(Next::Closed(_)) => Ok("closed"),
+        Ok(Next::Idle) => Ok("waits"),
+        Ok(Next::Gone) => Ok("gone"),
+        Err(_) => Err(memory()),
+    }
+}
+
+/// Whether a new connection waits with these bytes, and after an end is gone without a reply.
+fn only_waits(alloc: Global, conf: &Config, bytes: &[u8]) -> io::Result<bool> {
+    let mut conn = Conn::open(alloc);
+    if conn.feed(bytes).is_err() {
+        return Err(memory());
+    }
+    let before = next_word(alloc, conf, &mut conn)?;
+    conn.end();
+    let after = next_word(alloc, conf, &mut conn)?;
+    Ok(before == "waits" && after == "gone" && conn.take_reply().is_none())
+}
+
+/// Checks each proper front of these bytes.
+fn fronts(alloc: Global, conf: &Config, bytes: &[u8]) -> io::Result<Taken> {
+    for length in 0..bytes.len() {
+        let (front, _) = bytes.split_at(length);
+        if !only_waits(alloc, conf, front)? {
+            let why = format!(in alloc; "it does not wait with the first {length} bytes")?;
+            return Ok(Taken::Failed { why });
+        }
+    }
+    Ok(Taken::Passed)
+}
+
+impl Session {
+    pub fn new(alloc: Global, conf: Config) -> Session {
+        Session {
+            conf,
+            conn: Conn::open(alloc),
+            answers: VecDeque::new(alloc),
+            told: String::new(alloc),
+            wanted: String::new(alloc),
+        }
+    }
+
+    /// Does one turn.
+    fn turn(&mut self, alloc: Global) -> io::Result<Turn> {
+        take_turn(
+            alloc,
+            &self.conf,
+            &mut self.conn,
+            &mut self.answers,
+            &mut self.told,
+        )
+    }
+
+    /// Goes on until the connection waits or is gone.
+    fn go_on(&mut self, alloc: Global) -> io::Result<()> {
+        for _ in 0..MOST_TURNS {
+            if self.turn(alloc)? == Turn::Stops {
+                return Ok(());
+            }
+        }
+        Ok(())
+    }
+
+    /// Bytes come in pieces of a length.
+    fn send(&mut self, alloc: Global, length: usize, text: &str) -> io::Result<Taken> {
+        let Some(bytes) = bytes_of(alloc, text)? else {
+            return Ok(Taken::Unknown);
+        };
+        for piece in bytes.as_slice().chunks(length.max(1)) {
+            if self.conn.feed(piece).is_err() {
+                return Err(memory());
+            }
+            self.go_on(alloc)?;
+        }
+        Ok(Taken::Noted)
+    }
+
+    /// Takes the finished replies, and tells them.
+    fn take_replies(&mut self, alloc: Global) -> io::Result<()> {
+        for _ in 0..MOST_TURNS {
+            let Some(reply) = self.conn.take_reply() else {
+                return Ok(());
+            };
+            let digits = hex::encode(alloc, reply.as_slice())?;
+            push_line(&mut self.told, "reply", digits.as_str())?;
+        }
+        Ok(())
+    }
+
+    /// The end of a case.
+    fn judge(&mut self, alloc: Global, state: &str) -> io::Result<Taken> {
+        let next = next_word(alloc, &self.conf, &mut self.conn)?;
+        self.take_replies(alloc)?;
+        push_line(&mut self.told, "then", next)?;
+        push_line(&mut self.wanted, "then", state)?;
+        match compared(alloc, self.told.as_str(), self.wanted.as_str())? {
+            None => Ok(Taken::Passed),
+            Some(why) => Ok(Taken::Failed { why }),
+        }
+    }
+
+    /// Takes what the client or a shard does.
+    fn act(&mut self, alloc: Global, kind: &str, text: &str) -> io::Result<Taken> {
+        match kind {
+            "answer" => self.answers.push_back(read_answer(alloc, text)?)?,
+            "send" => return self.send(alloc, usize::MAX, text),
+            "pieces" => {
+                let (length, digits) = text.split_once(' ').unwrap_or((text, ""));
+                return self.send(alloc, length.parse().unwrap_or(1), digits);
+            }
+            "turn" => {
+                let _ = self.turn(alloc)?;
+            }
+            "end" => self.conn.end(),
+            "fronts" => {
+                return match bytes_of(alloc, text)? {
+                    Some(bytes) => fronts(alloc, &self.conf, &bytes),
+                    None => Ok(Taken::Unknown),
+                };
+            }
+            _ => return Ok(Taken::Unknown),
+        }
+        Ok(Taken::Noted)
+    }
+}
+
+impl Rows for Session {
+    fn begin(&mut self, alloc: Global) -> io::Result<()> {
+        self.conn = Conn::open(alloc);
+        self.answers = VecDeque::new(alloc);
+        self.told = String::new(alloc);
+        self.wanted = String::new(alloc);
+        Ok(())
+    }
+
+    fn take(&mut self, rt: &HostRuntime, kind: &str, text: &str) -> io::Result<Taken> {
+        let alloc = rt.alloc();
+        match kind {
+            "asks" | "closed" => push_line(&mut self.wanted, kind, text)?,
+            "ready" => self.wanted.push_str("ready\n")?,
+            "reply" => {
+                let digits = without_blanks(alloc, text)?;
+                push_line(&mut self.wanted, kind, digits.as_str())?;
+            }
+            "then" => return self.judge(alloc, text),
+            _ => return self.act(alloc, kind, text),
+        }
+        Ok(Taken::Noted)
+    }
+}

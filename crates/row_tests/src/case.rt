@@ -1,0 +1,105 @@
+// A case as far as it was read.
+use crate::judge::{judge_again, judge_run, judge_settings};
+use row_text::{Rows, Taken, without_blanks};
+use std::alloc::Global;
+use std::io;
+
+#[derive(Drop)]
+pub struct Case {
+    pub words: Vec<String>,
+    pub script: String,
+    pub wanted: String,
+    pub read_faults: Vec<u64>,
+    pub write_faults: Vec<u64>,
+}
+
+/// Adds a line.
+fn push_line(out: &mut String, text: &str) -> io::Result<()> {
+    out.push_str(text)?;
+    Ok(out.push_str("\n")?)
+}
+
+/// Adds a line of a word, a connection's number and bytes, whose digits have blanks between them.
+fn push_bytes(alloc: Global, out: &mut String, word: &str, text: &str) -> io::Result<()> {
+    let (conn, digits) = text.split_once(' ').unwrap_or((text, ""));
+    let digits = without_blanks(alloc, digits)?;
+    let line = format!(in alloc; "{word} {conn} {digits}")?;
+    push_line(out, line.as_str())
+}
+
+/// Adds a `bytes` line for each byte.
+fn push_bytewise(alloc: Global, out: &mut String, text: &str) -> io::Result<()> {
+    let (conn, digits) = text.split_once(' ').unwrap_or((text, ""));
+    let digits = without_blanks(alloc, digits)?;
+    for pair in digits.as_bytes().chunks(2) {
+        let digits = str::from_utf8(pair).unwrap_or("");
+        let line = format!(in alloc; "bytes {conn} {digits}")?;
+        push_line(out, line.as_str())?;
+    }
+    Ok(())
+}
+
+/// The words that stand between blanks.
+fn words_of(alloc: Global, text: &str) -> io::Result<Vec<String>> {
+    let mut words = Vec::new(alloc);
+    for word in text.split(' ').filter(|word| !word.is_empty()) {
+        words.push(String::from_str(alloc, word)?)?;
+    }
+    Ok(words)
+}
+
+impl Case {
+    pub fn new(alloc: Global) -> Case {
+        Case {
+            words: Vec::new(alloc),
+            script: String::new(alloc),
+            wanted: String::new(alloc),
+            read_faults: Vec::new(alloc),
+            write_faults: Vec::new(alloc),
+        }
+    }
+
+    /// Notes a line that says what is given and wanted, and tells whether there is such a line.
+    fn note(&mut self, alloc: Global, kind: &str, text: &str) -> io::Result<bool> {
+        match kind {
+            "words" => self.words = words_of(alloc, text)?,
+            "read-fault" => self.read_faults.push(text.parse().unwrap_or(0))?,
+            "write-fault" => self.write_faults.push(text.parse().unwrap_or(0))?,
+            ">" => push_line(&mut self.script, text)?,
+            "send" => push_bytes(alloc, &mut self.script, "bytes", text)?,
+            "bytewise" => push_bytewise(alloc, &mut self.script, text)?,
+            "cut" => self.script.push_str(text)?,
+            "<" => push_line(&mut self.wanted, text)?,
+            "reply" => push_bytes(alloc, &mut self.wanted, "reply", text)?,
+            _ => return Ok(false),
+        }
+        Ok(true)
+    }
+}
+
+impl Rows for Case {
+    /// A case has the words of the one before it until it is given its own.
+    fn begin(&mut self, alloc: Global) -> io::Result<()> {
+        self.script = String::new(alloc);
+        self.wanted = String::new(alloc);
+        self.read_faults = Vec::new(alloc);
+        self.write_faults = Vec::new(alloc);
+        Ok(())
+    }
+
+    fn take(&mut self, rt: &HostRuntime, kind: &str, text: &str) -> io::Result<Taken> {
+        let differs = match kind {
+            "status" => judge_run(rt, self, text)?,
+            "again" => judge_again(rt.alloc(), self)?,
+            "settings" => judge_settings(rt.alloc(), self, text)?,
+            _ => match self.note(rt.alloc(), kind, text)? {
+                true => return Ok(Taken::Noted),
+                false => return Ok(Taken::Unknown),
+            },
+        };
+        Ok(match differs {
+            None => Taken::Passed,
+            Some(why) => Taken::Failed { why },
+        })
+    }
+}

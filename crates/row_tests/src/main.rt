@@ -1,0 +1,29 @@
+//! Worked examples of the whole broker: command lines, and recorded sessions that are run in memory.
+//!
+//! A case is these lines.
+//!
+//! | Line | Means |
+//! |---|---|
+//! | `words W ..` | the words of the command line, of this case and of those behind it |
+//! | `> LINE` | a line of the script |
+//! | `send C HEX ..` | the line `bytes C HEX`; blanks in the hex are for reading |
+//! | `bytewise C HEX ..` | such a line for each byte |
+//! | `cut TEXT` | text without a line feed |
+//! | `read-fault N`, `write-fault N` | the call of the input or output that fails, counted from 0 |
+//! | `< LINE` | a line that is wanted |
+//! | `reply C HEX ..` | the line `reply C HEX` is wanted |
+//! | `status N` | the session is run, and has to write those lines and to end with N |
+//! | `again` | the events of the script are read, and written; that has to give the script without its `end` |
+//! | `settings TEXT` | the words are read, and have to give these settings |
+#![tactic(auto)]
+
+mod case;
+mod judge;
+
+use case::Case;
+use row_text::run_files;
+use std::io;
+
+fn main(rt: HostRuntime) -> io::Result<()> {
+    run_files(&rt, Case::new(rt.alloc()))
+}

@@ -1,0 +1,71 @@
+// What a case's lines are about.
+use crate::bay::{bay_told, name_told};
+use crate::disks::Store;
+use crate::rows::Rows as StoredRows;
+use crate::streams::Streams;
+use crate::sweep::sweep_told;
+use row_text::{Rows, Taken, compared};
+use std::alloc::Global;
+use std::io;
+
+#[derive(Drop)]
+pub struct Case {
+    store: Store,
+    streams: Streams,
+    rows: StoredRows,
+}
+
+impl Case {
+    pub fn new(alloc: Global) -> Case {
+        Case {
+            store: Store::None,
+            streams: Streams::new(alloc),
+            rows: StoredRows::new(alloc),
+        }
+    }
+
+    /// What a line gives. `None` where there is no such line.
+    fn told(&mut self, alloc: Global, kind: &str, text: &str) -> io::Result<Option<String>> {
+        if let Some(told) = self.store.told(alloc, kind, text)? {
+            return Ok(Some(told));
+        }
+        if let Some(told) = self.streams.told(alloc, kind, text)? {
+            return Ok(Some(told));
+        }
+        if let Some(told) = self.rows.told(alloc, kind, text)? {
+            return Ok(Some(told));
+        }
+        match kind {
+            "disk-name" => name_told(alloc, text),
+            "bay" => bay_told(alloc),
+            "broken-appends" => sweep_told(alloc),
+            _ => Ok(None),
+        }
+    }
+}
+
+impl Rows for Case {
+    fn begin(&mut self, alloc: Global) -> io::Result<()> {
+        self.store = Store::None;
+        self.streams = Streams::new(alloc);
+        self.rows = StoredRows::new(alloc);
+        Ok(())
+    }
+
+    fn take(&mut self, rt: &HostRuntime, kind: &str, text: &str) -> io::Result<Taken> {
+        let alloc = rt.alloc();
+        let (words, wanted) = match text.strip_prefix("gives ") {
+            Some(wanted) => ("", wanted),
+            None => text.split_once(" gives ").unwrap_or((text, "ok")),
+        };
+        let Some(told) = self.told(alloc, kind, words)? else {
+            return Ok(Taken::Unknown);
+        };
+        match compared(alloc, told.as_str(), wanted)? {
+            None => Ok(Taken::Passed),
+            Some(why) => Ok(Taken::Failed {
+                why: format!(in alloc; "{kind} {words}: {why}")?,
+            }),
+        }
+    }
+}
