@@ -18,6 +18,9 @@ use std::snapshot::Snapshot;
 use std::sync::Wait;
 
 /// A shard that threads act on one after the other.
+///
+/// A contract sees what tells the lock from others (`table`), the shard as the lock was made (`first`), and the number of its
+/// passes (`seats`).
 #[derive(Drop)]
 pub struct ShardLock<S: Shard> {
     table: Board<S, S::Event, S::Answer>,
@@ -35,7 +38,10 @@ impl<S: Shard> Model for ShardLock<S> {
     ghost invariant = { λ l. (l.table.shared.table_id.words ≡ 2) × (l.table.shared.table_id.slots ≡ 1) };
 }
 
-/// The right to act on the shard of one lock, and what was seen of its history.
+/// The right to act on the shard of one lock. It may go from thread to thread.
+///
+/// A contract sees of which lock it is (`table`, `first`), its number, the history that it has seen, its own entries, number
+/// and own entries of each pass that was joined into it (`joined`), and for how many passes it stands.
 #[derive(Drop)]
 pub struct Pass<S: Shard> {
     number: u64,
@@ -152,8 +158,8 @@ fn deal<S: Shard>(
 }
 
 impl<S: Shard> ShardLock<S> {
-    /// A lock around the shard, with so many passes for it, numbered from 0 on. Where no memory is found the shard is
-    /// dropped.
+    /// A lock around the shard, and so many passes for it in the order of their numbers, from 0 on. Where no memory is found
+    /// the shard is dropped.
     pub fn make(
         alloc: Global,
         shard: S,
@@ -168,7 +174,7 @@ impl<S: Shard> ShardLock<S> {
         ShardLock::make_at(alloc, shard, seats, 0)
     }
 
-    // The words begin at `base`.
+    // The same, with words that begin at `base`.
     pub(crate) fn make_at(
         alloc: Global,
         shard: S,
@@ -197,9 +203,9 @@ impl<S: Shard> ShardLock<S> {
         Ok((ShardLock { table }, passes))
     }
 
-    /// Waits for the pass's turn, and acts once on the shard. The answer is the one that its entry has in the one history
-    /// of the shard: that begins with all that the pass has seen, ends with this entry, and has of this pass just its own
-    /// entries.
+    /// Waits for the pass's turn, and acts once on the shard. The answer is what the entry of this act says in a history that
+    /// is legal from the shard as the lock was made. It begins with all that the pass had seen, ends with this entry, and has
+    /// of this pass just its own acts, each once, in their order.
     pub fn act<R: Wait>(&self, rt: &R, pass: &mut Pass<S>, event: S::Event) -> S::Answer
         requires of { IsOf self.now pass.old }
         ensures of { IsOf self.now pass.new }
@@ -213,8 +219,8 @@ impl<S: Shard> ShardLock<S> {
         act_on(rt, &self.table.shared, &mut pass.place, number, event)
     }
 
-    /// Ends the other pass. The first one has then seen the longer of the two histories, of which both are beginnings, and
-    /// stands for both. It takes no memory, and waits for nobody.
+    /// Ends the other pass. The first one stands for both from then on, and has seen the longer of the two histories, of which
+    /// both are beginnings. It takes no memory, and waits for nobody.
     pub fn join(&self, into: &mut Pass<S>, other: Pass<S>)
         requires of { IsOf self.now into.old × IsOf self.now other }
         ensures of { IsOf self.now into.new }
@@ -225,8 +231,8 @@ impl<S: Shard> ShardLock<S> {
         merge(&self.table.shared, &mut into.place, place);
     }
 
-    /// The shard, once one pass stands for all, in the state that the whole history leaves. The passes account for that
-    /// history. It takes no memory, and waits for nobody.
+    /// Gives the shard back, once one pass stands for all. It is in the state that the whole history leaves, and the passes
+    /// account for that history. It takes no memory, and waits for nobody.
     pub fn close(self, pass: Pass<S>) -> S
         requires of { IsOf self pass }
         requires all { pass.stands ≡ self.seats }

@@ -120,7 +120,7 @@ fn a_lock_gives_its_shard_back(rt: HostRuntime) -> Result<(), Fail> {
 }
 
 #[test]
-fn four_and_eight_threads_add_up(rt: HostRuntime) -> Result<(), Fail> {
+fn up_to_eight_threads_add_up(rt: HostRuntime) -> Result<(), Fail> {
     assert!(rt; adds_up(&rt, rt.alloc(), 2, 10000, 0)? == Some((20000, true)));
     assert!(rt; adds_up(&rt, rt.alloc(), 4, 10000, 0)? == Some((40000, true)));
     assert!(rt; adds_up(&rt, rt.alloc(), 8, 10000, 0)? == Some((80000, true)));
