@@ -1,6 +1,6 @@
 -- Which answers a part can have (this project's own): those of its kind, whose numbers a reply can say.
--- For example an answer with the run 7 to 9, acknowledged and counted once, can be told (the test
--- a_read_reply_has_the_batches_of_its_answer of state_calls).
+-- For example an answer with the run 7 to 9, acknowledged and counted once, can be told (conn_rows,
+-- `a read tells the batches of its answer`).
 use Rattle.std.specs.Prelude.{◌<◌, ◌^◌, All}
 use Rattle.share_model.specs.declared.run.Run.{Run}
 use Rattle.call_fold.specs.declared.part.Part.{Part}

@@ -1,6 +1,6 @@
 -- With what a request begins: its first part, or its reply (KIP-932 and the Kafka protocol guide; see each call's own definition).
--- For example ApiVersions has its reply at once, and a Read of a partition that isn't hosted a part (the test
--- however_bytes_are_cut_the_parts_and_the_replies_are_the_same).
+-- For example ApiVersions has its reply at once, and a Read of a partition that isn't hosted a part (conn_rows,
+-- `a state is initialized and read`).
 use Rattle.std.specs.Prelude.{Some}
 use Rattle.topic_conf.specs.Configs.{ConfigParts}
 use Rattle.msgs_base.specs.declared.metadata_request.MetadataRequest.{MetadataRequest}

@@ -1,6 +1,6 @@
 -- What the calls in hand mean: the talk of each, under its name.
--- For example a Read in hand asks the part of its question and goes on by the answer (the test
--- however_bytes_are_cut_the_parts_and_the_replies_are_the_same).
+-- For example a Read in hand asks the part of its question and goes on by the answer (conn_rows, `a state is initialized
+-- and read`).
 use Rattle.std.specs.Prelude.{◌≡◌}
 use Rattle.topic_conf.specs.Configs.{ConfigParts}
 use Rattle.msgs_state.specs.declared.state_message.StateRequest.{StateRequest}

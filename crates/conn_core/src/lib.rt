@@ -14,9 +14,7 @@ mod request;
 mod sending;
 mod stream;
 #[cfg(test)]
-mod tests_answers;
-#[cfg(test)]
-mod tests_conn;
+mod tests;
 mod versions;
 mod work;
 

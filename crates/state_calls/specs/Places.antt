@@ -1,6 +1,6 @@
 -- A partition of a topic (this project's own).
--- For example partition 4 of a topic has, for the group `g1`, the key of `g1`, that topic and 4 (the test
--- answers_stand_at_their_places_with_known_ones_between).
+-- For example partition 4 of a topic has, for the group `g1`, the key of `g1`, that topic and 4 (conn_rows,
+-- `answers stand at their places, with known ones between them`).
 use Rattle.std.specs.Prelude.{ℕ, List}
 use Rattle.share_model.specs.Keys.{KeyParts}
 

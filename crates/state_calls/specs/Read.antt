@@ -1,6 +1,6 @@
 -- ReadShareGroupState (KIP-932). No state of a hosted partition is told yet; its code is 3.
--- For example an answer with state epoch 3, start 7 and two runs is told by both numbers and two batches (the test
--- a_read_reply_has_the_batches_of_its_answer).
+-- For example an answer with state epoch 3, start 7 and two runs is told by both numbers and two batches (conn_rows,
+-- `a read tells the batches of its answer`).
 use Rattle.std.specs.Prelude.{None, map}
 use Rattle.share_model.specs.declared.foreign.ForeignOp.TheVariants.{Read as ForeignRead}
 use Rattle.share_model.specs.declared.fault.TheConstants.Code.{UNKNOWN_TOPIC_OR_PARTITION}

@@ -1,8 +1,8 @@
 -- What a state call means by its request (KIP-932, the share-group state calls): a part of the foreign shard for each partition that
 -- needs one, in the order of the request, and a reply with the topics and partitions of the request, in which each partition has
 -- the row of its own answer, or of the code that is known at once. Answers belong to partitions by their place.
--- For example partitions -7, 0, -1 and 1 of a topic ask 0 and 1, and have 42, the first answer, 42 and the second (the test
--- answers_stand_at_their_places_with_known_ones_between).
+-- For example partitions -7, 0, -1 and 1 of a topic ask 0 and 1, and have 42, the first answer, 42 and the second (conn_rows,
+-- `answers stand at their places, with known ones between them`).
 use Rattle.std.specs.Prelude.{◌≡◌, ℕ, ℤ, nat_abs, Bool, true, false, suc, Option, Some, None, List, [], ◌∷◌, map, flat_map, take, length}
 use Rattle.flex_fields.specs.Formats.{Format}
 use Rattle.share_model.specs.declared.fault.Code.{Code}
