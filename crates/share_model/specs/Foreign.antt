@@ -1,8 +1,9 @@
 -- Foreign state: the share-partition states of partitions that this broker doesn't host. Their coordinators keep them here
 -- by the share-group state calls of KIP-932.
 -- For example a key is unknown until it is initialized, and once it has state epoch 3 one with 2 is fenced.
-use Rattle.std.specs.Prelude.{◌≡◌, ℤ, pos, negsuc, Bool, true, false, List, [], ◌∷◌, Option, Some, None, int_le, int_lt, ◌&&◌, if◌then◌else◌}
-use Rattle.std.specs.Ordering.{is_eq}
+use Rattle.std.specs.Prelude.{◌≡◌, ℤ, pos, negsuc, Bool, false, List, [], Option, Some, None, int_le, int_lt, ◌&&◌, if◌then◌else◌}
+use Rattle.std.specs.Map.{lookup}
+use Rattle.std.specs.BTreeMap.{insert_entry, is_at}
 use Rattle.share_model.specs.Keys.{KeyParts, key_cmp}
 use Rattle.share_model.specs.declared.fault.TheConstants.Code.{NONE, INVALID_REQUEST, UNKNOWN_TOPIC_OR_PARTITION, FENCED_LEADER_EPOCH, FENCED_STATE_EPOCH}
 use Rattle.share_model.specs.declared.fault.Code.{Code}
@@ -16,22 +17,13 @@ pub record ForeignState : Type 0 where
   pub leader_epoch : ℤ
   pub start : ℤ
 
-pub record ForeignEntry : Type 0 where
-  pub key : KeyParts
-  pub state : ForeignState
-
-abbrev pub same_key : KeyParts → KeyParts → Bool
-same_key a b = is_eq (key_cmp a b)
+-- the states by their keys: an ordered map, as its entries by rising key
+abbrev pub ForeignStates : Type 0
+ForeignStates = List (KeyParts × ForeignState)
 
 -- the state of a key that is there
-abbrev pub known_at : KeyParts → List ForeignEntry → Option ForeignState
-known_at key [] = None
-known_at key (entry ∷ entries) = if same_key key entry.key then Some entry.state else known_at key entries
-
--- the key has this state from now on; a new key stands behind the others
-abbrev pub with_state : KeyParts → ForeignState → List ForeignEntry → List ForeignEntry
-with_state key state [] = record { key = key; state = state } ∷ []
-with_state key state (entry ∷ entries) = if same_key key entry.key then record { key = key; state = state } ∷ entries else entry ∷ with_state key state entries
+abbrev pub known_at : KeyParts → ForeignStates → Option ForeignState
+known_at key states = lookup (is_at (key_cmp key)) states
 
 -- an answer that tells nothing but its code
 abbrev pub code_alone : Code → ForeignAnswer
@@ -45,10 +37,13 @@ is_fenced_state (Some state) epoch = int_lt epoch state.state_epoch
 abbrev pub initialize_answer : Option ForeignState → ℤ → ForeignAnswer
 initialize_answer state epoch = if is_fenced_state state epoch then code_alone FENCED_STATE_EPOCH else code_alone NONE
 
-abbrev pub initialized : KeyParts → ℤ → ℤ → List ForeignEntry → List ForeignEntry
-initialized key epoch start entries =
-    if is_fenced_state (known_at key entries) epoch then entries
-    else with_state key (record { state_epoch = epoch; leader_epoch = pos 0; start = start }) entries
+-- the state of a key that was initialized so
+abbrev pub new_state : ℤ → ℤ → ForeignState
+new_state epoch start = record { state_epoch = epoch; leader_epoch = pos 0; start = start }
+
+abbrev pub initialized : KeyParts → ℤ → ℤ → ForeignStates → ForeignStates
+initialized key epoch start states =
+    if is_fenced_state (known_at key states) epoch then states else insert_entry key_cmp states key (new_state epoch start)
 
 abbrev pub read_answer : Option ForeignState → ℤ → ForeignAnswer
 read_answer None leader_epoch = code_alone UNKNOWN_TOPIC_OR_PARTITION
@@ -63,7 +58,7 @@ is_fair epoch start = int_le (pos 0) epoch && int_le (negsuc 0) start
 -- A call on foreign state, its answer, and what stands after it. For example an initialize with state epoch -1 is answered
 -- with code 42, a read of a key that isn't there with code 3, and neither changes a state. No served request writes or
 -- deletes yet.
-abbrev pub ForeignStep : List ForeignEntry → ForeignOp → ForeignAnswer → List ForeignEntry → Type 0
+abbrev pub ForeignStep : ForeignStates → ForeignOp → ForeignAnswer → ForeignStates → Type 0
 ForeignStep old (Init key state_epoch start) answer new =
     (answer ≡ (if is_fair state_epoch start then initialize_answer (known_at key old) state_epoch else code_alone INVALID_REQUEST))
     × (new ≡ (if is_fair state_epoch start then initialized key state_epoch start old else old))

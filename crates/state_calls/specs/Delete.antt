@@ -1,5 +1,5 @@
 -- DeleteShareGroupState (KIP-932). A hosted partition is refused with 42, which is this project's own.
--- For example partition 0 asks a Delete of its key (the test a_write_asks_for_its_batches).
+-- For example partition 0 asks a Delete of its key.
 use Rattle.share_model.specs.declared.foreign.ForeignOp.TheVariants.{Delete as ForeignDelete}
 use Rattle.share_model.specs.declared.fault.TheConstants.Code.{INVALID_REQUEST}
 use Rattle.msgs_state.specs.declared.delete_request.DeletePartition.{DeletePartition}

@@ -1,6 +1,5 @@
 -- WriteShareGroupState (KIP-932). A hosted partition is refused with 42, which is this project's own.
--- For example partition 0 with the batch 0, 4, 2, 1 asks a Write of its key with that batch (the test
--- a_write_asks_for_its_batches).
+-- For example partition 0 with the batch 0, 4, 2, 1 asks a Write of its key with that batch.
 use Rattle.std.specs.Prelude.{map}
 use Rattle.share_model.specs.declared.foreign.ForeignOp.TheVariants.{Write as ForeignWrite}
 use Rattle.share_model.specs.declared.fault.TheConstants.Code.{INVALID_REQUEST}
