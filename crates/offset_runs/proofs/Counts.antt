@@ -5,7 +5,7 @@ use Rattle.std.proofs.lemmas.Bool.Decides.{nat_tests}
 use Rattle.std.specs.List.Sorted.{IsNonDecreasingBy}
 use Rattle.share_model.specs.Runs.{Follows, IsCanonical}
 use Rattle.share_model.specs.declared.run.Run.{Run}
-use Rattle.offset_runs.specs.Parts.{begun, ended}
+use Rattle.offset_runs.specs.Parts.{begin_count, end_count}
 
 later : (run : Run) (xs : List Run) → Follows run xs → IsCanonical xs → (j : ℕ) (d : Run) → j < length xs → (run.last < (get_or xs j d).first) × ((get_or xs j d).first ≤ (get_or xs j d).last)
 later run [] follows canonical j d within = absurd (omega arith)
@@ -41,13 +41,13 @@ counted p count none step (x ∷ xs) (suc i) bound pass fail =
     ap suc (counted p count none step xs i (omega arith) (λ k d lo hi. pass (suc k) d (omega arith) (omega arith)) (λ k d lo hi. fail (suc k) d (omega arith) (omega arith)))
     ∙ sym (step x xs ∙ ap (λ (b : Bool). cond b (suc (count xs)) 0) (pass 0 x (omega arith) (omega arith)))
 
-pub counted-begun : (offset : ℕ) (xs : List Run) (i : ℕ) → i ≤ length xs → ((k : ℕ) (d : Run) → 0 ≤ k → k < i → nat_lt (get_or xs k d).first offset ≡ true)
-    → ((k : ℕ) (d : Run) → i ≤ k → k < length xs → nat_lt (get_or xs k d).first offset ≡ false) → i ≡ begun xs offset
-counted-begun offset = counted (λ r. nat_lt r.first offset) (λ xs. begun xs offset) refl (λ x xs. refl)
+pub counted-begin_count : (offset : ℕ) (xs : List Run) (i : ℕ) → i ≤ length xs → ((k : ℕ) (d : Run) → 0 ≤ k → k < i → nat_lt (get_or xs k d).first offset ≡ true)
+    → ((k : ℕ) (d : Run) → i ≤ k → k < length xs → nat_lt (get_or xs k d).first offset ≡ false) → i ≡ begin_count xs offset
+counted-begin_count offset = counted (λ r. nat_lt r.first offset) (λ xs. begin_count xs offset) refl (λ x xs. refl)
 
-pub counted-ended : (offset : ℕ) (xs : List Run) (i : ℕ) → i ≤ length xs → ((k : ℕ) (d : Run) → 0 ≤ k → k < i → nat_lt (get_or xs k d).last offset ≡ true)
-    → ((k : ℕ) (d : Run) → i ≤ k → k < length xs → nat_lt (get_or xs k d).last offset ≡ false) → i ≡ ended xs offset
-counted-ended offset = counted (λ r. nat_lt r.last offset) (λ xs. ended xs offset) refl (λ x xs. refl)
+pub counted-end_count : (offset : ℕ) (xs : List Run) (i : ℕ) → i ≤ length xs → ((k : ℕ) (d : Run) → 0 ≤ k → k < i → nat_lt (get_or xs k d).last offset ≡ true)
+    → ((k : ℕ) (d : Run) → i ≤ k → k < length xs → nat_lt (get_or xs k d).last offset ≡ false) → i ≡ end_count xs offset
+counted-end_count offset = counted (λ r. nat_lt r.last offset) (λ xs. end_count xs offset) refl (λ x xs. refl)
 
 -- a test for `at most` as one for `below`
 pub upto : (m n : ℕ) (b : Bool) → nat_le m n ≡ b → nat_lt m (n + 1) ≡ b

@@ -11,7 +11,7 @@ use Rattle.share_model.specs.declared.row.Row.{Row}
 use Rattle.share_model.specs.declared.row.RowState.{RowState}
 use Rattle.share_model.specs.declared.row.RowState.TheVariants.{Available, Acknowledged, Archived}
 use Rattle.share_model.specs.declared.run.Run.{Run}
-use Rattle.offset_runs.specs.Parts.{touches, joined, EndsBelow, StartsFrom}
+use Rattle.offset_runs.specs.Parts.{touches, join, EndsBelow, StartsFrom}
 
 -- a choice by a test, and what the test says
 pub choose : {A : Type 0} (P : A → Type 0) (b : Bool) (x y : A) → (b ≡ true → P x) → (b ≡ false → P y) → P (cond b x y)
@@ -44,25 +44,25 @@ touches_false x y e first row =
     grind (arith, nat_tests)
 
 -- the first run of a list that is joined keeps its begin and its row
-Follows-joined : (run x : Run) (xs ys : List Run) → Follows run (x ∷ xs) → Follows run (joined (x ∷ xs) ys)
-Follows-joined run x [] [] follows = follows
-Follows-joined run x [] (y ∷ ys) follows =
+Follows-join : (run x : Run) (xs ys : List Run) → Follows run (x ∷ xs) → Follows run (join (x ∷ xs) ys)
+Follows-join run x [] [] follows = follows
+Follows-join run x [] (y ∷ ys) follows =
     choose (λ (zs : List Run). Follows run zs) (touches x y) ((record x { last = y.last }) ∷ ys) (x ∷ y ∷ ys) (λ e. follows) (λ e. follows)
-Follows-joined run x (x2 ∷ xs) ys follows = follows
+Follows-join run x (x2 ∷ xs) ys follows = follows
 
 Follows-taken : (x y : Run) (ys : List Run) → row_of x ≡ row_of y → Follows y ys → Follows (record x { last = y.last }) ys
 Follows-taken x y [] row follows = tt
 Follows-taken x y (next ∷ ys) row follows = (follows.0, λ touch same. follows.1 touch (same ∙ row))
 
-pub joined-canonical : (xs ys : List Run) (f : ℕ) → IsCanonical xs → IsCanonical ys → EndsBelow xs f → StartsFrom ys f → IsCanonical (joined xs ys)
-joined-canonical [] ys f cx cy ends starts = cy
-joined-canonical (x ∷ []) [] f cx cy ends starts = cx
-joined-canonical (x ∷ []) (y ∷ ys) f cx cy ends starts =
+pub join-canonical : (xs ys : List Run) (f : ℕ) → IsCanonical xs → IsCanonical ys → EndsBelow xs f → StartsFrom ys f → IsCanonical (join xs ys)
+join-canonical [] ys f cx cy ends starts = cy
+join-canonical (x ∷ []) [] f cx cy ends starts = cx
+join-canonical (x ∷ []) (y ∷ ys) f cx cy ends starts =
     choose IsCanonical (touches x y) ((record x { last = y.last }) ∷ ys) (x ∷ y ∷ ys)
     (λ e. (omega (arith, cx.0, cy.0, ends.0), Follows-taken x y ys (touches_true x y e).1 cy.1, cy.2))
     (λ e. (cx.0, (omega (arith, ends.0), touches_false x y e), cy))
-joined-canonical (x ∷ x2 ∷ xs) ys f cx cy ends starts =
-    (cx.0, Follows-joined x x2 xs ys cx.1, joined-canonical (x2 ∷ xs) ys f cx.2 cy ends.1 starts)
+join-canonical (x ∷ x2 ∷ xs) ys f cx cy ends starts =
+    (cx.0, Follows-join x x2 xs ys cx.1, join-canonical (x2 ∷ xs) ys f cx.2 cy ends.1 starts)
 
 option_or-none : (o : Option Row) → option_or o None ≡ o
 option_or-none None = refl
@@ -104,40 +104,40 @@ taken-row_at x y ys o some next touch row =
       ]
     ]
 
-pub joined-row_at : (xs ys : List Run) (o : ℕ) → IsCanonical xs → IsCanonical ys → row_at (joined xs ys) o ≡ option_or (row_at xs o) (row_at ys o)
-joined-row_at [] ys o cx cy = refl
-joined-row_at (x ∷ []) [] o cx cy = sym (option_or-none (row_at (x ∷ []) o))
-joined-row_at (x ∷ []) (y ∷ ys) o cx cy =
+pub join-row_at : (xs ys : List Run) (o : ℕ) → IsCanonical xs → IsCanonical ys → row_at (join xs ys) o ≡ option_or (row_at xs o) (row_at ys o)
+join-row_at [] ys o cx cy = refl
+join-row_at (x ∷ []) [] o cx cy = sym (option_or-none (row_at (x ∷ []) o))
+join-row_at (x ∷ []) (y ∷ ys) o cx cy =
     choose (λ (zs : List Run). row_at zs o ≡ option_or (row_at (x ∷ []) o) (row_at (y ∷ ys) o)) (touches x y) ((record x { last = y.last }) ∷ ys) (x ∷ y ∷ ys)
     (λ e. let t = touches_true x y e in taken-row_at x y ys o cx.0 cy.0 t.0 t.1)
     (λ e. row_at-cons x (y ∷ ys) o)
-joined-row_at (x ∷ x2 ∷ xs) ys o cx cy =
-    row_at-cons x (joined (x2 ∷ xs) ys) o ∙ ap (option_or (row_at (x ∷ []) o)) (joined-row_at (x2 ∷ xs) ys o cx.2 cy)
+join-row_at (x ∷ x2 ∷ xs) ys o cx cy =
+    row_at-cons x (join (x2 ∷ xs) ys) o ∙ ap (option_or (row_at (x ∷ []) o)) (join-row_at (x2 ∷ xs) ys o cx.2 cy)
     ∙ sym (option_or-assoc (row_at (x ∷ []) o) (row_at (x2 ∷ xs) o) (row_at ys o)) ∙ ap (λ (l : Option Row). option_or l (row_at ys o)) (sym (row_at-cons x (x2 ∷ xs) o))
 
 pub EndsBelow-more : (xs : List Run) (f g : ℕ) → f ≤ g → EndsBelow xs f → EndsBelow xs g
 EndsBelow-more [] f g le ends = tt
 EndsBelow-more (x ∷ xs) f g le ends = (omega (arith, ends.0), EndsBelow-more xs f g le ends.1)
 
-pub EndsBelow-joined : (xs ys : List Run) (f : ℕ) → EndsBelow xs f → EndsBelow ys f → EndsBelow (joined xs ys) f
-EndsBelow-joined [] ys f ex ey = ey
-EndsBelow-joined (x ∷ []) [] f ex ey = ex
-EndsBelow-joined (x ∷ []) (y ∷ ys) f ex ey =
+pub EndsBelow-join : (xs ys : List Run) (f : ℕ) → EndsBelow xs f → EndsBelow ys f → EndsBelow (join xs ys) f
+EndsBelow-join [] ys f ex ey = ey
+EndsBelow-join (x ∷ []) [] f ex ey = ex
+EndsBelow-join (x ∷ []) (y ∷ ys) f ex ey =
     choose (λ (zs : List Run). EndsBelow zs f) (touches x y) ((record x { last = y.last }) ∷ ys) (x ∷ y ∷ ys) (λ e. ey) (λ e. (ex.0, ey))
-EndsBelow-joined (x ∷ x2 ∷ xs) ys f ex ey = (ex.0, EndsBelow-joined (x2 ∷ xs) ys f ex.1 ey)
+EndsBelow-join (x ∷ x2 ∷ xs) ys f ex ey = (ex.0, EndsBelow-join (x2 ∷ xs) ys f ex.1 ey)
 
 -- all but the last run of the first list stay
-pub joined-front : (xs : List Run) (x : Run) (ys : List Run) → joined (xs ++ x ∷ []) ys ≡ xs ++ joined (x ∷ []) ys
-joined-front [] x ys = refl
-joined-front (z ∷ []) x ys = refl
-joined-front (z ∷ z2 ∷ zs) x ys = ap (λ (l : List Run). z ∷ l) (joined-front (z2 ∷ zs) x ys)
+pub join-front : (xs : List Run) (x : Run) (ys : List Run) → join (xs ++ x ∷ []) ys ≡ xs ++ join (x ∷ []) ys
+join-front [] x ys = refl
+join-front (z ∷ []) x ys = refl
+join-front (z ∷ z2 ∷ zs) x ys = ap (λ (l : List Run). z ∷ l) (join-front (z2 ∷ zs) x ys)
 
 append_choice : (b : Bool) (x y z : Run) (ys : List Run) → cond b (z ∷ ys) (x ∷ y ∷ ys) ≡ cond b (z ∷ []) (x ∷ y ∷ []) ++ ys
 append_choice true x y z ys = refl
 append_choice false x y z ys = refl
 
 -- all but the first run of the second list stay
-pub joined-back : (xs : List Run) (y : Run) (ys : List Run) → joined xs (y ∷ ys) ≡ joined xs (y ∷ []) ++ ys
-joined-back [] y ys = refl
-joined-back (x ∷ []) y ys = append_choice (touches x y) x y (record x { last = y.last }) ys
-joined-back (x ∷ x2 ∷ xs) y ys = ap (λ (l : List Run). x ∷ l) (joined-back (x2 ∷ xs) y ys)
+pub join-back : (xs : List Run) (y : Run) (ys : List Run) → join xs (y ∷ ys) ≡ join xs (y ∷ []) ++ ys
+join-back [] y ys = refl
+join-back (x ∷ []) y ys = append_choice (touches x y) x y (record x { last = y.last }) ys
+join-back (x ∷ x2 ∷ xs) y ys = ap (λ (l : List Run). x ∷ l) (join-back (x2 ∷ xs) y ys)

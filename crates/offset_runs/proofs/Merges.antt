@@ -9,9 +9,9 @@ use Rattle.share_model.proofs.Lookups.{row_at-here, row_at-below, row_at-beyond,
 use Rattle.share_model.specs.Runs.{row_of, row_at, Follows, IsCanonical}
 use Rattle.share_model.specs.declared.row.Row.{Row}
 use Rattle.share_model.specs.declared.run.Run.{Run}
-use Rattle.offset_runs.proofs.Joins.{choose, row_at-cons, joined-canonical, joined-row_at, joined-back, EndsBelow-more, EndsBelow-joined}
+use Rattle.offset_runs.proofs.Joins.{choose, row_at-cons, join-canonical, join-row_at, join-back, EndsBelow-more, EndsBelow-join}
 use Rattle.offset_runs.proofs.Cuts.{lt_yes, lt_no, yes_lt, no_lt, before-row_at, before-canonical, before-ends}
-use Rattle.offset_runs.specs.Parts.{joined, before, run_before, run_from, maybe_run, EndsBelow, StartsFrom}
+use Rattle.offset_runs.specs.Parts.{join, before, run_before, run_from, maybe_run, EndsBelow, StartsFrom}
 use Rattle.offset_runs.specs.Changes.{Overlays}
 
 -- all runs of the first list end where the second begins
@@ -55,20 +55,20 @@ part-ends x f g ends = choose (λ (zs : List Run). EndsBelow zs g) (nat_lt x.fir
 single : (x : Run) → x.first ≤ x.last → IsCanonical (x ∷ [])
 single x order = (order, tt, tt)
 
-written : (out : List Run) (x : Run) (f : ℕ) → IsCanonical out → x.first ≤ x.last → EndsBelow out x.first → IsCanonical (joined out (part x f))
+written : (out : List Run) (x : Run) (f : ℕ) → IsCanonical out → x.first ≤ x.last → EndsBelow out x.first → IsCanonical (join out (part x f))
 written out x f canonical order lead =
-    joined-canonical out (part x f) x.first canonical (before-canonical (x ∷ []) f (single x order)) lead (part-starts x f)
+    join-canonical out (part x f) x.first canonical (before-canonical (x ∷ []) f (single x order)) lead (part-starts x f)
 
 written-rows : (out : List Run) (x : Run) (f o : ℕ) → IsCanonical out → x.first ≤ x.last
-    → row_at (joined out (part x f)) o ≡ option_or (row_at out o) (cond (nat_lt o f) (row_at (x ∷ []) o) None)
+    → row_at (join out (part x f)) o ≡ option_or (row_at out o) (cond (nat_lt o f) (row_at (x ∷ []) o) None)
 written-rows out x f o canonical order =
-    joined-row_at out (part x f) o canonical (before-canonical (x ∷ []) f (single x order))
+    join-row_at out (part x f) o canonical (before-canonical (x ∷ []) f (single x order))
     ∙ ap (option_or (row_at out o)) (before-row_at (x ∷ []) f o (single x order))
 
-Leads-next : (out : List Run) (x : Run) (xs : List Run) (f : ℕ) → IsCanonical (x ∷ xs) → EndsBelow out x.first → Leads (joined out (part x f)) xs
+Leads-next : (out : List Run) (x : Run) (xs : List Run) (f : ℕ) → IsCanonical (x ∷ xs) → EndsBelow out x.first → Leads (join out (part x f)) xs
 Leads-next out x [] f canonical lead = tt
 Leads-next out x (next ∷ xs) f canonical lead =
-    EndsBelow-joined out (part x f) next.first (EndsBelow-more out x.first next.first (omega (arith, canonical.0, canonical.1.0)) lead)
+    EndsBelow-join out (part x f) next.first (EndsBelow-more out x.first next.first (omega (arith, canonical.0, canonical.1.0)) lead)
     (part-ends x f next.first canonical.1.0)
 
 -- three options, of which one or two are known
@@ -86,7 +86,7 @@ passed (Some s) y c = refl
 
 -- the rows are those before, where the first of mine is written as far as it lies below theirs, and ends no later
 kept_rows : (out : List Run) (x y : Run) (xs ys : List Run) (o : ℕ) → IsCanonical out → IsCanonical (x ∷ xs) → IsCanonical (y ∷ ys) → x.last ≤ y.last
-    → option_or (row_at (joined out (part x y.first)) o) (option_or (row_at (y ∷ ys) o) (row_at xs o)) ≡ option_or (row_at out o) (option_or (row_at (y ∷ ys) o) (row_at (x ∷ xs) o))
+    → option_or (row_at (join out (part x y.first)) o) (option_or (row_at (y ∷ ys) o) (row_at xs o)) ≡ option_or (row_at out o) (option_or (row_at (y ∷ ys) o) (row_at (x ∷ xs) o))
 kept_rows out x y xs ys o co cx cy ends =
     let a = row_at out o in
     let b = row_at (x ∷ []) o in
@@ -112,7 +112,7 @@ kept_rows out x y xs ys o co cx cy ends =
 
 -- a step where the first of mine ends no later than the first of theirs
 pub merges-mine : (mine theirs out : List Run) (x y : Run) (xs ys : List Run) → IsMerging mine theirs out (x ∷ xs) (y ∷ ys) → x.last ≤ y.last
-    → IsMerging mine theirs (joined out (before (x ∷ []) y.first)) xs (y ∷ ys)
+    → IsMerging mine theirs (join out (before (x ∷ []) y.first)) xs (y ∷ ys)
 merges-mine mine theirs out x y xs ys m ends =
     let cx = m.mine_canonical in
     record {
@@ -120,7 +120,7 @@ merges-mine mine theirs out x y xs ys m ends =
       mine_canonical = cx.2;
       theirs_canonical = m.theirs_canonical;
       before_mine = Leads-next out x xs y.first cx m.before_mine;
-      before_theirs = EndsBelow-joined out (part x y.first) y.first m.before_theirs (before-ends (x ∷ []) y.first);
+      before_theirs = EndsBelow-join out (part x y.first) y.first m.before_theirs (before-ends (x ∷ []) y.first);
       rows = λ o. kept_rows out x y xs ys o m.out_canonical cx m.theirs_canonical ends ∙ m.rows o;
     }
 
@@ -152,8 +152,8 @@ behind_theirs : (a b c z : Option Row) → option_or (option_or (option_or a Non
 behind_theirs None b c z = refl
 behind_theirs (Some s) b c z = refl
 
-over_rows : (out : List Run) (x y : Run) (xs ys : List Run) (o : ℕ) → IsCanonical (joined out (part x y.first)) → IsCanonical out → IsCanonical (x ∷ xs) → IsCanonical (y ∷ ys) → y.last < x.last
-    → option_or (row_at (joined (joined out (part x y.first)) (y ∷ [])) o) (option_or (row_at ys o) (row_at (run_from x (y.last + 1) ∷ xs) o))
+over_rows : (out : List Run) (x y : Run) (xs ys : List Run) (o : ℕ) → IsCanonical (join out (part x y.first)) → IsCanonical out → IsCanonical (x ∷ xs) → IsCanonical (y ∷ ys) → y.last < x.last
+    → option_or (row_at (join (join out (part x y.first)) (y ∷ [])) o) (option_or (row_at ys o) (row_at (run_from x (y.last + 1) ∷ xs) o))
     ≡ option_or (row_at out o) (option_or (row_at (y ∷ ys) o) (row_at (x ∷ xs) o))
 over_rows out x y xs ys o c1 co cx cy ends =
     let a = row_at out o in
@@ -161,7 +161,7 @@ over_rows out x y xs ys o c1 co cx cy ends =
     let c = row_at xs o in
     let z = row_at ys o in
     ap (λ (r : Option Row). option_or r (option_or z (row_at (run_from x (y.last + 1) ∷ xs) o)))
-    (joined-row_at (joined out (part x y.first)) (y ∷ []) o c1 (single y cy.0) ∙ ap (λ (r : Option Row). option_or r (row_at (y ∷ []) o)) (written-rows out x y.first o co cx.0))
+    (join-row_at (join out (part x y.first)) (y ∷ []) o c1 (single y cy.0) ∙ ap (λ (r : Option Row). option_or r (row_at (y ∷ []) o)) (written-rows out x y.first o co cx.0))
     ∙ ap (λ (r : Option Row). option_or (option_or (option_or a (cond (nat_lt o y.first) b None)) (row_at (y ∷ []) o)) (option_or z r)) (cut-single x xs (y.last + 1) o (omega arith) cx)
     ∙ elim (cases_lt o y.first) [
       | inl below ↦
@@ -195,47 +195,47 @@ Follows-cut : (x : Run) (xs : List Run) (g : ℕ) → Follows x xs → Follows (
 Follows-cut x [] g follows = tt
 Follows-cut x (next ∷ xs) g follows = follows
 
-Leads-over : (out : List Run) (y : Run) (ys : List Run) → IsCanonical (y ∷ ys) → EndsBelow out y.first → Leads (joined out (y ∷ [])) ys
+Leads-over : (out : List Run) (y : Run) (ys : List Run) → IsCanonical (y ∷ ys) → EndsBelow out y.first → Leads (join out (y ∷ [])) ys
 Leads-over out y [] canonical lead = tt
 Leads-over out y (next ∷ ys) canonical lead =
-    EndsBelow-joined out (y ∷ []) next.first (EndsBelow-more out y.first next.first (omega (arith, canonical.0, canonical.1.0)) lead) (canonical.1.0, tt)
+    EndsBelow-join out (y ∷ []) next.first (EndsBelow-more out y.first next.first (omega (arith, canonical.0, canonical.1.0)) lead) (canonical.1.0, tt)
 
 -- a step where the first of theirs ends earlier
 pub merges-theirs : (mine theirs out : List Run) (x y : Run) (xs ys : List Run) → IsMerging mine theirs out (x ∷ xs) (y ∷ ys) → y.last < x.last
-    → IsMerging mine theirs (joined (joined out (before (x ∷ []) y.first)) (y ∷ [])) (run_from x (y.last + 1) ∷ xs) ys
+    → IsMerging mine theirs (join (join out (before (x ∷ []) y.first)) (y ∷ [])) (run_from x (y.last + 1) ∷ xs) ys
 merges-theirs mine theirs out x y xs ys m ends =
     let cx = m.mine_canonical in
     let cy = m.theirs_canonical in
-    let middle = joined out (part x y.first) in
+    let middle = join out (part x y.first) in
     let c1 : IsCanonical middle = written out x y.first m.out_canonical cx.0 m.before_mine in
-    let lead : EndsBelow middle y.first = EndsBelow-joined out (part x y.first) y.first m.before_theirs (before-ends (x ∷ []) y.first) in
+    let lead : EndsBelow middle y.first = EndsBelow-join out (part x y.first) y.first m.before_theirs (before-ends (x ∷ []) y.first) in
     record {
-      out_canonical = joined-canonical middle (y ∷ []) y.first c1 (single y cy.0) lead (omega arith);
+      out_canonical = join-canonical middle (y ∷ []) y.first c1 (single y cy.0) lead (omega arith);
       mine_canonical = (omega arith, Follows-cut x xs (y.last + 1) cx.1, cx.2);
       theirs_canonical = cy.2;
-      before_mine = EndsBelow-joined middle (y ∷ []) (max x.first (y.last + 1)) (EndsBelow-more middle y.first (max x.first (y.last + 1)) (omega (arith, cy.0)) lead) (omega arith, tt);
+      before_mine = EndsBelow-join middle (y ∷ []) (max x.first (y.last + 1)) (EndsBelow-more middle y.first (max x.first (y.last + 1)) (omega (arith, cy.0)) lead) (omega arith, tt);
       before_theirs = Leads-over middle y ys cy lead;
       rows = λ o. over_rows out x y xs ys o c1 m.out_canonical cx cy ends ∙ m.rows o;
     }
 
-pub joined-none : (xs : List Run) → joined xs [] ≡ xs
-joined-none [] = refl
-joined-none (x ∷ []) = refl
-joined-none (x ∷ x2 ∷ xs) = ap (λ (l : List Run). x ∷ l) (joined-none (x2 ∷ xs))
+pub join-none : (xs : List Run) → join xs [] ≡ xs
+join-none [] = refl
+join-none (x ∷ []) = refl
+join-none (x ∷ x2 ∷ xs) = ap (λ (l : List Run). x ∷ l) (join-none (x2 ∷ xs))
 
-joined-lead : (out xs : List Run) → IsCanonical out → IsCanonical xs → Leads out xs → IsCanonical (joined out xs)
-joined-lead out [] co cx lead = subst IsCanonical (sym (joined-none out)) co
-joined-lead out (x ∷ xs) co cx lead = joined-canonical out (x ∷ xs) x.first co cx lead (omega arith)
+join-lead : (out xs : List Run) → IsCanonical out → IsCanonical xs → Leads out xs → IsCanonical (join out xs)
+join-lead out [] co cx lead = subst IsCanonical (sym (join-none out)) co
+join-lead out (x ∷ xs) co cx lead = join-canonical out (x ∷ xs) x.first co cx lead (omega arith)
 
 -- nothing is left of theirs
 pub record IsMerged (mine theirs out : List Run) : Type 0 where
   pub canonical : IsCanonical out
   pub rows : Overlays mine out theirs
 
-pub ends-theirs : (mine theirs out xs : List Run) → IsMerging mine theirs out xs [] → IsMerged mine theirs (joined out xs)
+pub ends-theirs : (mine theirs out xs : List Run) → IsMerging mine theirs out xs [] → IsMerged mine theirs (join out xs)
 ends-theirs mine theirs out xs m = record {
-  canonical = joined-lead out xs m.out_canonical m.mine_canonical m.before_mine;
-  rows = λ o. joined-row_at out xs o m.out_canonical m.mine_canonical ∙ m.rows o;
+  canonical = join-lead out xs m.out_canonical m.mine_canonical m.before_mine;
+  rows = λ o. join-row_at out xs o m.out_canonical m.mine_canonical ∙ m.rows o;
 }
 
 option_or-none : (o : Option Row) → option_or o None ≡ o
@@ -243,10 +243,10 @@ option_or-none None = refl
 option_or-none (Some row) = refl
 
 -- nothing is left of mine
-pub ends-mine : (mine theirs out ys : List Run) → IsMerging mine theirs out [] ys → IsMerged mine theirs (joined out ys)
+pub ends-mine : (mine theirs out ys : List Run) → IsMerging mine theirs out [] ys → IsMerged mine theirs (join out ys)
 ends-mine mine theirs out ys m = record {
-  canonical = joined-lead out ys m.out_canonical m.theirs_canonical m.before_theirs;
-  rows = λ o. joined-row_at out ys o m.out_canonical m.theirs_canonical ∙ ap (option_or (row_at out o)) (sym (option_or-none (row_at ys o))) ∙ m.rows o;
+  canonical = join-lead out ys m.out_canonical m.theirs_canonical m.before_theirs;
+  rows = λ o. join-row_at out ys o m.out_canonical m.theirs_canonical ∙ ap (option_or (row_at out o)) (sym (option_or-none (row_at ys o))) ∙ m.rows o;
 }
 
 -- no first run, and so no other
@@ -259,21 +259,21 @@ module _ (mine theirs out : List Run) (head : Option Run) (rest left : List Run)
   with_first x y others is split = subst (λ (l : List Run). IsMerging mine theirs out (x ∷ rest) l) split (subst (λ (h : Option Run). IsMerging mine theirs out (maybe_run h ++ rest) left) is merging)
 
   -- the loop ends where nothing of mine is left
-  pub mine_done : (new : List Run) → IfNone head (rest ≡ []) → head ≡ None → new ≡ joined out left → IsMerged mine theirs new
+  pub mine_done : (new : List Run) → IfNone head (rest ≡ []) → head ≡ None → new ≡ join out left → IsMerged mine theirs new
   mine_done new none is written_is =
       subst (IsMerged mine theirs) (sym written_is)
       (ends-mine mine theirs out left (subst (λ (l : List Run). IsMerging mine theirs out l left) (nothing_left head rest none is) merging))
 
   -- the loop ends where nothing of theirs is left
-  pub theirs_done : (new first_out : List Run) (x : Run) → head ≡ Some x → length left ≡ 0 → first_out ≡ joined out (x ∷ []) → new ≡ first_out ++ rest → IsMerged mine theirs new
+  pub theirs_done : (new first_out : List Run) (x : Run) → head ≡ Some x → length left ≡ 0 → first_out ≡ join out (x ∷ []) → new ≡ first_out ++ rest → IsMerged mine theirs new
   theirs_done new first_out x is none first_is new_is =
       let m : IsMerging mine theirs out (x ∷ rest) [] =
       subst (λ (l : List Run). IsMerging mine theirs out (x ∷ rest) l) (nil_from_length left none) (subst (λ (h : Option Run). IsMerging mine theirs out (maybe_run h ++ rest) left) is merging) in
-      subst (IsMerged mine theirs) (sym (new_is ∙ ap (λ (l : List Run). l ++ rest) first_is ∙ sym (joined-back out x rest))) (ends-theirs mine theirs out (x ∷ rest) m)
+      subst (IsMerged mine theirs) (sym (new_is ∙ ap (λ (l : List Run). l ++ rest) first_is ∙ sym (join-back out x rest))) (ends-theirs mine theirs out (x ∷ rest) m)
 
   -- the loop goes on with the next run of mine
   pub next_of_mine : (new : List Run) (x y : Run) (others : List Run) (head2 : Option Run) (rest2 : List Run) → head ≡ Some x → left ≡ y ∷ others → x.last ≤ y.last
-      → new ≡ joined out (before (x ∷ []) y.first) → maybe_run head2 ++ rest2 ≡ rest → IsMerging mine theirs new (maybe_run head2 ++ rest2) left
+      → new ≡ join out (before (x ∷ []) y.first) → maybe_run head2 ++ rest2 ≡ rest → IsMerging mine theirs new (maybe_run head2 ++ rest2) left
   next_of_mine new x y others head2 rest2 is split ends new_is parts =
       let m = merges-mine mine theirs out x y rest others (with_first x y others is split) ends in
       let m2 : IsMerging mine theirs new rest (y ∷ others) = subst (λ (l : List Run). IsMerging mine theirs l rest (y ∷ others)) (sym new_is) m in
@@ -281,9 +281,9 @@ module _ (mine theirs out : List Run) (head : Option Run) (rest left : List Run)
 
   -- the loop goes on with the next run of theirs
   pub next_of_theirs : (new first_out : List Run) (x y cut : Run) (others : List Run) → head ≡ Some x → left ≡ y ∷ others → y.last < x.last
-      → first_out ≡ joined out (before (x ∷ []) y.first) → new ≡ joined first_out (y ∷ []) → cut ≡ run_from x (y.last + 1) → IsMerging mine theirs new (cut ∷ rest) others
+      → first_out ≡ join out (before (x ∷ []) y.first) → new ≡ join first_out (y ∷ []) → cut ≡ run_from x (y.last + 1) → IsMerging mine theirs new (cut ∷ rest) others
   next_of_theirs new first_out x y cut others is split ends first_is new_is cut_is =
       let m = merges-theirs mine theirs out x y rest others (with_first x y others is split) ends in
-      let out_is = new_is ∙ ap (λ (l : List Run). joined l (y ∷ [])) first_is in
+      let out_is = new_is ∙ ap (λ (l : List Run). join l (y ∷ [])) first_is in
       subst (λ (r : Run). IsMerging mine theirs new (r ∷ rest) others) (sym cut_is)
       (subst (λ (l : List Run). IsMerging mine theirs l (run_from x (y.last + 1) ∷ rest) others) (sym out_is) m)

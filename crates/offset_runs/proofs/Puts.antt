@@ -7,52 +7,52 @@ use Rattle.std.specs.Option.{option_or}
 use Rattle.share_model.specs.Runs.{row_of, row_at, IsCanonical}
 use Rattle.share_model.specs.declared.row.Row.{Row}
 use Rattle.share_model.specs.declared.run.Run.{Run}
-use Rattle.offset_runs.proofs.Joins.{choose, joined-canonical, joined-row_at, joined-back, EndsBelow-more, EndsBelow-joined}
+use Rattle.offset_runs.proofs.Joins.{choose, join-canonical, join-row_at, join-back, EndsBelow-more, EndsBelow-join}
 use Rattle.offset_runs.proofs.Places.{drop-whole}
 use Rattle.offset_runs.proofs.Cuts.{before-row_at, before-canonical, before-ends, from_on-row_at, from_on-canonical, from_on-starts}
-use Rattle.offset_runs.specs.Parts.{touches, joined, before, from_on, maybe_run, put_over, EndsBelow}
+use Rattle.offset_runs.specs.Parts.{touches, join, before, from_on, maybe_run, put_over, EndsBelow}
 use Rattle.offset_runs.specs.Changes.{PutsRange}
 
 -- runs in front of others that are joined stay
-joined-behind : (xs ps ys : List Run) → (ps ≡ [] → ⊥) → joined (xs ++ ps) ys ≡ xs ++ joined ps ys
-joined-behind [] ps ys some = refl
-joined-behind (x ∷ []) [] ys some = absurd (some refl)
-joined-behind (x ∷ []) (p ∷ ps) ys some = refl
-joined-behind (x ∷ x2 ∷ xs) ps ys some = ap (λ (l : List Run). x ∷ l) (joined-behind (x2 ∷ xs) ps ys some)
+join-behind : (xs ps ys : List Run) → (ps ≡ [] → ⊥) → join (xs ++ ps) ys ≡ xs ++ join ps ys
+join-behind [] ps ys some = refl
+join-behind (x ∷ []) [] ys some = absurd (some refl)
+join-behind (x ∷ []) (p ∷ ps) ys some = refl
+join-behind (x ∷ x2 ∷ xs) ps ys some = ap (λ (l : List Run). x ∷ l) (join-behind (x2 ∷ xs) ps ys some)
 
-joined-some : (xs : List Run) (y : Run) → joined xs (y ∷ []) ≡ [] → ⊥
-joined-some [] y e = cc
-joined-some (x ∷ []) y e =
+join-some : (xs : List Run) (y : Run) → join xs (y ∷ []) ≡ [] → ⊥
+join-some [] y e = cc
+join-some (x ∷ []) y e =
     choose (λ (zs : List Run). zs ≡ [] → ⊥) (touches x y) ((record x { last = y.last }) ∷ []) (x ∷ y ∷ []) (λ t none. cc) (λ t none. cc) e
-joined-some (x ∷ x2 ∷ xs) y e = cc
+join-some (x ∷ x2 ∷ xs) y e = cc
 
-head : (xs ys : List Run) (left : Option Run) → (left ≡ None → xs ≡ []) → joined (xs ++ maybe_run left) ys ≡ xs ++ joined (maybe_run left) ys
-head xs ys None none = let e = none refl in ap (λ (l : List Run). joined (l ++ []) ys) e ∙ ap (λ (l : List Run). l ++ ys) (sym e)
-head xs ys (Some x) none = joined-behind xs (x ∷ []) ys (λ e. cc)
+head : (xs ys : List Run) (left : Option Run) → (left ≡ None → xs ≡ []) → join (xs ++ maybe_run left) ys ≡ xs ++ join (maybe_run left) ys
+head xs ys None none = let e = none refl in ap (λ (l : List Run). join (l ++ []) ys) e ∙ ap (λ (l : List Run). l ++ ys) (sym e)
+head xs ys (Some x) none = join-behind xs (x ∷ []) ys (λ e. cc)
 
-tail : (xs ys : List Run) (right : Option Run) → (right ≡ None → ys ≡ []) → joined xs (maybe_run right ++ ys) ≡ joined xs (maybe_run right) ++ ys
+tail : (xs ys : List Run) (right : Option Run) → (right ≡ None → ys ≡ []) → join xs (maybe_run right ++ ys) ≡ join xs (maybe_run right) ++ ys
 tail xs ys None none = let e = none refl in
-    ap (λ (l : List Run). joined xs l) e ∙ sym (append-nil (joined xs [])) ∙ ap (λ (l : List Run). joined xs [] ++ l) (sym e)
-tail xs ys (Some y) none = joined-back xs y ys
+    ap (λ (l : List Run). join xs l) e ∙ sym (append-nil (join xs [])) ∙ ap (λ (l : List Run). join xs [] ++ l) (sym e)
+tail xs ys (Some y) none = join-back xs y ys
 
 -- what the pieces of a range make of the runs round it
 pub pieces_between : (xs ys : List Run) (left right : Option Run) (middle : Run) → (left ≡ None → xs ≡ []) → (right ≡ None → ys ≡ [])
-    → xs ++ (joined (joined (maybe_run left) (middle ∷ [])) (maybe_run right) ++ ys)
-    ≡ joined (joined (xs ++ maybe_run left) (middle ∷ [])) (maybe_run right ++ ys)
+    → xs ++ (join (join (maybe_run left) (middle ∷ [])) (maybe_run right) ++ ys)
+    ≡ join (join (xs ++ maybe_run left) (middle ∷ [])) (maybe_run right ++ ys)
 pieces_between xs ys left right middle no_left no_right =
-    let ps = joined (maybe_run left) (middle ∷ []) in
+    let ps = join (maybe_run left) (middle ∷ []) in
     ap (λ (l : List Run). xs ++ l) (sym (tail ps ys right no_right))
-    ∙ sym (joined-behind xs ps (maybe_run right ++ ys) (joined-some (maybe_run left) middle))
-    ∙ ap (λ (l : List Run). joined l (maybe_run right ++ ys)) (sym (head xs (middle ∷ []) left no_left))
+    ∙ sym (join-behind xs ps (maybe_run right ++ ys) (join-some (maybe_run left) middle))
+    ∙ ap (λ (l : List Run). join l (maybe_run right ++ ys)) (sym (head xs (middle ∷ []) left no_left))
 
 pub put_over-canonical : (xs : List Run) (middle : Run) → IsCanonical xs → middle.first ≤ middle.last → IsCanonical (put_over xs middle)
 put_over-canonical xs middle canonical order =
     let single : IsCanonical (middle ∷ []) = (order, tt, tt) in
     let ends : EndsBelow (middle ∷ []) (middle.last + 1) = (omega arith, tt) in
-    joined-canonical (joined (before xs middle.first) (middle ∷ [])) (from_on xs (middle.last + 1)) (middle.last + 1)
-    (joined-canonical (before xs middle.first) (middle ∷ []) middle.first (before-canonical xs middle.first canonical) single (before-ends xs middle.first) (omega arith))
+    join-canonical (join (before xs middle.first) (middle ∷ [])) (from_on xs (middle.last + 1)) (middle.last + 1)
+    (join-canonical (before xs middle.first) (middle ∷ []) middle.first (before-canonical xs middle.first canonical) single (before-ends xs middle.first) (omega arith))
     (from_on-canonical xs (middle.last + 1) canonical)
-    (EndsBelow-joined (before xs middle.first) (middle ∷ []) (middle.last + 1)
+    (EndsBelow-join (before xs middle.first) (middle ∷ []) (middle.last + 1)
     (EndsBelow-more (before xs middle.first) middle.first (middle.last + 1) (omega arith) (before-ends xs middle.first)) ends)
     (from_on-starts xs (middle.last + 1))
 
@@ -79,14 +79,14 @@ put_over-rows xs middle canonical order o =
     let front = before xs middle.first in
     let back = from_on xs (middle.last + 1) in
     let front_canonical : IsCanonical front = before-canonical xs middle.first canonical in
-    let both : IsCanonical (joined front (middle ∷ [])) =
-    joined-canonical front (middle ∷ []) middle.first front_canonical single (before-ends xs middle.first) (omega arith) in
+    let both : IsCanonical (join front (middle ∷ [])) =
+    join-canonical front (middle ∷ []) middle.first front_canonical single (before-ends xs middle.first) (omega arith) in
     let a = nat_lt o middle.first in
     let c = nat_le o middle.last in
     let old = row_at xs o in
     let row = row_of middle in
-    joined-row_at (joined front (middle ∷ [])) back o both (from_on-canonical xs (middle.last + 1) canonical)
-    ∙ ap (λ (r : Option Row). option_or r (row_at back o)) (joined-row_at front (middle ∷ []) o front_canonical single)
+    join-row_at (join front (middle ∷ [])) back o both (from_on-canonical xs (middle.last + 1) canonical)
+    ∙ ap (λ (r : Option Row). option_or r (row_at back o)) (join-row_at front (middle ∷ []) o front_canonical single)
     ∙ ap (λ (r : Option Row). option_or (option_or r (row_at (middle ∷ []) o)) (row_at back o)) (before-row_at xs middle.first o canonical)
     ∙ ap (λ (r : Option Row). option_or (option_or (cond a old None) (row_at (middle ∷ []) o)) r) (from_on-row_at xs (middle.last + 1) o canonical)
     ∙ ap (λ (b : Bool). option_or (option_or (cond a old None) (cond (b && c) (Some row) None)) (cond (nat_lt o (middle.last + 1)) None old)) (at_least middle.first o)
@@ -106,7 +106,7 @@ none_behind (Some x) end xs none e = absurd cc
 pub put_parts : (xs front back new pieces : List Run) (start end : ℕ) (left right : Option Run) (middle : Run) → front ≡ xs → back ≡ xs
     → before front middle.first ≡ take start front ++ maybe_run left → IfNone left (start ≡ 0)
     → from_on back (middle.last + 1) ≡ maybe_run right ++ drop end back → IfNone right (end ≡ length back)
-    → pieces ≡ joined (joined (maybe_run left) (middle ∷ [])) (maybe_run right) → new ≡ take start xs ++ (pieces ++ drop end xs)
+    → pieces ≡ join (join (maybe_run left) (middle ∷ [])) (maybe_run right) → new ≡ take start xs ++ (pieces ++ drop end xs)
     → new ≡ put_over xs middle
 put_parts xs front back new pieces start end left right middle same same2 before_is no_left behind_is no_right pieces_are new_is =
     let no_right2 : IfNone right (end ≡ length xs) = subst (λ (l : List Run). IfNone right (end ≡ length l)) same2 no_right in
@@ -116,5 +116,5 @@ put_parts xs front back new pieces start end left right middle same same2 before
     subst (λ (l : List Run). from_on l (middle.last + 1) ≡ maybe_run right ++ drop end l) same2 behind_is in
     new_is ∙ ap (λ (l : List Run). take start xs ++ (l ++ drop end xs)) pieces_are
     ∙ pieces_between (take start xs) (drop end xs) left right middle (none_before left start xs no_left) (none_behind right end xs no_right2)
-    ∙ ap (λ (l : List Run). joined (joined l (middle ∷ [])) (maybe_run right ++ drop end xs)) (sym before2)
-    ∙ ap (λ (l : List Run). joined (joined (before xs middle.first) (middle ∷ [])) l) (sym behind2)
+    ∙ ap (λ (l : List Run). join (join l (middle ∷ [])) (maybe_run right ++ drop end xs)) (sym before2)
+    ∙ ap (λ (l : List Run). join (join (before xs middle.first) (middle ∷ [])) l) (sym behind2)

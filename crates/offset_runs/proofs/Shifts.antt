@@ -9,7 +9,7 @@ use Rattle.std.specs.declared.vec.IntoIter.{IntoIter}
 use Rattle.std.specs.declared.alloc.Global.{Global}
 use Rattle.share_model.specs.declared.row.RowState.TheVariants.{Available}
 use Rattle.share_model.specs.declared.run.Run.{Run}
-use Rattle.offset_runs.specs.Parts.{ended, from_on, run_from}
+use Rattle.offset_runs.specs.Parts.{end_count, from_on, run_from}
 
 -- what comes out of a vector
 pub drained : (xs : List Run) (s t u : IntoIter Run Global) → Yields into_iter_steps s xs t → into_iter_steps t None u → into_iter_len s ≡ length (into_iter_items s) → xs ≡ into_iter_items s
@@ -35,10 +35,10 @@ abbrev first_cut : List Run → ℕ → List Run
 first_cut [] f = []
 first_cut (x ∷ xs) f = run_from x f ∷ xs
 
-from_on-drop : (xs : List Run) (f : ℕ) → first_cut (drop (ended xs f) xs) f ≡ from_on xs f
+from_on-drop : (xs : List Run) (f : ℕ) → first_cut (drop (end_count xs f) xs) f ≡ from_on xs f
 from_on-drop [] f = refl
 from_on-drop (x ∷ xs) f =
-    elim (nat_lt x.last f) as (λ b. first_cut (drop (cond b (suc (ended xs f)) 0) (x ∷ xs)) f ≡ cond b (from_on xs f) (run_from x f ∷ xs)) [
+    elim (nat_lt x.last f) as (λ b. first_cut (drop (cond b (suc (end_count xs f)) 0) (x ∷ xs)) f ≡ cond b (from_on xs f) (run_from x f ∷ xs)) [
       | true ↦ from_on-drop xs f
       | false ↦ refl
     ]
@@ -51,13 +51,13 @@ cut_set (w ∷ zs) f m x z at_z at_x max_is some =
     (λ i. (record (at_x i) { first = m }) ∷ zs) ∙ ap (λ (k : ℕ). (record w { first = k }) ∷ zs) first
 
 -- the rest from an offset on, where the first run of it is cut
-pub cut_some : (xs front zs : List Run) (f n m : ℕ) (x z : Run) → front ≡ xs → n ≡ ended front f → zs ≡ drop n xs → z ≡ get_or zs 0 z → x ≡ get_or zs 0 x → m ≡ max z.first f
+pub cut_some : (xs front zs : List Run) (f n m : ℕ) (x z : Run) → front ≡ xs → n ≡ end_count front f → zs ≡ drop n xs → z ≡ get_or zs 0 z → x ≡ get_or zs 0 x → m ≡ max z.first f
     → (length zs ≡ 0 → ⊥) → set zs 0 (record x { first = m }) ≡ from_on xs f
 cut_some xs front zs f n m x z same count rest at_z at_x max_is some =
-    cut_set zs f m x z at_z at_x max_is some ∙ ap (λ (l : List Run). first_cut l f) (rest ∙ ap (λ (k : ℕ). drop k xs) (count ∙ ap (λ (l : List Run). ended l f) same)) ∙ from_on-drop xs f
+    cut_set zs f m x z at_z at_x max_is some ∙ ap (λ (l : List Run). first_cut l f) (rest ∙ ap (λ (k : ℕ). drop k xs) (count ∙ ap (λ (l : List Run). end_count l f) same)) ∙ from_on-drop xs f
 
 -- the rest from an offset on, where nothing is left
-pub cut_none : (xs front zs : List Run) (f n : ℕ) → front ≡ xs → n ≡ ended front f → zs ≡ drop n xs → length zs ≡ 0 → zs ≡ from_on xs f
+pub cut_none : (xs front zs : List Run) (f n : ℕ) → front ≡ xs → n ≡ end_count front f → zs ≡ drop n xs → length zs ≡ 0 → zs ≡ from_on xs f
 cut_none xs front zs f n same count rest none =
     nil_from_length zs none ∙ ap (λ (l : List Run). first_cut l f) (sym (nil_from_length zs none))
-    ∙ ap (λ (l : List Run). first_cut l f) (rest ∙ ap (λ (k : ℕ). drop k xs) (count ∙ ap (λ (l : List Run). ended l f) same)) ∙ from_on-drop xs f
+    ∙ ap (λ (l : List Run). first_cut l f) (rest ∙ ap (λ (k : ℕ). drop k xs) (count ∙ ap (λ (l : List Run). end_count l f) same)) ∙ from_on-drop xs f

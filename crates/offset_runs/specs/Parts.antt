@@ -8,15 +8,15 @@ use Rattle.share_model.specs.declared.run.Run.{Run}
 unfoldable pub touches : Run → Run → Bool
 touches x y = nat_eq (x.last + 1) y.first && (nat_eq (state_number x.state) (state_number y.state) && nat_eq x.count y.count)
 
-abbrev pub joined_to : Run → List Run → List Run
-joined_to x [] = x ∷ []
-joined_to x (y ∷ ys) = if touches x y then (record x { last = y.last }) ∷ ys else x ∷ y ∷ ys
+abbrev pub join_to : Run → List Run → List Run
+join_to x [] = x ∷ []
+join_to x (y ∷ ys) = if touches x y then (record x { last = y.last }) ∷ ys else x ∷ y ∷ ys
 
 -- the runs of both, one run where the last of the first list and the first of the second touch
-abbrev pub joined : List Run → List Run → List Run
-joined [] ys = ys
-joined (x ∷ []) ys = joined_to x ys
-joined (x ∷ x2 ∷ xs) ys = x ∷ joined (x2 ∷ xs) ys
+abbrev pub join : List Run → List Run → List Run
+join [] ys = ys
+join (x ∷ []) ys = join_to x ys
+join (x ∷ x2 ∷ xs) ys = x ∷ join (x2 ∷ xs) ys
 
 -- the part of a run below an offset, and the part from an offset on
 abbrev pub run_before : Run → ℕ → Run
@@ -35,13 +35,13 @@ from_on [] offset = []
 from_on (x ∷ xs) offset = if nat_lt x.last offset then from_on xs offset else run_from x offset ∷ xs
 
 -- how many runs begin below an offset, and how many end below one
-abbrev pub begun : List Run → ℕ → ℕ
-begun [] offset = 0
-begun (x ∷ xs) offset = if nat_lt x.first offset then suc (begun xs offset) else 0
+abbrev pub begin_count : List Run → ℕ → ℕ
+begin_count [] offset = 0
+begin_count (x ∷ xs) offset = if nat_lt x.first offset then suc (begin_count xs offset) else 0
 
-abbrev pub ended : List Run → ℕ → ℕ
-ended [] offset = 0
-ended (x ∷ xs) offset = if nat_lt x.last offset then suc (ended xs offset) else 0
+abbrev pub end_count : List Run → ℕ → ℕ
+end_count [] offset = 0
+end_count (x ∷ xs) offset = if nat_lt x.last offset then suc (end_count xs offset) else 0
 
 -- each run ends below an offset
 abbrev pub EndsBelow : List Run → ℕ → Type 0
@@ -60,4 +60,4 @@ maybe_run (Some x) = x ∷ []
 
 -- the runs below a range, the range, and the runs behind it
 abbrev pub put_over : List Run → Run → List Run
-put_over xs middle = joined (joined (before xs middle.first) (middle ∷ [])) (from_on xs (middle.last + 1))
+put_over xs middle = join (join (before xs middle.first) (middle ∷ [])) (from_on xs (middle.last + 1))

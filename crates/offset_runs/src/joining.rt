@@ -1,5 +1,5 @@
 ghost use Rattle.std.specs.Prelude.{◌≡◌, ◌≤◌, [], ◌∷◌, OnOk, OnErr, IfOk};
-ghost use Rattle.offset_runs.specs.Parts.{touches, joined, maybe_run};
+ghost use Rattle.offset_runs.specs.Parts.{touches, join, maybe_run};
 
 use share_model::Run;
 use std::alloc::{AllocError, Global};
@@ -18,7 +18,7 @@ pub fn touches(x: &Run, y: &Run) -> bool
 
 // Puts a run behind the others, and joins it to the last of them where they touch.
 pub(crate) fn push_joined(runs: &mut Vec<Run>, run: Run) -> Result<(), AllocError>
-    ensures ok { OnOk result (runs.new.items ≡ joined runs.old.items (run ∷ [])) }
+    ensures ok { OnOk result (runs.new.items ≡ join runs.old.items (run ∷ [])) }
     ensures err { OnErr result (runs.new.items ≡ runs.old.items) }
 {
     let count = runs.len();
@@ -37,7 +37,7 @@ pub(crate) fn pieces(
     middle: Run,
     right: Option<Run>,
 ) -> Result<Vec<Run>, AllocError>
-    ensures { IfOk result (λ v. v.items ≡ joined (joined (maybe_run left) (middle ∷ [])) (maybe_run right)) }
+    ensures { IfOk result (λ v. v.items ≡ join (join (maybe_run left) (middle ∷ [])) (maybe_run right)) }
 {
     let mut pieces = Vec::with_capacity(alloc, 3)?;
     if let Some(run) = left {

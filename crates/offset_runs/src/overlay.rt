@@ -1,6 +1,6 @@
 ghost use Rattle.std.specs.Prelude.{◌≡◌, ◌++◌, [], ◌∷◌, OnOk, IfOk, IfNone};
 ghost use Rattle.offset_runs.specs.Changes.{Overlays};
-ghost use Rattle.offset_runs.specs.Parts.{before, joined, maybe_run};
+ghost use Rattle.offset_runs.specs.Parts.{before, join, maybe_run};
 ghost use Rattle.share_model.specs.Runs.{IsCanonical};
 
 use crate::joining::push_joined;
@@ -21,7 +21,7 @@ fn first_and_rest(runs: &[Run]) -> (Option<Run>, &[Run])
 
 // Writes the part of a run below an offset.
 fn push_before(out: &mut Vec<Run>, run: Run, offset: u64) -> Result<(), AllocError>
-    ensures ok { OnOk result (out.new.items ≡ joined out.old.items (before (run ∷ []) offset)) }
+    ensures ok { OnOk result (out.new.items ≡ join out.old.items (before (run ∷ []) offset)) }
 {
     if run.first < offset {
         push_joined(out, run_before(run, offset))?;
@@ -31,7 +31,7 @@ fn push_before(out: &mut Vec<Run>, run: Run, offset: u64) -> Result<(), AllocErr
 
 // Writes runs behind the others.
 fn push_all(out: &mut Vec<Run>, runs: &[Run]) -> Result<(), AllocError>
-    ensures ok { OnOk result (out.new.items ≡ joined out.old.items runs.now) }
+    ensures ok { OnOk result (out.new.items ≡ join out.old.items runs.now) }
 {
     if let Some((first, rest)) = runs.split_first() {
         push_joined(out, *first)?;

@@ -1,5 +1,5 @@
 ghost use Rattle.std.specs.Prelude.{◌≡◌, ◌<◌, ◌≤◌, ◌+◌, ◌-◌, ◌++◌, length, take, drop, IfNone};
-ghost use Rattle.offset_runs.specs.Parts.{before, from_on, begun, ended, maybe_run, run_before, run_from};
+ghost use Rattle.offset_runs.specs.Parts.{before, from_on, begin_count, end_count, maybe_run, run_before, run_from};
 ghost use Rattle.share_model.specs.Runs.{IsCanonical};
 
 use crate::search::{count_begun, count_ended_by};
@@ -30,7 +30,7 @@ pub(crate) fn run_behind(run: Run, offset: u64) -> Run
 // The runs below an offset: how many stay as they are, and the last one, cut at the offset.
 pub(crate) fn part_before(runs: &[Run], offset: u64) -> (usize, Option<Run>)
     requires { IsCanonical runs.now }
-    ensures place { result.0 ≡ begun runs.now offset - 1 }
+    ensures place { result.0 ≡ begin_count runs.now offset - 1 }
     ensures parts { before runs.now offset ≡ take result.0 runs.now ++ maybe_run result.1 }
     ensures none { IfNone result.1 (result.0 ≡ 0) }
     ensures within { result.0 ≤ length runs.now }
@@ -45,7 +45,7 @@ pub(crate) fn part_before(runs: &[Run], offset: u64) -> (usize, Option<Run>)
 // The runs behind an offset: the first one, cut at the offset, and the place of those that stay as they are.
 pub(crate) fn part_behind(runs: &[Run], offset: u64) -> (Option<Run>, usize)
     requires { IsCanonical runs.now }
-    ensures place { ended runs.now (offset + 1) ≤ result.1 }
+    ensures place { end_count runs.now (offset + 1) ≤ result.1 }
     ensures parts { from_on runs.now (offset + 1) ≡ maybe_run result.0 ++ drop result.1 runs.now }
     ensures none { IfNone result.0 (result.1 ≡ length runs.now) }
     ensures within { result.1 ≤ length runs.now }

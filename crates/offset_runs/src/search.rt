@@ -1,5 +1,5 @@
 ghost use Rattle.std.specs.Prelude.{◌≡◌, ◌≤◌, ◌+◌, length};
-ghost use Rattle.offset_runs.specs.Parts.{begun, ended};
+ghost use Rattle.offset_runs.specs.Parts.{begin_count, end_count};
 ghost use Rattle.share_model.specs.Runs.{IsCanonical, row_at};
 
 use share_model::{Row, Run};
@@ -7,7 +7,7 @@ use share_model::{Row, Run};
 // How many runs begin below an offset.
 pub(crate) fn count_begun(runs: &[Run], offset: u64) -> usize
     requires { IsCanonical runs.now }
-    ensures count { result ≡ begun runs.now offset }
+    ensures count { result ≡ begin_count runs.now offset }
     ensures within { result ≤ length runs.now }
 {
     runs.partition_point(|run| run.first < offset)
@@ -16,7 +16,7 @@ pub(crate) fn count_begun(runs: &[Run], offset: u64) -> usize
 // How many runs end below an offset.
 pub(crate) fn count_ended(runs: &[Run], offset: u64) -> usize
     requires { IsCanonical runs.now }
-    ensures count { result ≡ ended runs.now offset }
+    ensures count { result ≡ end_count runs.now offset }
     ensures within { result ≤ length runs.now }
 {
     runs.partition_point(|run| run.last < offset)
@@ -25,7 +25,7 @@ pub(crate) fn count_ended(runs: &[Run], offset: u64) -> usize
 // How many runs end at an offset or below it.
 pub(crate) fn count_ended_by(runs: &[Run], offset: u64) -> usize
     requires { IsCanonical runs.now }
-    ensures count { result ≡ ended runs.now (offset + 1) }
+    ensures count { result ≡ end_count runs.now (offset + 1) }
     ensures within { result ≤ length runs.now }
 {
     runs.partition_point(|run| run.last <= offset)

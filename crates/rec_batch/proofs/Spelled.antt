@@ -16,7 +16,7 @@ use Rattle.rec_batch.specs.declared.rec.Rec.{Rec}
 use Rattle.rec_batch.specs.Fields.{base_offset, last_offset_delta}
 use Rattle.rec_batch.specs.Grammar.{AreHeaders, IsBody, IsNullable, IsRecord}
 use Rattle.rec_batch.specs.Batches.{Follow, HasOffsets, IsBatch, max_size}
-use Rattle.rec_batch.specs.Written.{batch_bytes, body_bytes, checked_bytes, nullable_bytes, record_bytes, recorded, recorded_from, records_bytes}
+use Rattle.rec_batch.specs.Written.{batch_bytes, body_bytes, checked_bytes, nullable_bytes, record_bytes, record_of, records_from, records_bytes}
 use Rattle.rec_batch.proofs.WrittenSizes.{records_many}
 use Rattle.rec_batch.proofs.Placed.{counts_rise}
 
@@ -33,7 +33,7 @@ nullable_spells (Some content) h =
 no_headers : AreHeaders (varint_bytes (pos 0)) []
 no_headers = (varint_bytes (pos 0), [], small_spells 0 (omega arith), refl, sym (append-nil (varint_bytes (pos 0))))
 
-body_spells : (delta : ℕ) (r : Rec) → delta < 2 ^ 31 → length (body_bytes delta r) < 2 ^ 31 → IsBody (body_bytes delta r) (recorded delta r)
+body_spells : (delta : ℕ) (r : Rec) → delta < 2 ^ 31 → length (body_bytes delta r) < 2 ^ 31 → IsBody (body_bytes delta r) (record_of delta r)
 unfolding body_bytes
 body_spells delta r few small =
     let e = varint_bytes (pos 0) in
@@ -77,7 +77,7 @@ body_spells delta r few small =
       refl,
     )
 
-record_spells : (delta : ℕ) (r : Rec) → delta < 2 ^ 31 → length (record_bytes delta r) < 2 ^ 31 → IsRecord (record_bytes delta r) (recorded delta r)
+record_spells : (delta : ℕ) (r : Rec) → delta < 2 ^ 31 → length (record_bytes delta r) < 2 ^ 31 → IsRecord (record_bytes delta r) (record_of delta r)
 unfolding record_bytes
 record_spells delta r few small =
     let body = body_bytes delta r in
@@ -86,7 +86,7 @@ record_spells delta r few small =
     (front, body, small_spells (length body) below, body_spells delta r few below, refl)
 
 pub records_spell : (delta : ℕ) (records : List Rec) → delta + length records < 2 ^ 31 → length (records_bytes delta records) < 2 ^ 31 →
-    AreMany IsRecord (records_bytes delta records) (recorded_from delta records)
+    AreMany IsRecord (records_bytes delta records) (records_from delta records)
 unfolding records_bytes
 records_spell delta [] few small = refl
 records_spell delta (r ∷ records) few small =
@@ -94,12 +94,12 @@ records_spell delta (r ∷ records) few small =
     let rest = records_bytes (delta + 1) records in
     (first, rest, record_spells delta r (omega arith) (omega (arith, length-append first rest)), records_spell (delta + 1) records (omega arith) (omega (arith, length-append first rest)), refl)
 
-length-recorded : (delta : ℕ) (records : List Rec) → length (recorded_from delta records) ≡ length records
-length-recorded delta [] = refl
-length-recorded delta (r ∷ records) = ap suc (length-recorded (delta + 1) records)
+length-record_of : (delta : ℕ) (records : List Rec) → length (records_from delta records) ≡ length records
+length-record_of delta [] = refl
+length-record_of delta (r ∷ records) = ap suc (length-record_of (delta + 1) records)
 
 -- the deltas count up
-counts : (last : ℤ) (delta : ℕ) (records : List Rec) → Follow Produced last (pos delta) (recorded_from delta records)
+counts : (last : ℤ) (delta : ℕ) (records : List Rec) → Follow Produced last (pos delta) (records_from delta records)
 counts last delta [] = tt
 counts last delta (r ∷ records) = (refl, counts last (delta + 1) records)
 
@@ -124,28 +124,28 @@ unfolding batch_bytes
 base-written records = refl
 
 -- the last delta is one less than the number of records
-last-next : (records : List Rec) → 0 < length records → length records < 2 ^ 31 → last_offset_delta (batch_bytes records) +ℤ pos 1 ≡ pos (length (recorded_from 0 records))
+last-next : (records : List Rec) → 0 < length records → length records < 2 ^ 31 → last_offset_delta (batch_bytes records) +ℤ pos 1 ≡ pos (length (records_from 0 records))
 last-next records some few =
-    let one : length records - 1 + 1 ≡ length (recorded_from 0 records) = omega (arith, length-recorded 0 records) in
+    let one : length records - 1 + 1 ≡ length (records_from 0 records) = omega (arith, length-record_of 0 records) in
     ap (λ z. z +ℤ pos 1) (last-written records few) ∙ ap (λ n. pos n) one
 
-offsets_written : (form : Form) (records : List Rec) → 0 < length records → length records < 2 ^ 31 → HasOffsets form (batch_bytes records) (recorded_from 0 records)
+offsets_written : (form : Form) (records : List Rec) → 0 < length records → length records < 2 ^ 31 → HasOffsets form (batch_bytes records) (records_from 0 records)
 offsets_written Produced records some few =
-    ((omega (arith, length-recorded 0 records), last-next records some few), counts (last_offset_delta (batch_bytes records)) 0 records)
+    ((omega (arith, length-record_of 0 records), last-next records some few), counts (last_offset_delta (batch_bytes records)) 0 records)
 offsets_written Stored records some few =
     let last = last_offset_delta (batch_bytes records) in
     let sum : (pos 0 +ℤ pos (length records - 1)) <ℤ pos (2 ^ 62) = omega (arith, ints) in
-    let none : 0 + length (recorded_from 0 records) ≡ length (recorded_from 0 records) = omega arith in (
+    let none : 0 + length (records_from 0 records) ≡ length (records_from 0 records) = omega arith in (
       (
         subst (λ z. pos 0 ≤ℤ z) (sym (last-written records few)) (omega (arith, ints)),
         subst (λ z. pos 0 ≤ℤ z) (sym (base-written records)) (omega (arith, ints)),
         subst (λ z. (z +ℤ last) <ℤ pos (2 ^ 62)) (sym (base-written records)) (subst (λ z. (pos 0 +ℤ z) <ℤ pos (2 ^ 62)) (sym (last-written records few)) sum),
       ),
-      counts_rise (recorded_from 0 records) (pos 0) last (ap (λ n. pos n) none ∙ sym (last-next records some few)) (counts last 0 records),
+      counts_rise (records_from 0 records) (pos 0) last (ap (λ n. pos n) none ∙ sym (last-next records some few)) (counts last 0 records),
     )
 
 pub batch_spells : (form : Form) (records : List Rec) → 0 < length records → length (batch_bytes records) ≤ max_size →
-    crc_of (checked_bytes records) < 2 ^ 32 → IsBatch form (batch_bytes records) (recorded_from 0 records)
+    crc_of (checked_bytes records) < 2 ^ 32 → IsBatch form (batch_bytes records) (records_from 0 records)
 unfolding batch_bytes checked_bytes
 batch_spells form records some size crc =
     let small : length (records_bytes 0 records) < 2 ^ 30 = omega (arith, length-batch records) in
@@ -161,7 +161,7 @@ batch_spells form records some size crc =
       no_transaction = refl;
       no_control = refl;
       no_producer = refl;
-      content = (int_again (length records) (omega arith) ∙ ap (λ n. pos n) (sym (length-recorded 0 records)), records_spell 0 records (omega arith) (omega arith));
+      content = (int_again (length records) (omega arith) ∙ ap (λ n. pos n) (sym (length-record_of 0 records)), records_spell 0 records (omega arith) (omega arith));
       offsets = offsets_written form records some (omega arith);
     }
 
@@ -174,6 +174,6 @@ few_bytes records h = omega (arith, length-batch records)
 
 pub stands_from : (records : List Rec) (result : Result (List ℕ) NoMemory) → 0 < length records → length (batch_bytes records) ≤ max_size →
     IfOk result (λ batch. batch ≡ batch_bytes records) → IfOk result (λ batch. crc_of (checked_bytes records) < 2 ^ 32)
-    → IfOk result (λ batch. (form : Form) → IsBatch form batch (recorded_from 0 records))
-stands_from records (Ok batch) some size value crc = λ form. subst (λ l. IsBatch form l (recorded_from 0 records)) (sym value) (batch_spells form records some size crc)
+    → IfOk result (λ batch. (form : Form) → IsBatch form batch (records_from 0 records))
+stands_from records (Ok batch) some size value crc = λ form. subst (λ l. IsBatch form l (records_from 0 records)) (sym value) (batch_spells form records some size crc)
 stands_from records (Err e) some size value crc = tt

@@ -13,15 +13,15 @@ abbrev pub ◌>>=◌ : {A B : Type 0} → Option A → (A → Option B) → Opti
 None >>= f = None
 (Some x) >>= f = f x
 
-abbrev pub seen : {A : Type 0} → Result (A × At) WireFault → Option (A × List ℕ)
-seen (Ok x) = Some (x.0, x.1.left)
-seen (Err e) = None
+abbrev pub found_in : {A : Type 0} → Result (A × At) WireFault → Option (A × List ℕ)
+found_in (Ok x) = Some (x.0, x.1.left)
+found_in (Err e) = None
 
 unfoldable pub varint_in : List ℕ → Option (ℤ × List ℕ)
-varint_in bytes = seen (varint_at (record { place = 0; left = bytes }))
+varint_in bytes = found_in (varint_at (record { place = 0; left = bytes }))
 
 unfoldable pub varlong_in : List ℕ → Option (ℤ × List ℕ)
-varlong_in bytes = seen (varlong_at (record { place = 0; left = bytes }))
+varlong_in bytes = found_in (varlong_at (record { place = 0; left = bytes }))
 
 unfoldable pub byte_in : List ℕ → Option (List ℕ)
 byte_in [] = None

@@ -10,13 +10,13 @@ use Rattle.rec_batch.specs.declared.rec.Rec.{Rec}
 use Rattle.rec_batch.specs.Grammar.{Record}
 
 -- what the record at this offset delta holds
-abbrev pub recorded : ℕ → Rec → Record
-recorded delta r =
+abbrev pub record_of : ℕ → Rec → Record
+record_of delta r =
     record { attributes = pos 0; timestamp_delta = pos 0; offset_delta = pos delta; key = r.key; value = r.value; headers = [] }
 
-abbrev pub recorded_from : ℕ → List Rec → List Record
-recorded_from delta [] = []
-recorded_from delta (r ∷ records) = recorded delta r ∷ recorded_from (delta + 1) records
+abbrev pub records_from : ℕ → List Rec → List Record
+records_from delta [] = []
+records_from delta (r ∷ records) = record_of delta r ∷ records_from (delta + 1) records
 
 -- the number -1, or a number of bytes and the bytes
 unfoldable pub nullable_bytes : Option (List ℕ) → List ℕ

@@ -1,7 +1,7 @@
 ghost use Rattle.std.specs.Prelude.{◌≡◌, ◌+◌, ◌≤◌, ◌<◌, ◌^◌, ◌++◌, pos, length, IsTrue, ◌↔◌, OnOk, IfOk, MatchBool, MatchOption};
 ghost use Rattle.flex_fields.specs.Writing.{groups_of, varint_bytes, zigzag};
 ghost use Rattle.crc_castagnoli.specs.Division.{crc_of};
-ghost use Rattle.rec_batch.specs.Written.{batch_bytes, body_bytes, checked_bytes, nullable_bytes, record_bytes, recorded_from, records_bytes};
+ghost use Rattle.rec_batch.specs.Written.{batch_bytes, body_bytes, checked_bytes, nullable_bytes, record_bytes, records_from, records_bytes};
 ghost use Rattle.rec_batch.specs.Batches.{IsBatch, max_size};
 
 use crate::form::Form;
@@ -218,7 +218,7 @@ pub fn write_batch(alloc: Global, records: &[Rec]) -> Result<Blob, NoMemory>
     requires some { 0 < length records.now }
     requires size { length (batch_bytes records.now) ≤ max_size }
     ensures value { IfOk result (λ batch. batch ≡ batch_bytes records.now) }
-    ensures stands { IfOk result (λ batch. (form : Form) → IsBatch form batch (recorded_from 0 records.now)) }
+    ensures stands { IfOk result (λ batch. (form : Form) → IsBatch form batch (records_from 0 records.now)) }
 {
     whole(alloc, records)
 }

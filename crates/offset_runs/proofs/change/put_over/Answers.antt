@@ -1,5 +1,5 @@
 use Rattle.std.proofs.Common.{arith}
-use Rattle.offset_runs.proofs.Places.{begun-ended}
+use Rattle.offset_runs.proofs.Places.{begin_count-end_count}
 use Rattle.offset_runs.proofs.Puts.{put_parts}
 use Rattle.offset_runs.proofs.change.put_over.Goals as goal
 
@@ -7,7 +7,7 @@ pub replace-requires-clause-order : goal.replace-requires-clause-order
 replace-requires-clause-order c =
     let same = c.deref.ensures.value in
     let same2 = c.deref-2.ensures.value in
-    let order = begun-ended c.args.runs.now.items c.args.middle.first c.args.middle.last c.requires.canonical c.requires.order in
+    let order = begin_count-end_count c.args.runs.now.items c.args.middle.first c.args.middle.last c.requires.canonical c.requires.order in
     omega (arith, order, rw same at c.part_before-start.ensures.place, rw same2 at c.part_behind-right.ensures.place)
 
 pub returns-clause-ok : goal.returns-clause-ok

@@ -1,9 +1,9 @@
 use Rattle.std.proofs.Common.{◌++◌, ◌∙◌, List, ap, sym}
 use Rattle.std.proofs.lemmas.List.{nil_from_length}
 use Rattle.share_model.specs.declared.run.Run.{Run}
-use Rattle.offset_runs.specs.Parts.{joined}
-use Rattle.offset_runs.proofs.Joins.{joined-back}
-use Rattle.offset_runs.proofs.Merges.{joined-none}
+use Rattle.offset_runs.specs.Parts.{join}
+use Rattle.offset_runs.proofs.Joins.{join-back}
+use Rattle.offset_runs.proofs.Merges.{join-none}
 use Rattle.offset_runs.proofs.overlay.push_all.Goals as goal
 
 pub returns-in_ok-extend_from_slice : goal.returns-in_ok-extend_from_slice
@@ -12,9 +12,9 @@ returns-in_ok-extend_from_slice c =
     let rest = c.in-Some.rest.now in
     record {
       ok = c.in_ok-extend_from_slice.ensures.items ∙ ap (λ (l : List Run). l ++ rest) c.in_ok-push_joined.ensures.ok
-          ∙ sym (joined-back c.args.out.now.items first rest) ∙ ap (joined c.args.out.now.items) (sym c.in-Some.ensures.cases.0);
+          ∙ sym (join-back c.args.out.now.items first rest) ∙ ap (join c.args.out.now.items) (sym c.in-Some.ensures.cases.0);
     }
 
 pub returns-in_default : goal.returns-in_default
 returns-in_default c =
-    record { ok = sym (joined-none c.args.out.now.items) ∙ ap (joined c.args.out.now.items) (sym (nil_from_length c.args.runs.now c.in_default.ensures.cases)) }
+    record { ok = sym (join-none c.args.out.now.items) ∙ ap (join c.args.out.now.items) (sym (nil_from_length c.args.runs.now c.in_default.ensures.cases)) }

@@ -1,10 +1,10 @@
 use Rattle.std.proofs.Common.{ltb, rules}
 use Rattle.std.proofs.lemmas.List.Sorted.{IsPartitionPoint-from_clause, IsPartitionedBy-ltb}
-use Rattle.offset_runs.proofs.Counts.{firsts_rise, counted-begun}
+use Rattle.offset_runs.proofs.Counts.{firsts_rise, counted-begin_count}
 use Rattle.offset_runs.proofs.search.count_begun.Goals as goal
 
 pub returns-clause-count : goal.returns-clause-count
 returns-clause-count c =
     let parted = IsPartitionedBy-ltb (λ r. r.first) c.args.runs.now c.args.offset (firsts_rise c.args.runs.now c.requires) in
     let point = IsPartitionPoint-from_clause (λ r. ltb r.first c.args.offset) _ _ c.partition_point.ensures.partitioned parted (λ a r q k. search rules) in
-    counted-begun c.args.offset c.args.runs.now c.partition_point.result c.partition_point.ensures.bound point.0 point.1
+    counted-begin_count c.args.offset c.args.runs.now c.partition_point.result c.partition_point.ensures.bound point.0 point.1
