@@ -1,1 +1,2 @@
+-- Puts: what is written of a client id.
 pub mod Puts

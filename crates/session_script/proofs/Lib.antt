@@ -1,3 +1,5 @@
+-- Words and lines: Cuts (where they are cut), Hexes and Sayings (what they say), Joined (how they are written). The reader:
+-- Feeds (line feeds), Takings (what was taken), Refusals (where nothing stands). OneReading: scripts are read in one way.
 pub mod Cuts
 pub mod Hexes
 pub mod Sayings
