@@ -15,6 +15,7 @@ pub fn write_all<K: Sink>(sink: &mut K, bytes: &[u8]) -> Result<(), Failed>
     ensures ok { OnOk result (Appends (K.held sink.old) (K.held sink.new) bytes.now) }
     ensures front { (rest : List ℕ) × AppendsFront (K.held sink.old) (K.held sink.new) bytes.now rest }
     ensures cause { HasCause (K.faults sink.old) (K.faults sink.new) result }
+    ensures counted { OnOk result (K.faults sink.new ≡ K.faults sink.old) }
 {
     let mut rest = bytes;
     while !rest.is_empty() {

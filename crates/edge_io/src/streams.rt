@@ -1,4 +1,4 @@
-ghost use Rattle.std.specs.Prelude.{List, Bool, ℕ};
+ghost use Rattle.std.specs.Prelude.{◌≡◌, List, Bool, ℕ, OnOk};
 ghost use Rattle.std.specs.declared.option.Option.{Option};
 ghost use Rattle.std.specs.Io.{ReadsAtMost, WritesAtMost};
 ghost use Rattle.std.specs.Io.KnownBytes.{ReadConsumes, WriteAppends};
@@ -49,10 +49,12 @@ pub trait Sink {
     /// How many faults there were. The count stays at `u64::MAX` once it is there.
     ghost faults: { Self → ℕ };
 
-    /// Takes a front of `bytes`, at least one byte unless `bytes` is empty, and answers how many it took.
+    /// Takes a front of `bytes`, at least one byte unless `bytes` is empty, and answers how many it took. Only a write that
+    /// fails raises the count of faults.
     fn write(&mut self, bytes: &[u8]) -> Result<usize, Failed>
         ensures bound { WritesAtMost result bytes.now }
         ensures some { TakesSome result bytes.now }
         ensures bytes { WriteAppends (held self.old) (held self.new) result bytes.now }
-        ensures cause { HasCause (faults self.old) (faults self.new) result };
+        ensures cause { HasCause (faults self.old) (faults self.new) result }
+        ensures counted { OnOk result (faults self.new ≡ faults self.old) };
 }
