@@ -32,7 +32,7 @@ pub fn judge_again(alloc: Global, case: &Case) -> io::Result<Option<String>> {
     let mut output = MemSink::new(alloc, Vec::new(alloc));
     let mut reader = ScriptReader::new(alloc);
     for _ in 0..case.script.len() {
-        let Ok(Taken::Event(event)) = reader.take_event(alloc, &mut input) else {
+        let Ok(Taken::Event(event)) = reader.take_event(&mut input) else {
             break;
         };
         if write_event(alloc, &event, &mut output).is_err() {

@@ -59,6 +59,7 @@ impl From<NoMemory> for ScriptFault {
 /// Reads the events of a script one after another. It keeps what the source gave and no event has taken.
 #[derive(Drop)]
 pub struct ScriptReader {
+    alloc: Global,
     buffer: Vec<u8>,
     // where what is pending begins
     start: usize,
@@ -119,6 +120,7 @@ impl ScriptReader {
         ensures { result ≡ record { place = 0; pending = [] } }
     {
         ScriptReader {
+            alloc,
             buffer: Vec::new(alloc),
             start: 0,
             scanned: 0,
@@ -244,12 +246,7 @@ impl ScriptReader {
     }
 
     // Takes the line that is pending, of so many bytes before its line feed.
-    fn take_line<S: Source>(
-        &mut self,
-        alloc: Global,
-        length: usize,
-        source: &mut S,
-    ) -> Result<Taken, ScriptFault>
+    fn take_line<S: Source>(&mut self, length: usize, source: &mut S) -> Result<Taken, ScriptFault>
         requires is { IsLine self.old.pending length }
         ensures taken { Takes self.old self.new (S.left source.old) (S.left source.new) (taken_line result) }
         ensures answer { Answers self.new (S.left source.new) (S.ended source.new) result }
@@ -263,7 +260,7 @@ impl ScriptReader {
             return Err(malformed);
         }
         let (line, _) = self.bytes().split_at(length);
-        if let Some(event) = event(alloc, line)? {
+        if let Some(event) = event(self.alloc, line)? {
             self.skip(length + 1);
             return Ok(Taken::Event(event));
         }
@@ -277,18 +274,14 @@ impl ScriptReader {
     ///
     /// After `NoMemory` nothing is lost, and the next call goes on. After `Malformed` and `Read` what was read
     /// and not taken is still there.
-    pub fn take_event<S: Source>(
-        &mut self,
-        alloc: Global,
-        source: &mut S,
-    ) -> Result<Taken, ScriptFault>
+    pub fn take_event<S: Source>(&mut self, source: &mut S) -> Result<Taken, ScriptFault>
         ensures taken { Takes self.old self.new (S.left source.old) (S.left source.new) (taken_line result) }
         ensures answer { Answers self.new (S.left source.new) (S.ended source.new) result }
         ensures read { result ≡ Err ScriptFault.Read → Rose (S.faults source.old) (S.faults source.new) }
         ensures later { S.faults source.old ≤ S.faults source.new }
     {
         match self.line(source) {
-            Ok(Some(length)) => self.take_line(alloc, length, source),
+            Ok(Some(length)) => self.take_line(length, source),
             Ok(None) => Err(ScriptFault::Malformed {
                 place: self.place(),
             }),
