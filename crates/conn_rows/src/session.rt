@@ -74,15 +74,17 @@ fn cause_text(alloc: Global, cause: CloseCause) -> io::Result<String> {
     }
 }
 
-fn memory() -> io::Error {
-    io::Error::from(io::ErrorKind::OutOfMemory)
-}
-
 /// What stands in place of an answer that no shard gives.
 fn is_answer(answer: &Answer) -> bool
     ensures { IsTrue result → (All IsTellable answer.now.runs.items × (length answer.now.runs.items < 1000)) }
 {
     answer.runs.len() < 1000 && are_tellable(answer.runs.as_slice())
+}
+
+/// Tells that no memory was found.
+fn no_memory(told: &mut String) -> io::Result<Turn> {
+    told.push_str("no memory\n")?;
+    Ok(Turn::Stops)
 }
 
 /// Answers the part that is asked, where an answer is there.
@@ -91,6 +93,7 @@ fn give_next(
     conf: &Config,
     conn: &mut Conn,
     answers: &mut VecDeque<Answer>,
+    told: &mut String,
 ) -> io::Result<Turn> {
     let Some(answer) = answers.pop_front() else {
         return Ok(Turn::Stops);
@@ -106,7 +109,7 @@ fn give_next(
     };
     match conn.give(alloc, conf, PartAnswer::Foreign(answer)) {
         Ok(()) => Ok(Turn::GoesOn),
-        Err(_) => Err(memory()),
+        Err(_) => no_memory(told),
     }
 }
 
@@ -122,7 +125,7 @@ fn take_turn(
         Ok(Next::Ask(Part::Foreign(op))) => {
             let text = part_text(alloc, &op)?;
             push_line(told, "asks", text.as_str())?;
-            give_next(alloc, conf, conn, answers)
+            give_next(alloc, conf, conn, answers, told)
         }
         Ok(Next::Ready) => {
             told.push_str("ready\n")?;
@@ -134,39 +137,39 @@ fn take_turn(
             Ok(Turn::GoesOn)
         }
         Ok(Next::Idle | Next::Gone) => Ok(Turn::Stops),
-        Err(_) => Err(memory()),
+        Err(_) => no_memory(told),
     }
 }
 
 /// What a connection does next.
-fn next_word(alloc: Global, conf: &Config, conn: &mut Conn) -> io::Result<&'static str> {
+fn next_word(alloc: Global, conf: &Config, conn: &mut Conn) -> &'static str {
     match conn.next_part(alloc, conf) {
-        Ok(Next::Ask(_)) => Ok("asks"),
-        Ok(Next::Ready) => Ok("ready"),
-        Ok(Next::Closed(_)) => Ok("closed"),
-        Ok(Next::Idle) => Ok("waits"),
-        Ok(Next::Gone) => Ok("gone"),
-        Err(_) => Err(memory()),
+        Ok(Next::Ask(_)) => "asks",
+        Ok(Next::Ready) => "ready",
+        Ok(Next::Closed(_)) => "closed",
+        Ok(Next::Idle) => "waits",
+        Ok(Next::Gone) => "gone",
+        Err(_) => "no memory",
     }
 }
 
 /// Whether a new connection waits with these bytes, and after an end is gone without a reply.
-fn only_waits(alloc: Global, conf: &Config, bytes: &[u8]) -> io::Result<bool> {
+fn only_waits(alloc: Global, conf: &Config, bytes: &[u8]) -> bool {
     let mut conn = Conn::open(alloc);
     if conn.feed(bytes).is_err() {
-        return Err(memory());
+        return false;
     }
-    let before = next_word(alloc, conf, &mut conn)?;
+    let before = next_word(alloc, conf, &mut conn);
     conn.end();
-    let after = next_word(alloc, conf, &mut conn)?;
-    Ok(before == "waits" && after == "gone" && conn.take_reply().is_none())
+    let after = next_word(alloc, conf, &mut conn);
+    before == "waits" && after == "gone" && conn.take_reply().is_none()
 }
 
 /// Checks each proper front of these bytes.
 fn fronts(alloc: Global, conf: &Config, bytes: &[u8]) -> io::Result<Taken> {
     for length in 0..bytes.len() {
         let (front, _) = bytes.split_at(length);
-        if !only_waits(alloc, conf, front)? {
+        if !only_waits(alloc, conf, front) {
             let why = format!(in alloc; "it does not wait with the first {length} bytes")?;
             return Ok(Taken::Failed { why });
         }
@@ -212,10 +215,10 @@ impl Session {
             return Ok(Taken::Unknown);
         };
         for piece in bytes.as_slice().chunks(length.max(1)) {
-            if self.conn.feed(piece).is_err() {
-                return Err(memory());
+            match self.conn.feed(piece) {
+                Ok(()) => self.go_on(alloc)?,
+                Err(_) => self.told.push_str("no memory\n")?,
             }
-            self.go_on(alloc)?;
         }
         Ok(Taken::Noted)
     }
@@ -234,7 +237,7 @@ impl Session {
 
     /// The end of a case.
     fn judge(&mut self, alloc: Global, state: &str) -> io::Result<Taken> {
-        let next = next_word(alloc, &self.conf, &mut self.conn)?;
+        let next = next_word(alloc, &self.conf, &mut self.conn);
         self.take_replies(alloc)?;
         push_line(&mut self.told, "then", next)?;
         push_line(&mut self.wanted, "then", state)?;

@@ -9,4 +9,4 @@ mod run;
 mod text;
 
 pub use run::{Rows, Taken, run_files};
-pub use text::{bytes_of, compared, expanded, without_blanks};
+pub use text::{bytes_of, compared, expanded, shortened, without_blanks};

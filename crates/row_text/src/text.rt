@@ -53,7 +53,16 @@ pub fn bytes_of(alloc: Global, text: &str) -> io::Result<Option<Vec<u8>>> {
     Ok(hex::decode(alloc, digits.as_str()).ok())
 }
 
+/// The front of a text that is long.
+pub fn shortened(text: &str) -> &str {
+    match text.split_at_checked(400) {
+        Some((front, _)) => front,
+        None => text,
+    }
+}
+
 fn differs(alloc: Global, line: &str, want: &str) -> io::Result<String> {
+    let (line, want) = (shortened(line), shortened(want));
     Ok(format!(in alloc; "there is `{line}`, and `{want}` is wanted")?)
 }
 

@@ -4,7 +4,7 @@ use crate::disks::Store;
 use crate::rows::Rows as StoredRows;
 use crate::streams::Streams;
 use crate::sweep::sweep_told;
-use row_text::{Rows, Taken, compared};
+use row_text::{Rows, Taken, compared, shortened};
 use std::alloc::Global;
 use std::io;
 
@@ -63,9 +63,11 @@ impl Rows for Case {
         };
         match compared(alloc, told.as_str(), wanted)? {
             None => Ok(Taken::Passed),
-            Some(why) => Ok(Taken::Failed {
-                why: format!(in alloc; "{kind} {words}: {why}")?,
-            }),
+            Some(why) => {
+                let words = shortened(words);
+                let why = format!(in alloc; "{kind} {words}: {why}")?;
+                Ok(Taken::Failed { why })
+            }
         }
     }
 }
