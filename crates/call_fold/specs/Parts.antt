@@ -2,6 +2,7 @@
 -- For example an answer with the run 7 to 9, acknowledged and counted once, can be told (conn_rows,
 -- `a read tells the batches of its answer`).
 use Rattle.std.specs.Prelude.{◌<◌, ◌^◌, All}
+use Rattle.share_model.specs.declared.foreign.ForeignAnswer.{ForeignAnswer}
 use Rattle.share_model.specs.declared.run.Run.{Run}
 use Rattle.call_fold.specs.declared.part.Part.{Part}
 use Rattle.call_fold.specs.declared.part.Part.TheVariants.{Foreign as PartForeign}
@@ -16,3 +17,7 @@ pub record IsTellable (run : Run) : Type 0 where
 
 abbrev pub IsAnswerTo : Part → PartAnswer → Type 0
 IsAnswerTo (PartForeign op) (Foreign answer) = All IsTellable answer.runs
+
+-- the answer of the foreign shard
+abbrev pub answer_in : PartAnswer → ForeignAnswer
+answer_in (Foreign answer) = answer

@@ -3,7 +3,7 @@ use flex_fields::Items;
 use share_model::{Code, ForeignAnswer, ForeignOp, Key, Name, Reset};
 use std::alloc::Global;
 use std::test::Fail;
-use topic_conf::{Config, TopicList};
+use topic_conf::{Config, Topic, TopicList};
 use uuid::Uuid;
 
 /// ReadShareGroupState of partition 0 of a topic that is not hosted.
@@ -40,8 +40,15 @@ fn released(alloc: Global, conf: &Config, conn: &mut Conn) -> Result<u32, Fail> 
 #[test]
 fn a_connection_that_closes_releases_what_it_has_and_is_gone(rt: HostRuntime) -> Result<(), Fail> {
     let alloc = rt.alloc();
+    let topics = vec![in alloc;
+        Topic {
+            name: Name::new("orders").ok_or("a name")?,
+            parts: 3,
+            id: Uuid::from_bytes([1; 16])
+        },
+    ]?;
     let conf = Config::new(
-        TopicList::new(Vec::new(alloc)).ok_or("topics")?,
+        TopicList::new(topics).ok_or("topics")?,
         Reset::Earliest,
         30000,
         5,

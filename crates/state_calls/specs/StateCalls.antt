@@ -2,14 +2,12 @@
 -- For example a reply to a Read of partitions 5 and 6 of a topic has that topic with two rows, in this order.
 use Rattle.std.specs.Prelude.{ℕ, pos, true, false, Option, Some, List, [], ◌∷◌, map, flat_map, take, drop, if◌then◌else◌}
 use Rattle.flex_fields.specs.Formats.{Format}
-use Rattle.share_model.specs.declared.foreign.ForeignAnswer.{ForeignAnswer}
 use Rattle.topic_conf.specs.declared.topic.Topic.{Topic}
 use Rattle.msgs_state.specs.declared.state_message.StateTopic.{StateTopic}
 use Rattle.msgs_state.specs.declared.state_message.StateRequest.{StateRequest}
 use Rattle.msgs_state.specs.StateMessage.{state_reply}
 use Rattle.call_fold.specs.declared.part.Part.TheVariants.{Foreign as PartForeign}
-use Rattle.call_fold.specs.declared.part.PartAnswer.{PartAnswer}
-use Rattle.call_fold.specs.declared.part.PartAnswer.TheVariants.{Foreign}
+use Rattle.call_fold.specs.Parts.{answer_in}
 use Rattle.call_fold.specs.declared.call.Stage.{Stage}
 use Rattle.call_fold.specs.declared.call.Stage.TheVariants.{Says}
 use Rattle.call_fold.specs.Calls.{Acts, AskingParts}
@@ -29,9 +27,6 @@ body_of f topics = Some ((state_reply f).bytes (record { results = topics }))
 
 abbrev pub state_body : {R : Type 0} → Format R → List ShapeParts → List R → Option (List ℕ)
 state_body f shape rows = body_of f (regrouped shape rows)
-
-abbrev pub answer_in : PartAnswer → ForeignAnswer
-answer_in (Foreign answer) = answer
 
 -- each row is made of its own question and of the answer to it
 abbrev pub state_acts : {S P W R : Type 0} → StateMeans P W R → Format R → Acts (StateHand S) (Wished W) R
