@@ -6,8 +6,8 @@ use msgs_base::{
     FindCoordinatorRequest, MetadataReply, MetadataRequest,
 };
 use msgs_state::{
-    InitializeShareGroupStateRequest, ReadShareGroupStateReply, ReadShareGroupStateRequest,
-    ShareGroupStateReply,
+    DeleteShareGroupStateRequest, InitializeShareGroupStateRequest, ReadShareGroupStateReply,
+    ReadShareGroupStateRequest, ShareGroupStateReply, WriteShareGroupStateRequest,
 };
 use req_head::{RequestHead, read_head, read_reply_head, write_head, write_reply_head};
 use std::alloc::Global;
@@ -211,6 +211,8 @@ fn state_message(alloc: Global, kind: &str, bytes: &[u8]) -> io::Result<Option<S
         "InitializeShareGroupStateResponse" => told::<ShareGroupStateReply>(alloc, bytes)?,
         "ReadShareGroupStateRequest" => told::<ReadShareGroupStateRequest>(alloc, bytes)?,
         "ReadShareGroupStateResponse" => told::<ReadShareGroupStateReply>(alloc, bytes)?,
+        "WriteShareGroupStateRequest" => told::<WriteShareGroupStateRequest>(alloc, bytes)?,
+        "DeleteShareGroupStateRequest" => told::<DeleteShareGroupStateRequest>(alloc, bytes)?,
         _ => return Ok(None),
     };
     Ok(Some(text))

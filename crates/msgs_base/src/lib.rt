@@ -34,6 +34,3 @@ pub use metadata_reply::{
 pub use metadata_request::{
     MetadataRequest, MetadataRequestTopic, read_metadata_request, write_metadata_request,
 };
-
-#[cfg(test)]
-mod tests;

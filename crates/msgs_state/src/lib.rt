@@ -39,6 +39,3 @@ pub use write_request::{
     WritePartition, WriteShareGroupStateRequest, read_write_share_group_state_request,
     write_write_share_group_state_request,
 };
-
-#[cfg(test)]
-mod tests;

@@ -1,7 +1,7 @@
 -- A request header in two parts (KIP-482, RequestHeader.json): what a header of each version begins with, and what stands behind
 -- that in version 2.
 -- For example `0053 0000 00000001` and `ffff 00` are the parts of a header of key 83, version 0 and correlation id 1 without a
--- client id (the test a_request_header_is_read_and_written).
+-- client id.
 use Rattle.std.specs.Prelude.{ℕ, ℤ, List, Option, refl}
 use Rattle.flex_fields.specs.Formats.{Format, Shape, structure, ◌▹◌, int16, int32}
 use Rattle.req_head.specs.Heads.{client_id}
