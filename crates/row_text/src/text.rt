@@ -1,4 +1,6 @@
 // Pieces of text.
+ghost use Rattle.std.specs.Prelude.{◌≡◌, ◌↔◌, IfOk, is_some, false};
+
 use std::alloc::Global;
 use std::io;
 
@@ -68,7 +70,9 @@ fn differs(alloc: Global, line: &str, want: &str) -> io::Result<String> {
 
 /// What differs between a text and the one that is wanted: the first line, or the number of lines. `None` where they are
 /// equal.
-pub fn compared(alloc: Global, got: &str, wanted: &str) -> io::Result<Option<String>> {
+pub fn compared(alloc: Global, got: &str, wanted: &str) -> io::Result<Option<String>>
+    ensures { IfOk result (λ why. is_some why ≡ false ↔ got.now ≡ wanted.now) }
+{
     if got == wanted {
         return Ok(None);
     }

@@ -7,7 +7,7 @@
 // | `other-put ..`, `other-put-each ..` | the same in another list |
 // | `lay-over` | the other list's rows are laid over these |
 // | `cut-below OFFSET` | the rows below it go |
-// | `row OFFSET` | the row, or `none` |
+// | `look OFFSET` | the row, or `none` |
 // | `runs` | the runs, `FIRST..LAST STATE COUNT` |
 // | `number-of-runs` | how many there are |
 // | `rebuilt` | the list is handed out, and rows are made of it |
@@ -192,7 +192,7 @@ impl Rows {
             return Ok(Some(String::from_str(alloc, word)?));
         }
         let told = match kind {
-            "row" => row_text(alloc, self.runs.look(number(text).0))?,
+            "look" => row_text(alloc, self.runs.look(number(text).0))?,
             "runs" => runs_text(alloc, self.runs.list())?,
             "number-of-runs" => {
                 let count = self.runs.list().len();
