@@ -1,6 +1,6 @@
 -- From the journal on the first disk to the frames of the store.
-use Rattle.std.proofs.Common.{◌≡◌, ◌⊎◌, ◌↔◌, ◌<◌, ◌≤◌, ◌+◌, ◌^◌, inl, inr, ⊎_elim, refl, sym, subst, arith, ℕ, List, [], ◌∷◌, ◌++◌, length}
-use Rattle.std.proofs.Common.{Option, Some, None, Result, Ok, Err, OnOk, length-append}
+use Rattle.std.proofs.Common.{◌≡◌, ◌⊎◌, ◌↔◌, ◌<◌, ◌≤◌, ◌+◌, ◌^◌, inl, inr, ⊎_elim, refl, sym, ap, subst, arith, ℕ, List, [], ◌∷◌, ◌++◌, length}
+use Rattle.std.proofs.Common.{Bool, true, false, Option, Some, None, Result, Ok, Err, OnOk, length-append}
 use Rattle.std.proofs.lemmas.Bool.{cases_lt}
 use Rattle.edge_io.specs.Moments.{LeavesOnly, LeavesPairs}
 use Rattle.edge_io.proofs.Moments.{started, paired}
@@ -12,7 +12,9 @@ use Rattle.gate_journal.specs.declared.writer.Mending.TheVariants.{Nothing, Behi
 use Rattle.share_model.specs.declared.fault.StoreFault.{StoreFault}
 use Rattle.share_model.specs.declared.fault.StoreFault.TheVariants.{Full}
 use Rattle.share_model.specs.Pending.{WithPending, WithinWrite}
-use Rattle.coord_checkpoint.specs.Lists.{IsListed, Keeps, and_pending}
+use Rattle.coord_checkpoint.specs.declared.fault.CoordOpen.{CoordOpen}
+use Rattle.coord_checkpoint.specs.declared.fault.CoordOpen.TheVariants.{Damaged, Device, NoMemory}
+use Rattle.coord_checkpoint.specs.Lists.{IsListed, IsUnlisted, Keeps, and_pending}
 
 -- what holds without the pending write holds with or without it
 pub without : {S : Type 0} (P : S → Type 0) (s : S) (pending : Option S) → P s → WithPending P s pending
@@ -78,3 +80,22 @@ pub has_room : (r : Result ℕ StoreFault) (e n : ℕ) → ((end : ℕ) → (r �
 unfolding is_err
 has_room (Err f) e n full = tt
 has_room (Ok x) e n full = ⊎_elim (λ lt. absurd (subst is_err (sym ((full e).1 (refl, lt))) tt)) (λ le. le) (cases_lt (2 ^ 62) (e + n))
+
+-- ---- what a refusal names
+
+which : CoordOpen → Bool
+which (Damaged second place) = second
+which (Device second) = false
+which NoMemory = false
+
+where_at : CoordOpen → ℕ
+where_at (Damaged second place) = place
+where_at (Device second) = 0
+where_at NoMemory = 0
+
+-- the second disk has frames, and the first one is a journal
+pub second_unlisted : (a b : List ℕ) (frames : List (List ℕ)) (second : Bool) (place : ℕ) → StandsFor a frames → (StandsFor b [] → ⊥)
+    → ◌≡◌ {A = CoordOpen} (Damaged true 0) (Damaged second place) → IsUnlisted a b second place
+unfolding which where_at
+second_unlisted a b frames second place stands full e =
+    subst (λ (s : Bool). IsUnlisted a b s place) (ap which e) (sym (ap where_at e), (frames, stands), full)

@@ -26,8 +26,8 @@ pub record Keeps {D : Type 0} (image : D → List ℕ → Type 0) (journal : Sta
   pub bare : (c : List ℕ) → image journal.idle c → StandsFor c []
   pub images : (a b : List ℕ) → image journal.live.disk a → image journal.idle b → WithPending (IsListed a b) frames (and_pending frames pending)
 
--- Not a store: the first content is no journal text, by the place of its open gate that no frame and gate follow; or the second
--- one has an open gate at its front, and so isn't text of no frames.
+-- Not a store: the first content is no journal text, by the place of its open gate that no frame and gate follow; or it is, and the
+-- second one has an open gate at its front, and so isn't text of no frames.
 abbrev pub IsUnlisted : List ℕ → List ℕ → Bool → ℕ → Type 0
 IsUnlisted first second false place = IsDamaged first place
-IsUnlisted first second true place = (place ≡ 0) × (StandsFor second [] → ⊥)
+IsUnlisted first second true place = (place ≡ 0) × ((frames : List (List ℕ)) × StandsFor first frames) × (StandsFor second [] → ⊥)

@@ -1,7 +1,10 @@
 pub mod Foreign
+pub mod ForeignRules
 pub mod Keys
+pub mod Logs
 pub mod Names
 pub mod Pending
 pub mod Rooms
 pub mod Rows
 pub mod Runs
+pub mod ShareStates

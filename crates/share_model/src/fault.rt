@@ -80,3 +80,17 @@ pub enum BatchFault {
     /// The offsets of its records aren't those that the form asks for.
     BadDeltas,
 }
+
+/// Why a log took no batch. The log is unchanged.
+#[derive(Clone, Copy, Debug, PartialEq, Eq)]
+pub enum LogFault {
+    /// The bytes aren't a record batch in the form that was asked for.
+    Batch(BatchFault),
+    /// The batch begins below the log's end.
+    Behind { end: u64 },
+    /// It couldn't be stored. At `Full` either its last offset would be 2^62 or more, and `end` is the log's end; or the
+    /// journal has no room.
+    Store(StoreFault),
+    /// There was no memory for it. Nothing was written.
+    NoMemory,
+}

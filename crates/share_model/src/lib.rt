@@ -16,7 +16,7 @@ mod run;
 
 pub use blob::Blob;
 pub use close_cause::CloseCause;
-pub use fault::{BatchFault, Code, StoreFault};
+pub use fault::{BatchFault, Code, LogFault, StoreFault};
 pub use flex_fields::NoMemory;
 pub use foreign::{ForeignAnswer, ForeignOp, StateBatch};
 pub use hold::{Grant, Hold};
