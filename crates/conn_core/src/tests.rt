@@ -20,21 +20,28 @@ fn key(part: u32) -> Result<Key, Fail> {
     })
 }
 
-/// The key of the state that is to be deleted next.
-fn released(alloc: Global, conf: &Config, conn: &mut Conn) -> Result<u32, Fail> {
-    match conn.next_part(alloc, conf)? {
-        Next::Ask(Part::Foreign(ForeignOp::Delete { key })) => {
-            let answer = ForeignAnswer {
-                code: Code::NONE,
-                state_epoch: 0,
-                start: -1,
-                runs: Items::new(Vec::new(alloc)),
-            };
-            conn.give(alloc, conf, PartAnswer::Foreign(answer))?;
-            Ok(key.part)
-        }
-        _ => Err(Fail::from("no release is asked")),
+/// The partition whose state is to be deleted next.
+fn partition_of(op: ForeignOp) -> Result<u32, Fail> {
+    match op {
+        ForeignOp::Delete { key } => Ok(key.part),
+        _ => Err(Fail::from("no delete")),
     }
+}
+
+/// Answers the release that is asked next, and gives its partition.
+fn released(alloc: Global, conf: &Config, conn: &mut Conn) -> Result<u32, Fail> {
+    let Next::Ask(Part::Foreign(op)) = conn.next_part(alloc, conf)? else {
+        return Err(Fail::from("no release is asked"));
+    };
+    let part = partition_of(op)?;
+    let answer = ForeignAnswer {
+        code: Code::NONE,
+        state_epoch: 0,
+        start: -1,
+        runs: Items::new(Vec::new(alloc)),
+    };
+    conn.give(alloc, conf, PartAnswer::Foreign(answer))?;
+    Ok(part)
 }
 
 #[test]

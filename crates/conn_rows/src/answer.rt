@@ -1,6 +1,6 @@
 // The answer to a part, as a line gives it.
 ghost use Rattle.std.specs.Prelude.{All, IsTrue};
-ghost use Rattle.conn_core.specs.Calls.{IsTellable};
+ghost use Rattle.call_fold.specs.Parts.{IsTellable};
 
 use share_model::{RowState, Run};
 use std::alloc::Global;

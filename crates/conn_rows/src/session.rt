@@ -1,6 +1,6 @@
 // One connection, and what it is called with.
 ghost use Rattle.std.specs.Prelude.{◌<◌, All, IsTrue, length};
-ghost use Rattle.conn_core.specs.Calls.{IsTellable};
+ghost use Rattle.call_fold.specs.Parts.{IsTellable};
 
 use crate::answer::{Answer, are_tellable, read_answer};
 use conn_core::{Conn, Next, Part, PartAnswer};

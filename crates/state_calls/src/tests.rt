@@ -13,13 +13,13 @@ fn foreign() -> Uuid {
 }
 
 fn one<P: Drop>(alloc: Global, topic_id: Uuid, partition: P) -> Result<Items<StateTopic<P>>, Fail> {
-    let partitions = Items::new(vec![in alloc; partition]?);
-    let topics = vec![in alloc;
-        StateTopic {
-            topic_id,
-            partitions
-        },
-    ]?;
+    let mut partitions = Vec::new(alloc);
+    partitions.push(partition)?;
+    let mut topics = Vec::new(alloc);
+    topics.push(StateTopic {
+        topic_id,
+        partitions: Items::new(partitions),
+    })?;
     Ok(Items::new(topics))
 }
 
