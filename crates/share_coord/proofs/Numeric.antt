@@ -3,7 +3,8 @@ use Rattle.std.proofs.Common.{◌≡◌, ◌≢◌, ◌⊎◌, inl, inr, Result,
 use Rattle.std.specs.List.{list_all}
 use Rattle.share_model.specs.declared.fault.StoreFault.{StoreFault}
 use Rattle.share_model.specs.declared.run.Run.{Run}
-use Rattle.share_coord.specs.Calls.{is_writable, fenced_state, fenced, fenced_init, fenced_write, init_refusal, write_refusal, Causes}
+use Rattle.share_model.specs.ShareStates.{is_writable}
+use Rattle.share_coord.specs.Calls.{fenced_state, fenced, fenced_init, fenced_write, init_refusal, write_refusal, Causes}
 use Rattle.share_coord.specs.declared.fault.CoordFault.{CoordFault}
 use Rattle.share_coord.specs.declared.fault.CoordFault.TheVariants.{Invalid, Unknown, FencedLeader, FencedState, TooMany, Store, NoMemory}
 use Rattle.share_coord.specs.declared.view.Kept.{Kept}

@@ -7,7 +7,8 @@ use Rattle.share_model.specs.Keys.{KeyParts}
 use Rattle.share_model.specs.declared.run.Run.{Run}
 use Rattle.state_records.specs.States.{IsEpoch, IsStart}
 use Rattle.share_coord.specs.Stored.{Entries, kept_at, with_kept, next_snapshot}
-use Rattle.share_coord.specs.Calls.{is_writable, fenced_write, write_refusal, initialised, IsWritten}
+use Rattle.share_model.specs.ShareStates.{is_writable}
+use Rattle.share_coord.specs.Calls.{fenced_write, write_refusal, initialised, IsWritten}
 use Rattle.share_coord.specs.declared.fault.CoordFault.{CoordFault}
 use Rattle.share_coord.specs.declared.fault.CoordFault.TheVariants.{Invalid}
 use Rattle.share_coord.specs.declared.view.Kept.{Kept}

@@ -6,13 +6,12 @@ use Rattle.std.proofs.lemmas.Bool.Decides.{nat_tests}
 use Rattle.std.specs.List.{AllByRecursion, list_all}
 use Rattle.std.specs.Option.{option_or}
 use Rattle.share_model.specs.Runs.{IsCanonical, row_at, row_of}
-use Rattle.share_model.specs.ShareStates.{last_row, AreWritten, AreLaid, is_below}
+use Rattle.share_model.specs.ShareStates.{is_writable, last_row, AreWritten, AreLaid, is_below}
 use Rattle.share_model.specs.declared.row.Row.{Row}
 use Rattle.share_model.specs.declared.run.Run.{Run}
 use Rattle.share_model.proofs.Lookups.{row_at-here, row_at-beyond, row_at-none}
 use Rattle.share_model.proofs.OneList.{one_list}
 use Rattle.state_records.specs.States.{IsStoredRun, AreStoredRuns}
-use Rattle.share_coord.specs.Calls.{is_writable}
 use Rattle.share_coord.proofs.Keys.{some_none, some_is}
 use Rattle.share_coord.proofs.Written.{or_none}
 

@@ -1,11 +1,11 @@
 -- What the calls on a store refuse, and what they leave (KIP-932, the share-group state calls; the limit on runs is this
 -- project's own).
--- For example a write with leader epoch 3 on a key with 4 is fenced, and told 4 (the test epochs_are_fenced_in_their_order).
-use Rattle.std.specs.Prelude.{◌≡◌, ◌≤◌, ◌<◌, ◌+◌, ◌^◌, ℕ, ℤ, pos, negsuc, Bool, true, false, max, List, [], ◌∷◌, length, Some, None, int_lt, nat_lt, nat_le, ◌&&◌, ◌||◌, not, if◌then◌else◌}
+-- For example a write with leader epoch 3 on a key with 4 is fenced, and told 4.
+use Rattle.std.specs.Prelude.{◌≡◌, ◌≤◌, ◌<◌, ◌+◌, ℕ, ℤ, pos, negsuc, Bool, true, false, max, List, [], ◌∷◌, length, Some, None, int_lt, nat_lt, ◌||◌, not, if◌then◌else◌}
 use Rattle.std.specs.List.{list_all}
 use Rattle.std.specs.declared.option.Option.{Option}
 use Rattle.share_model.specs.Keys.{KeyParts}
-use Rattle.share_model.specs.ShareStates.{ShareState, AreWritten, AreLaid, start_after}
+use Rattle.share_model.specs.ShareStates.{AreWritten, AreLaid, start_after, is_writable}
 use Rattle.share_model.specs.declared.run.Run.{Run}
 use Rattle.share_coord.specs.Stored.{Entries, kept_at, with_kept, without_key, next_snapshot}
 use Rattle.share_coord.specs.declared.fault.CoordFault.{CoordFault}
@@ -13,10 +13,6 @@ use Rattle.share_coord.specs.declared.fault.CoordFault.TheVariants.{Invalid, Unk
 use Rattle.share_coord.specs.declared.view.Kept.{Kept}
 
 -- ---- refusals
-
--- offsets in order that fit an i64, and a count that fits an i16
-abbrev pub is_writable : Run → Bool
-is_writable run = nat_le run.first run.last && (nat_lt run.last (2 ^ 63) && nat_lt run.count (2 ^ 15))
 
 -- a greater state epoch is known, and told
 abbrev pub fenced_state : Kept → ℤ → Option CoordFault

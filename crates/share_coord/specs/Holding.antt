@@ -1,6 +1,6 @@
 -- What a store in memory and its two disks stand for together, and what a call that writes once leaves. This project's own.
 -- For example a store whose write failed at its last device call holds what it held, with the write pending, and a restart after a
--- power loss finds it done or not (the test the_write_after_500_updates_is_a_snapshot_and_lands_or_not).
+-- power loss finds it done or not.
 use Rattle.std.specs.Prelude.{◌≡◌, ◌≢◌, ◌⊎◌, ◌<◌, ◌+◌, ◌^◌, ◌++◌, ℕ, List, [], ◌∷◌, length, Some, None, Result, OnOk, OnErr, IfErr, Err}
 use Rattle.std.specs.declared.option.Option.{Option}
 use Rattle.edge_io.specs.Causes.{Rose}

@@ -6,7 +6,7 @@
 -- first snapshot of a key has snapshot epoch 0 and each later one has one more; an update has the epoch of its key's last
 -- snapshot; a key that was removed begins anew. Records that break these rules stand for nothing.
 -- Worked example: the snapshot of `g1` with snapshot epoch 0, state epoch 3, start 7 and no runs stands for that one key; a second
--- snapshot with snapshot epoch 0 behind it stands for nothing (the test a_second_snapshot_has_the_next_epoch).
+-- snapshot with snapshot epoch 0 behind it stands for nothing.
 use Rattle.std.specs.Prelude.{◌≡◌, ◌⊎◌, ◌≤◌, ◌+◌, ℕ, ℤ, min, List, [], ◌∷◌, ◌++◌, length, Some, None, Bool, true, false}
 use Rattle.std.specs.declared.option.Option.{Option}
 use Rattle.std.specs.BTreeMap.{insert_entry, is_at}

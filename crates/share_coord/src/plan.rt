@@ -2,12 +2,12 @@
 ghost use Rattle.std.specs.Prelude.{◌≡◌, ◌≢◌, ◌⊎◌, ◌<◌, ◌≤◌, ◌+◌, ◌^◌, ℕ, List, length, true, Some, IfOk, IfErr};
 ghost use Rattle.std.specs.List.{list_all};
 ghost use Rattle.gate_journal.specs.Frames.{IsFrame};
-ghost use Rattle.share_model.specs.ShareStates.{start_after};
+ghost use Rattle.share_model.specs.ShareStates.{is_writable, start_after};
 ghost use Rattle.state_records.specs.Spelling.{record_bytes};
 ghost use Rattle.state_records.specs.States.{IsKey, IsEpoch, IsStart, AreStoredRuns};
 ghost use Rattle.state_records.specs.declared.record.StateRecord.TheVariants.{Snapshot as snapshot_record, Update as update_record};
 ghost use Rattle.share_coord.specs.Stored.{Entries, Follows, kept_at, with_kept};
-ghost use Rattle.share_coord.specs.Calls.{IsWritten, IsTooMany, is_writable};
+ghost use Rattle.share_coord.specs.Calls.{IsWritten, IsTooMany};
 
 use crate::fault::CoordFault;
 use crate::rows::{laid, start_after, written};

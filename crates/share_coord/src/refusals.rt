@@ -2,7 +2,8 @@
 ghost use Rattle.std.specs.Prelude.{◌≡◌, true, ◌↔◌};
 ghost use Rattle.std.specs.Option.{option_copied};
 ghost use Rattle.std.specs.List.{list_all};
-ghost use Rattle.share_coord.specs.Calls.{is_writable, fenced_state, fenced, fenced_init, fenced_write, init_refusal, write_refusal};
+ghost use Rattle.share_model.specs.ShareStates.{is_writable};
+ghost use Rattle.share_coord.specs.Calls.{fenced_state, fenced, fenced_init, fenced_write, init_refusal, write_refusal};
 
 use crate::fault::CoordFault;
 use crate::view::Kept;

@@ -29,8 +29,8 @@ impl Model for StateView {
 impl StateView {
     ghost use Rattle.share_coord.specs.Views.{IsKeptState};
 
-    // The ranges of its numbers.
-    pub(crate) fn known(&self)
+    /// The numbers are in their ranges, as those of each state that is kept are.
+    pub fn known(&self)
         ensures { IsKeptState self.now }
     {
         let _ = &self.state_epoch;
