@@ -1,9 +1,9 @@
 -- From what the store does to what the shard does.
-use Rattle.std.proofs.Common.{◌≡◌, ◌≢◌, ◌⊎◌, ◌<◌, ◌+◌, ◌^◌, inl, inr, ⊎_elim, ◌∙◌, refl, sym, ap, subst, arith, ℕ, ℤ, List, [], ◌∷◌, length, Option, Some, None, Result, Ok, Err, IfOk, IfErr, OnOk, OnErr, IsErr}
+use Rattle.std.proofs.Common.{◌≡◌, ◌<◌, ◌+◌, ◌^◌, inl, inr, refl, sym, subst, arith, ℕ, List, length, Option, Some, None, Result, Ok, Err, IfOk, IfErr, OnOk, OnErr, IsErr}
 use Rattle.flex_fields.specs.declared.fault.NoMemory.{NoMemory as want}
 use Rattle.share_model.specs.Foreign.{code_alone}
 use Rattle.share_model.specs.ForeignRules.{Does}
-use Rattle.share_model.specs.declared.fault.TheConstants.Code.{NONE, INVALID_REQUEST, KAFKA_STORAGE_ERROR}
+use Rattle.share_model.specs.declared.fault.TheConstants.Code.{NONE, INVALID_REQUEST}
 use Rattle.share_model.specs.declared.fault.StoreFault.{StoreFault}
 use Rattle.share_model.specs.declared.fault.StoreFault.TheVariants.{Device, Full}
 use Rattle.share_model.specs.declared.foreign.ForeignAnswer.{ForeignAnswer}
@@ -11,7 +11,7 @@ use Rattle.share_model.specs.declared.foreign.ForeignOp.{ForeignOp}
 use Rattle.share_coord.specs.Parts.{StoreParts}
 use Rattle.share_coord.specs.Stored.{Entries}
 use Rattle.share_coord.specs.Calls.{Causes}
-use Rattle.share_coord.specs.Holding.{Holds, WritesOnce}
+use Rattle.share_coord.specs.Holding.{WritesOnce}
 use Rattle.share_coord.specs.declared.fault.CoordFault.{CoordFault}
 use Rattle.share_coord.specs.declared.fault.CoordFault.TheVariants.{Invalid, Unknown, FencedLeader, FencedState, TooMany, Store, NoMemory}
 use Rattle.foreign_coord.specs.Acts.{ActsOnce, IsDone, IsFaulted, WrittenBy, states_of}

@@ -1,7 +1,6 @@
 -- Batches as runs, one after another.
-use Rattle.std.proofs.Common.{◌≡◌, ◌∙◌, refl, sym, ap, List, [], ◌∷◌, ◌++◌, Option, Some, None}
-use Rattle.share_model.specs.ForeignRules.{joined_runs, run_of, runs_of}
-use Rattle.share_model.specs.declared.foreign.StateBatch.{StateBatch}
+use Rattle.std.proofs.Common.{◌≡◌, refl, ap, List, [], ◌∷◌, ◌++◌, Option, Some, None}
+use Rattle.share_model.specs.ForeignRules.{joined_runs}
 use Rattle.share_model.specs.declared.run.Run.{Run}
 
 -- these runs before those, if there are those

@@ -1,21 +1,20 @@
 -- Each call, as the callers of the shard see it.
-use Rattle.std.proofs.Common.{◌≡◌, ◌⊎◌, inl, inr, ⊎_elim, ◌∙◌, refl, sym, ap, subst, ℕ, ℤ, List, Option, Some, None, Bool, true, false, Result, Ok, Err, IfOk, IfErr, to_z, of_z, w32, w64, FitsSigned}
+use Rattle.std.proofs.Common.{◌≡◌, ⊎_elim, ◌∙◌, refl, sym, ap, subst, ℕ, ℤ, List, Option, Some, None, Bool, false, Result, Ok, Err, IfOk, IfErr, to_z, of_z, w32, w64, FitsSigned}
 use Rattle.std.specs.Option.{IsSome, option_map}
 use Rattle.std.proofs.lemmas.Int.{to_z-of_z}
 use Rattle.std.proofs.lemmas.Result.{IfOk-weaker}
 use Rattle.flex_fields.specs.declared.fault.NoMemory.{NoMemory as want}
 use Rattle.share_model.specs.Foreign.{code_alone}
-use Rattle.share_model.specs.ForeignRules.{ShareStates, share_state_at, runs_of, read_share_state, Does, WritesBatches}
+use Rattle.share_model.specs.ForeignRules.{ShareStates, runs_of, read_share_state, Does, WritesBatches}
 use Rattle.share_model.specs.Keys.{KeyParts}
 use Rattle.share_model.specs.ShareStates.{ShareState}
 use Rattle.share_model.specs.declared.fault.TheConstants.Code.{NONE}
 use Rattle.share_model.specs.declared.foreign.ForeignAnswer.{ForeignAnswer}
-use Rattle.share_model.specs.declared.foreign.ForeignOp.{ForeignOp}
 use Rattle.share_model.specs.declared.foreign.ForeignOp.TheVariants.{Init, Read, Write, Delete}
 use Rattle.share_model.specs.declared.foreign.StateBatch.{StateBatch}
 use Rattle.share_model.specs.declared.run.Run.{Run}
 use Rattle.share_coord.specs.Parts.{StoreParts}
-use Rattle.share_coord.specs.Stored.{Entries, kept_at}
+use Rattle.share_coord.specs.Stored.{kept_at}
 use Rattle.share_coord.specs.Calls.{Causes, IsWritten, IsTooMany, IsForgotten, initialised, init_refusal, write_refusal}
 use Rattle.share_coord.specs.Holding.{WritesOnce}
 use Rattle.share_coord.specs.declared.fault.CoordFault.{CoordFault}

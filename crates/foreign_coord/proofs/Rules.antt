@@ -1,19 +1,16 @@
 -- What the store does is what the rules of the calls say.
-use Rattle.std.proofs.Common.{◌≡◌, ◌≢◌, ◌⊎◌, ◌<◌, inl, inr, ◌∙◌, refl, sym, ap, subst, arith, rules, ℕ, ℤ, pos, negsuc, List, [], ◌∷◌, length, Option, Some, None, Result, Ok, Err, IfErr, OnOk}
-use Rattle.std.specs.Prelude.{max}
+use Rattle.std.proofs.Common.{◌≡◌, ◌≢◌, inl, inr, ◌∙◌, refl, sym, ap, subst, arith, ℕ, ℤ, pos, negsuc, List, Option, Some, None, Result, Ok, Err}
 use Rattle.std.specs.Option.{option_map}
 use Rattle.share_model.specs.Foreign.{code_alone}
-use Rattle.share_model.specs.ForeignRules.{ShareStates, share_state_at, init_code, write_code, Initialises, Writes, IsGranted, IsOverLimit}
+use Rattle.share_model.specs.ForeignRules.{Initialises, Writes}
 use Rattle.share_model.specs.Keys.{KeyParts}
-use Rattle.share_model.specs.ShareStates.{ShareState}
-use Rattle.share_model.specs.declared.fault.TheConstants.Code.{NONE, INVALID_REQUEST, UNKNOWN_TOPIC_OR_PARTITION, FENCED_LEADER_EPOCH, FENCED_STATE_EPOCH}
+use Rattle.share_model.specs.declared.fault.TheConstants.Code.{NONE, INVALID_REQUEST}
 use Rattle.share_model.specs.declared.fault.Code.{Code}
 use Rattle.share_model.specs.declared.run.Run.{Run}
 use Rattle.share_coord.specs.Stored.{Entries, kept_at}
 use Rattle.share_coord.specs.Calls.{IsWritten, IsTooMany, initialised, init_refusal, write_refusal}
 use Rattle.share_coord.specs.declared.fault.CoordFault.{CoordFault}
 use Rattle.share_coord.specs.declared.fault.CoordFault.TheVariants.{Invalid, Unknown, FencedLeader, FencedState, TooMany, Store, NoMemory}
-use Rattle.share_coord.specs.declared.view.Kept.{Kept}
 use Rattle.foreign_coord.specs.Acts.{states_of}
 use Rattle.foreign_coord.specs.Codes.{code_in}
 use Rattle.foreign_coord.proofs.States.{view_of, state_seen, with_seen, code_or, init_code_is, write_code_is}

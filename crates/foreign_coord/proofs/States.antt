@@ -1,22 +1,22 @@
 -- The states of a store, and the codes of its refusals.
-use Rattle.std.proofs.Common.{◌≡◌, ◌≢◌, ◌∙◌, refl, sym, ap, subst, arith, rules, ℕ, ℤ, pos, negsuc, List, [], ◌∷◌, map, Option, Some, None, Bool, true, false, cond, int_lt, ◌||◌, not, if◌then◌else◌}
+use Rattle.std.proofs.Common.{◌≡◌, ◌∙◌, refl, ap, ℤ, pos, negsuc, List, [], ◌∷◌, Option, Some, None, Bool, true, false, cond, int_lt, ◌||◌, not, if◌then◌else◌}
 use Rattle.std.specs.List.{list_all}
 use Rattle.std.specs.Option.{option_map}
 use Rattle.std.specs.declared.cmp.Ordering.{Ordering}
 use Rattle.std.specs.declared.cmp.Ordering.TheVariants.{Less, Equal, Greater}
 use Rattle.std.specs.Ordering.{match_ordering}
 use Rattle.std.specs.BTreeMap.{insert_entry, is_at}
-use Rattle.std.specs.Map.{lookup, remove_entry}
+use Rattle.std.specs.Map.{remove_entry}
 use Rattle.share_model.specs.ForeignRules.{ShareStates, share_state_at, init_known, init_code, write_known, write_code}
 use Rattle.share_model.specs.Keys.{KeyParts, key_cmp}
 use Rattle.share_model.specs.ShareStates.{ShareState, is_writable}
-use Rattle.share_model.specs.declared.fault.TheConstants.Code.{NONE, INVALID_REQUEST, UNKNOWN_TOPIC_OR_PARTITION, FENCED_LEADER_EPOCH, FENCED_STATE_EPOCH}
+use Rattle.share_model.specs.declared.fault.TheConstants.Code.{NONE, INVALID_REQUEST, FENCED_LEADER_EPOCH, FENCED_STATE_EPOCH}
 use Rattle.share_model.specs.declared.fault.Code.{Code}
 use Rattle.share_model.specs.declared.run.Run.{Run}
 use Rattle.share_coord.specs.Stored.{Entries, kept_at, with_kept, without_key}
 use Rattle.share_coord.specs.Calls.{fenced_state, fenced_init, fenced_write, init_refusal, write_refusal}
 use Rattle.share_coord.specs.declared.fault.CoordFault.{CoordFault}
-use Rattle.share_coord.specs.declared.fault.CoordFault.TheVariants.{Invalid, Unknown, FencedLeader, FencedState}
+use Rattle.share_coord.specs.declared.fault.CoordFault.TheVariants.{Invalid, FencedLeader, FencedState}
 use Rattle.share_coord.specs.declared.view.Kept.{Kept}
 use Rattle.share_coord.proofs.Keys.{some_none}
 use Rattle.foreign_coord.specs.Acts.{states_of}

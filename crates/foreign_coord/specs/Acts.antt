@@ -1,13 +1,12 @@
 -- What a call on the foreign shard leaves in its store and on its disks (KIP-932, the share-group state calls). This project's own.
 -- For example a delete of a key that isn't there is answered with code 0, and no device call is made for it.
-use Rattle.std.specs.Prelude.{◌≡◌, ◌≢◌, ◌⊎◌, ◌<◌, ◌+◌, ◌^◌, ℕ, ℤ, Bool, true, false, List, [], length, map, is_some, Some, None, Result, IfOk, OnOk, OnErr, Ok, Err}
+use Rattle.std.specs.Prelude.{◌≡◌, ◌⊎◌, ◌<◌, ◌+◌, ◌^◌, ℕ, List, length, map, Some, None, Result, IfOk, OnErr}
 use Rattle.std.specs.declared.option.Option.{Option}
 use Rattle.edge_io.specs.Causes.{Rose}
 use Rattle.edge_io.specs.Moments.{LeavesPairs}
 use Rattle.flex_fields.specs.declared.fault.NoMemory.{NoMemory}
 use Rattle.share_model.specs.Foreign.{code_alone}
 use Rattle.share_model.specs.ForeignRules.{ShareStates, Does, runs_of}
-use Rattle.share_model.specs.Keys.{KeyParts}
 use Rattle.share_model.specs.declared.fault.TheConstants.Code.{KAFKA_STORAGE_ERROR}
 use Rattle.share_model.specs.declared.foreign.ForeignAnswer.{ForeignAnswer}
 use Rattle.share_model.specs.declared.foreign.ForeignOp.{ForeignOp}

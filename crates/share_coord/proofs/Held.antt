@@ -1,5 +1,5 @@
 -- What a store holds, one record further.
-use Rattle.std.proofs.Common.{◌≡◌, ◌⊎◌, ◌<◌, ◌+◌, ◌^◌, inl, inr, ⊎_elim, refl, sym, ap, ◌∙◌, subst, arith, rules, ℕ, List, [], ◌∷◌, ◌++◌, length}
+use Rattle.std.proofs.Common.{◌⊎◌, ◌<◌, ◌^◌, inl, inr, ⊎_elim, refl, sym, subst, arith, ℕ, List, [], ◌∷◌, ◌++◌, length}
 use Rattle.std.proofs.Common.{Option, Some, None, length-append}
 use Rattle.edge_io.specs.Moments.{LeavesPairs}
 use Rattle.share_model.specs.Pending.{WithPending}
@@ -7,7 +7,6 @@ use Rattle.coord_checkpoint.specs.Lists.{IsListed, Keeps, and_pending}
 use Rattle.coord_checkpoint.specs.declared.journal.StateJournal.{StateJournal}
 use Rattle.state_records.specs.Spelling.{IsRecord, record_bytes}
 use Rattle.state_records.specs.declared.record.StateRecord.{StateRecord}
-use Rattle.share_coord.specs.Parts.{StoreParts}
 use Rattle.share_coord.specs.Stored.{Entries, Follows, Accepts, AreAccepted, AreStored}
 use Rattle.share_coord.specs.Holding.{Holds, Leaves, IsWithin}
 

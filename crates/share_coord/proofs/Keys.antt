@@ -1,18 +1,17 @@
 -- Entries, with a key more or less.
-use Rattle.std.proofs.Common.{◌≡◌, ◌<◌, ◌≤◌, ◌+◌, ◌^◌, refl, sym, ap, ◌∙◌, subst, arith, rules, ℕ, List, [], ◌∷◌, ◌++◌, length, Option, Some, None, Bool, true, false, cond}
+use Rattle.std.proofs.Common.{◌≡◌, ◌<◌, ◌≤◌, ◌+◌, ◌^◌, refl, sym, ap, ◌∙◌, subst, arith, rules, ℕ, List, [], ◌∷◌, length, Option, Some, None, Bool, true, false, cond}
 use Rattle.std.specs.declared.cmp.Ordering.{Ordering}
 use Rattle.std.specs.declared.cmp.Ordering.TheVariants.{Less, Equal, Greater}
-use Rattle.std.specs.Ordering.{is_eq, is_lt, match_ordering, ordering_reverse, nat_cmp}
+use Rattle.std.specs.Ordering.{is_eq, is_lt, match_ordering, ordering_reverse}
 use Rattle.std.specs.Option.{IsSome}
 use Rattle.std.specs.Cmp.{IsTotalOrder}
 use Rattle.std.specs.Cmp.Rules.{comparing}
 use Rattle.std.specs.List.{AllByRecursion}
-use Rattle.std.specs.BTreeMap.{insert_entry, is_at}
-use Rattle.std.specs.Map.{lookup, remove_entry}
+use Rattle.std.specs.BTreeMap.{is_at}
 use Rattle.share_model.specs.Keys.{KeyParts, key_cmp}
 use Rattle.state_records.specs.declared.record.StateRecord.{StateRecord}
 use Rattle.state_records.specs.declared.record.StateRecord.TheVariants.{Snapshot, Update, Removal}
-use Rattle.share_coord.specs.Stored.{Entries, Follows, Accepts, AreAccepted, IsSnapshotted, IsUpdated, kept_at, with_kept, without_key, next_snapshot}
+use Rattle.share_coord.specs.Stored.{Entries, Follows, AreAccepted, kept_at, with_kept, without_key, next_snapshot}
 use Rattle.share_coord.specs.Calls.{IsForgotten}
 use Rattle.share_coord.specs.declared.view.Kept.{Kept}
 

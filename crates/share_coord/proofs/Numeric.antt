@@ -1,10 +1,10 @@
 -- Refusals by numbers, and numbers that are not refused.
-use Rattle.std.proofs.Common.{◌≡◌, ◌≢◌, ◌⊎◌, inl, inr, Result, Ok, Err, IfErr, ◌<◌, ◌^◌, refl, sym, ap, ◌∙◌, subst, arith, rules, ℕ, ℤ, pos, negsuc, List, Option, Some, None, Bool, true, false, int_lt, ◌&&◌, ◌||◌, not, if◌then◌else◌}
+use Rattle.std.proofs.Common.{◌≡◌, ◌≢◌, ◌⊎◌, inl, inr, Result, Ok, Err, IfErr, sym, ap, ◌∙◌, subst, ℕ, ℤ, pos, negsuc, List, Option, Some, None, Bool, true, false, int_lt, ◌||◌, not, if◌then◌else◌}
 use Rattle.std.specs.List.{list_all}
 use Rattle.share_model.specs.declared.fault.StoreFault.{StoreFault}
 use Rattle.share_model.specs.declared.run.Run.{Run}
 use Rattle.share_model.specs.ShareStates.{is_writable}
-use Rattle.share_coord.specs.Calls.{fenced_state, fenced, fenced_init, fenced_write, init_refusal, write_refusal, Causes}
+use Rattle.share_coord.specs.Calls.{fenced_state, fenced_init, fenced_write, init_refusal, write_refusal, Causes}
 use Rattle.share_coord.specs.declared.fault.CoordFault.{CoordFault}
 use Rattle.share_coord.specs.declared.fault.CoordFault.TheVariants.{Invalid, Unknown, FencedLeader, FencedState, TooMany, Store, NoMemory}
 use Rattle.share_coord.specs.declared.view.Kept.{Kept}

@@ -1,5 +1,5 @@
 -- A call that writes one record: what it leaves where that was done, and where it was refused.
-use Rattle.std.proofs.Common.{◌≡◌, ◌≢◌, ◌⊎◌, ◌<◌, ◌+◌, ◌^◌, inl, inr, ⊎_elim, refl, sym, ap, ◌∙◌, subst, arith, rules, ℕ, List, [], ◌∷◌, ◌++◌, length}
+use Rattle.std.proofs.Common.{◌≡◌, ◌≢◌, ◌⊎◌, ◌<◌, ◌+◌, ◌^◌, inl, inr, ⊎_elim, refl, sym, ap, ◌∙◌, subst, arith, ℕ, List, [], ◌∷◌, ◌++◌, length}
 use Rattle.std.proofs.Common.{Option, Some, None, Result, Ok, Err}
 use Rattle.std.proofs.lemmas.Result.{on_ok_weaker, on_err_weaker}
 use Rattle.edge_io.specs.Causes.{Rose}
@@ -16,7 +16,7 @@ use Rattle.share_coord.specs.Stored.{Entries, Follows}
 use Rattle.share_coord.specs.Holding.{Holds, IsHeld, WritesOnce}
 use Rattle.share_coord.specs.declared.fault.CoordFault.{CoordFault}
 use Rattle.share_coord.specs.declared.fault.CoordFault.TheVariants.{Store, NoMemory}
-use Rattle.share_coord.proofs.Faults.{same_fault, ok_is_no_err, err_of}
+use Rattle.share_coord.proofs.Faults.{ok_is_no_err, err_of}
 use Rattle.share_coord.proofs.Held.{accepts, done, lost, moments}
 
 -- what does nothing, and refuses by its numbers or for want of memory

@@ -1,19 +1,16 @@
 -- Contents stand for one map of states, and a content with a refused frame for none.
-use Rattle.std.proofs.Common.{◌≡◌, ◌⊎◌, inl, inr, ◌<◌, ◌≤◌, ◌+◌, ◌-◌, ◌^◌, refl, sym, ap, ◌∙◌, subst, arith, rules, ℕ, ℤ, List, [], ◌∷◌, ◌++◌, length, length-append, Option, Some, None, Bool, true, false}
+use Rattle.std.proofs.Common.{◌≡◌, inl, inr, ◌<◌, ◌≤◌, ◌-◌, ◌^◌, refl, sym, ap, ◌∙◌, subst, arith, ℕ, List, [], ◌∷◌, ◌++◌, length, length-append, Bool, true, false}
 use Rattle.std.specs.Prelude.{min}
 use Rattle.gate_journal.specs.Frames.{StandsFor, blocks, behind_gate}
 use Rattle.coord_checkpoint.specs.Lists.{IsListed, IsUnlisted}
 use Rattle.coord_checkpoint.specs.declared.fault.CoordOpen.{CoordOpen}
 use Rattle.coord_checkpoint.specs.declared.fault.CoordOpen.TheVariants.{Damaged, Device, NoMemory}
-use Rattle.share_model.specs.Keys.{KeyParts}
 use Rattle.share_model.specs.ShareStates.{AreLaid, start_after}
 use Rattle.share_model.specs.declared.run.Run.{Run}
-use Rattle.state_records.specs.Spelling.{IsRecord, record_bytes}
-use Rattle.state_records.specs.States.{StateParts}
 use Rattle.state_records.specs.declared.record.StateRecord.{StateRecord}
 use Rattle.state_records.specs.declared.record.StateRecord.TheVariants.{Snapshot, Update, Removal}
 use Rattle.state_records.proofs.Whole.{one_record}
-use Rattle.share_coord.specs.Stored.{Entries, Follows, Accepts, AreAccepted, AreStored, IsRefused, AreDamaged, IsSnapshotted, IsUpdated, kept_at, with_kept, snapshot_of, update_of}
+use Rattle.share_coord.specs.Stored.{Entries, Follows, Accepts, AreAccepted, IsRefused, AreDamaged, with_kept, snapshot_of, update_of}
 use Rattle.share_coord.specs.declared.view.Kept.{Kept}
 use Rattle.share_coord.proofs.Spans.{laid_once}
 use Rattle.share_coord.proofs.Keys.{some_is}

@@ -1,5 +1,5 @@
 -- A call on a store, as the callers of the whole see it.
-use Rattle.std.proofs.Common.{◌≡◌, ◌⊎◌, inl, inr, ⊎_elim, refl, sym, ap, ◌∙◌, subst, ℕ, ℤ, List, [], Option, Some, None, Result, Ok, Err, to_z, of_z, w32, w64, FitsSigned}
+use Rattle.std.proofs.Common.{◌≡◌, ◌⊎◌, inl, inr, refl, ap, ◌∙◌, subst, ℕ, ℤ, List, Option, Some, None, Result, to_z, of_z, w32, w64, FitsSigned}
 use Rattle.std.specs.Option.{IsSome}
 use Rattle.std.proofs.lemmas.Int.{to_z-of_z}
 use Rattle.share_model.specs.Keys.{KeyParts}
@@ -9,7 +9,7 @@ use Rattle.coord_checkpoint.specs.declared.journal.StateJournal.{StateJournal}
 use Rattle.share_coord.specs.Parts.{StoreParts}
 use Rattle.share_coord.specs.Stored.{Entries, kept_at}
 use Rattle.share_coord.specs.Calls.{initialised, IsWritten, IsForgotten}
-use Rattle.share_coord.specs.Holding.{Holds, IsHeld, WritesOnce}
+use Rattle.share_coord.specs.Holding.{Holds, WritesOnce}
 use Rattle.share_coord.specs.declared.fault.CoordFault.{CoordFault}
 use Rattle.share_coord.specs.declared.view.Kept.{Kept}
 use Rattle.share_coord.proofs.Held.{holds_by}

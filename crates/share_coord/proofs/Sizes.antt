@@ -1,5 +1,5 @@
 -- A record fits a frame.
-use Rattle.std.proofs.Common.{◌≡◌, ◌<◌, ◌≤◌, ◌+◌, ◌*◌, ◌^◌, refl, sym, ap, ◌∙◌, subst, arith, rules, ℕ, List, [], ◌∷◌, ◌++◌, length, length-append, w16, w32, w64}
+use Rattle.std.proofs.Common.{◌≡◌, ◌≤◌, ◌*◌, refl, sym, subst, arith, List, [], ◌∷◌, ◌++◌, length, length-append, w32, w64}
 use Rattle.std.specs.Int.{to_be_bytes}
 use Rattle.std.specs.List.{flat_map}
 use Rattle.gate_journal.specs.Frames.{IsFrame}

@@ -1,6 +1,6 @@
 -- Runs whose offsets and counts fit, by their rows.
-use Rattle.std.proofs.Common.{◌≡◌, ◌<◌, ◌≤◌, ◌+◌, ◌^◌, inl, inr, ⊎_elim, refl, sym, ap, ◌∙◌, subst, arith, rules, ℕ, ℤ, List, [], ◌∷◌, length}
-use Rattle.std.proofs.Common.{Option, Some, None, Bool, true, false, nat_le, nat_lt, ◌&&◌, if◌then◌else◌}
+use Rattle.std.proofs.Common.{◌≡◌, ◌<◌, ◌≤◌, ◌^◌, ⊎_elim, refl, sym, ap, ◌∙◌, subst, arith, ℕ, ℤ, List, [], ◌∷◌}
+use Rattle.std.proofs.Common.{Option, Some, None, Bool, true, false, nat_le, ◌&&◌, if◌then◌else◌}
 use Rattle.std.proofs.lemmas.Bool.{cases_lt}
 use Rattle.std.proofs.lemmas.Bool.Decides.{nat_tests}
 use Rattle.std.specs.List.{AllByRecursion, list_all}

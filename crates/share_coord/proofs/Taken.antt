@@ -1,17 +1,16 @@
 -- The records that opening takes, one after another.
-use Rattle.std.proofs.Common.{◌≡◌, ◌⊎◌, inl, inr, suc, ◌<◌, ◌≤◌, ◌+◌, ◌-◌, ◌^◌, refl, sym, ap, ◌∙◌, subst, arith, rules, ℕ, ℤ, pos, negsuc, List, [], ◌∷◌, ◌++◌, length, length-append, take, drop, Option, Some, None, Bool, true, false, if◌then◌else◌, to_z, of_z, w32, w64}
+use Rattle.std.proofs.Common.{◌≡◌, suc, ◌<◌, ◌≤◌, ◌+◌, ◌-◌, ◌^◌, refl, sym, ap, ◌∙◌, subst, arith, ℕ, ℤ, pos, negsuc, List, [], ◌∷◌, ◌++◌, length, length-append, take, drop, Option, Some, None, if◌then◌else◌, to_z, of_z, w32, w64}
 use Rattle.std.specs.Prelude.{min, get_or}
 use Rattle.std.proofs.lemmas.List.{take-append-drop}
 use Rattle.std.proofs.Math.Seq.{take-suc}
 use Rattle.gate_journal.specs.Frames.{blocks, behind_gate}
-use Rattle.share_model.specs.Keys.{KeyParts}
 use Rattle.share_model.specs.Runs.{IsCanonical, row_at}
 use Rattle.share_model.specs.ShareStates.{ShareState, AreLaid, start_after, is_below}
 use Rattle.share_model.specs.declared.run.Run.{Run}
 use Rattle.state_records.specs.States.{StateParts, IsEpoch, IsStart, AreStoredRuns}
 use Rattle.state_records.proofs.Signed.{epoch_same, start_same}
 use Rattle.share_coord.specs.Views.{IsKeptState}
-use Rattle.share_coord.specs.Stored.{Entries, Accepts, AreAccepted, IsRefused, IsSnapshotted, IsUpdated, kept_at, with_kept, next_snapshot, update_of}
+use Rattle.share_coord.specs.Stored.{Entries, Accepts, AreAccepted, IsSnapshotted, IsUpdated, kept_at, with_kept, next_snapshot}
 use Rattle.share_coord.specs.declared.view.Kept.{Kept}
 use Rattle.share_coord.specs.declared.replay.ReplayFault.{ReplayFault}
 use Rattle.share_coord.specs.declared.replay.ReplayFault.TheVariants.{Refused, NoMemory}

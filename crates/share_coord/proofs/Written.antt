@@ -1,9 +1,9 @@
 -- Rows that are written one run after another, and laid over others.
-use Rattle.std.proofs.Common.{◌≡◌, ◌∙◌, refl, sym, ap, arith, rules, ℕ, List, [], ◌∷◌, ◌++◌, length, take, drop}
+use Rattle.std.proofs.Common.{◌≡◌, ◌∙◌, refl, sym, ap, ℕ, List, [], ◌∷◌, ◌++◌}
 use Rattle.std.proofs.Common.{Option, Some, None, Bool, true, false, nat_le, ◌&&◌, if◌then◌else◌}
 use Rattle.std.specs.Option.{option_or}
 use Rattle.share_model.specs.Runs.{IsCanonical, row_at, row_of}
-use Rattle.share_model.specs.ShareStates.{last_row, AreWritten, AreLaid, is_below}
+use Rattle.share_model.specs.ShareStates.{last_row, AreWritten}
 use Rattle.share_model.specs.declared.row.Row.{Row}
 use Rattle.share_model.specs.declared.run.Run.{Run}
 use Rattle.offset_runs.specs.Changes.{PutsRange, Overlays}

@@ -1,7 +1,7 @@
 -- What the calls on a store refuse, and what they leave (KIP-932, the share-group state calls; the limit on runs is this
 -- project's own).
 -- For example a write with leader epoch 3 on a key with 4 is fenced, and told 4.
-use Rattle.std.specs.Prelude.{◌≡◌, ◌≤◌, ◌<◌, ◌+◌, ℕ, ℤ, pos, negsuc, Bool, true, false, max, List, [], ◌∷◌, length, Some, None, int_lt, nat_lt, ◌||◌, not, if◌then◌else◌}
+use Rattle.std.specs.Prelude.{◌≡◌, ◌≤◌, ◌<◌, ◌+◌, ℕ, ℤ, pos, negsuc, max, List, [], length, Some, None, int_lt, nat_lt, ◌||◌, not, if◌then◌else◌}
 use Rattle.std.specs.List.{list_all}
 use Rattle.std.specs.declared.option.Option.{Option}
 use Rattle.share_model.specs.Keys.{KeyParts}

@@ -1,7 +1,7 @@
 -- What a store in memory and its two disks stand for together, and what a call that writes once leaves. This project's own.
 -- For example a store whose write failed at its last device call holds what it held, with the write pending, and a restart after a
 -- power loss finds it done or not.
-use Rattle.std.specs.Prelude.{◌≡◌, ◌≢◌, ◌⊎◌, ◌<◌, ◌+◌, ◌^◌, ◌++◌, ℕ, List, [], ◌∷◌, length, Some, None, Result, OnOk, OnErr, IfErr, Err}
+use Rattle.std.specs.Prelude.{◌≡◌, ◌≢◌, ◌⊎◌, ◌<◌, ◌+◌, ◌^◌, ℕ, List, [], length, Some, None, Result, OnOk, OnErr, IfErr, Err}
 use Rattle.std.specs.declared.option.Option.{Option}
 use Rattle.edge_io.specs.Causes.{Rose}
 use Rattle.edge_io.specs.Moments.{LeavesPairs}

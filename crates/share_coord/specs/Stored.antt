@@ -7,13 +7,13 @@
 -- snapshot; a key that was removed begins anew. Records that break these rules stand for nothing.
 -- Worked example: the snapshot of `g1` with snapshot epoch 0, state epoch 3, start 7 and no runs stands for that one key; a second
 -- snapshot with snapshot epoch 0 behind it stands for nothing.
-use Rattle.std.specs.Prelude.{◌≡◌, ◌⊎◌, ◌≤◌, ◌+◌, ℕ, ℤ, min, List, [], ◌∷◌, ◌++◌, length, Some, None, Bool, true, false}
+use Rattle.std.specs.Prelude.{◌≡◌, ◌⊎◌, ◌≤◌, ◌+◌, ℕ, min, List, [], ◌∷◌, ◌++◌, length, Some, None, Bool, true, false}
 use Rattle.std.specs.declared.option.Option.{Option}
 use Rattle.std.specs.BTreeMap.{insert_entry, is_at}
 use Rattle.std.specs.Map.{lookup, remove_entry}
 use Rattle.gate_journal.specs.Frames.{blocks}
 use Rattle.share_model.specs.Keys.{KeyParts, key_cmp}
-use Rattle.share_model.specs.ShareStates.{ShareState, AreLaid, start_after}
+use Rattle.share_model.specs.ShareStates.{AreLaid, start_after}
 use Rattle.share_model.specs.declared.run.Run.{Run}
 use Rattle.state_records.specs.States.{StateParts}
 use Rattle.state_records.specs.Spelling.{IsRecord, record_bytes}

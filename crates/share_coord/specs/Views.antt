@@ -1,6 +1,6 @@
 -- What a store keeps of one key. This project's own.
 -- For example a key that was initialised with epoch 3 and start 7 has these, leader epoch 0 and no runs.
-use Rattle.std.specs.Prelude.{◌≤◌, ◌<◌, ◌^◌, ℕ, List, length}
+use Rattle.std.specs.Prelude.{◌≤◌, length}
 use Rattle.share_model.specs.ShareStates.{ShareState}
 use Rattle.state_records.specs.States.{IsEpoch, IsStart, AreStoredRuns}
 

@@ -1,4 +1,4 @@
-use Rattle.std.proofs.Common.{◌≡◌, ◌≤◌, sym, ap, subst, arith, ℕ, List, length}
+use Rattle.std.proofs.Common.{◌≡◌, ◌≤◌, ap, arith, List, length}
 use Rattle.share_model.specs.declared.run.Run.{Run}
 use Rattle.share_coord.proofs.Sizes.{update_fits, snapshot_fits}
 use Rattle.share_coord.proofs.Spans.{written_stored, laid_stored}

@@ -1,4 +1,4 @@
-use Rattle.std.proofs.Common.{◌≡◌, ◌∙◌, ap, arith, Err, ℕ, List, length}
+use Rattle.std.proofs.Common.{◌∙◌, ap, arith, Err, ℕ, List, length}
 use Rattle.share_coord.proofs.Faults.{same_fault}
 use Rattle.share_coord.proofs.records.put_record.Goals as goal
 

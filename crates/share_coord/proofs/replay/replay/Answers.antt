@@ -1,4 +1,4 @@
-use Rattle.std.proofs.Common.{◌≡◌, ◌+◌, ◌-◌, ◌^◌, ◌∙◌, refl, sym, ap, ℕ, List, Ok, Bool, take, drop, length}
+use Rattle.std.proofs.Common.{◌+◌, ◌-◌, ◌^◌, ◌∙◌, refl, sym, ap, ℕ, Ok, Bool, take, drop, length}
 use Rattle.std.specs.Prelude.{min}
 use Rattle.gate_journal.specs.Frames.{blocks}
 use Rattle.share_coord.proofs.Taken.{one_taken, one_place, next_front, next_parts, same_place}

@@ -1,4 +1,4 @@
-use Rattle.std.proofs.Common.{◌≡◌, ◌-◌, ◌^◌, ℕ, List, [], take, length}
+use Rattle.std.proofs.Common.{◌≡◌, ◌-◌, ◌^◌, [], take, length}
 use Rattle.std.specs.Prelude.{min}
 use Rattle.gate_journal.specs.Frames.{blocks}
 use Rattle.share_coord.specs.Stored.{AreAccepted}

@@ -1,9 +1,9 @@
-use Rattle.std.proofs.Common.{◌≡◌, ◌<◌, ◌≤◌, ◌∙◌, sym, ap, subst, arith, ℕ, List, [], length, None, if◌then◌else◌, to_z, of_z, w64}
+use Rattle.std.proofs.Common.{◌<◌, ◌≤◌, ◌∙◌, sym, ap, subst, arith, List, [], length, None, if◌then◌else◌, to_z, of_z, w64}
 use Rattle.share_model.specs.Runs.{row_at}
 use Rattle.share_model.specs.ShareStates.{is_below}
 use Rattle.share_model.specs.declared.run.Run.{Run}
 use Rattle.state_records.specs.States.{StateParts}
-use Rattle.share_coord.specs.Stored.{Entries, IsSnapshotted, next_snapshot}
+use Rattle.share_coord.specs.Stored.{IsSnapshotted, next_snapshot}
 use Rattle.share_coord.proofs.Spans.{laid_stored}
 use Rattle.share_coord.proofs.Taken.{kept_state, cut_as, snapshot_taken, too_many_snapshot}
 use Rattle.share_coord.proofs.replay.take_snapshot.Goals as goal

@@ -1,11 +1,11 @@
-use Rattle.std.proofs.Common.{◌≡◌, ◌<◌, ◌≤◌, ◌+◌, ◌∙◌, sym, ap, subst, arith, ℕ, ℤ, List, [], length, Some, to_z, of_z, w64}
+use Rattle.std.proofs.Common.{◌≡◌, ◌<◌, ◌≤◌, ◌+◌, ◌∙◌, sym, ap, subst, arith, ℤ, List, length, Some, to_z, of_z, w64}
 use Rattle.std.specs.Prelude.{min}
 use Rattle.std.specs.Option.{option_copied}
 use Rattle.share_model.specs.ShareStates.{AreLaid, start_after}
 use Rattle.share_model.specs.declared.run.Run.{Run}
 use Rattle.state_records.specs.States.{StateParts, IsStart}
 use Rattle.share_coord.specs.Views.{IsKeptState}
-use Rattle.share_coord.specs.Stored.{Entries, IsUpdated, kept_at}
+use Rattle.share_coord.specs.Stored.{IsUpdated, kept_at}
 use Rattle.share_coord.specs.declared.view.Kept.{Kept}
 use Rattle.share_coord.proofs.Spans.{laid_stored}
 use Rattle.share_coord.proofs.Taken.{kept_state, start_fit, laid_as, update_taken, too_many_update}

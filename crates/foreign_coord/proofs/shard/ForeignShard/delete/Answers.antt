@@ -1,4 +1,4 @@
-use Rattle.std.proofs.Common.{◌≡◌, ◌∙◌, sym, ap, subst, Result, Ok}
+use Rattle.std.proofs.Common.{◌∙◌, sym, ap, subst, Ok}
 use Rattle.share_model.specs.declared.foreign.ForeignAnswer.{ForeignAnswer}
 use Rattle.foreign_coord.specs.Codes.{Tells, TellsFault}
 use Rattle.foreign_coord.proofs.Ops.{delete_acts, tells_ok, tells_err}

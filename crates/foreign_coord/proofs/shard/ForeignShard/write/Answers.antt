@@ -1,4 +1,4 @@
-use Rattle.std.proofs.Common.{◌≡◌, ◌∙◌, sym, ap, List, Some, Vec}
+use Rattle.std.proofs.Common.{◌≡◌, ◌∙◌, sym, ap, List, Some}
 use Rattle.std.specs.Option.{option_map}
 use Rattle.share_model.specs.ForeignRules.{runs_of}
 use Rattle.share_model.specs.declared.run.Run.{Run}

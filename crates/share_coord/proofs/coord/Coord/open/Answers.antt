@@ -1,4 +1,4 @@
-use Rattle.std.proofs.Common.{◌≡◌, ◌∙◌, sym, subst, ℕ, List, []}
+use Rattle.std.proofs.Common.{◌∙◌, sym, subst, ℕ, List, []}
 use Rattle.share_coord.specs.Stored.{AreAccepted, IsRefused}
 use Rattle.share_coord.proofs.Reading.{accepted_once, refused_clash, true_place, unlisted_damaged, refused_damaged}
 use Rattle.share_coord.proofs.coord.Coord.open.Goals as goal

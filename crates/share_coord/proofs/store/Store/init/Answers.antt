@@ -1,4 +1,4 @@
-use Rattle.std.proofs.Common.{◌≡◌, ◌≤◌, ◌<◌, ◌^◌, ◌∙◌, sym, ap, subst, arith, ℕ, List, length, Option, to_z, of_z, w32, w64}
+use Rattle.std.proofs.Common.{◌≤◌, ◌<◌, ◌^◌, ◌∙◌, sym, ap, subst, arith, List, length, Option, to_z, of_z, w32, w64}
 use Rattle.std.specs.Option.{option_copied}
 use Rattle.share_model.specs.declared.run.Run.{Run}
 use Rattle.share_coord.specs.Stored.{next_snapshot}

@@ -1,4 +1,4 @@
-use Rattle.std.proofs.Common.{◌≡◌, ◌∙◌, refl, sym, ap, subst}
+use Rattle.std.proofs.Common.{refl}
 use Rattle.share_coord.proofs.Once.{stored_at, refused}
 use Rattle.share_coord.proofs.store.Store.replace.Goals as goal
 

@@ -1,4 +1,4 @@
-use Rattle.std.proofs.Common.{◌≡◌, ◌<◌, ◌^◌, ◌∙◌, sym, ap, subst, ℕ, Option, Some, None, to_z, of_z, w32, w64}
+use Rattle.std.proofs.Common.{◌≡◌, ◌<◌, ◌^◌, ◌∙◌, sym, ap, subst, Option, Some, to_z, of_z, w32, w64}
 use Rattle.std.specs.Option.{option_copied}
 use Rattle.edge_io.proofs.Runs.{runs_none}
 use Rattle.share_coord.specs.Stored.{next_snapshot, kept_at}
