@@ -1,0 +1,5 @@
+pub mod Acting
+pub mod Batching
+pub mod Ops
+pub mod Rules
+pub mod States

@@ -1,0 +1,10 @@
+//! The shard of foreign state: the share-group state calls on partitions that this broker doesn't host.
+#![tactic(auto)]
+
+mod batches;
+mod codes;
+mod shard;
+#[cfg(test)]
+mod tests;
+
+pub use shard::ForeignShard;

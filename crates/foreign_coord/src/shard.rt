@@ -1,0 +1,225 @@
+ghost use Rattle.std.specs.Prelude.{◌≡◌, ◌≢◌, ◌⊎◌, ◌↔◌, List, ℕ, Bool, true, false, Some, None, IfOk, IfErr, slice_get, MatchResult};
+ghost use Rattle.std.specs.Option.{option_map, option_copied};
+ghost use Rattle.std.specs.Map.{keys_of};
+ghost use Rattle.std.specs.declared.option.Option.{Option};
+ghost use Rattle.edge_io.specs.Armed.{ArmsAlone, RunsOn, StarvesUnarmed};
+ghost use Rattle.edge_io.specs.Causes.{Rose};
+ghost use Rattle.edge_io.specs.Disk.{SameContent};
+ghost use Rattle.edge_io.specs.Moments.{LeavesOnly};
+ghost use Rattle.gate_journal.specs.Frames.{StandsAs};
+ghost use Rattle.share_model.specs.ForeignRules.{read_share_state};
+ghost use Rattle.share_model.specs.declared.foreign.ForeignOp.TheVariants.{Init, Read, Write as write_call, Delete};
+ghost use Rattle.share_coord.specs.Stored.{Entries, AreStored, AreDamaged, kept_at};
+ghost use Rattle.share_coord.specs.Holding.{Holds};
+ghost use Rattle.foreign_coord.specs.Acts.{ActsOnce};
+
+use crate::batches::runs_of;
+use crate::codes::{alone, answer, refusal};
+use edge_io::{Disk, DiskPlace, FaultMode};
+use flex_fields::Items;
+use share_coord::{Coord, CoordOpen, StateView};
+use share_model::{Code, ForeignAnswer, ForeignOp, Key, NoMemory, StateBatchList};
+use std::alloc::Global;
+use std::marker::Model;
+
+/// The states of partitions that this broker doesn't host, which survive a crash at any moment.
+///
+/// A contract sees the store: the states in the order of their keys, and the journal of their records on the two disks.
+#[derive(Drop)]
+pub struct ForeignShard<D: Disk> {
+    coord: Coord<D>,
+    alloc: Global,
+}
+
+impl<D: Disk> Model for ForeignShard<D> {
+    ghost use Rattle.share_coord.specs.Parts.{StoreParts};
+
+    ghost Value = { StoreParts D };
+
+    ghost view = { λ s. s.coord };
+}
+
+// The answer to a read of a key.
+fn read(
+    alloc: Global,
+    known: Option<&StateView>,
+    leader_epoch: i32,
+) -> Result<ForeignAnswer, NoMemory>
+    ensures { IfOk result (λ answer. answer ≡ read_share_state (option_copied known.entry) leader_epoch) }
+{
+    if leader_epoch < 0 {
+        return Ok(alone(alloc, Code::INVALID_REQUEST));
+    }
+    let Some(view) = known else {
+        return Ok(alone(alloc, Code::UNKNOWN_TOPIC_OR_PARTITION));
+    };
+    if leader_epoch < view.leader_epoch {
+        return Ok(alone(alloc, Code::FENCED_LEADER_EPOCH));
+    }
+    view.known();
+    let runs = view.runs.list().to_vec(alloc)?;
+    Ok(ForeignAnswer {
+        code: Code::NONE,
+        state_epoch: view.state_epoch,
+        start: view.start,
+        runs: Items::new(runs),
+    })
+}
+
+impl<D: Disk> ForeignShard<D> {
+    /// Opens the states of two disks, as `Coord` does. They come back at an `Err`.
+    pub fn open(alloc: Global, a: D, b: D) -> Result<ForeignShard<D>, (D, D, CoordOpen)>
+        // The states are those for which the contents stand; each image stands for them from now on, and nothing is pending.
+        ensures holds { IfOk result (λ c. Holds D.image c None) }
+        ensures opens { IfOk result (λ c. (x y : List ℕ) → D.content a ≡ Some x → D.content b ≡ Some y → AreStored x y c.entries) }
+
+        // Contents that stand for states are never damaged, and give these states.
+        ensures recovers { (x y : List ℕ) (entries : Entries) → D.content a ≡ Some x → D.content b ≡ Some y → AreStored x y entries →
+            MatchResult result (λ c. c.entries ≡ entries) (λ e. (second : Bool) (place : ℕ) → e.2 ≢ CoordOpen.Damaged second place) }
+
+        // Each refusal has its cause.
+        ensures damaged { IfErr result (λ e. (second : Bool) (place : ℕ) → e.2 ≡ CoordOpen.Damaged second place →
+            (x y : List ℕ) → D.content a ≡ Some x → D.content b ≡ Some y → AreDamaged x y second place) }
+        ensures device { IfErr result (λ e. e.2 ≡ CoordOpen.Device false →
+            Rose (D.faults a) (D.faults e.0) × StarvesUnarmed D.content D.armed D.starved a e.0) }
+        ensures second_device { IfErr result (λ e. e.2 ≡ CoordOpen.Device true →
+            Rose (D.faults b) (D.faults e.1) × StarvesUnarmed D.content D.armed D.starved b e.1) }
+
+        // At each moment since the call began each image is one from before it, or stands for the frames of one.
+        ensures any_moment { MatchResult result (λ c. LeavesOnly D.moment D.since a c.journal.live.disk (StandsAs (D.image a)))
+            (λ e. LeavesOnly D.moment D.since a e.0 (StandsAs (D.image a))) }
+        ensures second_moment { MatchResult result (λ c. LeavesOnly D.moment D.since b c.journal.idle (D.image b))
+            (λ e. LeavesOnly D.moment D.since b e.1 (D.image b)) }
+        ensures untouched { MatchResult result (λ c. SameContent (D.content b) (D.content c.journal.idle) (D.size b) (D.size c.journal.idle))
+            (λ e. SameContent (D.content b) (D.content e.1) (D.size b) (D.size e.1)) }
+        ensures runs { MatchResult result (λ c. RunsOn D.content D.losses D.arms D.armed D.starved D.faults a c.journal.live.disk)
+            (λ e. RunsOn D.content D.losses D.arms D.armed D.starved D.faults a e.0) }
+        ensures second_runs { MatchResult result (λ c. RunsOn D.content D.losses D.arms D.armed D.starved D.faults b c.journal.idle)
+            (λ e. RunsOn D.content D.losses D.arms D.armed D.starved D.faults b e.1) }
+    {
+        match Coord::open(alloc, a, b) {
+            Ok(coord) => Ok(ForeignShard { coord, alloc }),
+            Err(refused) => Err(refused),
+        }
+    }
+
+    fn init(&mut self, key: &Key, state_epoch: i32, start: i64) -> Result<ForeignAnswer, NoMemory>
+        ensures once { ActsOnce D.image D.moment D.since D.faults (Init key.now state_epoch start) self.old self.new result }
+        ensures runs { RunsOn D.content D.losses D.arms D.armed D.starved D.faults self.old.journal.live.disk self.new.journal.live.disk }
+        ensures idle { self.new.journal.idle ≡ self.old.journal.idle }
+    {
+        let done = self.coord.init(key, state_epoch, start);
+        answer(self.alloc, done)
+    }
+
+    fn read(&mut self, key: &Key, leader_epoch: i32) -> Result<ForeignAnswer, NoMemory>
+        ensures once { ActsOnce D.image D.moment D.since D.faults (Read key.now leader_epoch) self.old self.new result }
+        ensures runs { RunsOn D.content D.losses D.arms D.armed D.starved D.faults self.old.journal.live.disk self.new.journal.live.disk }
+        ensures idle { self.new.journal.idle ≡ self.old.journal.idle }
+    {
+        read(self.alloc, self.coord.look(key), leader_epoch)
+    }
+
+    fn write(
+        &mut self,
+        key: &Key,
+        state_epoch: i32,
+        leader_epoch: i32,
+        start: i64,
+        batches: &StateBatchList,
+    ) -> Result<ForeignAnswer, NoMemory>
+        ensures once { ActsOnce D.image D.moment D.since D.faults (write_call key.now state_epoch leader_epoch start batches.now) self.old self.new result }
+        ensures runs { RunsOn D.content D.losses D.arms D.armed D.starved D.faults self.old.journal.live.disk self.new.journal.live.disk }
+        ensures idle { self.new.journal.idle ≡ self.old.journal.idle }
+    {
+        let Some(runs) = runs_of(self.alloc, batches.as_slice())? else {
+            return Ok(alone(self.alloc, Code::INVALID_REQUEST));
+        };
+        let done = self
+            .coord
+            .write(key, state_epoch, leader_epoch, start, &runs);
+        answer(self.alloc, done)
+    }
+
+    fn delete(&mut self, key: &Key) -> Result<ForeignAnswer, NoMemory>
+        ensures once { ActsOnce D.image D.moment D.since D.faults (Delete key.now) self.old self.new result }
+        ensures runs { RunsOn D.content D.losses D.arms D.armed D.starved D.faults self.old.journal.live.disk self.new.journal.live.disk }
+        ensures idle { self.new.journal.idle ≡ self.old.journal.idle }
+    {
+        match self.coord.remove(key) {
+            Ok(_) => Ok(alone(self.alloc, Code::NONE)),
+            Err(fault) => refusal(self.alloc, fault),
+        }
+    }
+
+    /// Does a call, and answers it by the rules of the share-group state calls. A write whose record couldn't be stored is answered
+    /// with code 56, and changes no state.
+    ///
+    /// It takes its memory first. A call that is refused, a read, and a delete of a key that isn't there make no device call.
+    pub fn act(&mut self, op: &ForeignOp) -> Result<ForeignAnswer, NoMemory>
+        ensures once { ActsOnce D.image D.moment D.since D.faults op.now self.old self.new result }
+        ensures runs { RunsOn D.content D.losses D.arms D.armed D.starved D.faults self.old.journal.live.disk self.new.journal.live.disk }
+        ensures idle { self.new.journal.idle ≡ self.old.journal.idle }
+    {
+        match op {
+            ForeignOp::Init {
+                key,
+                state_epoch,
+                start,
+            } => self.init(key, *state_epoch, *start),
+            ForeignOp::Read { key, leader_epoch } => self.read(key, *leader_epoch),
+            ForeignOp::Write {
+                key,
+                state_epoch,
+                leader_epoch,
+                start,
+                batches,
+            } => self.write(key, *state_epoch, *leader_epoch, *start, batches),
+            ForeignOp::Delete { key } => self.delete(key),
+        }
+    }
+
+    /// The state of a key. `None` where it isn't there.
+    pub fn look(&self, key: &Key) -> Option<&StateView>
+        ensures { option_copied result ≡ option_map (λ k. k.view) (kept_at self.now.entries key.now) }
+    {
+        self.coord.look(key)
+    }
+
+    /// The key at a place, in byte order of group, topic and partition, from place 0 on.
+    pub fn key_at(&self, place: u64) -> Option<&Key>
+        ensures { option_copied result ≡ slice_get (keys_of self.now.entries) place }
+    {
+        self.coord.key_at(place)
+    }
+
+    /// Whether a call of one of its disks has failed for want of memory.
+    pub fn starved(&self) -> bool
+        ensures { (result ≡ true) ↔ ((D.starved self.now.journal.live.disk ≡ true) ⊎ (D.starved self.now.journal.idle ≡ true)) }
+    {
+        self.coord.starved()
+    }
+
+    /// Arms a fault of one of its disks, and changes nothing else; it has no log.
+    pub fn arm(&mut self, disk: DiskPlace, after: u64, mode: FaultMode)
+        ensures log { disk ≡ DiskPlace.Log → self.new ≡ self.old }
+        ensures first { disk ≡ DiskPlace.StateA →
+            ArmsAlone D.content D.image D.losses D.arms D.armed D.starved D.faults after mode self.old.journal.live.disk self.new.journal.live.disk
+            × (self.new.journal.idle ≡ self.old.journal.idle) }
+        ensures second { disk ≡ DiskPlace.StateB →
+            ArmsAlone D.content D.image D.losses D.arms D.armed D.starved D.faults after mode self.old.journal.idle self.new.journal.idle
+            × (self.new.journal.live ≡ self.old.journal.live) }
+        ensures states { self.new.entries ≡ self.old.entries }
+        ensures stays { (pending : Option Entries) → Holds D.image self.old pending → Holds D.image self.new pending }
+    {
+        self.coord.arm(disk, after, mode);
+    }
+
+    /// Gives the disks back, `a` first.
+    pub fn into_disks(self) -> (D, D)
+        ensures { (result.0 ≡ self.journal.live.disk) × (result.1 ≡ self.journal.idle) }
+    {
+        let ForeignShard { coord, .. } = self;
+        coord.into_disks()
+    }
+}

@@ -1,0 +1,12 @@
+pub mod Faults
+pub mod Held
+pub mod Keys
+pub mod Once
+pub mod Numeric
+pub mod Reading
+pub mod Seen
+pub mod Signed
+pub mod Sizes
+pub mod Spans
+pub mod Taken
+pub mod Written

@@ -1,0 +1,44 @@
+use Rattle.std.proofs.Common.{◌≤◌, ◌<◌, ◌^◌, ◌∙◌, sym, ap, subst, arith, List, length, Option, to_z, of_z, w32, w64}
+use Rattle.std.specs.Option.{option_copied}
+use Rattle.share_model.specs.declared.run.Run.{Run}
+use Rattle.share_coord.specs.Stored.{next_snapshot}
+use Rattle.share_coord.specs.declared.view.Kept.{Kept}
+use Rattle.share_coord.proofs.Keys.{next_few}
+use Rattle.share_coord.proofs.Numeric.{init_apart, memory_apart}
+use Rattle.share_coord.proofs.Once.{untouched, rewritten}
+use Rattle.share_coord.proofs.Signed.{initialised_as}
+use Rattle.share_coord.proofs.Sizes.{snapshot_fits}
+use Rattle.share_coord.proofs.store.Store.init.Goals as goal
+
+pub returns-in-Some-clause-once : goal.returns-in-Some-clause-once
+returns-in-Some-clause-once g c = untouched g.D.Disk.image g.D.Disk.moment g.D.Disk.since g.D.Disk.faults g.met.D.Disk.only_now _ _ c.in-Some.fault
+    (init_apart (option_copied c.get-known.result) (to_z w32 (of_z w32 c.args.state_epoch)) (to_z w64 (of_z w64 c.args.start)) c.in-Some.fault (sym c.init_refusal.ensures ∙ c.in-Some.is))
+
+pub next_snapshot-next-requires : goal.next_snapshot-next-requires
+next_snapshot-next-requires g c = subst (λ (o : Option Kept). next_snapshot o < 2 ^ 64) (sym c.get-known.ensures.value)
+    (next_few c.requires.held.1.frames c.args.self.now.map.entries c.args.key.now c.requires.held.1.accepted c.requires.held.1.few)
+
+pub returns-in_default-snapshot-clause-once : goal.returns-in_default-snapshot-clause-once
+returns-in_default-snapshot-clause-once g c = untouched g.D.Disk.image g.D.Disk.moment g.D.Disk.since g.D.Disk.faults g.met.D.Disk.only_now _ _ _ memory_apart
+
+pub replace-requires-clause-frame : goal.replace-requires-clause-frame
+replace-requires-clause-frame g c =
+    let none = ap (λ (l : List Run). length l) c.new.ensures in
+    let few : length c.new.result ≤ 1000000 = omega (arith, none) in
+    snapshot_fits _ _ c.in-Ok.ensures.written c.key_fits.ensures few
+
+pub add-requires-clause-frame : goal.add-requires-clause-frame
+add-requires-clause-frame g c =
+    let none = ap (λ (l : List Run). length l) c.new.ensures in
+    let few : length c.new.result ≤ 1000000 = omega (arith, none) in
+    snapshot_fits _ _ c.in-Ok.ensures.written c.key_fits.ensures few
+
+pub returns-then-is_known-clause-once : goal.returns-then-is_known-clause-once
+returns-then-is_known-clause-once g c = rewritten g.D.Disk.image g.D.Disk.moment g.D.Disk.since g.D.Disk.faults _ _ _ _ _
+    (λ es e. initialised_as c.args.self.now.map.entries c.args.key.now c.args.state_epoch c.args.start _ _ _ es c.ranges.state_epoch c.ranges.start c.new.ensures
+    (c.next_snapshot-next.ensures ∙ ap next_snapshot c.get-known.ensures.value) c.in-Ok.ensures.kept e) c.replace.ensures.once
+
+pub returns-else-is_known-clause-once : goal.returns-else-is_known-clause-once
+returns-else-is_known-clause-once g c = rewritten g.D.Disk.image g.D.Disk.moment g.D.Disk.since g.D.Disk.faults _ _ _ _ _
+    (λ es e. initialised_as c.args.self.now.map.entries c.args.key.now c.args.state_epoch c.args.start _ _ _ es c.ranges.state_epoch c.ranges.start c.new.ensures
+    (c.next_snapshot-next.ensures ∙ ap next_snapshot c.get-known.ensures.value) c.in-Ok.ensures.kept e) c.add.ensures.once

@@ -1,0 +1,63 @@
+-- What a store in memory and its two disks stand for together, and what a call that writes once leaves. This project's own.
+-- For example a store whose write failed at its last device call holds what it held, with the write pending, and a restart after a
+-- power loss finds it done or not.
+use Rattle.std.specs.Prelude.{◌≡◌, ◌≢◌, ◌⊎◌, ◌<◌, ◌+◌, ◌^◌, ℕ, List, [], length, Some, None, Result, OnOk, OnErr, IfErr, Err}
+use Rattle.std.specs.declared.option.Option.{Option}
+use Rattle.edge_io.specs.Causes.{Rose}
+use Rattle.edge_io.specs.Moments.{LeavesPairs}
+use Rattle.share_model.specs.declared.fault.StoreFault.TheVariants.{Device, Full}
+use Rattle.coord_checkpoint.specs.Lists.{Keeps}
+use Rattle.share_model.specs.Pending.{WithPending}
+use Rattle.share_coord.specs.Stored.{Entries, Accepts, AreAccepted, AreStored}
+use Rattle.share_coord.specs.declared.fault.CoordFault.{CoordFault}
+use Rattle.share_coord.specs.declared.fault.CoordFault.TheVariants.{Store as store_fault}
+use Rattle.share_coord.specs.Parts.{StoreParts}
+use Rattle.share_coord.specs.declared.store.Store.{Store}
+
+-- a store in memory, as it is seen
+abbrev pub parts_of : {D : Type 0} → Store D → StoreParts D
+parts_of store = record { journal = store.journal; entries = store.map.entries }
+
+-- what the frame that is pending would leave
+abbrev pub Leaves : Entries → Option (List ℕ) → Option Entries → Type 0
+Leaves entries None pending = pending ≡ None
+Leaves entries (Some frame) pending = (new : Entries) × (pending ≡ Some new) × Accepts entries frame new
+
+-- The disks stand for what the store has in memory, with or without the write that is pending, if one is.
+pub record Holds {D : Type 0} (image : D → List ℕ → Type 0) (store : StoreParts D) (pending : Option Entries) : Type 0 where
+  pub frames : List (List ℕ)
+  pub unwritten : Option (List ℕ)
+  pub keeps : Keeps image store.journal frames unwritten
+  pub accepted : AreAccepted [] frames store.entries
+  pub few : length frames < 2 ^ 63
+  pub leaves : Leaves store.entries unwritten pending
+  pub images : (a b : List ℕ) → image store.journal.live.disk a → image store.journal.idle b → WithPending (AreStored a b) store.entries pending
+
+-- some write is pending, or none
+abbrev pub IsHeld : {D : Type 0} → (D → List ℕ → Type 0) → StoreParts D → Type 0
+IsHeld image store = (pending : Option Entries) × Holds image store pending
+
+-- contents found at a moment of a call whose write would leave this: what stood at entry, or that
+abbrev pub IsWithin : (Entries → Type 0) → Entries → Option Entries → List ℕ → List ℕ → Type 0
+IsWithin Written old pending a b = WithPending (AreStored a b) old pending ⊎ ((new : Entries) × Written new × AreStored a b new)
+
+-- A call that writes once, which would leave this. The members of the disk come first.
+pub record WritesOnce {D T : Type 0} (image : D → List ℕ → Type 0) (moment : D → ℕ) (since : D → ℕ → List ℕ → Type 0) (faults : D → ℕ)
+    (Written : Entries → Type 0) (old new : StoreParts D) (result : Result T CoordFault) : Type 0 where
+  -- where it answers Ok, it is written, and nothing is pending
+  pub written : OnOk result (Written new.entries)
+  pub kept : OnOk result ((pending : Option Entries) → Holds image old pending → Holds image new None)
+  -- Where it doesn't, the states are as before. After a device fault the pending write is the one from before or this one; after
+  -- another refusal it is the one from before.
+  pub same : OnErr result (new.entries ≡ old.entries)
+  pub stays : IfErr result (λ e. e ≢ store_fault Device → (pending : Option Entries) → Holds image old pending → Holds image new pending)
+  pub failed : OnErr result ((pending : Option Entries) → Holds image old pending →
+      Holds image new pending ⊎ ((lost : Entries) × Written lost × Holds image new (Some lost)))
+  -- a device fault comes only where the count of faults rose, and Full where the frame would end past 2^62
+  pub device : result ≡ Err (store_fault Device) → Rose (faults old.journal.live.disk) (faults new.journal.live.disk)
+  pub full : (end : ℕ) → result ≡ Err (store_fault (Full end)) → (end ≡ old.journal.live.end)
+      × ((frame : List ℕ) × (lost : Entries) × Written lost × Accepts old.entries frame lost × (2 ^ 62 < end + (length frame + 5)))
+  -- at each moment since it began, a crash leaves what stood at entry, or what it writes
+  pub any_moment : (pending : Option Entries) → Holds image old pending →
+      LeavesPairs moment since moment since old.journal.live.disk new.journal.live.disk old.journal.idle new.journal.idle
+      (IsWithin Written old.entries pending)

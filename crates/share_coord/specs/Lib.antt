@@ -1,0 +1,5 @@
+pub mod Views
+pub mod Parts
+pub mod Stored
+pub mod Calls
+pub mod Holding

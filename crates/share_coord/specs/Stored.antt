@@ -1,0 +1,119 @@
+-- Which records of the state journal stand for which share-partition states: the records are taken one after another, from no
+-- keys on. This project's own; the states are KIP-932's.
+--
+-- A snapshot gives its key this state, whatever it had. An update sets both epochs, the start unless it is -1, and the rows of its
+-- runs. A removal takes its key away. Rows below the start go, also those of a snapshot, and at most 1000000 runs are left. The
+-- first snapshot of a key has snapshot epoch 0 and each later one has one more; an update has the epoch of its key's last
+-- snapshot; a key that was removed begins anew. Records that break these rules stand for nothing.
+-- Worked example: the snapshot of `g1` with snapshot epoch 0, state epoch 3, start 7 and no runs stands for that one key; a second
+-- snapshot with snapshot epoch 0 behind it stands for nothing.
+use Rattle.std.specs.Prelude.{◌≡◌, ◌⊎◌, ◌≤◌, ◌+◌, ℕ, min, List, [], ◌∷◌, ◌++◌, length, Some, None, Bool, true, false}
+use Rattle.std.specs.declared.option.Option.{Option}
+use Rattle.std.specs.BTreeMap.{insert_entry, is_at}
+use Rattle.std.specs.Map.{lookup, remove_entry}
+use Rattle.gate_journal.specs.Frames.{blocks}
+use Rattle.share_model.specs.Keys.{KeyParts, key_cmp}
+use Rattle.share_model.specs.ShareStates.{AreLaid, start_after}
+use Rattle.share_model.specs.declared.run.Run.{Run}
+use Rattle.state_records.specs.States.{StateParts}
+use Rattle.state_records.specs.Spelling.{IsRecord, record_bytes}
+use Rattle.state_records.specs.declared.record.StateRecord.{StateRecord}
+use Rattle.state_records.specs.declared.record.StateRecord.TheVariants.{Snapshot, Update, Removal}
+use Rattle.coord_checkpoint.specs.Lists.{IsListed, IsUnlisted}
+use Rattle.share_coord.specs.declared.view.Kept.{Kept}
+
+-- what is kept of each key, in the order of the keys
+abbrev pub Entries : Type 0
+Entries = List (KeyParts × Kept)
+
+abbrev pub kept_at : Entries → KeyParts → Option Kept
+kept_at entries key = lookup (is_at (key_cmp key)) entries
+
+abbrev pub with_kept : Entries → KeyParts → Kept → Entries
+with_kept entries key kept = insert_entry key_cmp entries key kept
+
+abbrev pub without_key : Entries → KeyParts → Entries
+without_key entries key = remove_entry (is_at (key_cmp key)) entries
+
+-- the snapshot epoch of a key's next snapshot
+abbrev pub next_snapshot : Option Kept → ℕ
+next_snapshot None = 0
+next_snapshot (Some kept) = kept.snapshot + 1
+
+-- what a snapshot leaves of its key, with these runs
+abbrev pub snapshot_of : StateParts → List Run → Kept
+snapshot_of state runs = record {
+  view = record { state_epoch = state.state_epoch; leader_epoch = state.leader_epoch; start = state.start; runs = runs };
+  snapshot = state.snapshot;
+  updates = 0;
+}
+
+-- what an update leaves of its key, with these runs; updates are counted up to 500
+abbrev pub update_of : Kept → StateParts → List Run → Kept
+update_of kept state runs = record {
+  view = record { state_epoch = state.state_epoch; leader_epoch = state.leader_epoch; start = start_after kept.view.start state.start; runs = runs };
+  snapshot = kept.snapshot;
+  updates = min (kept.updates + 1) 500;
+}
+
+pub record IsSnapshotted (old : Entries) (state : StateParts) (new : Entries) : Type 0 where
+  pub runs : List Run
+  pub next : state.snapshot ≡ next_snapshot (kept_at old state.key)
+  pub laid : AreLaid state.start [] state.runs runs
+  pub few : length runs ≤ 1000000
+  pub is : new ≡ with_kept old state.key (snapshot_of state runs)
+
+pub record IsUpdated (old : Entries) (state : StateParts) (new : Entries) : Type 0 where
+  pub kept : Kept
+  pub runs : List Run
+  pub known : kept_at old state.key ≡ Some kept
+  pub same : state.snapshot ≡ kept.snapshot
+  pub laid : AreLaid (start_after kept.view.start state.start) kept.view.runs state.runs runs
+  pub few : length runs ≤ 1000000
+  pub is : new ≡ with_kept old state.key (update_of kept state runs)
+
+pub record IsRemoved (old : Entries) (key : KeyParts) (new : Entries) : Type 0 where
+  pub kept : Kept
+  pub known : kept_at old key ≡ Some kept
+  pub is : new ≡ without_key old key
+
+-- one record more
+abbrev pub Follows : Entries → StateRecord → Entries → Type 0
+Follows old (Snapshot state) new = IsSnapshotted old state new
+Follows old (Update state) new = IsUpdated old state new
+Follows old (Removal key) new = IsRemoved old key new
+
+-- one frame more, which is the bytes of a record
+pub record Accepts (old : Entries) (frame : List ℕ) (new : Entries) : Type 0 where
+  pub written : StateRecord
+  pub valid : IsRecord written
+  pub bytes : frame ≡ record_bytes written
+  pub follows : Follows old written new
+
+-- frames, one after another
+abbrev pub AreAccepted : Entries → List (List ℕ) → Entries → Type 0
+AreAccepted old [] new = new ≡ old
+AreAccepted old (frame ∷ frames) new = (mid : Entries) × Accepts old frame mid × AreAccepted mid frames new
+
+-- the contents of the two disks stand for this
+pub record AreStored (first second : List ℕ) (entries : Entries) : Type 0 where
+  pub frames : List (List ℕ)
+  pub listed : IsListed first second frames
+  pub accepted : AreAccepted [] frames entries
+
+-- the frame behind the open gate at this place doesn't go on from those before it
+pub record IsRefused (frames : List (List ℕ)) (place : ℕ) : Type 0 where
+  pub before : List (List ℕ)
+  pub frame : List ℕ
+  pub behind : List (List ℕ)
+  pub entries : Entries
+  pub parts : frames ≡ before ++ frame ∷ behind
+  pub accepted : AreAccepted [] before entries
+  pub refused : (new : Entries) → Accepts entries frame new → ⊥
+  pub at : place ≡ length (blocks before)
+
+-- The contents stand for nothing, by this place: the first is no journal text; or the second isn't free of frames; or a frame of
+-- the first is refused. The first of these that applies is named.
+abbrev pub AreDamaged : List ℕ → List ℕ → Bool → ℕ → Type 0
+AreDamaged first second false place = IsUnlisted first second false place ⊎ ((frames : List (List ℕ)) × IsListed first second frames × IsRefused frames place)
+AreDamaged first second true place = IsUnlisted first second true place

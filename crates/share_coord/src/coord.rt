@@ -1,0 +1,212 @@
+ghost use Rattle.std.specs.Prelude.{◌≡◌, ◌≢◌, ◌⊎◌, ◌↔◌, List, ℕ, Bool, true, false, Some, None, Ok, Err, is_some, IsSome, IfOk, IfErr, slice_get, MatchResult};
+ghost use Rattle.std.specs.Option.{option_map, option_copied};
+ghost use Rattle.std.specs.Map.{keys_of};
+ghost use Rattle.std.specs.declared.option.Option.{Option};
+ghost use Rattle.edge_io.specs.Armed.{ArmsAlone, RunsOn, StarvesUnarmed};
+ghost use Rattle.edge_io.specs.Causes.{Rose};
+ghost use Rattle.edge_io.specs.Disk.{SameContent};
+ghost use Rattle.edge_io.specs.Moments.{LeavesOnly};
+ghost use Rattle.gate_journal.specs.Frames.{StandsAs};
+ghost use Rattle.share_coord.specs.Stored.{Entries, AreStored, AreDamaged, kept_at};
+ghost use Rattle.share_coord.specs.Calls.{Causes, IsWritten, IsTooMany, IsForgotten, init_refusal, write_refusal, initialised};
+ghost use Rattle.share_coord.specs.Holding.{Holds, WritesOnce};
+
+use crate::fault::CoordFault;
+use crate::replay::{ReplayFault, replay};
+use crate::store::Store;
+use crate::view::StateView;
+use coord_checkpoint::CoordOpen;
+use edge_io::{Disk, DiskPlace, FaultMode};
+use share_model::{Key, Run};
+use std::alloc::Global;
+use std::marker::Model;
+
+/// Share-partition states by their keys, which survive a crash at any moment.
+///
+/// A contract sees the states in the order of their keys (byte order of group, topic and partition), and the journal of their
+/// records on the two disks. Each call that changes a state adds one record: it takes its memory first, then makes the device calls of
+/// one append, and changes the states in memory once these are done. Where a device call fails the states are as before, and the
+/// record is *pending*: a crash may leave it or not, until a later call is answered Ok.
+#[derive(Drop)]
+pub struct Coord<D: Disk> {
+    store: Store<D>,
+}
+
+impl<D: Disk> Model for Coord<D> {
+    ghost use Rattle.share_coord.specs.Holding.{IsHeld};
+    ghost use Rattle.share_coord.specs.Parts.{StoreParts};
+
+    ghost Value = { StoreParts D };
+
+    ghost view = { λ c. record { journal = c.store.journal; entries = c.store.map.entries } };
+
+    ghost invariant = { λ c. IsHeld D.image (record { journal = c.store.journal; entries = c.store.map.entries }) };
+}
+
+impl<D: Disk> Coord<D> {
+    /// Opens the states of two disks, which come back at an `Err`.
+    ///
+    /// It syncs each disk before it reads it, repairs the end of the journal on `a`, and leaves the content of `b` as it is, in which
+    /// no frame may stand. It is linear in the journal.
+    pub fn open(alloc: Global, a: D, b: D) -> Result<Coord<D>, (D, D, CoordOpen)>
+        // The states are those for which the contents stand; each image stands for them from now on, and nothing is pending.
+        ensures holds { IfOk result (λ c. Holds D.image c None) }
+        ensures opens { IfOk result (λ c. (x y : List ℕ) → D.content a ≡ Some x → D.content b ≡ Some y → AreStored x y c.entries) }
+
+        // Contents that stand for states are never damaged, and give these states.
+        ensures recovers { (x y : List ℕ) (entries : Entries) → D.content a ≡ Some x → D.content b ≡ Some y → AreStored x y entries →
+            MatchResult result (λ c. c.entries ≡ entries) (λ e. (second : Bool) (place : ℕ) → e.2 ≢ CoordOpen.Damaged second place) }
+
+        // Each refusal has its cause.
+        ensures damaged { IfErr result (λ e. (second : Bool) (place : ℕ) → e.2 ≡ CoordOpen.Damaged second place →
+            (x y : List ℕ) → D.content a ≡ Some x → D.content b ≡ Some y → AreDamaged x y second place) }
+        ensures device { IfErr result (λ e. e.2 ≡ CoordOpen.Device false →
+            Rose (D.faults a) (D.faults e.0) × StarvesUnarmed D.content D.armed D.starved a e.0) }
+        ensures second_device { IfErr result (λ e. e.2 ≡ CoordOpen.Device true →
+            Rose (D.faults b) (D.faults e.1) × StarvesUnarmed D.content D.armed D.starved b e.1) }
+
+        // At each moment since the call began each image is one from before it, or stands for the frames of one.
+        ensures any_moment { MatchResult result (λ c. LeavesOnly D.moment D.since a c.journal.live.disk (StandsAs (D.image a)))
+            (λ e. LeavesOnly D.moment D.since a e.0 (StandsAs (D.image a))) }
+        ensures second_moment { MatchResult result (λ c. LeavesOnly D.moment D.since b c.journal.idle (D.image b))
+            (λ e. LeavesOnly D.moment D.since b e.1 (D.image b)) }
+        ensures untouched { MatchResult result (λ c. SameContent (D.content b) (D.content c.journal.idle) (D.size b) (D.size c.journal.idle))
+            (λ e. SameContent (D.content b) (D.content e.1) (D.size b) (D.size e.1)) }
+        ensures runs { MatchResult result (λ c. RunsOn D.content D.losses D.arms D.armed D.starved D.faults a c.journal.live.disk)
+            (λ e. RunsOn D.content D.losses D.arms D.armed D.starved D.faults a e.0) }
+        ensures second_runs { MatchResult result (λ c. RunsOn D.content D.losses D.arms D.armed D.starved D.faults b c.journal.idle)
+            (λ e. RunsOn D.content D.losses D.arms D.armed D.starved D.faults b e.1) }
+    {
+        let _len = a.len(); // places are those of a u64
+        let (journal, frames) = match coord_checkpoint::open(alloc, a, b) {
+            Ok(opened) => opened,
+            Err(refused) => return Err(refused),
+        };
+        match replay(alloc, &frames) {
+            Ok(map) => Ok(Coord {
+                store: Store {
+                    journal,
+                    map,
+                    alloc,
+                },
+            }),
+            Err(fault) => {
+                let (a, b) = journal.into_disks();
+                match fault {
+                    ReplayFault::Refused { place } => Err((
+                        a,
+                        b,
+                        CoordOpen::Damaged {
+                            second: false,
+                            place,
+                        },
+                    )),
+                    ReplayFault::NoMemory => Err((a, b, CoordOpen::NoMemory)),
+                }
+            }
+        }
+    }
+
+    /// Gives a key this state epoch and start, leader epoch 0 and no rows, whether it is there or not. It is stored as a snapshot.
+    ///
+    /// Refused are a state epoch below 0 or a start below -1, and then a state epoch below the known one.
+    pub fn init(&mut self, key: &Key, state_epoch: i32, start: i64) -> Result<(), CoordFault>
+        ensures refused { (fault : CoordFault) → init_refusal (kept_at self.old.entries key.now) state_epoch start ≡ Some fault → result ≡ Err fault }
+        ensures causes { IfErr result (Causes (init_refusal (kept_at self.old.entries key.now) state_epoch start) (λ _. ⊥)) }
+        ensures once { WritesOnce D.image D.moment D.since D.faults (λ new. new ≡ initialised self.old.entries key.now state_epoch start)
+            self.old self.new result }
+        ensures runs { RunsOn D.content D.losses D.arms D.armed D.starved D.faults self.old.journal.live.disk self.new.journal.live.disk }
+        ensures idle { self.new.journal.idle ≡ self.old.journal.idle }
+    {
+        self.store.init(key, state_epoch, start)
+    }
+
+    /// Sets both epochs of a key, and its start unless that is -1, and lays these runs over its rows, a later run winning over an
+    /// earlier one; rows below the start go. It is stored as an update with the rows that are written, and as a snapshot where the key
+    /// has 500 updates since its last one.
+    ///
+    /// Refused are an epoch below 0, a start below -1 or a run out of range; then a key that isn't there; a leader epoch below the known
+    /// one; a state epoch below the known one; and more than 1000000 runs. It costs the runs that are written, a pass over those of
+    /// the key, and one frame.
+    pub fn write(
+        &mut self,
+        key: &Key,
+        state_epoch: i32,
+        leader_epoch: i32,
+        start: i64,
+        runs: &[Run],
+    ) -> Result<(), CoordFault>
+        ensures refused { (fault : CoordFault) → write_refusal (kept_at self.old.entries key.now) state_epoch leader_epoch start runs.now ≡ Some fault →
+            result ≡ Err fault }
+        ensures causes { IfErr result (Causes (write_refusal (kept_at self.old.entries key.now) state_epoch leader_epoch start runs.now)
+            (IsTooMany self.old.entries key.now start runs.now)) }
+        ensures once { WritesOnce D.image D.moment D.since D.faults (IsWritten self.old.entries key.now state_epoch leader_epoch start runs.now)
+            self.old self.new result }
+        ensures runs { RunsOn D.content D.losses D.arms D.armed D.starved D.faults self.old.journal.live.disk self.new.journal.live.disk }
+        ensures idle { self.new.journal.idle ≡ self.old.journal.idle }
+    {
+        self.store
+            .write(key, state_epoch, leader_epoch, start, runs)
+    }
+
+    /// Takes a key away. False where it isn't there, and then nothing is done.
+    pub fn remove(&mut self, key: &Key) -> Result<bool, CoordFault>
+        ensures absent { kept_at self.old.entries key.now ≡ None → (result ≡ Ok false) × (self.new ≡ self.old) }
+        ensures present { IsSome (kept_at self.old.entries key.now) → IfOk result (λ there. there ≡ true) }
+        ensures causes { IfErr result (Causes None (λ _. ⊥)) }
+        ensures once { IsSome (kept_at self.old.entries key.now) →
+            WritesOnce D.image D.moment D.since D.faults (IsForgotten self.old.entries key.now) self.old self.new result }
+        ensures runs { RunsOn D.content D.losses D.arms D.armed D.starved D.faults self.old.journal.live.disk self.new.journal.live.disk }
+        ensures idle { self.new.journal.idle ≡ self.old.journal.idle }
+    {
+        self.store.remove(key)
+    }
+
+    /// The state of a key. `None` where it isn't there.
+    pub fn look(&self, key: &Key) -> Option<&StateView>
+        ensures { option_copied result ≡ option_map (λ k. k.view) (kept_at self.now.entries key.now) }
+    {
+        match self.store.map.get(key) {
+            Some(kept) => Some(&kept.view),
+            None => None,
+        }
+    }
+
+    /// The key at a place, in byte order of group, topic and partition, from place 0 on.
+    pub fn key_at(&self, place: u64) -> Option<&Key>
+        ensures { option_copied result ≡ slice_get (keys_of self.now.entries) place }
+    {
+        self.store.map.keys().nth(place as usize)
+    }
+
+    /// Whether a call of one of its disks has failed for want of memory.
+    pub fn starved(&self) -> bool
+        ensures { (result ≡ true) ↔ ((D.starved self.now.journal.live.disk ≡ true) ⊎ (D.starved self.now.journal.idle ≡ true)) }
+    {
+        self.store.journal.starved()
+    }
+
+    /// Arms a fault of one of its disks, and changes nothing else; it has no log.
+    pub fn arm(&mut self, disk: DiskPlace, after: u64, mode: FaultMode)
+        ensures log { disk ≡ DiskPlace.Log → self.new ≡ self.old }
+        ensures first { disk ≡ DiskPlace.StateA →
+            ArmsAlone D.content D.image D.losses D.arms D.armed D.starved D.faults after mode self.old.journal.live.disk self.new.journal.live.disk
+            × (self.new.journal.idle ≡ self.old.journal.idle) }
+        ensures second { disk ≡ DiskPlace.StateB →
+            ArmsAlone D.content D.image D.losses D.arms D.armed D.starved D.faults after mode self.old.journal.idle self.new.journal.idle
+            × (self.new.journal.live ≡ self.old.journal.live) }
+        ensures states { self.new.entries ≡ self.old.entries }
+        ensures stays { (pending : Option Entries) → Holds D.image self.old pending → Holds D.image self.new pending }
+    {
+        self.store.journal.arm(disk, after, mode);
+    }
+
+    /// Gives the disks back, `a` first.
+    pub fn into_disks(self) -> (D, D)
+        ensures { (result.0 ≡ self.journal.live.disk) × (result.1 ≡ self.journal.idle) }
+    {
+        let Coord { store } = self;
+        let Store { journal, .. } = store;
+        journal.into_disks()
+    }
+}

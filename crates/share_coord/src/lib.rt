@@ -1,0 +1,20 @@
+//! Share-partition states by their keys, kept through crashes on the two disks of a store.
+#![tactic(auto)]
+
+mod coord;
+mod fault;
+mod plan;
+mod records;
+mod refusals;
+mod replay;
+mod rows;
+mod store;
+#[cfg(test)]
+mod tests;
+mod view;
+
+pub use coord::Coord;
+pub use coord_checkpoint::CoordOpen;
+pub use fault::CoordFault;
+pub use store::Store;
+pub use view::{Kept, StateView};

@@ -1,0 +1,194 @@
+// What a write leaves of its key, and the record that says so.
+ghost use Rattle.std.specs.Prelude.{◌≡◌, ◌≢◌, ◌⊎◌, ◌<◌, ◌≤◌, ◌+◌, ◌^◌, ℕ, List, length, true, Some, IfOk, IfErr};
+ghost use Rattle.std.specs.List.{list_all};
+ghost use Rattle.gate_journal.specs.Frames.{IsFrame};
+ghost use Rattle.share_model.specs.ShareStates.{is_writable, start_after};
+ghost use Rattle.state_records.specs.Spelling.{record_bytes};
+ghost use Rattle.state_records.specs.States.{IsKey, IsEpoch, IsStart, AreStoredRuns};
+ghost use Rattle.state_records.specs.declared.record.StateRecord.TheVariants.{Snapshot as snapshot_record, Update as update_record};
+ghost use Rattle.share_coord.specs.Stored.{Entries, Follows, kept_at, with_kept};
+ghost use Rattle.share_coord.specs.Calls.{IsWritten, IsTooMany};
+
+use crate::fault::CoordFault;
+use crate::rows::{laid, start_after, written};
+use crate::view::{Kept, StateView};
+use flex_fields::Items;
+use offset_runs::Runs;
+use share_model::{Key, NoMemory, Run};
+use state_records::{KeyState, StateRecord};
+use std::alloc::Global;
+use uuid::Uuid;
+
+const MAX_RUNS: usize = 1000000;
+
+// The numbers of a call on a key, which are in range.
+#[derive(Drop)]
+pub(crate) struct Numbers {
+    pub key: Key,
+    pub state_epoch: i32,
+    pub leader_epoch: i32,
+    pub start: i64,
+}
+
+// What is kept of a key, and the record that makes it so.
+#[derive(Drop)]
+pub(crate) struct Change {
+    pub kept: Kept,
+    pub written: StateRecord,
+}
+
+fn sixteen(bytes: [u8; 16]) -> usize
+    ensures { length bytes ≡ 16 }
+{
+    bytes.len()
+}
+
+fn topic_fits(topic: &Uuid)
+    ensures { length topic.now ≡ 16 }
+{
+    let _len = sixteen(*topic.as_bytes());
+}
+
+// The ranges of a key.
+pub(crate) fn key_fits(key: &Key)
+    ensures { IsKey key.now }
+{
+    let _group = key.group.as_bytes();
+    topic_fits(&key.topic);
+    let _part = &key.part;
+}
+
+// An update with the rows that are written.
+fn update(numbers: &Numbers, kept: &Kept, start: i64, over: Runs, rows: Runs) -> Change
+    requires ranges { IsEpoch numbers.now.state_epoch × IsEpoch numbers.now.leader_epoch × IsStart numbers.now.start }
+    requires start { IsStart start }
+    requires over { AreStoredRuns over }
+    requires few { length over ≤ 1000000 }
+    requires rows { AreStoredRuns rows }
+    requires few_rows { length rows ≤ 1000000 }
+    requires updates { kept.now.updates < 500 }
+    ensures written { result.written ≡ update_record (record {
+      key = numbers.now.key;
+      snapshot = kept.now.snapshot;
+      state_epoch = numbers.now.state_epoch;
+      leader_epoch = numbers.now.leader_epoch;
+      start = numbers.now.start;
+      runs = over;
+    }) }
+    ensures kept { result.kept ≡ record {
+      view = record { state_epoch = numbers.now.state_epoch; leader_epoch = numbers.now.leader_epoch; start = start; runs = rows };
+      snapshot = kept.now.snapshot;
+      updates = kept.now.updates + 1;
+    } }
+{
+    Change {
+        written: StateRecord::Update(KeyState {
+            key: numbers.key,
+            snapshot: kept.snapshot,
+            state_epoch: numbers.state_epoch,
+            leader_epoch: numbers.leader_epoch,
+            start: numbers.start,
+            runs: Items::new(over.into_vec()),
+        }),
+        kept: Kept {
+            view: StateView {
+                state_epoch: numbers.state_epoch,
+                leader_epoch: numbers.leader_epoch,
+                start,
+                runs: rows,
+            },
+            snapshot: kept.snapshot,
+            updates: kept.updates + 1,
+        },
+    }
+}
+
+// A snapshot of all rows that there are then.
+pub(crate) fn snapshot(
+    alloc: Global,
+    numbers: &Numbers,
+    snapshot: u64,
+    start: i64,
+    rows: Runs,
+) -> Result<Change, NoMemory>
+    requires ranges { IsEpoch numbers.now.state_epoch × IsEpoch numbers.now.leader_epoch }
+    requires start { IsStart start }
+    requires rows { AreStoredRuns rows }
+    requires few_rows { length rows ≤ 1000000 }
+    ensures written { IfOk result (λ c. c.written ≡ snapshot_record (record {
+      key = numbers.now.key;
+      snapshot = snapshot;
+      state_epoch = numbers.now.state_epoch;
+      leader_epoch = numbers.now.leader_epoch;
+      start = start;
+      runs = rows;
+    })) }
+    ensures kept { IfOk result (λ c. c.kept ≡ record {
+      view = record { state_epoch = numbers.now.state_epoch; leader_epoch = numbers.now.leader_epoch; start = start; runs = rows };
+      snapshot = snapshot;
+      updates = 0;
+    }) }
+{
+    let copy = rows.list().to_vec(alloc)?;
+    Ok(Change {
+        written: StateRecord::Snapshot(KeyState {
+            key: numbers.key,
+            snapshot,
+            state_epoch: numbers.state_epoch,
+            leader_epoch: numbers.leader_epoch,
+            start,
+            runs: Items::new(copy),
+        }),
+        kept: Kept {
+            view: StateView {
+                state_epoch: numbers.state_epoch,
+                leader_epoch: numbers.leader_epoch,
+                start,
+                runs: rows,
+            },
+            snapshot,
+            updates: 0,
+        },
+    })
+}
+
+// The change of a write whose numbers are not refused.
+pub(crate) fn planned(
+    alloc: Global,
+    numbers: &Numbers,
+    kept: &Kept,
+    runs: &[Run],
+) -> Result<Change, CoordFault>
+    requires ranges { IsEpoch numbers.now.state_epoch × IsEpoch numbers.now.leader_epoch × IsStart numbers.now.start }
+    requires runs { list_all is_writable runs.now ≡ true }
+    requires snapshot { kept.now.snapshot + 1 < 2 ^ 64 }
+    ensures written { IfOk result (λ c. (old : Entries) → kept_at old numbers.now.key ≡ Some kept.now →
+        IsWritten old numbers.now.key numbers.now.state_epoch numbers.now.leader_epoch numbers.now.start runs.now (with_kept old numbers.now.key c.kept)) }
+    ensures follows { IfOk result (λ c. (old : Entries) → kept_at old numbers.now.key ≡ Some kept.now →
+        Follows old c.written (with_kept old numbers.now.key c.kept)) }
+    ensures frame { IfOk result (λ c. IsFrame (record_bytes c.written)) }
+    ensures many { IfErr result (λ e. (n : ℕ) → e ≡ CoordFault.TooMany n → (old : Entries) → kept_at old numbers.now.key ≡ Some kept.now →
+        IsTooMany old numbers.now.key numbers.now.start runs.now n) }
+    ensures causes { IfErr result (λ e. (e ≡ CoordFault.NoMemory) ⊎ ((n : ℕ) × (e ≡ CoordFault.TooMany n))) }
+{
+    kept.view.known();
+    key_fits(&numbers.key);
+    let start = start_after(kept.view.start, numbers.start);
+    let Ok(over) = written(alloc, runs) else {
+        return Err(CoordFault::NoMemory);
+    };
+    let Ok(rows) = laid(alloc, &kept.view.runs, &over, start) else {
+        return Err(CoordFault::NoMemory);
+    };
+    let count = over.list().len().max(rows.list().len());
+    if count > MAX_RUNS {
+        return Err(CoordFault::TooMany { runs: count as u64 });
+    }
+    if kept.updates < 500 {
+        return Ok(update(numbers, kept, start, over, rows));
+    }
+    match snapshot(alloc, numbers, kept.snapshot + 1, start, rows) {
+        Ok(change) => Ok(change),
+        Err(_) => Err(CoordFault::NoMemory),
+    }
+}

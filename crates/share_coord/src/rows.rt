@@ -1,0 +1,75 @@
+// The rows that a write leaves.
+ghost use Rattle.std.specs.Prelude.{◌≡◌, ◌≤◌, ℕ, List, None, length, IfOk, if◌then◌else◌};
+ghost use Rattle.share_model.specs.Runs.{IsCanonical, row_at};
+ghost use Rattle.share_model.specs.ShareStates.{AreWritten, AreLaid, is_below, start_after};
+
+use flex_fields::Items;
+use offset_runs::Runs;
+use share_model::{NoMemory, Run};
+use std::alloc::Global;
+
+// So many runs are put one after another; more are halved.
+const FEW: usize = 32;
+
+// The list of runs is canonical.
+fn canonical(runs: &Runs)
+    ensures { IsCanonical runs.now }
+{
+    let _list = runs.list();
+}
+
+#[tactic(auto, using(crate::proofs::Written::or_none, crate::proofs::Written::puts_next))]
+fn put_all(alloc: Global, runs: &[Run]) -> Result<Runs, NoMemory>
+    ensures { IfOk result (λ written. AreWritten runs.now written) }
+{
+    let mut out = Runs::new(alloc);
+    for run in runs {
+        out.put_range(run.first, run.last, run.row())?;
+    }
+    canonical(&out);
+    Ok(out)
+}
+
+// The rows that runs write, a later one winning. Each run is moved once for each halving.
+pub(crate) fn written(alloc: Global, runs: &[Run]) -> Result<Runs, NoMemory>
+    ensures { IfOk result (λ written. AreWritten runs.now written) }
+{
+    if runs.len() <= FEW {
+        return put_all(alloc, runs);
+    }
+    let (front, back) = runs.split_at(runs.len() / 2);
+    let mut out = written(alloc, front)?;
+    let behind = written(alloc, back)?;
+    out.merge_from(&behind)?;
+    canonical(&out);
+    Ok(out)
+}
+
+// The start that this one leaves.
+pub(crate) fn start_after(old: i64, given: i64) -> i64
+    ensures { result ≡ start_after old given }
+{
+    if given < 0 { old } else { given }
+}
+
+// Takes the rows below a start away.
+pub(crate) fn cut_at(runs: &mut Runs, start: i64)
+    ensures { (offset : ℕ) → row_at runs.new offset ≡ (if is_below offset start then None else row_at runs.old offset) }
+{
+    if start > 0 {
+        runs.cut_below(start as u64);
+    }
+}
+
+// These rows over those, from a start on.
+pub(crate) fn laid(alloc: Global, under: &Runs, over: &Runs, start: i64) -> Result<Runs, NoMemory>
+    requires { length under.now ≤ 1000000 }
+    ensures { IfOk result (λ laid. AreLaid start under.now over.now laid) }
+{
+    let copy = under.list().to_vec(alloc)?;
+    let mut out = Runs::from_list(Items::new(copy));
+    out.merge_from(over)?;
+    cut_at(&mut out, start);
+    canonical(&out);
+    Ok(out)
+}

@@ -1,0 +1,47 @@
+ghost use Rattle.std.specs.Prelude.{◌≡◌};
+
+use offset_runs::Runs;
+use std::marker::Model;
+
+/// The state of a key: KIP-932's epochs and start offset of a share partition, and its stored rows.
+///
+/// The epochs are at least 0, `start` is an offset or -1, and the rows are at most 1000000 runs, with offsets below 2^63 and counts
+/// below 2^15. A contract sees the record of the fields.
+#[derive(Debug, Drop)]
+pub struct StateView {
+    pub state_epoch: i32,
+    pub leader_epoch: i32,
+    pub start: i64,
+    pub runs: Runs,
+}
+
+impl Model for StateView {
+    ghost use Rattle.share_model.specs.ShareStates.{ShareState};
+    ghost use Rattle.share_coord.specs.Views.{IsKeptState};
+
+    ghost Value = { ShareState };
+
+    ghost view = { λ v. record { state_epoch = v.state_epoch; leader_epoch = v.leader_epoch; start = v.start; runs = v.runs } };
+
+    ghost invariant = { λ v. IsKeptState (record { state_epoch = v.state_epoch; leader_epoch = v.leader_epoch; start = v.start; runs = v.runs }) };
+}
+
+impl StateView {
+    ghost use Rattle.share_coord.specs.Views.{IsKeptState};
+
+    /// The numbers are in their ranges, as those of each state that is kept are.
+    pub fn known(&self)
+        ensures { IsKeptState self.now }
+    {
+        let _ = &self.state_epoch;
+    }
+}
+
+/// What a store keeps of a key: its state, how many snapshots it had before the last one, and how many updates since, counted up to
+/// 500.
+#[derive(Debug, Drop)]
+pub struct Kept {
+    pub view: StateView,
+    pub snapshot: u64,
+    pub updates: u16,
+}
