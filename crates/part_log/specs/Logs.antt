@@ -1,8 +1,8 @@
--- Which content of a disk stands for which log, and what a log's journal is found with after a crash. The frames are the
--- batches of the log, each as the broker of the record batch format stores it; that they stand in a journal is this project's
--- own.
--- For example an empty disk, and one whose only gate is closed, stand for the log of no batches (the test
--- a_log_comes_back).
+-- Which content of a disk stands for which log, and what a log is found with after a crash. The frames are the batches of the
+-- log, each in the record batch format (Apache Kafka documentation, "Record Batch"); that they stand in a journal is this
+-- project's own.
+-- For example two batches of 85 bytes stand in frames behind the gates at 0 and 90; with a byte of the second one changed, the
+-- content is no log text, by the place 90 (the test a_log_comes_back).
 use Rattle.std.specs.Prelude.{◌≡◌, ◌⊎◌, ◌+◌, ◌<◌, ◌≤◌, ◌^◌, ℕ, List, [], ◌∷◌, ◌++◌, length, map, Some, None, IfSome}
 use Rattle.std.specs.declared.option.Option.{Option}
 use Rattle.std.specs.Option.{option_map}
