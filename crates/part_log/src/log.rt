@@ -284,7 +284,7 @@ impl<D: Disk> PartLog<D> {
         ensures disk { ArmsAlone D.content D.image D.losses D.arms D.armed D.starved D.faults after mode self.old.journal.disk self.new.journal.disk }
         ensures time { Elapses (D.moment self.old.journal.disk) (D.moment self.new.journal.disk)
             (D.since self.old.journal.disk) (D.since self.new.journal.disk) (D.image self.new.journal.disk) }
-        ensures batches { self.new.batches ≡ self.old.batches }
+        ensures rest { self.new ≡ record self.old { journal = record self.old.journal { disk = self.new.journal.disk } } }
         ensures stays { (pending : Option Batch) → Keeps D.image self.old pending → Keeps D.image self.new pending }
     {
         self.journal.arm(after, mode);
