@@ -1,0 +1,104 @@
+-- Which content of a disk stands for which log, and what a log is found with after a crash. The frames are the batches of the
+-- log, each in the record batch format (Apache Kafka documentation, "Record Batch"); that they stand in a journal is this
+-- project's own.
+-- For example two batches of 85 bytes stand in frames behind the gates at 0 and 90; with a byte of the second one changed, the
+-- content is no log text, by the place 90 (the test a_log_comes_back).
+use Rattle.std.specs.Prelude.{◌≡◌, ◌⊎◌, ◌+◌, ◌<◌, ◌≤◌, ◌^◌, ℕ, List, [], ◌∷◌, ◌++◌, length, map, Some, None, IfSome}
+use Rattle.std.specs.declared.option.Option.{Option}
+use Rattle.std.specs.Option.{option_map}
+use Rattle.std.specs.List.{AllByRecursion}
+use Rattle.gate_journal.specs.Frames.{StandsFor, IsDamaged, blocks}
+use Rattle.gate_journal.specs.Journals.{Stands}
+use Rattle.gate_journal.specs.declared.writer.Writer.{Writer}
+use Rattle.share_model.specs.Logs.{Batch, Covers, IsAt, IsLog, end_of}
+use Rattle.share_model.specs.Pending.{WithPending, WithinWrite}
+use Rattle.part_log.specs.declared.place.BatchPlace.{BatchPlace}
+use Rattle.part_log.specs.Batches.{IsStored}
+
+-- a log, each of whose batches is as a log keeps it
+pub record IsStoredLog (log : List Batch) : Type 0 where
+  pub stored : AllByRecursion IsStored log
+  pub rises : IsLog log
+
+-- the frames of a log: the bytes of each batch
+abbrev pub frames_of : List Batch → List (List ℕ)
+frames_of log = map (λ (b : Batch). b.bytes) log
+
+-- the content stands for the log
+pub record IsLogText (content : List ℕ) (log : List Batch) : Type 0 where
+  pub frames : StandsFor content (frames_of log)
+  pub sound : IsStoredLog log
+
+-- Frames of which one can't stand in a log: behind these batches stands one that isn't a stored batch, or that begins below
+-- their end, and the place is that of its gate.
+pub record IsBadFrames (frames : List (List ℕ)) (place : ℕ) : Type 0 where
+  pub before : List Batch
+  pub frame : List ℕ
+  pub after : List (List ℕ)
+  pub is : frames ≡ frames_of before ++ (frame ∷ after)
+  pub sound : IsStoredLog before
+  pub at : place ≡ length (blocks (frames_of before))
+  pub none : (b : Batch) → b.bytes ≡ frame → IsStored b → b.base < end_of before
+
+-- no log text: no journal text, by this place, or text of frames of which the one at this place can't stand there
+abbrev pub IsNoLogText : List ℕ → ℕ → Type 0
+IsNoLogText content place = IsDamaged content place ⊎ ((frames : List (List ℕ)) × StandsFor content frames × IsBadFrames frames place)
+
+-- what contracts see of a log on a disk: its batches, and the writing end of its journal
+pub record LogParts (D : Type 0) : Type 0 where
+  pub batches : List Batch
+  pub journal : Writer D
+
+-- the log with the pending batch behind it, if one is pending
+abbrev pub and_pending : List Batch → Option Batch → Option (List Batch)
+and_pending log pending = option_map (λ b. log ++ b ∷ []) pending
+
+-- the batch may stand behind the log
+pub record MayFollow (log : List Batch) (b : Batch) : Type 0 where
+  pub stored : IsStored b
+  pub behind : end_of log ≤ b.base
+
+-- A log with this batch pending, if one is: a crash now leaves the log, with or without the pending batch, and the next write
+-- can go on from there.
+pub record Keeps {D : Type 0} (image : D → List ℕ → Type 0) (log : LogParts D) (pending : Option Batch) : Type 0 where
+  pub stands : Stands image log.journal (frames_of log.batches) (option_map (λ (b : Batch). b.bytes) pending)
+  pub sound : IsStoredLog log.batches
+  pub follows : IfSome pending (MayFollow log.batches)
+  pub images : (c : List ℕ) → image log.journal.disk c → WithPending (IsLogText c) log.batches (and_pending log.batches pending)
+
+-- The batch of these bytes at this base has no room: its last offset would be 2^62 or more, and `end` is the log's end; or the
+-- journal, whose last gate ends at `end`, would end past 2^62 bytes.
+abbrev pub IsFull : {D : Type 0} → LogParts D → (last size end : ℕ) → Type 0
+IsFull log last size end = ((2 ^ 62 ≤ last) × (end ≡ end_of log.batches))
+    ⊎ ((last < 2 ^ 62) × (2 ^ 62 < log.journal.end + (size + 5)) × (end ≡ log.journal.end))
+
+-- the batch of these numbers covers the offset
+pub record IsPlaceOf (log : List Batch) (offset : ℕ) (place : BatchPlace) : Type 0 where
+  pub batch : Batch
+  pub at : IsAt log place.number batch
+  pub covers : Covers batch offset
+  pub base : place.base ≡ batch.base
+  pub last : place.last ≡ batch.last
+  pub size : place.size ≡ length batch.bytes
+
+-- found so at a moment of a write of this batch: with the log at entry, that log with the write pending at entry, or with this
+-- batch
+abbrev pub IsWithin : List Batch → Option Batch → Batch → List ℕ → Type 0
+IsWithin log pending b content = WithinWrite (IsLogText content) log (and_pending log pending) (log ++ b ∷ [])
+
+-- there is room for a batch of so many bytes with this last offset
+pub record HasRoomFor {D : Type 0} (log : LogParts D) (last size : ℕ) : Type 0 where
+  pub offsets : last < 2 ^ 62
+  pub journal : log.journal.end + (size + 5) ≤ 2 ^ 62
+
+-- The batch stands behind the others, and nothing else has changed in the log; no write is pending any more.
+pub record IsAdded {D : Type 0} (image : D → List ℕ → Type 0) (old new : LogParts D) (b : Batch) : Type 0 where
+  pub batches : new.batches ≡ old.batches ++ b ∷ []
+  pub follows : MayFollow old.batches b
+  pub kept : (pending : Option Batch) → Keeps image old pending → Keeps image new None
+
+-- The batches are the same, and the pending write is the one from before, or this one.
+pub record IsUnwritten {D : Type 0} (image : D → List ℕ → Type 0) (old new : LogParts D) (b : Batch) : Type 0 where
+  pub batches : new.batches ≡ old.batches
+  pub follows : MayFollow old.batches b
+  pub kept : (pending : Option Batch) → Keeps image old pending → Keeps image new pending ⊎ Keeps image new (Some b)

@@ -1,0 +1,104 @@
+// A batch that is kept in memory.
+ghost use Rattle.std.specs.Prelude.{◌≡◌, ◌+◌, ◌<◌, ◌≤◌, ◌^◌, length, IfOk, MatchOption, List};
+ghost use Rattle.gate_journal.specs.Frames.{frame_in};
+ghost use Rattle.rec_batch.specs.Placing.{placed};
+ghost use Rattle.share_model.specs.Logs.{Batch};
+ghost use Rattle.part_log.specs.Batches.{IsStored};
+ghost use Rattle.part_log.specs.Entries.{bytes_of, seen};
+
+use rec_batch::{Form, place_batch, read_batch};
+use share_model::Blob;
+use std::alloc::{AllocError, Global};
+
+/// The bytes of a batch, as they came.
+#[derive(Debug, Drop)]
+pub enum Kept {
+    /// As they were read from the journal.
+    Read(Blob),
+    /// In the buffer from which they were written: behind four bytes, and before one.
+    Written(Vec<u8>),
+}
+
+/// A batch, with its first and its last offset.
+#[derive(Debug, Drop)]
+pub struct Entry {
+    pub base: u64,
+    pub last: u64,
+    pub bytes: Kept,
+}
+
+// The frame in a buffer.
+fn inner(buffer: &[u8]) -> &[u8]
+    requires { 5 ≤ length buffer.now }
+    ensures { result.now ≡ frame_in buffer.now }
+{
+    let (_, behind) = buffer.split_at(4);
+    let (frame, _) = behind.split_at(behind.len() - 1);
+    frame
+}
+
+/// The bytes of the batch.
+pub fn bytes_of(kept: &Kept) -> &[u8]
+    requires { 0 < length (bytes_of kept.now) }
+    ensures { result.now ≡ bytes_of kept.now }
+{
+    match kept {
+        Kept::Read(blob) => blob.as_slice(),
+        Kept::Written(buffer) => inner(buffer),
+    }
+}
+
+/// The batch of a frame, if it is one that a log keeps and begins at this end of the log or behind it.
+pub fn next_entry(frame: Blob, end: u64) -> Option<Entry>
+    ensures { MatchOption result ((b : Batch) → b.bytes ≡ frame → IsStored b → b.base < end)
+        (λ e. (bytes_of e.bytes ≡ frame) × IsStored (seen e) × (end ≤ e.base)) }
+{
+    let Ok(view) = read_batch(frame.as_slice(), Form::Stored) else {
+        return None;
+    };
+    if view.base < end {
+        return None;
+    }
+    Some(Entry {
+        base: view.base,
+        last: view.base + u64::from(view.last_delta),
+        bytes: Kept::Read(frame),
+    })
+}
+
+/// A buffer with this frame, with room for what a journal sets before and behind it.
+pub fn framed_copy(alloc: Global, frame: &[u8]) -> Result<Vec<u8>, AllocError>
+    requires { length frame.now < 2 ^ 32 }
+    ensures { IfOk result (λ v. (frame_in v.items ≡ frame.now) × (length v.items ≡ length frame.now + 5)) }
+{
+    let mut buffer = Vec::with_capacity(alloc, frame.len() + 5)?;
+    buffer.extend_from_slice(&[0; 4])?;
+    buffer.extend_from_slice(frame)?;
+    buffer.push(0)?;
+    Ok(buffer)
+}
+
+// Gives the batch in a buffer its place in a log.
+fn place_inner(buffer: &mut [u8], base: u64)
+    requires size { 66 ≤ length buffer.old }
+    requires below { base < 2 ^ 62 }
+    ensures frame { frame_in buffer.new ≡ placed base (frame_in buffer.old) }
+    ensures len { length buffer.new ≡ length buffer.old }
+{
+    let (_, behind) = buffer.split_at_mut(4);
+    let len = behind.len() - 1;
+    let (frame, _) = behind.split_at_mut(len);
+    place_batch(frame, base);
+}
+
+/// The same with the frame, which is a batch, at its place in a log.
+pub fn placed_copy(alloc: Global, frame: &[u8], base: u64) -> Result<Vec<u8>, AllocError>
+    requires few { length frame.now < 2 ^ 32 }
+    requires size { 61 ≤ length frame.now }
+    requires below { base < 2 ^ 62 }
+    ensures { IfOk result (λ v. (frame_in v.items ≡ placed base frame.now) × (length v.items ≡ length frame.now + 5)) }
+{
+    let mut buffer = framed_copy(alloc, frame)?;
+    place_inner(&mut buffer, base);
+    Ok(buffer)
+}

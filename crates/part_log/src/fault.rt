@@ -1,0 +1,27 @@
+use thiserror::Error;
+
+/// Why a log was not opened.
+#[derive(Clone, Copy, Debug, PartialEq, Eq, Error)]
+pub enum OpenFault {
+    /// The content is no log text: at this place stands an open gate that no frame and gate follow, or whose frame is no stored
+    /// batch or begins below the end of the log before it.
+    #[error("the log is damaged at byte {place}")]
+    Damaged { place: u64 },
+    /// The disk failed.
+    #[error("the disk of the log failed")]
+    Device,
+    /// There was no memory for the content.
+    #[error("out of memory")]
+    NoMemory,
+}
+
+/// Why the bytes of a batch were not given.
+#[derive(Clone, Copy, Debug, PartialEq, Eq, Error)]
+pub enum BatchRead {
+    /// The disk failed.
+    #[error("the disk of the log failed")]
+    Device,
+    /// There was no memory for the bytes.
+    #[error("out of memory")]
+    NoMemory,
+}

@@ -1,0 +1,300 @@
+ghost use Rattle.std.specs.Prelude.{◌≡◌, ◌≢◌, ◌⊎◌, ◌↔◌, ◌+◌, ◌<◌, ◌≤◌, ◌^◌, ◌++◌, [], ◌∷◌, ℕ, List, length, map};
+ghost use Rattle.std.specs.Prelude.{Some, None, IsOk, IfOk, IfErr, OnOk, OnErr, Err, MatchOption, MatchResult};
+ghost use Rattle.std.specs.declared.option.Option.{Option};
+ghost use Rattle.share_model.specs.declared.fault.BatchFault.{BatchFault};
+ghost use Rattle.share_model.specs.declared.fault.LogFault.{LogFault};
+ghost use Rattle.edge_io.specs.Armed.{ArmsAlone, RunsOn, StarvesUnarmed};
+ghost use Rattle.edge_io.specs.Causes.{Rose};
+ghost use Rattle.edge_io.specs.Disk.{SameContent};
+ghost use Rattle.edge_io.specs.Moments.{Elapses, LeavesOnly};
+ghost use Rattle.gate_journal.specs.Frames.{StandsAs, frame_in};
+ghost use Rattle.rec_batch.specs.Batches.{IsFirstFault, at_least_zero};
+ghost use Rattle.rec_batch.specs.Fields.{last_offset_delta};
+ghost use Rattle.rec_batch.specs.Placing.{placed};
+ghost use Rattle.share_model.specs.Logs.{Batch, IsAt, IsNextSlot, IsSlot, end_of};
+ghost use Rattle.share_model.specs.Rooms.{Appends};
+ghost use Rattle.part_log.specs.Batches.{IsStored, batch_in};
+ghost use Rattle.part_log.specs.Logs.{IsLogText, IsNoLogText, Keeps};
+
+use crate::entry::{Entry, Kept, bytes_of, framed_copy, placed_copy};
+use crate::fault::{BatchRead, OpenFault};
+use crate::place::BatchPlace;
+use crate::reading::read_frames;
+use crate::search::{end_of, next_slot, place_of};
+use edge_io::{Disk, FaultMode};
+use gate_journal::{Journal, StartFault, start};
+use rec_batch::{Form, read_batch};
+use share_model::{LogFault, Room, StoreFault};
+use std::alloc::Global;
+use std::marker::Model;
+
+const OFFSETS: u64 = 1 << 62;
+
+/// The log of a partition: a list of record batches on a disk, which grows by one batch at a time and survives a crash at any
+/// moment.
+///
+/// A contract sees its batches, each with its first and last offset, the offsets of its records and its bytes, and beside them
+/// the writing end of its journal. Each batch stands in one frame of the journal, and its bytes are kept in memory besides.
+#[derive(Drop)]
+pub struct PartLog<D: Disk> {
+    journal: Journal<D>,
+    entries: Vec<Entry>,
+}
+
+impl<D: Disk> Model for PartLog<D> {
+    ghost use Rattle.std.specs.Prelude.{map};
+    ghost use Rattle.part_log.specs.Logs.{LogParts, IsStoredLog};
+    ghost use Rattle.part_log.specs.Entries.{seen};
+
+    ghost Value = { LogParts D };
+
+    ghost view = { λ l. record { batches = map seen l.entries.items; journal = l.journal } };
+
+    ghost invariant = { λ l. IsStoredLog (map seen l.entries.items) };
+}
+
+// The disk of a journal was not opened.
+fn open_fault(fault: StartFault) -> OpenFault
+    ensures damaged { (place : ℕ) → result ≡ OpenFault.Damaged place → fault ≡ StartFault.Damaged place }
+    ensures device { result ≡ OpenFault.Device → fault ≡ StartFault.Device }
+{
+    match fault {
+        StartFault::Damaged { place } => OpenFault::Damaged { place },
+        StartFault::Device => OpenFault::Device,
+        StartFault::NoMemory => OpenFault::NoMemory,
+    }
+}
+
+// The last offset of a batch, if it is below 2^62.
+fn last_offset(base: u64, last_delta: u32) -> Option<u64>
+    requires { base ≤ 2 ^ 62 }
+    ensures { MatchOption result (2 ^ 62 ≤ base + last_delta) (λ last. (last ≡ base + last_delta) × (last < 2 ^ 62)) }
+{
+    let last = base + u64::from(last_delta);
+    if last < OFFSETS { Some(last) } else { None }
+}
+
+impl<D: Disk> PartLog<D> {
+    ghost use Rattle.part_log.specs.Logs.{HasRoomFor, IsAdded, IsFull, IsPlaceOf, IsUnwritten, IsWithin, MayFollow, LogParts};
+
+    /// Opens the log of a disk: reads the batches that its content stands for, in time linear in the content.
+    ///
+    /// It syncs first, so that what it reads is what a crash would leave, and repairs the end of the journal. At an `Err` the disk
+    /// comes back.
+    pub fn open(alloc: Global, disk: D) -> Result<PartLog<D>, (D, OpenFault)>
+        // The log is the one that the content stands for; each image stands for it from now on, and nothing is pending.
+        ensures kept { IfOk result (λ log. Keeps D.image log None) }
+        ensures opens { IfOk result (λ log. (c : List ℕ) → D.content disk ≡ Some c → IsLogText c log.batches) }
+
+        // A content that stands for a log is never damaged, and gives this log.
+        ensures recovers { (c : List ℕ) (batches : List Batch) → D.content disk ≡ Some c → IsLogText c batches →
+            MatchResult result (λ log. log.batches ≡ batches) (λ e. (place : ℕ) → e.1 ≢ OpenFault.Damaged place) }
+
+        // Each refusal has its cause.
+        ensures damaged { IfErr result (λ e. (place : ℕ) → e.1 ≡ OpenFault.Damaged place →
+            (c : List ℕ) → D.content disk ≡ Some c → IsNoLogText c place) }
+        ensures device { IfErr result (λ e. e.1 ≡ OpenFault.Device →
+            Rose (D.faults disk) (D.faults e.0) × StarvesUnarmed D.content D.armed D.starved disk e.0) }
+
+        // At each moment since the call began each image is one from before it, or stands for the frames of one.
+        ensures any_moment { MatchResult result (λ log. LeavesOnly D.moment D.since disk log.journal.disk (StandsAs (D.image disk)))
+            (λ e. LeavesOnly D.moment D.since disk e.0 (StandsAs (D.image disk))) }
+        ensures runs { MatchResult result (λ log. RunsOn D.content D.losses D.arms D.armed D.starved D.faults disk log.journal.disk)
+            (λ e. RunsOn D.content D.losses D.arms D.armed D.starved D.faults disk e.0) }
+    {
+        match start(alloc, disk) {
+            Ok((journal, frames)) => match read_frames(alloc, frames) {
+                Ok(entries) => Ok(PartLog { journal, entries }),
+                Err(fault) => Err((journal.into_disk(), fault)),
+            },
+            Err((disk, fault)) => Err((disk, open_fault(fault))),
+        }
+    }
+
+    // Writes the batch in a buffer, which may stand behind the others.
+    fn store(&mut self, base: u64, last: u64, mut buffer: Vec<u8>) -> Result<u64, LogFault>
+        requires size { 66 ≤ length buffer.items }
+        requires follows { MayFollow self.old.batches (batch_in (frame_in buffer.items)) }
+        requires base { base ≡ (batch_in (frame_in buffer.items)).base }
+        requires last { last ≡ (batch_in (frame_in buffer.items)).last }
+        ensures ok { OnOk result (IsAdded D.image self.old self.new (batch_in (frame_in buffer.items))) }
+        ensures base { IfOk result (λ n. n ≡ base) }
+        ensures device { result ≡ Err (LogFault.Store StoreFault.Device) →
+            IsUnwritten D.image self.old self.new (batch_in (frame_in buffer.items))
+            × Rose (D.faults self.old.journal.disk) (D.faults self.new.journal.disk)
+            × StarvesUnarmed D.content D.armed D.starved self.old.journal.disk self.new.journal.disk }
+        ensures unchanged { (fault : LogFault) → result ≡ Err fault → fault ≢ LogFault.Store StoreFault.Device → self.new ≡ self.old }
+        ensures full { (end : ℕ) → result ≡ Err (LogFault.Store (StoreFault.Full end)) →
+            (2 ^ 62 < self.old.journal.end + length buffer.items) × (end ≡ self.old.journal.end) }
+        ensures room { (result ≡ Err LogFault.NoMemory) ⊎ ((self.old.journal.end + length buffer.items ≤ 2 ^ 62)
+            ⊎ (result ≡ Err (LogFault.Store (StoreFault.Full self.old.journal.end)))) }
+        ensures no_batch { (fault : BatchFault) → result ≢ Err (LogFault.Batch fault) }
+        ensures no_behind { (end : ℕ) → result ≢ Err (LogFault.Behind end) }
+        ensures any_moment { (pending : Option Batch) → Keeps D.image self.old pending →
+            LeavesOnly D.moment D.since self.old.journal.disk self.new.journal.disk (IsWithin self.old.batches pending (batch_in (frame_in buffer.items))) }
+        ensures runs { RunsOn D.content D.losses D.arms D.armed D.starved D.faults self.old.journal.disk self.new.journal.disk }
+    {
+        if let Err(_) = self.entries.reserve(1) {
+            return Err(LogFault::NoMemory);
+        }
+        match self.journal.append(&mut buffer) {
+            Ok(_) => {
+                let bytes = Kept::Written(buffer);
+                if let Err(_) = self.entries.push(Entry { base, last, bytes }) {
+                    unreachable!()
+                }
+                Ok(base)
+            }
+            Err(fault) => Err(LogFault::Store(fault)),
+        }
+    }
+
+    /// Adds a batch as a producer sends it, at the log's end and with leader epoch 0, and answers its base.
+    ///
+    /// What isn't a batch in the produced form is refused with its first fault. Where its last offset would be 2^62 or more, it is
+    /// refused as full with the log's end, and where the journal has no room with the journal's. At `Device` the batch is pending,
+    /// or the one that was pending still is; at each other refusal nothing is changed. It makes one copy of the batch, which is
+    /// then kept, and one device write for it.
+    pub fn append(&mut self, batch: &[u8]) -> Result<u64, LogFault>
+        // At Ok the batch stands at the log's end, and no write is pending.
+        ensures ok { IfOk result (λ base. (base ≡ end_of self.old.batches) × IsAdded D.image self.old self.new (batch_in (placed base batch.now))) }
+        ensures room { OnOk result (HasRoomFor self.old (end_of self.old.batches + at_least_zero (last_offset_delta batch.now)) (length batch.now)) }
+
+        // Each refusal has its cause. The pending write is the one from before, or at a failed device this one.
+        ensures batch { (fault : BatchFault) → (result ≡ Err (LogFault.Batch fault)) ↔ IsFirstFault Form.Produced batch.now fault }
+        ensures behind { (end : ℕ) → result ≢ Err (LogFault.Behind end) }
+        ensures full { (end : ℕ) → result ≡ Err (LogFault.Store (StoreFault.Full end)) →
+            IsFull self.old (end_of self.old.batches + at_least_zero (last_offset_delta batch.now)) (length batch.now) end }
+        ensures device { result ≡ Err (LogFault.Store StoreFault.Device) →
+            IsUnwritten D.image self.old self.new (batch_in (placed (end_of self.old.batches) batch.now))
+            × HasRoomFor self.old (end_of self.old.batches + at_least_zero (last_offset_delta batch.now)) (length batch.now)
+            × Rose (D.faults self.old.journal.disk) (D.faults self.new.journal.disk)
+            × StarvesUnarmed D.content D.armed D.starved self.old.journal.disk self.new.journal.disk }
+        ensures unchanged { (fault : LogFault) → result ≡ Err fault → fault ≢ LogFault.Store StoreFault.Device → self.new ≡ self.old }
+
+        // At each moment since the call began a crash leaves the log at entry, with or without the pending batch, or with this one.
+        ensures any_moment { (pending : Option Batch) → Keeps D.image self.old pending →
+            LeavesOnly D.moment D.since self.old.journal.disk self.new.journal.disk
+            (IsWithin self.old.batches pending (batch_in (placed (end_of self.old.batches) batch.now))) }
+        ensures runs { RunsOn D.content D.losses D.arms D.armed D.starved D.faults self.old.journal.disk self.new.journal.disk }
+    {
+        let view = match read_batch(batch, Form::Produced) {
+            Ok(view) => view,
+            Err(fault) => return Err(LogFault::Batch(fault)),
+        };
+        let base = self.end();
+        let Some(last) = last_offset(base, view.last_delta) else {
+            return Err(LogFault::Store(StoreFault::Full { end: base }));
+        };
+        let Ok(buffer) = placed_copy(*self.entries.allocator(), batch, base) else {
+            return Err(LogFault::NoMemory);
+        };
+        self.store(base, last, buffer)
+    }
+
+    /// Adds a batch as a log keeps it, with the base that it has and all its bytes, and answers its base.
+    ///
+    /// What isn't a batch in the stored form is refused with its first fault, and one whose base is below the log's end with that
+    /// end. The other refusals, and what stands after each, are those of `append`.
+    pub fn load(&mut self, batch: &[u8]) -> Result<u64, LogFault>
+        // At Ok the batch stands behind the others as it is, and no write is pending.
+        ensures ok { IfOk result (λ base. (base ≡ (batch_in batch.now).base) × IsAdded D.image self.old self.new (batch_in batch.now)) }
+        ensures room { OnOk result (HasRoomFor self.old (batch_in batch.now).last (length batch.now)) }
+
+        // Each refusal has its cause. The pending write is the one from before, or at a failed device this one.
+        ensures batch { (fault : BatchFault) → (result ≡ Err (LogFault.Batch fault)) ↔ IsFirstFault Form.Stored batch.now fault }
+        ensures behind { (end : ℕ) → (result ≡ Err (LogFault.Behind end)) ↔ ((end ≡ end_of self.old.batches)
+            × IsStored (batch_in batch.now) × ((batch_in batch.now).base < end_of self.old.batches)) }
+        ensures full { (end : ℕ) → result ≡ Err (LogFault.Store (StoreFault.Full end)) →
+            IsFull self.old (batch_in batch.now).last (length batch.now) end }
+        ensures device { result ≡ Err (LogFault.Store StoreFault.Device) →
+            IsUnwritten D.image self.old self.new (batch_in batch.now)
+            × HasRoomFor self.old (batch_in batch.now).last (length batch.now)
+            × Rose (D.faults self.old.journal.disk) (D.faults self.new.journal.disk)
+            × StarvesUnarmed D.content D.armed D.starved self.old.journal.disk self.new.journal.disk }
+        ensures unchanged { (fault : LogFault) → result ≡ Err fault → fault ≢ LogFault.Store StoreFault.Device → self.new ≡ self.old }
+
+        // At each moment since the call began a crash leaves the log at entry, with or without the pending batch, or with this one.
+        ensures any_moment { (pending : Option Batch) → Keeps D.image self.old pending →
+            LeavesOnly D.moment D.since self.old.journal.disk self.new.journal.disk (IsWithin self.old.batches pending (batch_in batch.now)) }
+        ensures runs { RunsOn D.content D.losses D.arms D.armed D.starved D.faults self.old.journal.disk self.new.journal.disk }
+    {
+        let view = match read_batch(batch, Form::Stored) {
+            Ok(view) => view,
+            Err(fault) => return Err(LogFault::Batch(fault)),
+        };
+        let end = self.end();
+        if view.base < end {
+            return Err(LogFault::Behind { end });
+        }
+        let Ok(buffer) = framed_copy(*self.entries.allocator(), batch) else {
+            return Err(LogFault::NoMemory);
+        };
+        self.store(view.base, view.base + u64::from(view.last_delta), buffer)
+    }
+
+    /// The least slot from an offset on, found in the logarithm of the number of batches.
+    pub fn next_slot(&self, from: u64) -> Option<u64>
+        ensures { IsNextSlot self.now.batches from result }
+    {
+        next_slot(&self.entries, from)
+    }
+
+    /// The batch that covers an offset, found in the logarithm of the number of batches.
+    pub fn batch_of(&self, offset: u64) -> Option<BatchPlace>
+        ensures { MatchOption result (IsSlot self.now.batches offset → ⊥) (IsPlaceOf self.now.batches offset) }
+    {
+        place_of(&self.entries, offset)
+    }
+
+    /// The offset behind the last slot, or 0.
+    pub fn end(&self) -> u64
+        ensures end { result ≡ end_of self.now.batches }
+        ensures below { result ≤ 2 ^ 62 }
+    {
+        end_of(&self.entries)
+    }
+
+    /// Appends the bytes of the batch with this number, from 0 on, to a room. It finds no memory only where the spare number of the
+    /// room is below their number, and the room is then as it was. The log stays as it is, and no device is called.
+    pub fn batch_bytes(&mut self, number: u64, out: &mut Room) -> Result<(), BatchRead>
+        requires { number < length self.old.batches }
+        ensures ok { OnOk result ((b : Batch) → IsAt self.old.batches number b → Appends out.old out.new b.bytes) }
+        ensures err { OnErr result (out.new ≡ out.old) }
+        ensures spared { (b : Batch) → IsAt self.old.batches number b → length b.bytes ≤ out.old.spare → IsOk result }
+        ensures device { result ≢ Err BatchRead.Device }
+        ensures log { self.new ≡ self.old }
+    {
+        let entry = &self.entries[number as usize];
+        if let Err(_) = out.append(bytes_of(&entry.bytes)) {
+            return Err(BatchRead::NoMemory);
+        }
+        Ok(())
+    }
+
+    /// Whether a call of its disk has failed for want of memory.
+    pub fn starved(&self) -> bool
+        ensures { result ≡ D.starved self.now.journal.disk }
+    {
+        self.journal.starved()
+    }
+
+    /// Arms a fault of its disk, and changes nothing else.
+    pub fn arm(&mut self, after: u64, mode: FaultMode)
+        ensures disk { ArmsAlone D.content D.image D.losses D.arms D.armed D.starved D.faults after mode self.old.journal.disk self.new.journal.disk }
+        ensures time { Elapses (D.moment self.old.journal.disk) (D.moment self.new.journal.disk)
+            (D.since self.old.journal.disk) (D.since self.new.journal.disk) (D.image self.new.journal.disk) }
+        ensures rest { self.new ≡ record self.old { journal = record self.old.journal { disk = self.new.journal.disk } } }
+        ensures stays { (pending : Option Batch) → Keeps D.image self.old pending → Keeps D.image self.new pending }
+    {
+        self.journal.arm(after, mode);
+    }
+
+    /// Gives the disk back.
+    pub fn into_disk(self) -> D
+        ensures { result ≡ self.journal.disk }
+    {
+        let PartLog { journal, .. } = self;
+        journal.into_disk()
+    }
+}
