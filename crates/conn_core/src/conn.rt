@@ -1,6 +1,6 @@
 ghost use Rattle.std.specs.Prelude.{◌≡◌, ◌≤◌, ◌+◌, ◌∷◌, ◌↔◌, [], length, OnOk, OnErr, IfOk, IfSome, IfNone};
 ghost use Rattle.conn_core.specs.Stream.{front_of, behind_frame, frame_at};
-ghost use Rattle.conn_core.specs.Conns.{opened, fed, ended, releasing_also, replied, without_replies, is_gone};
+ghost use Rattle.conn_core.specs.Conns.{opened, fed, ended, replied, without_replies, is_gone};
 ghost use Rattle.conn_core.specs.Turning.{Tells, Waits, Awaits, FitsIn, asked_in, closed, releasing, sent, begun, after, at_front, turn, finished, settled, given};
 
 use crate::hand::Hand;
@@ -83,16 +83,6 @@ impl Conn {
                 self.work = Work::Closing;
             }
         }
-    }
-
-    /// This is to be released when the connection closes.
-    #[cfg(test)]
-    pub fn must_release(&mut self, key: Key) -> Result<(), NoMemory>
-        ensures ok { OnOk result (self.new ≡ releasing_also key self.old) }
-        ensures err { OnErr result (self.new ≡ self.old) }
-    {
-        self.releases.push_back(key)?;
-        Ok(())
     }
 
     fn close(&mut self, cause: CloseCause) -> Next

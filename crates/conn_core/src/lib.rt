@@ -13,8 +13,6 @@ mod next;
 mod request;
 mod sending;
 mod stream;
-#[cfg(test)]
-mod tests;
 mod versions;
 mod work;
 

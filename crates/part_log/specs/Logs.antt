@@ -2,7 +2,7 @@
 -- log, each in the record batch format (Apache Kafka documentation, "Record Batch"); that they stand in a journal is this
 -- project's own.
 -- For example two batches of 85 bytes stand in frames behind the gates at 0 and 90; with a byte of the second one changed, the
--- content is no log text, by the place 90 (the test a_log_comes_back).
+-- content is no log text, by the place 90.
 use Rattle.std.specs.Prelude.{◌≡◌, ◌⊎◌, ◌+◌, ◌<◌, ◌≤◌, ◌^◌, ℕ, List, [], ◌∷◌, ◌++◌, length, map, Some, None, IfSome}
 use Rattle.std.specs.declared.option.Option.{Option}
 use Rattle.std.specs.Option.{option_map}
