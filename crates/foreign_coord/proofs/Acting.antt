@@ -1,9 +1,9 @@
 -- From what the store does to what the shard does.
-use Rattle.std.proofs.Common.{◌≡◌, ◌<◌, ◌+◌, ◌^◌, inl, inr, refl, sym, subst, arith, ℕ, List, length, Option, Some, None, Result, Ok, Err, IfOk, IfErr, OnOk, OnErr, IsErr}
+use Rattle.std.proofs.Common.{◌≡◌, ◌⊎◌, ⊎_elim, ◌≢◌, ◌<◌, ◌+◌, ◌^◌, inl, inr, refl, sym, subst, arith, ℕ, List, length, Option, Some, None, Result, Ok, Err, IfOk, IfErr, OnOk, OnErr, IsErr}
 use Rattle.flex_fields.specs.declared.fault.NoMemory.{NoMemory as want}
 use Rattle.share_model.specs.Foreign.{code_alone}
 use Rattle.share_model.specs.ForeignRules.{Does}
-use Rattle.share_model.specs.declared.fault.TheConstants.Code.{NONE, INVALID_REQUEST}
+use Rattle.share_model.specs.declared.fault.TheConstants.Code.{NONE, INVALID_REQUEST, KAFKA_STORAGE_ERROR}
 use Rattle.share_model.specs.declared.fault.StoreFault.{StoreFault}
 use Rattle.share_model.specs.declared.fault.StoreFault.TheVariants.{Device, Full}
 use Rattle.share_model.specs.declared.foreign.ForeignAnswer.{ForeignAnswer}
@@ -11,7 +11,7 @@ use Rattle.share_model.specs.declared.foreign.ForeignOp.{ForeignOp}
 use Rattle.share_coord.specs.Parts.{StoreParts}
 use Rattle.share_coord.specs.Stored.{Entries}
 use Rattle.share_coord.specs.Calls.{Causes}
-use Rattle.share_coord.specs.Holding.{WritesOnce}
+use Rattle.share_coord.specs.Holding.{Holds, WritesOnce}
 use Rattle.share_coord.specs.declared.fault.CoordFault.{CoordFault}
 use Rattle.share_coord.specs.declared.fault.CoordFault.TheVariants.{Invalid, Unknown, FencedLeader, FencedState, TooMany, Store, NoMemory}
 use Rattle.foreign_coord.specs.Acts.{ActsOnce, IsDone, IsFaulted, WrittenBy, states_of}
@@ -26,6 +26,19 @@ module _ {D : Type 0} (faults : D → ℕ) (op : ForeignOp) (old new : StorePart
   none_told : (result : Result ForeignAnswer want) → IsErr result → IfOk result (IsDone faults op old new)
   none_told (Ok a) h = absurd (clash (sym h))
   none_told (Err e) h = tt
+
+abbrev NotDevice : CoordFault → Type 0
+NotDevice Invalid = Unit {0}
+NotDevice Unknown = Unit {0}
+NotDevice (FencedLeader n) = Unit {0}
+NotDevice (FencedState n) = Unit {0}
+NotDevice (TooMany n) = Unit {0}
+NotDevice (Store Device) = ⊥
+NotDevice (Store (Full end)) = Unit {0}
+NotDevice NoMemory = Unit {0}
+
+apart_device : (e : CoordFault) → NotDevice e → e ≢ Store Device
+apart_device e h is = subst NotDevice is h
 
 told : (answer : ForeignAnswer) (result : Result ForeignAnswer want) (P : Type 0) → result ≡ Ok answer → OnErr result P
 told answer result P is = subst (λ (r : Result ForeignAnswer want). OnErr r P) (sym is) tt
@@ -53,6 +66,18 @@ module _ {D T : Type 0} (image : D → List ℕ → Type 0) (moment : D → ℕ)
   by_fault (Store fault) result is once f many = answered faults op old new _ result is (inr (refl, once.same, faulted fault once))
   by_fault NoMemory result is once f many = none_told faults op old new result is
 
+  held_by : (e : CoordFault) (result : Result ForeignAnswer want) → TellsFault e result → WritesOnce {T = T} image moment since faults (WrittenBy old.entries op) old new (Err e)
+      → (pending : Option Entries) → Holds image old pending → Holds image new pending
+      ⊎ ((result ≡ Ok (code_alone KAFKA_STORAGE_ERROR)) × ((lost : Entries) × WrittenBy old.entries op lost × Holds image new (Some lost)))
+  held_by Invalid result is once pending held = inl (once.stays (apart_device Invalid tt) pending held)
+  held_by Unknown result is once pending held = inl (once.stays (apart_device Unknown tt) pending held)
+  held_by (FencedLeader n) result is once pending held = inl (once.stays (apart_device (FencedLeader n) tt) pending held)
+  held_by (FencedState n) result is once pending held = inl (once.stays (apart_device (FencedState n) tt) pending held)
+  held_by (TooMany n) result is once pending held = inl (once.stays (apart_device (TooMany n) tt) pending held)
+  held_by (Store Device) result is once pending held = ⊎_elim (λ h. inl h) (λ lost. inr (is, lost)) (once.failed pending held)
+  held_by (Store (Full end)) result is once pending held = inl (once.stays (apart_device (Store (Full end)) tt) pending held)
+  held_by NoMemory result is once pending held = inl (once.stays (apart_device NoMemory tt) pending held)
+
   -- a call of which the store has answered this
   pub acts : (done : Result T CoordFault) (result : Result ForeignAnswer want) → Tells done result
       → WritesOnce image moment since faults (WrittenBy old.entries op) old new done
@@ -71,7 +96,7 @@ module _ {D T : Type 0} (image : D → List ℕ → Type 0) (moment : D → ℕ)
         (λ numeric. subst (λ (es : Entries). Does (states_of old.entries) op (code_alone (code_in e)) (states_of es)) (sym once.same) (refused e refl numeric))
         (λ n at. subst (λ (es : Entries). Does (states_of old.entries) op (code_alone INVALID_REQUEST) (states_of es)) (sym once.same) (many e n refl at));
     same = on_err result (new.entries ≡ old.entries) once.same;
-    holds = λ pending held. inr (once.same, once.failed pending held);
+    holds = λ pending held. inr (once.same, held_by e result is once pending held);
     any_moment = once.any_moment;
   }
 

@@ -1,6 +1,6 @@
 -- What a call on the foreign shard leaves in its store and on its disks (KIP-932, the share-group state calls). This project's own.
 -- For example a delete of a key that isn't there is answered with code 0, and no device call is made for it.
-use Rattle.std.specs.Prelude.{◌≡◌, ◌⊎◌, ◌<◌, ◌+◌, ◌^◌, ℕ, List, length, map, Some, None, Result, IfOk, OnErr}
+use Rattle.std.specs.Prelude.{◌≡◌, ◌⊎◌, ◌<◌, ◌+◌, ◌^◌, ℕ, List, length, map, Some, None, Result, IfOk, OnErr, Ok}
 use Rattle.std.specs.declared.option.Option.{Option}
 use Rattle.edge_io.specs.Causes.{Rose}
 use Rattle.edge_io.specs.Moments.{LeavesPairs}
@@ -44,10 +44,12 @@ pub record ActsOnce {D : Type 0} (image : D → List ℕ → Type 0) (moment : D
     (op : ForeignOp) (old new : StoreParts D) (result : Result ForeignAnswer NoMemory) : Type 0 where
   pub done : IfOk result (IsDone faults op old new)
   pub same : OnErr result (new.entries ≡ old.entries)
-  -- what is held afterwards: all that is written, with nothing pending; or what was held, with the write from before pending, or this one
+  -- What is held afterwards: all that is written, with nothing pending; or what was held; or, where the answer is code 56, what was
+  -- held with this write pending.
   pub holds : (pending : Option Entries) → Holds image old pending →
       (Holds image new None × WrittenBy old.entries op new.entries)
-      ⊎ ((new.entries ≡ old.entries) × (Holds image new pending ⊎ ((lost : Entries) × WrittenBy old.entries op lost × Holds image new (Some lost))))
+      ⊎ ((new.entries ≡ old.entries) × (Holds image new pending
+      ⊎ ((result ≡ Ok (code_alone KAFKA_STORAGE_ERROR)) × ((lost : Entries) × WrittenBy old.entries op lost × Holds image new (Some lost)))))
   pub any_moment : (pending : Option Entries) → Holds image old pending →
       LeavesPairs moment since moment since old.journal.live.disk new.journal.live.disk old.journal.idle new.journal.idle
       (IsWithin (WrittenBy old.entries op) old.entries pending)
