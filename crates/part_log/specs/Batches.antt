@@ -1,6 +1,6 @@
 -- Which batch of a log a frame holds (Apache Kafka documentation, "Record Batch": a record's offset is the base offset and
 -- its offset delta).
--- For example the 77 bytes of the test gaps_and_holes are a stored batch with base 5, last offset 7 and records at 5 and 7.
+-- For example 77 bytes are a stored batch with base 5, last offset 7 and records at 5 and 7.
 use Rattle.std.specs.Prelude.{◌≡◌, ℕ, zero, suc, ℤ, pos, ◌+ℤ◌, List, [], ◌∷◌, map, Option, Some, None}
 use Rattle.share_model.specs.Logs.{Batch}
 use Rattle.rec_batch.specs.declared.form.Form.TheVariants.{Stored}
