@@ -4,7 +4,5 @@
 mod batches;
 mod codes;
 mod shard;
-#[cfg(test)]
-mod tests;
 
 pub use shard::ForeignShard;
