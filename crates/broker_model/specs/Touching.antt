@@ -1,0 +1,23 @@
+-- What a step leaves alone (this project's own).
+-- For example a step of connection 2 leaves connection 1 as it was.
+use Rattle.std.specs.Prelude.{◌≡◌, ◌≢◌, ℕ, List, Option, None, Some, false}
+use Rattle.session_script.specs.declared.event.Event.{Event}
+use Rattle.session_script.specs.declared.event.Event.TheVariants.{Open, Bytes, Close, Step, Arm, Power}
+use Rattle.session_script.specs.declared.event.Outcome.{Outcome}
+use Rattle.topic_conf.specs.Configs.{ConfigParts}
+use Rattle.broker_model.specs.Shards.{ShardCall, calls}
+use Rattle.broker_model.specs.Machine.{conn_at}
+use Rattle.broker_model.specs.Disks.{IsTaken}
+use Rattle.broker_model.specs.Cutting.{Spares}
+use Rattle.broker_model.specs.Laws.{NoPower, NoArm}
+use Rattle.broker_model.specs.States.{State, IsStep}
+
+-- A step touches its connection, the shard that it calls, and that shard's disks, and nothing else.
+pub record TouchesItsOwn (event : Event) (call : Option ShardCall) (old new : State) : Type 0 where
+  pub connections : (id : ℕ) → Spares id event → conn_at id new.machine.connections ≡ conn_at id old.machine.connections
+  pub shards : NoPower event → call ≡ None → new.machine.shards ≡ old.machine.shards
+  pub disks : (name : List ℕ) → IsTaken name → NoPower event → NoArm name event → calls call name ≡ false → new.disks name ≡ old.disks name
+
+abbrev pub StepsTouchTheirOwn : ConfigParts → Type 0
+StepsTouchTheirOwn conf = (old new : State) (event : Event) (call : Option ShardCall) (outcomes : List Outcome) →
+    IsStep conf old event call outcomes new → TouchesItsOwn event call old new
