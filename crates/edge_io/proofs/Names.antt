@@ -1,10 +1,10 @@
 -- Which bytes the name of a disk has, and where it is cut at its slashes.
-use Rattle.std.proofs.Common.{◌≡◌, ◌≢◌, ◌<◌, ℕ, List, [], ◌∷◌, ◌++◌, All, Bool, true, inl, inr, codes, get_or, refl, sym, ap, ◌∙◌, subst, arith}
-use Rattle.std.proofs.Common.{◌&&◌, nat_lt, Option, Some, None, MatchOption, IfSome, IsSome, ◌↔◌, length, lit<}
+use Rattle.std.proofs.Common.{◌≡◌, ◌≢◌, ◌<◌, ◌≤◌, ℕ, List, [], ◌∷◌, ◌++◌, All, Bool, true, inl, inr, codes, get_or, refl, sym, ap, ◌∙◌, subst, arith}
+use Rattle.std.proofs.Common.{◌&&◌, nat_lt, Option, Some, None, MatchOption, IfSome, IsSome, ◌↔◌, length, length-append, lit<}
 use Rattle.std.proofs.lemmas.Bool.{false≢true}
 use Rattle.std.proofs.lemmas.Bool.Decides.{nat_tests}
 use Rattle.std.proofs.lemmas.List.Elements.{All-append, All-cons, All-nil, All-weaker}
-use Rattle.std.specs.Str.{IsUtf8}
+use Rattle.std.specs.Str.{IsAscii, IsUtf8}
 use Rattle.std.proofs.lemmas.Str.{IsUtf8-from_ascii}
 use Rattle.std.proofs.lemmas.Str.Ascii.{IsAscii-from_all}
 use Rattle.std.proofs.lemmas.Str.Pattern.{IsSplitOnceResult, split_after, split_parts}
@@ -45,8 +45,28 @@ name_bytes name (inl h) = rw (h.5)
 name_bytes name (inr (inl e)) = rw e (name_bytes_of (codes "foreign/state-a") refl)
 name_bytes name (inr (inr e)) = rw e (name_bytes_of (codes "foreign/state-b") refl)
 
+pub name_is_ascii : (name : List ℕ) → IsDiskName name → IsAscii name
+name_is_ascii name h = IsAscii-from_all name (All-weaker IsNameByte (λ b. b < 128) (λ b p. omega (arith, p.1)) name (name_bytes name h))
+
 pub name_is_text : (name : List ℕ) → IsDiskName name → IsUtf8 name
-name_is_text name h = IsUtf8-from_ascii name (IsAscii-from_all name (All-weaker IsNameByte (λ b. b < 128) (λ b p. omega (arith, p.1)) name (name_bytes name h)))
+name_is_text name h = IsUtf8-from_ascii name (name_is_ascii name h)
+
+number_short : (n : ℕ) → n < 64 → length (number_word n) ≤ 2
+number_short n lt = grind (arith, nat_tests)
+
+place_short : (place : DiskPlace) → length (disk_word place) ≤ 7
+place_short Log = omega arith
+place_short StateA = omega arith
+place_short StateB = omega arith
+
+-- 249 bytes of a topic, two digits, `state-a`, and two slashes
+pub name_short : (name : List ℕ) → IsDiskName name → length name ≤ 260
+name_short name (inl h) =
+    let all = ap length h.5 ∙ length-append h.0 (47 ∷ (number_word h.1 ++ 47 ∷ disk_word h.2)) in
+    let rest = length-append (number_word h.1) (47 ∷ disk_word h.2) in
+    omega (arith, all, rest, h.3.1, number_short h.1 h.4, place_short h.2)
+name_short name (inr (inl e)) = omega (arith, ap length e)
+name_short name (inr (inr e)) = omega (arith, ap length e)
 
 no_slash : (topic : List ℕ) → IsTopicName topic → (i : ℕ) → i < length topic → get_or topic i 0 ≢ 47
 no_slash topic h i lt e = false≢true (subst (λ (b : ℕ). is_topic_byte b ≡ true) e (h.2 i 0 lt))

@@ -1,4 +1,4 @@
-ghost use Rattle.std.specs.Prelude.{◌≡◌, ◌++◌, ◌∷◌, [], IfOk, string_bytes};
+ghost use Rattle.std.specs.Prelude.{◌≡◌, ◌++◌, ◌∷◌, [], IfOk, codes, string_bytes};
 ghost use Rattle.std.specs.Fmt.{decimal};
 ghost use Rattle.session_script.specs.Script.{line_of, mode_word};
 ghost use Rattle.session_script.specs.Output.{outcome_line, cause_text, malformed_line, damaged_line};
@@ -66,6 +66,18 @@ fn mode_word(mode: FaultMode) -> &'static str
     }
 }
 
+fn arm_line(
+    alloc: Global,
+    disk: &DiskName,
+    after: u64,
+    mode: FaultMode,
+) -> Result<String, AllocError>
+    ensures { IfOk result (λ text. string_bytes text ≡ codes "arm" ++ 32 ∷ (disk.now ++ 32 ∷ (decimal after ++ 32 ∷ (mode_word mode ++ 10 ∷ [])))) }
+{
+    let mode = mode_word(mode);
+    format!(in alloc; "arm {disk} {after} {mode}\n")
+}
+
 fn event_line(alloc: Global, event: &Event) -> Result<String, AllocError>
     ensures { IfOk result (λ text. string_bytes text ≡ line_of event.now) }
 {
@@ -80,10 +92,7 @@ fn event_line(alloc: Global, event: &Event) -> Result<String, AllocError>
             let now = now.to_string(alloc)?;
             line(alloc, "step", *conn, &now)
         }
-        Event::Arm { disk, after, mode } => {
-            let mode = mode_word(*mode);
-            format!(in alloc; "arm {disk} {after} {mode}\n")
-        }
+        Event::Arm { disk, after, mode } => arm_line(alloc, disk, *after, *mode),
         Event::Power { choice } => format!(in alloc; "power {choice}\n"),
     }
 }
