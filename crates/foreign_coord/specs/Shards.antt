@@ -1,0 +1,76 @@
+-- The shard of foreign state as a machine: its states, the write that is pending, and what each call answers and leaves of both
+-- (KIP-932, the share-group state calls; code 56 and the pending write are this project's own).
+-- Worked example: a shard has no keys and nothing is pending. An initialisation of `g1` with epoch 3 and start 7 meets a device
+-- fault at its last sync: it is answered with code 56, there is still no key, and the state of `g1` is pending. A read of `g1` is
+-- answered with code 3, and leaves both. The same initialisation again is answered with code 0: `g1` is there, and nothing is pending.
+use Rattle.std.specs.Prelude.{◌≡◌, ◌⊎◌, ◌<◌, ◌+◌, ◌^◌, ℕ, pos, List, length, Bool, true, false, Option, Some, None, is_some, if◌then◌else◌}
+use Rattle.std.specs.Option.{option_map}
+use Rattle.std.specs.Ordering.{int_eq}
+use Rattle.share_model.specs.Foreign.{code_alone}
+use Rattle.share_model.specs.ForeignRules.{ShareStates, Does, share_state_at}
+use Rattle.share_model.specs.declared.fault.StoreFault.{StoreFault}
+use Rattle.share_model.specs.declared.fault.StoreFault.TheVariants.{Device, Full}
+use Rattle.share_model.specs.declared.fault.TheConstants.Code.{NONE, KAFKA_STORAGE_ERROR}
+use Rattle.share_model.specs.declared.foreign.ForeignAnswer.{ForeignAnswer}
+use Rattle.share_model.specs.declared.foreign.ForeignOp.{ForeignOp}
+use Rattle.share_model.specs.declared.foreign.ForeignOp.TheVariants.{Init, Read, Write, Delete}
+use Rattle.share_coord.specs.Holding.{Holds}
+use Rattle.share_coord.specs.Parts.{StoreParts}
+use Rattle.share_coord.specs.Stored.{Entries, Accepts}
+use Rattle.foreign_coord.specs.Acts.{states_of}
+
+-- the shard of foreign state: the states, and what the pending write would leave
+pub record ForeignShardState : Type 0 where
+  pub states : ShareStates
+  pub pending : Option ShareStates
+
+-- code 0
+abbrev pub is_granted : ForeignAnswer → Bool
+is_granted answer = int_eq answer.code.0 (pos 0)
+
+-- whether a call that is answered so writes a record: an initialisation and a write that are granted, and a delete of a key that is
+-- there
+abbrev pub writes : ShareStates → ForeignOp → ForeignAnswer → Bool
+writes states (Init key state_epoch start) answer = is_granted answer
+writes states (Read key leader_epoch) answer = false
+writes states (Write key state_epoch leader_epoch start batches) answer = is_granted answer
+writes states (Delete key) answer = is_some (share_state_at states key)
+
+-- what a call leaves where it is granted and writes
+abbrev pub Grants : ShareStates → ForeignOp → ShareStates → Type 0
+Grants old op new = Does old op (code_alone NONE) new × (writes old op (code_alone NONE) ≡ true)
+
+-- a call that met no store fault is done by the rules; where it wrote, nothing is pending
+pub record IsDone (op : ForeignOp) (answer : ForeignAnswer) (old new : ForeignShardState) : Type 0 where
+  pub does : Does old.states op answer new.states
+  pub pending : new.pending ≡ (if writes old.states op answer then None else old.pending)
+
+-- its record could not be stored: the states are as before, and the pending write is the one from before or this one
+pub record IsUnstored (op : ForeignOp) (old new : ForeignShardState) : Type 0 where
+  pub granted : (lost : ShareStates) × Grants old.states op lost
+  pub same : new.states ≡ old.states
+  pub pending : (new.pending ≡ old.pending) ⊎ ((lost : ShareStates) × Grants old.states op lost × (new.pending ≡ Some lost))
+
+-- the journal, whose last gate ends at `end`, has no room for this call's record below 2^62
+pub record IsFull (end : ℕ) (states : ShareStates) (op : ForeignOp) : Type 0 where
+  pub before : Entries
+  pub after : Entries
+  pub frame : List ℕ
+  pub is_before : states_of before ≡ states
+  pub granted : Grants states op (states_of after)
+  pub accepted : Accepts before frame after
+  pub past : 2 ^ 62 < end + (length frame + 5)
+
+-- A step of the shard. `rose` says that the count of faults of its first disk rose, `end` is where its journal ends; `fault` is what
+-- the store met.
+abbrev pub StepsForeign : (rose : Type 0) (end : ℕ) → ForeignShardState → ForeignOp → ForeignAnswer → Option StoreFault → ForeignShardState → Type 0
+StepsForeign rose end old op answer None new = IsDone op answer old new
+StepsForeign rose end old op answer (Some Device) new = (answer ≡ code_alone KAFKA_STORAGE_ERROR) × rose × IsUnstored op old new
+StepsForeign rose end old op answer (Some (Full at)) new = (answer ≡ code_alone KAFKA_STORAGE_ERROR) × (at ≡ end) × (new ≡ old) × IsFull end old.states op
+
+-- A store in memory and its disks stand for the shard's state.
+pub record Carries {D : Type 0} (image : D → List ℕ → Type 0) (store : StoreParts D) (shard : ForeignShardState) : Type 0 where
+  pub pending : Option Entries
+  pub holds : Holds image store pending
+  pub states : shard.states ≡ states_of store.entries
+  pub pending_is : shard.pending ≡ option_map states_of pending
