@@ -2,7 +2,7 @@
 ghost use Rattle.std.specs.Prelude.{◌≡◌, ◌≤◌, ◌∷◌, [], List, ℕ, OnOk, OnErr, IfOk, if◌then◌else◌};
 ghost use Rattle.std.specs.Map.{remove_entry};
 ghost use Rattle.session_script.specs.declared.event.Outcome.{Outcome};
-ghost use Rattle.conn_core.specs.Conns.{ConnParts, fed, without_replies, is_gone};
+ghost use Rattle.conn_core.specs.Conns.{ConnParts, conn_after_bytes, without_replies, is_gone};
 ghost use Rattle.conn_core.specs.Turning.{Awaits, turn};
 ghost use Rattle.foreign_coord.specs.Shards.{ForeignShardState};
 ghost use Rattle.broker_model.specs.Machine.{Machine, named, opened, at_connection, conn_at, ended_in};
@@ -62,7 +62,7 @@ fn done<D: Disk>(
     match next {
         Next::Ask(Part::Foreign(op)) => {
             let answer = act(&op, shard)?;
-            conn.give(alloc, conf, PartAnswer::Foreign(answer))?;
+            conn.give(conf, PartAnswer::Foreign(answer))?;
             replies(alloc, id, conn)
         }
         Next::Ready => replies(alloc, id, conn),
@@ -90,7 +90,7 @@ fn step<D: Disk>(
     ensures first { GoesOn D.content D.faults shard.old.journal.live.disk shard.new.journal.live.disk }
     ensures second { shard.new.journal.idle ≡ shard.old.journal.idle }
 {
-    let next = conn.next_part(alloc, conf)?;
+    let next = conn.next_part(conf)?;
     let outcomes = done(alloc, conf, id, next, conn, shard)?;
     Ok((outcomes, conn.is_gone()))
 }
@@ -147,7 +147,7 @@ pub fn connect(alloc: Global, id: u32, clients: &mut BTreeMap<u32, Conn>) -> Res
 
 /// Bytes come from the client of this number, if there is one.
 pub fn send(id: u32, bytes: &[u8], clients: &mut BTreeMap<u32, Conn>) -> Result<(), NoMemory>
-    ensures { OnOk result (clients.new.entries ≡ at_connection id (fed bytes.now) clients.old.entries) }
+    ensures { OnOk result (clients.new.entries ≡ at_connection id (conn_after_bytes bytes.now) clients.old.entries) }
 {
     match clients.get_mut(&id) {
         None => Ok(()),
