@@ -15,24 +15,38 @@ is_topic_byte b = (nat_le 48 b && nat_le b 57) || (nat_le 65 b && nat_le b 90) |
 abbrev pub IsTopicName : List ℕ → Type 0
 IsTopicName name = (0 < length name) × (length name ≤ 249) × All (λ b. is_topic_byte b ≡ true) name × (name ≢ codes ".") × (name ≢ codes "..")
 
+-- the greatest number of partitions that a broker hosts, and so of one topic
+abbrev pub most_partitions : ℕ
+most_partitions = 64
+
 -- a number below 100 in decimal digits
 abbrev pub number_word : ℕ → List ℕ
 number_word n = if nat_lt n 10 then (48 + n) ∷ [] else (48 + n / 10) ∷ (48 + n % 10) ∷ []
+
+-- no number of a partition is written so
+abbrev pub IsNoNumberWord : List ℕ → Type 0
+IsNoNumberWord word = (n : ℕ) → n < most_partitions → word ≢ number_word n
 
 abbrev pub disk_word : DiskPlace → List ℕ
 disk_word Log = codes "log"
 disk_word StateA = codes "state-a"
 disk_word StateB = codes "state-b"
 
+abbrev pub IsNoDiskWord : List ℕ → Type 0
+IsNoDiskWord word = (place : DiskPlace) → word ≢ disk_word place
+
 abbrev pub hosted_name : List ℕ → ℕ → DiskPlace → List ℕ
 hosted_name topic number place = topic ++ (codes "/" ++ (number_word number ++ (codes "/" ++ disk_word place)))
 
--- the greatest number of partitions that a broker hosts, and so of one topic
-abbrev pub most_partitions : ℕ
-most_partitions = 64
+-- the name of a disk of a partition that a broker hosts
+abbrev pub IsHostedName : List ℕ → Type 0
+IsHostedName name = (topic : List ℕ) × (number : ℕ) × (place : DiskPlace) ×
+    IsTopicName topic × (number < most_partitions) × (name ≡ hosted_name topic number place)
+
+abbrev pub IsNotHosted : List ℕ → Type 0
+IsNotHosted name = IsHostedName name → ⊥
 
 -- one of these names
 abbrev pub IsDiskName : List ℕ → Type 0
-IsDiskName name = ((topic : List ℕ) × (number : ℕ) × (place : DiskPlace) ×
-    IsTopicName topic × (number < most_partitions) × (name ≡ hosted_name topic number place))
+IsDiskName name = IsHostedName name
     ⊎ ((name ≡ codes "foreign/state-a") ⊎ (name ≡ codes "foreign/state-b"))

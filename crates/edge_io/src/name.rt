@@ -1,9 +1,10 @@
-ghost use Rattle.std.specs.Prelude.{◌≡◌, ◌↔◌, ◌<◌, ◌≤◌, ◌+◌, ◌++◌, IsTrue, IsSome, IfSome, length, codes};
+ghost use Rattle.std.specs.Prelude.{◌≡◌, ◌↔◌, ◌<◌, ◌≤◌, ◌+◌, ◌++◌, IsTrue, IsSome, IfSome, IfNone, MatchOption, Some, length, codes};
 ghost use Rattle.arrayvec.specs.ArrayVec.{array_vec_len};
 ghost use Rattle.edge_io.specs.declared.name.DiskPlace.TheVariants.{Log, StateA, StateB};
 
-use crate::topic::{disk_word, is_topic_name, push, push_number};
+use crate::topic::{disk_word, is_topic_name, number_of, place_of, push, push_number};
 use arrayvec::ArrayVec;
+use std::fmt;
 use std::marker::Model;
 
 /// Which disk of a partition: that of its log, or one of the two of its state.
@@ -17,7 +18,7 @@ pub enum DiskPlace {
 /// The greatest number of partitions that a broker hosts, and so of one topic.
 pub const MAX_PARTITIONS: u32 = 64;
 
-/// The longest name: 249 bytes of a topic, two digits, a place, and two slashes.
+/// The longest name: 249 bytes of a topic, two digits, `state-a`, and two slashes.
 const MAX_NAME: usize = 260;
 
 /// The name of a disk: `TOPIC/N/log`, `TOPIC/N/state-a`, `TOPIC/N/state-b`, `foreign/state-a` or `foreign/state-b`.
@@ -40,7 +41,7 @@ impl Model for DiskName {
 }
 
 impl DiskName {
-    ghost use Rattle.edge_io.specs.Names.{IsTopicName, IsDiskName, hosted_name};
+    ghost use Rattle.edge_io.specs.Names.{IsTopicName, IsDiskName, IsNotHosted, hosted_name};
 
     /// The name of a disk of a partition. `None` where a topic can't have this name, or the number is above 63.
     pub fn hosted(topic: &[u8], number: u32, place: DiskPlace) -> Option<DiskName>
@@ -77,6 +78,37 @@ impl DiskName {
         DiskName { text }
     }
 
+    /// The name with this text. `None` where no disk has that name.
+    pub fn parse(text: &str) -> Option<DiskName>
+        ensures some { IfSome result (λ n. n ≡ text.now) }
+        ensures none { IfNone result (IsDiskName text.now → ⊥) }
+    {
+        match text {
+            "foreign/state-a" => Some(DiskName::foreign_state_a()),
+            "foreign/state-b" => Some(DiskName::foreign_state_b()),
+            _ => DiskName::parse_hosted(text),
+        }
+    }
+
+    // The name of a disk of a partition with this text.
+    fn parse_hosted(text: &str) -> Option<DiskName>
+        ensures { MatchOption result (IsNotHosted text.now) (λ n. n ≡ text.now) }
+    {
+        let Some((topic, rest)) = text.split_once('/') else {
+            return None;
+        };
+        let Some((number, place)) = rest.split_once('/') else {
+            return None;
+        };
+        let Some(number) = number_of(number.as_bytes()) else {
+            return None;
+        };
+        let Some(place) = place_of(place) else {
+            return None;
+        };
+        DiskName::hosted(topic.as_bytes(), number, place)
+    }
+
     /// The same name once more.
     pub fn duplicate(&self) -> DiskName
         ensures { result ≡ self.now }
@@ -92,5 +124,30 @@ impl DiskName {
         ensures name { IsDiskName self.now }
     {
         self.text.as_slice()
+    }
+
+    /// Its text.
+    pub fn as_str(&self) -> &str
+        ensures same { result.now ≡ self.now }
+        ensures name { IsDiskName self.now }
+    {
+        match str::from_utf8(self.as_bytes()) {
+            Ok(text) => text,
+            Err(_) => unreachable!(),
+        }
+    }
+}
+
+impl fmt::Debug for DiskName {
+    fn fmt<W: fmt::Write>(&self, f: &mut fmt::Formatter<W>) -> fmt::Result {
+        f.write_str(self.as_str())
+    }
+}
+
+impl fmt::Display for DiskName {
+    ghost output = { λ name. Some name };
+
+    fn fmt<W: fmt::Write>(&self, f: &mut fmt::Formatter<W>) -> fmt::Result {
+        f.write_str(self.as_str())
     }
 }

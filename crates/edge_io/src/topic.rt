@@ -1,9 +1,9 @@
 // The parts of a disk's name, and the rule of topic names.
-ghost use Rattle.std.specs.Prelude.{◌≡◌, ◌↔◌, ◌<◌, ◌≤◌, ◌+◌, ◌++◌, IsTrue, length};
+ghost use Rattle.std.specs.Prelude.{◌≡◌, ◌↔◌, ◌<◌, ◌≤◌, ◌+◌, ◌++◌, IsTrue, MatchOption, length};
 ghost use Rattle.arrayvec.specs.ArrayVec.{array_vec_len};
-ghost use Rattle.edge_io.specs.Names.{is_topic_byte, IsTopicName, number_word, disk_word};
+ghost use Rattle.edge_io.specs.Names.{is_topic_byte, IsTopicName, number_word, IsNoNumberWord, disk_word, IsNoDiskWord};
 
-use crate::name::DiskPlace;
+use crate::name::{DiskPlace, MAX_PARTITIONS};
 use arrayvec::ArrayVec;
 
 fn is_topic_byte(byte: u8) -> bool
@@ -47,6 +47,39 @@ pub fn push_number<const N: usize>(text: &mut ArrayVec<u8, N>, number: u32)
             text,
             &[b'0' + (number / 10) as u8, b'0' + (number % 10) as u8],
         );
+    }
+}
+
+fn is_number_word(word: &[u8], number: u32) -> bool
+    requires { number < 64 }
+    ensures { IsTrue result ↔ (word.now ≡ number_word number) }
+{
+    let mut text = ArrayVec::<u8, 2>::new();
+    push_number(&mut text, number);
+    word == text.as_slice()
+}
+
+// The number of a partition that is written so.
+pub fn number_of(word: &[u8]) -> Option<u32>
+    ensures { MatchOption result (IsNoNumberWord word.now) (λ n. (n < 64) × (word.now ≡ number_word n)) }
+{
+    for number in 0..MAX_PARTITIONS {
+        if is_number_word(word, number) {
+            return Some(number);
+        }
+    }
+    None
+}
+
+// Which disk of a partition has this word.
+pub fn place_of(word: &str) -> Option<DiskPlace>
+    ensures { MatchOption result (IsNoDiskWord word.now) (λ place. word.now ≡ disk_word place) }
+{
+    match word {
+        "log" => Some(DiskPlace::Log),
+        "state-a" => Some(DiskPlace::StateA),
+        "state-b" => Some(DiskPlace::StateB),
+        _ => None,
     }
 }
 

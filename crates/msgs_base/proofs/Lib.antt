@@ -1,1 +1,2 @@
+-- Puts: what is written of the parts of an older message is written of the whole.
 pub mod Puts

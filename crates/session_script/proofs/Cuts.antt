@@ -1,6 +1,6 @@
 -- A text is cut in one way at its first blank, or at its first line feed.
 use Rattle.std.proofs.Common.{◌≡◌, ◌≢◌, ◌<◌, ◌≤◌, ◌^◌, ℕ, zero, suc, List, [], ◌∷◌, ◌++◌, Option, Some, None, MatchOption, length, get_or}
-use Rattle.std.proofs.Common.{refl, ap, arith, lit<}
+use Rattle.std.proofs.Common.{refl, ap, subst, arith, lit<}
 use Rattle.std.proofs.Common.{Bool, true, not, ◌&&◌, ◌==◌}
 use Rattle.std.proofs.lemmas.Bool.{and_parts}
 use Rattle.std.proofs.lemmas.Bool.Decides.{nat_tests}
@@ -10,6 +10,9 @@ use Rattle.std.specs.Str.Parse.{AllDigits}
 use Rattle.std.proofs.lemmas.Fmt.{decimal_is_IsNumeral}
 use Rattle.std.proofs.lemmas.Str.Pattern.{IsSplitOnceResult, split_after, split_parts}
 use denote.Ref.{Bor}
+use Rattle.std.proofs.lemmas.List.Elements.{All-get_or}
+use Rattle.edge_io.specs.Names.{IsDiskName}
+use Rattle.edge_io.proofs.Names.{IsNameByte, name_bytes}
 use Rattle.session_script.specs.Lines.{HasNone, IsCut, HasNoCut}
 
 pub none_at : (c : ℕ) (bs : List ℕ) → ((i : ℕ) → i < length bs → get_or bs i 0 ≢ c) → HasNone c bs
@@ -60,6 +63,11 @@ no_blank n h = none_digits 32 (decimal n) (omega arith) (decimal_is_IsNumeral n 
 
 pub no_feed : (n : ℕ) → n < 2 ^ 64 → HasNone 10 (decimal n)
 no_feed n h = none_digits 10 (decimal n) (omega arith) (decimal_is_IsNumeral n h).0.1
+
+-- nor has the name of a disk
+pub disk_lacks : (c : ℕ) (name : List ℕ) → (IsNameByte c → ⊥) → IsDiskName name → HasNone c name
+disk_lacks c name other is =
+    none_at c name (λ i lt e. other (subst IsNameByte e (All-get_or IsNameByte name i 0 lt (name_bytes name is))))
 
 pub cut_of : (text : List ℕ) (r : Option (Bor (List ℕ) × Bor (List ℕ))) → IsSplitOnceResult 32 text r →
     MatchOption r (HasNoCut text) (λ x. IsCut text x.0.now x.1.now)

@@ -6,28 +6,44 @@ use Rattle.std.proofs.lemmas.Fmt.{length-decimal-le}
 use Rattle.std.specs.Fmt.{decimal}
 use Rattle.hex.specs.Hex.{encode_lower, lower_digits}
 use Rattle.hex.proofs.HexLemmas.{length-encode_with}
+use Rattle.edge_io.specs.declared.fault.FaultMode.{FaultMode}
+use Rattle.edge_io.specs.declared.fault.FaultMode.TheVariants.{Once, Torn, Dead}
+use Rattle.edge_io.proofs.Names.{name_short}
 use Rattle.session_script.specs.declared.event.Event.{Event}
-use Rattle.session_script.specs.declared.event.Event.TheVariants.{Open, Bytes, Close, Step}
-use Rattle.session_script.specs.Script.{words_of, line_of, IsEvent, end_line, longest, HasNoEvent, IsRefused}
+use Rattle.session_script.specs.declared.event.Event.TheVariants.{Open, Bytes, Close, Step, Arm, Power}
+use Rattle.session_script.specs.Script.{words_of, mode_word, line_of, IsEvent, end_line, longest, HasNoEvent, IsRefused}
 use Rattle.session_script.specs.Lines.{HasNone, IsLine, IsUnfinished, SaysNothing, longest_line}
-use Rattle.session_script.proofs.Cuts.{one_cut, none_append, no_feed, lacks_none}
+use Rattle.session_script.proofs.Cuts.{one_cut, none_append, no_feed, lacks_none, disk_lacks}
 use Rattle.session_script.proofs.Sayings.{same_head}
 use Rattle.session_script.proofs.Hexes.{hex_no_feed}
 
-numbered_none : (conn : ℕ) (rest : List ℕ) → conn < 2 ^ 32 → HasNone 10 rest → HasNone 10 (decimal conn ++ 32 ∷ rest)
-numbered_none conn rest lt h = none_append 10 (decimal conn) (32 ∷ rest) (no_feed conn (omega arith)) ((λ e. absurd (omega arith)), h)
+then_none : (front rest : List ℕ) → HasNone 10 front → HasNone 10 rest → HasNone 10 (front ++ 32 ∷ rest)
+then_none front rest p q = none_append 10 front (32 ∷ rest) p ((λ e. absurd (omega arith)), q)
+
+numbered_none : (n : ℕ) (rest : List ℕ) → n < 2 ^ 64 → HasNone 10 rest → HasNone 10 (decimal n ++ 32 ∷ rest)
+numbered_none n rest lt h = then_none (decimal n) rest (no_feed n lt) h
+
+mode_none : (mode : FaultMode) → HasNone 10 (mode_word mode)
+mode_none Once = lacks_none 10 (codes "once") refl
+mode_none Torn = lacks_none 10 (codes "torn") refl
+mode_none Dead = lacks_none 10 (codes "dead") refl
 
 pub no_feed_words : (event : Event) → IsEvent event → HasNone 10 (words_of event)
 no_feed_words (Open conn) is =
     none_append 10 (codes "open" ++ 32 ∷ []) (decimal conn) (lacks_none 10 (codes "open" ++ 32 ∷ []) refl) (no_feed conn (omega arith))
 no_feed_words (Bytes conn bytes) is =
     none_append 10 (codes "bytes" ++ 32 ∷ []) (decimal conn ++ 32 ∷ encode_lower bytes) (lacks_none 10 (codes "bytes" ++ 32 ∷ []) refl)
-    (numbered_none conn (encode_lower bytes) is.0 (hex_no_feed bytes is.3))
+    (numbered_none conn (encode_lower bytes) (omega (arith, is.0)) (hex_no_feed bytes is.3))
 no_feed_words (Close conn) is =
     none_append 10 (codes "close" ++ 32 ∷ []) (decimal conn) (lacks_none 10 (codes "close" ++ 32 ∷ []) refl) (no_feed conn (omega arith))
 no_feed_words (Step conn now) is =
     none_append 10 (codes "step" ++ 32 ∷ []) (decimal conn ++ 32 ∷ decimal now) (lacks_none 10 (codes "step" ++ 32 ∷ []) refl)
-    (numbered_none conn (decimal now) is.0 (no_feed now (omega (arith, is.1))))
+    (numbered_none conn (decimal now) (omega (arith, is.0)) (no_feed now (omega (arith, is.1))))
+no_feed_words (Arm disk after mode) is =
+    none_append 10 (codes "arm" ++ 32 ∷ []) (disk ++ 32 ∷ (decimal after ++ 32 ∷ mode_word mode)) (lacks_none 10 (codes "arm" ++ 32 ∷ []) refl)
+    (then_none disk (decimal after ++ 32 ∷ mode_word mode) (disk_lacks 10 disk (λ p. omega (arith, p.0)) is.0) (numbered_none after (mode_word mode) is.1 (mode_none mode)))
+no_feed_words (Power choice) is =
+    none_append 10 (codes "power" ++ 32 ∷ []) (decimal choice) (lacks_none 10 (codes "power" ++ 32 ∷ []) refl) (no_feed choice is)
 
 not_in_front : (xs ys : List ℕ) → HasNone 10 (xs ++ 10 ∷ ys) → ⊥
 not_in_front [] ys h = h.0 refl
@@ -58,6 +74,8 @@ end_is_none (Open conn) e = absurd (omega (arith, same_head _ _ _ _ e))
 end_is_none (Bytes conn bytes) e = absurd (omega (arith, same_head _ _ _ _ e))
 end_is_none (Close conn) e = absurd (omega (arith, same_head _ _ _ _ e))
 end_is_none (Step conn now) e = absurd (omega (arith, same_head _ _ _ _ e))
+end_is_none (Arm disk after mode) e = absurd (omega (arith, same_head _ _ _ _ e))
+end_is_none (Power choice) e = absurd (omega (arith, same_head _ _ _ _ e))
 
 -- a line that is the last one's
 same_end : (bytes more rest : List ℕ) (n : ℕ) → IsLine bytes n → bytes ++ more ≡ end_line ++ rest → take n bytes ≡ end_word
@@ -99,6 +117,14 @@ script_full place n bytes more l full =
 decimal_short : (conn : ℕ) → conn < 2 ^ 32 → length (decimal conn) ≤ 10
 decimal_short conn lt = length-decimal-le 10 conn (omega arith) (omega arith) (omega arith)
 
+count_short : (n : ℕ) → n < 2 ^ 64 → length (decimal n) ≤ 20
+count_short n lt = length-decimal-le 20 n (omega arith) (omega arith) (omega arith)
+
+mode_short : (mode : FaultMode) → length (mode_word mode) ≤ 4
+mode_short Once = omega arith
+mode_short Torn = omega arith
+mode_short Dead = omega arith
+
 words_short : (event : Event) → IsEvent event → length (words_of event) < longest_line
 words_short (Open conn) is = let d = decimal_short conn is in omega (arith, d)
 words_short (Bytes conn bytes) is =
@@ -112,6 +138,13 @@ words_short (Step conn now) is =
     let n = length-decimal-le 19 now (omega arith) (omega (arith, is.1)) (omega (arith, is.1)) in
     let a = length-append (decimal conn) (32 ∷ decimal now) in
     omega (arith, d, n, a)
+words_short (Arm disk after mode) is =
+    let d = name_short disk is.0 in
+    let n = count_short after is.1 in
+    let a = length-append disk (32 ∷ (decimal after ++ 32 ∷ mode_word mode)) in
+    let b = length-append (decimal after) (32 ∷ mode_word mode) in
+    omega (arith, d, n, a, b, mode_short mode)
+words_short (Power choice) is = omega (arith, count_short choice is)
 
 -- the input ends within the line
 cut_off : (place : ℕ) (bytes : List ℕ) → HasNone 10 bytes → IsRefused place bytes place

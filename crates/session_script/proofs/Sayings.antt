@@ -1,5 +1,5 @@
 -- The words of an event are read in one way.
-use Rattle.std.proofs.Common.{◌≡◌, ◌≢◌, ◌<◌, ◌≤◌, ◌*◌, ◌^◌, ◌⊎◌, inl, inr, ℕ, List, [], ◌∷◌, ◌++◌, length, codes, refl, sym, ap, ◌∙◌, arith, lit<}
+use Rattle.std.proofs.Common.{◌≡◌, ◌≢◌, ◌<◌, ◌≤◌, ◌*◌, ◌^◌, ◌⊎◌, inl, inr, ℕ, List, [], ◌∷◌, ◌++◌, length, codes, refl, sym, ap, ◌∙◌, subst, arith, lit<}
 use Rattle.std.proofs.Common.{Bool, true, ◌&&◌, nat_lt}
 use Rattle.std.proofs.lemmas.Bool.{and_parts, ltb-true}
 use Rattle.std.specs.Fmt.{decimal}
@@ -9,11 +9,15 @@ use Rattle.std.proofs.lemmas.Str.Ascii.{IsAscii-nil, IsAscii-cons}
 use Rattle.std.proofs.lemmas.Fmt.{IsAscii-decimal}
 use Rattle.hex.specs.Hex.{encode_lower, lower_digits}
 use Rattle.hex.proofs.HexLemmas.{length-encode_with, IsAscii-encode_with}
+use Rattle.edge_io.specs.Names.{IsDiskName}
+use Rattle.edge_io.specs.declared.fault.FaultMode.{FaultMode}
+use Rattle.edge_io.specs.declared.fault.FaultMode.TheVariants.{Once, Torn, Dead}
+use Rattle.edge_io.proofs.Names.{name_is_ascii}
 use Rattle.session_script.specs.declared.event.Event.{Event}
-use Rattle.session_script.specs.declared.event.Event.TheVariants.{Open, Bytes, Close, Step}
-use Rattle.session_script.specs.Script.{words_of, IsEvent}
-use Rattle.session_script.specs.Lines.{HasNone, IsCut, HasNoCut, IsNoNumber, IsNumbered, IsNotNumbered, IsHex, IsNoHex, Says, SaysNothing}
-use Rattle.session_script.proofs.Cuts.{one_cut, no_blank, lacks_none}
+use Rattle.session_script.specs.declared.event.Event.TheVariants.{Open, Bytes, Close, Step, Arm, Power}
+use Rattle.session_script.specs.Script.{words_of, mode_word, IsEvent}
+use Rattle.session_script.specs.Lines.{HasNone, IsCut, HasNoCut, IsNoNumber, IsNumbered, IsNotNumbered, IsHex, IsNoHex, IsNoMode, Says, SaysNothing}
+use Rattle.session_script.proofs.Cuts.{one_cut, no_blank, lacks_none, disk_lacks}
 
 pub same_head : (a b : ℕ) (x y : List ℕ) → a ∷ x ≡ b ∷ y → a ≡ b
 same_head a b x y e = cc
@@ -34,16 +38,12 @@ not_number text word rest p h conn more q =
     let s = one_cut 32 word (decimal conn) rest more p.0 (no_blank conn (omega arith)) (sym p.1 ∙ q.1) in
     h conn (omega (arith, q.0), s.0)
 
-pub step_not_numbered : (rest : List ℕ) → IsNotNumbered rest → SaysNothing (codes "step" ++ 32 ∷ rest)
-step_not_numbered rest h (Open conn) s = absurd (omega (arith, same_head _ _ _ _ s.1))
-step_not_numbered rest h (Bytes conn bytes) s = absurd (omega (arith, same_head _ _ _ _ s.1))
-step_not_numbered rest h (Close conn) s = absurd (omega (arith, same_head _ _ _ _ s.1))
-step_not_numbered rest h (Step conn now) s = h conn (decimal now) (s.0.0, same_rest (codes "step" ++ 32 ∷ []) _ _ s.1)
-
 pub step_no_moment : (rest word : List ℕ) (conn : ℕ) → IsNumbered rest conn word → IsNoNumber (2 ^ 62) word → SaysNothing (codes "step" ++ 32 ∷ rest)
 step_no_moment rest word conn p h (Open n) s = absurd (omega (arith, same_head _ _ _ _ s.1))
 step_no_moment rest word conn p h (Bytes n bytes) s = absurd (omega (arith, same_head _ _ _ _ s.1))
 step_no_moment rest word conn p h (Close n) s = absurd (omega (arith, same_head _ _ _ _ s.1))
+step_no_moment rest word conn p h (Arm disk n mode) s = absurd (omega (arith, same_head _ _ _ _ s.1))
+step_no_moment rest word conn p h (Power n) s = absurd (omega (arith, same_head _ _ _ _ s.1))
 step_no_moment rest word conn p h (Step n now) s =
     let e : rest ≡ decimal n ++ 32 ∷ decimal now = same_rest (codes "step" ++ 32 ∷ []) _ _ s.1 in
     let t = numbered_same rest conn n word (decimal now) p (s.0.0, e) in
@@ -56,6 +56,8 @@ digits_of : (rest digits : List ℕ) (conn : ℕ) → IsNumbered rest conn digit
 digits_of rest digits conn p h (Open n) s = absurd (omega (arith, same_head _ _ _ _ s.1))
 digits_of rest digits conn p h (Close n) s = absurd (omega (arith, same_head _ _ _ _ s.1))
 digits_of rest digits conn p h (Step n now) s = absurd (omega (arith, same_head _ _ _ _ s.1))
+digits_of rest digits conn p h (Arm disk n mode) s = absurd (omega (arith, same_head _ _ _ _ s.1))
+digits_of rest digits conn p h (Power n) s = absurd (omega (arith, same_head _ _ _ _ s.1))
 digits_of rest digits conn p h (Bytes n bytes) s =
     let e : rest ≡ decimal n ++ 32 ∷ encode_lower bytes = same_rest (codes "bytes" ++ 32 ∷ []) _ _ s.1 in
     let t = numbered_same rest conn n digits (encode_lower bytes) p (s.0.0, e) in
@@ -83,17 +85,47 @@ bytes_say rest digits bytes conn p q some few =
           p.1 ∙ ap (λ (l : List ℕ). decimal conn ++ 32 ∷ l) q.1 in ap (λ (l : List ℕ). codes "bytes" ++ 32 ∷ l) d),
     )
 
-pub bytes_not_numbered : (rest : List ℕ) → IsNotNumbered rest → SaysNothing (codes "bytes" ++ 32 ∷ rest)
-bytes_not_numbered rest h (Open conn) s = absurd (omega (arith, same_head _ _ _ _ s.1))
-bytes_not_numbered rest h (Bytes conn bytes) s = h conn (encode_lower bytes) (s.0.0, same_rest (codes "bytes" ++ 32 ∷ []) _ _ s.1)
-bytes_not_numbered rest h (Close conn) s = absurd (omega (arith, same_head _ _ _ _ s.1))
-bytes_not_numbered rest h (Step conn now) s = absurd (omega (arith, same_head _ _ _ _ s.1))
+-- the words of a line that arms a disk
+arm_of : (rest : List ℕ) → ((disk : List ℕ) (after : ℕ) (mode : FaultMode) → IsDiskName disk → after < 2 ^ 64 →
+    rest ≡ disk ++ 32 ∷ (decimal after ++ 32 ∷ mode_word mode) → ⊥) → SaysNothing (codes "arm" ++ 32 ∷ rest)
+arm_of rest h (Open n) s = absurd (omega (arith, same_head _ _ _ _ s.1))
+arm_of rest h (Bytes n bytes) s = absurd (omega (arith, same_head _ _ _ _ s.1))
+arm_of rest h (Close n) s = absurd (omega (arith, same_head _ _ _ _ s.1))
+arm_of rest h (Step n now) s = absurd (omega (arith, same_head _ _ _ _ s.1))
+arm_of rest h (Arm disk after mode) s = h disk after mode s.0.0 s.0.1 (same_rest (codes "arm" ++ 32 ∷ []) _ _ s.1)
+arm_of rest h (Power n) s = absurd (omega (arith, same_head _ _ _ _ s.1))
+
+pub arm_not_cut : (rest : List ℕ) → HasNoCut rest → SaysNothing (codes "arm" ++ 32 ∷ rest)
+arm_not_cut rest none = arm_of rest (λ disk after mode is few e. none disk (decimal after ++ 32 ∷ mode_word mode) (disk_lacks 32 disk (λ p. omega (arith, p.0)) is, e))
+
+module _ (rest word more : List ℕ) (first : IsCut rest word more) where
+  at_disk : (disk behind : List ℕ) → IsDiskName disk → rest ≡ disk ++ 32 ∷ behind → (word ≡ disk) × (more ≡ behind)
+  at_disk disk behind is e = one_cut 32 word disk more behind first.0 (disk_lacks 32 disk (λ p. omega (arith, p.0)) is) (sym first.1 ∙ e)
+
+  pub arm_cut_once : HasNoCut more → SaysNothing (codes "arm" ++ 32 ∷ rest)
+  arm_cut_once none = arm_of rest (λ disk after mode is few e. none (decimal after) (mode_word mode) (no_blank after few, (at_disk disk _ is e).1))
+
+  pub arm_no_disk : (IsDiskName word → ⊥) → SaysNothing (codes "arm" ++ 32 ∷ rest)
+  arm_no_disk none = arm_of rest (λ disk after mode is few e. none (subst IsDiskName (sym (at_disk disk _ is e).0) is))
+
+  module _ (number last : List ℕ) (second : IsCut more number last) where
+    at_number : (disk : List ℕ) (after : ℕ) (mode : FaultMode) → IsDiskName disk → after < 2 ^ 64 → rest ≡ disk ++ 32 ∷ (decimal after ++ 32 ∷ mode_word mode) →
+        (number ≡ decimal after) × (last ≡ mode_word mode)
+    at_number disk after mode is few e =
+        one_cut 32 number (decimal after) last (mode_word mode) second.0 (no_blank after few) (sym second.1 ∙ (at_disk disk _ is e).1)
+
+    pub arm_no_number : IsNoNumber 18446744073709551615 number → SaysNothing (codes "arm" ++ 32 ∷ rest)
+    arm_no_number none = arm_of rest (λ disk after mode is few e. none after (omega (arith, few), (at_number disk after mode is few e).0))
+
+    pub arm_no_mode : IsNoMode last → SaysNothing (codes "arm" ++ 32 ∷ rest)
+    arm_no_mode none = arm_of rest (λ disk after mode is few e. none mode (at_number disk after mode is few e).1)
 
 -- the first word of an event, and the rest
 record FirstWord (event : Event) (word rest : List ℕ) : Type 0 where
   parts : words_of event ≡ word ++ 32 ∷ rest
   whole : HasNone 32 word
-  one : (word ≡ codes "open") ⊎ ((word ≡ codes "bytes") ⊎ ((word ≡ codes "close") ⊎ (word ≡ codes "step")))
+  one : (word ≡ codes "open") ⊎ ((word ≡ codes "bytes") ⊎ ((word ≡ codes "close") ⊎ ((word ≡ codes "step") ⊎
+      ((word ≡ codes "arm") ⊎ (word ≡ codes "power")))))
 
 first_word : (event : Event) → (word : List ℕ) × (rest : List ℕ) × FirstWord event word rest
 first_word (Open conn) = (codes "open", decimal conn, record { parts = refl; whole = lacks_none 32 (codes "open") refl; one = inl refl })
@@ -101,7 +133,11 @@ first_word (Bytes conn bytes) =
     (codes "bytes", decimal conn ++ 32 ∷ encode_lower bytes, record { parts = refl; whole = lacks_none 32 (codes "bytes") refl; one = inr (inl refl) })
 first_word (Close conn) = (codes "close", decimal conn, record { parts = refl; whole = lacks_none 32 (codes "close") refl; one = inr (inr (inl refl)) })
 first_word (Step conn now) =
-    (codes "step", decimal conn ++ 32 ∷ decimal now, record { parts = refl; whole = lacks_none 32 (codes "step") refl; one = inr (inr (inr refl)) })
+    (codes "step", decimal conn ++ 32 ∷ decimal now, record { parts = refl; whole = lacks_none 32 (codes "step") refl; one = inr (inr (inr (inl refl))) })
+first_word (Arm disk after mode) =
+    (codes "arm", disk ++ 32 ∷ (decimal after ++ 32 ∷ mode_word mode),
+      record { parts = refl; whole = lacks_none 32 (codes "arm") refl; one = inr (inr (inr (inr (inl refl)))) })
+first_word (Power choice) = (codes "power", decimal choice, record { parts = refl; whole = lacks_none 32 (codes "power") refl; one = inr (inr (inr (inr (inr refl)))) })
 
 abbrev all_small : List ℕ → Bool
 all_small [] = true
@@ -113,20 +149,31 @@ small_ascii (b ∷ bs) h =
     let p = and_parts (nat_lt b 128) (all_small bs) h in
     IsAscii-cons b bs (ltb-true b 128 p.0) (small_ascii bs p.1)
 
-numbered_ascii : (conn : ℕ) (rest : List ℕ) → conn < 2 ^ 32 → IsAscii rest → IsAscii (decimal conn ++ 32 ∷ rest)
-numbered_ascii conn rest lt h = IsAscii-append (decimal conn) (32 ∷ rest) (IsAscii-decimal conn (omega arith)) (IsAscii-cons 32 rest (lit< tt) h)
+numbered_ascii : (n : ℕ) (rest : List ℕ) → n < 2 ^ 64 → IsAscii rest → IsAscii (decimal n ++ 32 ∷ rest)
+numbered_ascii n rest lt h = IsAscii-append (decimal n) (32 ∷ rest) (IsAscii-decimal n lt) (IsAscii-cons 32 rest (lit< tt) h)
+
+mode_ascii : (mode : FaultMode) → IsAscii (mode_word mode)
+mode_ascii Once = small_ascii (codes "once") refl
+mode_ascii Torn = small_ascii (codes "torn") refl
+mode_ascii Dead = small_ascii (codes "dead") refl
 
 ascii_words : (event : Event) → IsEvent event → IsAscii (words_of event)
 ascii_words (Open conn) is =
     IsAscii-append (codes "open" ++ 32 ∷ []) (decimal conn) (small_ascii (codes "open" ++ 32 ∷ []) refl) (IsAscii-decimal conn (omega arith))
 ascii_words (Bytes conn bytes) is =
     IsAscii-append (codes "bytes" ++ 32 ∷ []) (decimal conn ++ 32 ∷ encode_lower bytes) (small_ascii (codes "bytes" ++ 32 ∷ []) refl)
-    (numbered_ascii conn (encode_lower bytes) is.0 (IsAscii-encode_with lower_digits bytes (small_ascii lower_digits refl)))
+    (numbered_ascii conn (encode_lower bytes) (omega (arith, is.0)) (IsAscii-encode_with lower_digits bytes (small_ascii lower_digits refl)))
 ascii_words (Close conn) is =
     IsAscii-append (codes "close" ++ 32 ∷ []) (decimal conn) (small_ascii (codes "close" ++ 32 ∷ []) refl) (IsAscii-decimal conn (omega arith))
 ascii_words (Step conn now) is =
     IsAscii-append (codes "step" ++ 32 ∷ []) (decimal conn ++ 32 ∷ decimal now) (small_ascii (codes "step" ++ 32 ∷ []) refl)
-    (numbered_ascii conn (decimal now) is.0 (IsAscii-decimal now (omega (arith, is.1))))
+    (numbered_ascii conn (decimal now) (omega (arith, is.0)) (IsAscii-decimal now (omega (arith, is.1))))
+ascii_words (Arm disk after mode) is =
+    IsAscii-append (codes "arm" ++ 32 ∷ []) (disk ++ 32 ∷ (decimal after ++ 32 ∷ mode_word mode)) (small_ascii (codes "arm" ++ 32 ∷ []) refl)
+    (IsAscii-append disk (32 ∷ (decimal after ++ 32 ∷ mode_word mode)) (name_is_ascii disk is.0)
+      (IsAscii-cons 32 (decimal after ++ 32 ∷ mode_word mode) (lit< tt) (numbered_ascii after (mode_word mode) is.1 (mode_ascii mode))))
+ascii_words (Power choice) is =
+    IsAscii-append (codes "power" ++ 32 ∷ []) (decimal choice) (small_ascii (codes "power" ++ 32 ∷ []) refl) (IsAscii-decimal choice is)
 
 -- what isn't text, has no blank, or begins with another word, is no line of an event
 pub not_text : (line : List ℕ) → (IsUtf8 line → ⊥) → SaysNothing line
@@ -136,11 +183,17 @@ pub not_words : (line : List ℕ) → HasNoCut line → SaysNothing line
 not_words line h event s = let f = first_word event in h f.0 f.1 (f.2.whole, s.1 ∙ f.2.parts)
 
 pub other_word : (line word rest : List ℕ) → IsCut line word rest → word ≢ codes "open" → word ≢ codes "bytes" → word ≢ codes "close" →
-    word ≢ codes "step" → SaysNothing line
-other_word line word rest p o b x t event s =
+    word ≢ codes "step" → word ≢ codes "arm" → word ≢ codes "power" → SaysNothing line
+other_word line word rest p o b x t a w event s =
     let f = first_word event in
     let e = one_cut 32 word f.0 rest f.1 p.0 f.2.whole (sym p.1 ∙ s.1 ∙ f.2.parts) in
-    elim f.2.one [
-      | inl k ↦ o (e.0 ∙ k)
-      | inr k ↦ elim k [ inl l ↦ b (e.0 ∙ l) | inr l ↦ elim l [ inl m ↦ x (e.0 ∙ m) | inr m ↦ t (e.0 ∙ m) ] ]
-    ]
+    none_of e.0 f.2.one
+  where
+    none_of : {first : List ℕ} → word ≡ first → (first ≡ codes "open") ⊎ ((first ≡ codes "bytes") ⊎ ((first ≡ codes "close") ⊎ ((first ≡ codes "step") ⊎
+        ((first ≡ codes "arm") ⊎ (first ≡ codes "power"))))) → ⊥
+    none_of e (inl k) = o (e ∙ k)
+    none_of e (inr (inl k)) = b (e ∙ k)
+    none_of e (inr (inr (inl k))) = x (e ∙ k)
+    none_of e (inr (inr (inr (inl k)))) = t (e ∙ k)
+    none_of e (inr (inr (inr (inr (inl k))))) = a (e ∙ k)
+    none_of e (inr (inr (inr (inr (inr k))))) = w (e ∙ k)

@@ -7,7 +7,8 @@ use Rattle.std.specs.List.{AllByRecursion}
 use Rattle.std.specs.Fmt.{decimal}
 use Rattle.hex.specs.Hex.{encode_lower, IsBytes}
 use Rattle.session_script.specs.declared.event.Event.{Event}
-use Rattle.session_script.specs.Script.{words_of, IsEvent}
+use Rattle.edge_io.specs.declared.fault.FaultMode.{FaultMode}
+use Rattle.session_script.specs.Script.{words_of, mode_word, IsEvent}
 
 -- this byte isn't among them
 abbrev pub HasNone : ℕ → List ℕ → Type 0
@@ -54,6 +55,13 @@ IsNumbered text conn rest = (conn < 2 ^ 32) × (text ≡ decimal conn ++ 32 ∷ 
 
 abbrev pub IsNotNumbered : List ℕ → Type 0
 IsNotNumbered text = (conn : ℕ) (rest : List ℕ) → IsNumbered text conn rest → ⊥
+
+-- the word is that of a fault mode
+abbrev pub IsMode : List ℕ → FaultMode → Type 0
+IsMode word mode = word ≡ mode_word mode
+
+abbrev pub IsNoMode : List ℕ → Type 0
+IsNoMode word = (mode : FaultMode) → IsMode word mode → ⊥
 
 -- the digits are those of some bytes
 abbrev pub IsHex : List ℕ → List ℕ → Type 0

@@ -1,3 +1,4 @@
+use edge_io::{DiskName, FaultMode};
 use share_model::{Blob, CloseCause};
 
 /// One line of a recorded session: what happens to the broker.
@@ -11,6 +12,14 @@ pub enum Event {
     Close { conn: u32 },
     /// The broker does one step of the connection, at this moment in milliseconds.
     Step { conn: u32, now: u64 },
+    /// The next `after` calls of this disk pass, and the one after them is broken.
+    Arm {
+        disk: DiskName,
+        after: u64,
+        mode: FaultMode,
+    },
+    /// Each disk loses power, with this choice of what it leaves, and all is opened again.
+    Power { choice: u64 },
 }
 
 /// What an event makes the broker do, as a client sees it.
@@ -20,4 +29,6 @@ pub enum Outcome {
     Reply { conn: u32, frame: Blob },
     /// The connection is closed.
     Closed { conn: u32, cause: CloseCause },
+    /// Power was lost, and all is opened again.
+    Restarted,
 }

@@ -13,7 +13,7 @@ mod writer;
 pub use event::{Event, Outcome};
 pub use reader::{ScriptFault, ScriptReader, Taken};
 pub use word::number;
-pub use writer::{LineFault, write_event, write_malformed, write_outcome};
+pub use writer::{LineFault, write_damaged, write_event, write_malformed, write_outcome};
 
 /// A text is one list of events and one rest, so it is no two scripts, and its first malformed line is one.
 pub fn scripts_are_read_one_way()

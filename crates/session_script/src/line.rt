@@ -3,7 +3,8 @@ ghost use Rattle.std.specs.Prelude.{◌≡◌, ◌∷◌, ◌++◌, IfOk, MatchO
 ghost use Rattle.session_script.specs.Lines.{Says, SaysNothing};
 
 use crate::event::Event;
-use crate::word::{cut, hexadecimal, number, numbered};
+use crate::word::{cut, fault_mode, hexadecimal, number, numbered};
+use edge_io::DiskName;
 use flex_fields::NoMemory;
 use share_model::Blob;
 use std::alloc::Global;
@@ -45,6 +46,36 @@ fn step(rest: &str) -> Option<Event>
     Some(Event::Step { conn, now })
 }
 
+fn arm(rest: &str) -> Option<Event>
+    ensures { MatchOption result (SaysNothing (codes "arm" ++ 32 ∷ rest.now)) (Says (codes "arm" ++ 32 ∷ rest.now)) }
+{
+    let Some((disk, rest)) = cut(rest) else {
+        return None;
+    };
+    let Some((after, mode)) = cut(rest) else {
+        return None;
+    };
+    let Some(disk) = DiskName::parse(disk) else {
+        return None;
+    };
+    let Some(after) = number(u64::MAX, after) else {
+        return None;
+    };
+    let Some(mode) = fault_mode(mode) else {
+        return None;
+    };
+    Some(Event::Arm { disk, after, mode })
+}
+
+fn power(rest: &str) -> Option<Event>
+    ensures { MatchOption result (SaysNothing (codes "power" ++ 32 ∷ rest.now)) (Says (codes "power" ++ 32 ∷ rest.now)) }
+{
+    let Some(choice) = number(u64::MAX, rest) else {
+        return None;
+    };
+    Some(Event::Power { choice })
+}
+
 fn bytes(alloc: Global, rest: &str) -> Result<Option<Event>, NoMemory>
     ensures { IfOk result (λ found. MatchOption found (SaysNothing (codes "bytes" ++ 32 ∷ rest.now)) (Says (codes "bytes" ++ 32 ∷ rest.now))) }
 {
@@ -78,6 +109,8 @@ pub fn event(alloc: Global, line: &[u8]) -> Result<Option<Event>, NoMemory>
         "bytes" => bytes(alloc, rest),
         "close" => Ok(close(rest)),
         "step" => Ok(step(rest)),
+        "arm" => Ok(arm(rest)),
+        "power" => Ok(power(rest)),
         _ => Ok(None),
     }
 }

@@ -2,8 +2,9 @@
 ghost use Rattle.std.specs.Prelude.{◌≡◌, ◌<◌, ◌≤◌, ◌^◌, IfOk, MatchOption};
 ghost use Rattle.std.specs.List.{list_any};
 ghost use Rattle.std.specs.Char.{is_ascii_uppercase};
-ghost use Rattle.session_script.specs.Lines.{IsCut, HasNoCut, IsNumber, IsNoNumber, IsNumbered, IsNotNumbered, IsHex, IsNoHex};
+ghost use Rattle.session_script.specs.Lines.{IsCut, HasNoCut, IsNumber, IsNoNumber, IsNumbered, IsNotNumbered, IsMode, IsNoMode, IsHex, IsNoHex};
 
+use edge_io::FaultMode;
 use flex_fields::NoMemory;
 use hex::FromHexError;
 use itoa::Buffer;
@@ -46,6 +47,18 @@ pub fn numbered(text: &str) -> Option<(u32, &str)>
         return None;
     };
     Some((conn as u32, rest))
+}
+
+/// How a fault that is armed so breaks a call.
+pub fn fault_mode(word: &str) -> Option<FaultMode>
+    ensures { MatchOption result (IsNoMode word.now) (IsMode word.now) }
+{
+    match word {
+        "once" => Some(FaultMode::Once),
+        "torn" => Some(FaultMode::Torn),
+        "dead" => Some(FaultMode::Dead),
+        _ => None,
+    }
 }
 
 fn has_uppercase(digits: &str) -> bool

@@ -1,12 +1,12 @@
-ghost use Rattle.std.specs.Prelude.{◌≡◌, ◌++◌, ◌∷◌, [], IfOk, string_bytes};
+ghost use Rattle.std.specs.Prelude.{◌≡◌, ◌++◌, ◌∷◌, [], IfOk, codes, string_bytes};
 ghost use Rattle.std.specs.Fmt.{decimal};
-ghost use Rattle.session_script.specs.Script.{line_of};
-ghost use Rattle.session_script.specs.Output.{outcome_line, cause_text, malformed_line};
+ghost use Rattle.session_script.specs.Script.{line_of, mode_word};
+ghost use Rattle.session_script.specs.Output.{outcome_line, cause_text, malformed_line, damaged_line};
 ghost use Rattle.session_script.specs.Writing.{WritesText};
 ghost use Rattle.session_script.specs.declared.writer.LineFault.TheVariants.{NoMemory as no_memory};
 
 use crate::event::{Event, Outcome};
-use edge_io::{Sink, write_all};
+use edge_io::{DiskName, FaultMode, Sink, write_all};
 use flex_fields::NoMemory;
 use share_model::CloseCause;
 use std::alloc::{AllocError, Global};
@@ -56,6 +56,28 @@ impl From<NoMemory> for LineFault {
     }
 }
 
+fn mode_word(mode: FaultMode) -> &'static str
+    ensures { result.now ≡ mode_word mode }
+{
+    match mode {
+        FaultMode::Once => "once",
+        FaultMode::Torn => "torn",
+        FaultMode::Dead => "dead",
+    }
+}
+
+fn arm_line(
+    alloc: Global,
+    disk: &DiskName,
+    after: u64,
+    mode: FaultMode,
+) -> Result<String, AllocError>
+    ensures { IfOk result (λ text. string_bytes text ≡ codes "arm" ++ 32 ∷ (disk.now ++ 32 ∷ (decimal after ++ 32 ∷ (mode_word mode ++ 10 ∷ [])))) }
+{
+    let mode = mode_word(mode);
+    format!(in alloc; "arm {disk} {after} {mode}\n")
+}
+
 fn event_line(alloc: Global, event: &Event) -> Result<String, AllocError>
     ensures { IfOk result (λ text. string_bytes text ≡ line_of event.now) }
 {
@@ -70,6 +92,8 @@ fn event_line(alloc: Global, event: &Event) -> Result<String, AllocError>
             let now = now.to_string(alloc)?;
             line(alloc, "step", *conn, &now)
         }
+        Event::Arm { disk, after, mode } => arm_line(alloc, disk, *after, *mode),
+        Event::Power { choice } => format!(in alloc; "power {choice}\n"),
     }
 }
 
@@ -97,6 +121,7 @@ fn outcome_line(alloc: Global, outcome: &Outcome) -> Result<String, AllocError>
             let cause = cause_text(alloc, *cause)?;
             line(alloc, "closed", *conn, &cause)
         }
+        Outcome::Restarted => String::from_str(alloc, "restarted\n"),
     }
 }
 
@@ -134,5 +159,18 @@ pub fn write_malformed<O: Sink>(alloc: Global, place: u64, output: &mut O) -> Re
     ensures { WritesText (O.held output.old) (O.held output.new) (O.faults output.old) (O.faults output.new) (malformed_line place) result }
 {
     let text = format!(in alloc; "malformed {place}\n")?;
+    write_text(text.as_str(), output)
+}
+
+/// Writes the line that names a disk whose content isn't what a broker writes, and the place of the fault.
+pub fn write_damaged<O: Sink>(
+    alloc: Global,
+    disk: &DiskName,
+    place: u64,
+    output: &mut O,
+) -> Result<(), LineFault>
+    ensures { WritesText (O.held output.old) (O.held output.new) (O.faults output.old) (O.faults output.new) (damaged_line disk.now place) result }
+{
+    let text = format!(in alloc; "damaged {disk} {place}\n")?;
     write_text(text.as_str(), output)
 }

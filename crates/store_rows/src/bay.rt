@@ -37,6 +37,14 @@ pub fn name_told(alloc: Global, text: &str) -> io::Result<Option<String>> {
     }
 }
 
+/// The text, where a disk is named so, or `none`.
+pub fn name_read(alloc: Global, text: &str) -> io::Result<Option<String>> {
+    match DiskName::parse(text) {
+        Some(name) => told(alloc, name.as_str()),
+        None => told(alloc, "none"),
+    }
+}
+
 /// Takes a disk out and puts it back, of which the second call is to fail; another disk is empty. Gives what doesn't hold.
 pub fn bay_told(alloc: Global) -> io::Result<Option<String>> {
     let Some(name) = DiskName::hosted(b"orders", 0, DiskPlace::StateA) else {

@@ -1,5 +1,5 @@
 // What a case's lines are about.
-use crate::bay::{bay_told, name_told};
+use crate::bay::{bay_told, name_read, name_told};
 use crate::disks::Store;
 use crate::rows::Rows as StoredRows;
 use crate::streams::Streams;
@@ -37,6 +37,7 @@ impl Case {
         }
         match kind {
             "disk-name" => name_told(alloc, text),
+            "disk-read" => name_read(alloc, text),
             "bay" => bay_told(alloc),
             "broken-appends" => sweep_told(alloc),
             _ => Ok(None),
