@@ -8,7 +8,7 @@ use Rattle.topic_conf.specs.Configs.{ConfigParts}
 use Rattle.broker_model.specs.Shards.{ShardCall}
 use Rattle.broker_model.specs.Shards.ShardCall.{CallForeign}
 use Rattle.broker_model.specs.States.{State}
-use Rattle.broker_model.specs.Runs.{Step, IsRun, events_of, outcomes_of, calls_of}
+use Rattle.broker_model.specs.Runs.{Step, IsRun, events_of, outcomes_of, calls_of, calls_made}
 use Rattle.broker_model.specs.Laws.{NoPower}
 use Rattle.broker_model.specs.Cutting.{AreRecut}
 
@@ -17,6 +17,7 @@ pub record IsLike (conf : ConfigParts) (first : State) (steps : List Step) (last
   pub like : List Step
   pub run : IsRun conf first like last
   pub events : events_of like ≡ others
+  pub calls : calls_made like ≡ calls_made steps
   pub outcomes : outcomes_of like ≡ outcomes_of steps
 
 -- However bytes are cut, the same comes of the events: each run over the one list is like one over the other.

@@ -1,0 +1,172 @@
+-- What holds of each run: its losses, its arms and its counts.
+use Rattle.std.proofs.Common.{◌≡◌, ◌≢◌, ◌⊎◌, ◌<◌, ◌≤◌, ◌+◌, ◌-◌, ◌^◌, inl, inr, ⊎_elim, refl, sym, ap, ◌∙◌, subst, arith, ℕ, List, [], ◌∷◌, ◌++◌, append_assoc, append-nil, Option}
+use Rattle.std.specs.List.{AllByRecursion}
+use Rattle.edge_io.specs.declared.fault.Armed.{Armed}
+use Rattle.edge_io.specs.declared.fault.Armed.TheVariants.{Nothing}
+use Rattle.edge_io.specs.Armed.{IsOneShot}
+use Rattle.edge_io.specs.Causes.{Rose}
+use Rattle.session_script.specs.declared.event.Event.{Event}
+use Rattle.session_script.specs.declared.event.Event.TheVariants.{Open, Bytes, Close, Step as StepOf, Arm, Power}
+use Rattle.session_script.specs.declared.event.Outcome.{Outcome}
+use Rattle.topic_conf.specs.Configs.{ConfigParts}
+use Rattle.broker_model.specs.Shards.{ShardCall, state_a, failures_in}
+use Rattle.broker_model.specs.Machine.{Machine}
+use Rattle.broker_model.specs.Disks.{Facts, Disks, IsTaken, OnDisk, Covers}
+use Rattle.broker_model.specs.States.{State, IsStep, OnLosses, faults_of}
+use Rattle.broker_model.specs.Runs.{Step, IsRun, events_of, calls_of}
+use Rattle.broker_model.specs.Laws.{Loss, losses_on, TakesLoss, AreLosses, NoPower, NoArm, ArmsOne, arms_by, arms_after, HasArm, Rises, IsQuiet, RisesOnce, failures, HoldsOfDisk, HoldsOfRun}
+use Rattle.broker_model.proofs.Uses.{Kind, IsCalm, kind_of, same_losses, arms_step, quiet_step, still_none, calm_step, shot, armed_one}
+use Rattle.broker_model.proofs.Chains.{run_parts}
+use Rattle.broker_model.proofs.Fails.{step_counts}
+
+-- ---- losses
+
+abbrev Lengthens : Disks → Disks → List Loss → Type 0
+Lengthens old new lost = (name : List ℕ) → IsTaken name → (new name).losses ≡ (old name).losses ++ losses_on name lost
+
+abbrev OnDisks : Event → Option ShardCall → Disks → Disks → Type 0
+OnDisks event call old new = (name : List ℕ) → IsTaken name → OnDisk name event call (old name) (new name)
+
+module _ (call : Option ShardCall) (machine : Machine) (old new last : Disks) (rest : List Loss) (Rest : List Loss → Type 0) (more : Lengthens new last rest) where
+  kept : (event : Event) → NoPower event → OnDisks event call old new → Lengthens old last rest
+  kept event free disks name taken =
+      more name taken
+      ∙ ap (λ (l : List _). l ++ losses_on name rest)
+          (same_losses name event (old name) (new name) (kind_of name call (old name) (new name) event (disks name taken)) free)
+
+  take_loss : (event : Event) → OnDisks event call old new → OnLosses event old new machine → Rest rest
+      → (lost : List Loss) × Lengthens old last lost × TakesLoss event machine lost Rest
+  take_loss (Open conn) disks lost r = (rest, kept (Open conn) tt disks, r)
+  take_loss (Bytes conn bytes) disks lost r = (rest, kept (Bytes conn bytes) tt disks, r)
+  take_loss (Close conn) disks lost r = (rest, kept (Close conn) tt disks, r)
+  take_loss (StepOf conn now) disks lost r = (rest, kept (StepOf conn now) tt disks, r)
+  take_loss (Arm disk after mode) disks lost r = (rest, kept (Arm disk after mode) tt disks, r)
+  take_loss (Power choice) disks lost r = (
+    (choice, lost.contents) ∷ rest,
+    λ name taken. more name taken ∙ ap (λ (l : List _). l ++ losses_on name rest) (lost.losses name taken)
+        ∙ append_assoc (old name).losses ((choice, lost.contents name) ∷ []) (losses_on name rest),
+    (lost.contents, rest, refl, lost.opens, r),
+  )
+
+module _ (conf : ConfigParts) where
+  losses : (first last : State) (steps : List Step) → IsRun conf first steps last
+      → (lost : List Loss) × Lengthens first.disks last.disks lost × AreLosses steps lost
+  losses first last [] run = ([], λ name taken. ap (λ (s : State). (s.disks name).losses) run ∙ sym (append-nil (first.disks name).losses), refl)
+  losses first last (s ∷ steps) run =
+      let more = losses s.after last steps run.2 in
+      let p = take_loss s.call s.after.machine s.before.disks s.after.disks last.disks more.0 (λ rest. AreLosses steps rest) more.1
+      s.event run.1.disks run.1.losses more.2 in
+      (p.0, λ name taken. p.1 name taken ∙ ap (λ (x : State). (x.disks name).losses ++ losses_on name p.0) run.0, p.2)
+
+  -- ---- failed writes
+
+  counted : (s : Step) → IsStep conf s.before s.event s.call s.outcomes s.after
+      → (failures_in s.call ≡ 0) ⊎ ((failures_in s.call ≡ 1) × Rose (faults_of s.before state_a) (faults_of s.after state_a))
+  counted s step =
+      step_counts (λ name. Rose (faults_of s.before name) (faults_of s.after name)) s.before.ends conf s.before.machine s.event s.call s.outcomes
+      s.after.machine step.machine
+
+  more_covered : (a b c n m : ℕ) → a ≤ b → (n ≡ 0) ⊎ ((n ≡ 1) × Rose a b) → b ≤ c → Covers b c m → Covers a c (n + m)
+  more_covered a b c n m le (inl none) later covers = omega arith
+  more_covered a b c n m le (inr one) later covers = let rose = one.1 in let is = one.0 in omega arith
+
+  covered : (first last : State) (steps : List Step) → IsRun conf first steps last
+      → (faults_of first state_a ≤ faults_of last state_a) × Covers (faults_of first state_a) (faults_of last state_a) (failures (calls_of steps))
+  covered first last [] run = let same : faults_of last state_a ≡ faults_of first state_a = ap (λ (s : State). faults_of s state_a) run in (omega (arith, same), omega (arith, same))
+  covered first last (s ∷ steps) run =
+      let more = covered s.after last steps run.2 in
+      let later = run.1.later state_a (inl refl) in
+      subst (λ (x : State). (faults_of x state_a ≤ faults_of last state_a)
+          × Covers (faults_of x state_a) (faults_of last state_a) (failures_in s.call + failures (calls_of steps))) run.0 (
+        (let a = more.0 in omega (arith, later, a)),
+        more_covered (faults_of s.before state_a) (faults_of s.after state_a) (faults_of last state_a) (failures_in s.call) (failures (calls_of steps))
+        later (counted s run.1) more.0 more.1,
+      )
+
+-- ---- one disk
+
+module _ (conf : ConfigParts) (name : List ℕ) (taken : IsTaken name) where
+  abbrev armed_in : State → Armed
+  armed_in s = (s.disks name).armed
+
+  kind : (s : Step) → IsStep conf s.before s.event s.call s.outcomes s.after → Kind name s.event (s.before.disks name) (s.after.disks name)
+  kind s step = kind_of name s.call (s.before.disks name) (s.after.disks name) s.event (step.disks name taken)
+
+  arms : (first last : State) (steps : List Step) → IsRun conf first steps last → (last.disks name).arms ≡ arms_after name (events_of steps) (first.disks name).arms
+  arms first last [] run = ap (λ (s : State). (s.disks name).arms) run
+  arms first last (s ∷ steps) run = arms s.after last steps run.2
+      ∙ ap (arms_after name (events_of steps)) (arms_step name s.event (s.before.disks name) (s.after.disks name) (kind s run.1)
+      ∙ ap (λ (x : State). arms_by name s.event (x.disks name).arms) run.0)
+
+  calm : (first last : State) (events : List Event) (steps : List Step) → IsRun conf first steps last → IsCalm name (armed_in first) events
+      → IsCalm name (armed_in last) (events ++ events_of steps)
+  calm first last events [] run c = subst (λ (s : State). IsCalm name (armed_in s) (events ++ [])) (sym run)
+      (subst (λ (l : List Event). IsCalm name (armed_in first) l) (sym (append-nil events)) c)
+  calm first last events (s ∷ steps) run c =
+      subst (λ (l : List Event). IsCalm name (armed_in last) l) (append_assoc events (s.event ∷ []) (events_of steps))
+      (calm s.after last (events ++ s.event ∷ []) steps run.2 (calm_step name s.event (s.before.disks name) (s.after.disks name) events
+      (kind s run.1) (subst (λ (x : State). IsCalm name (armed_in x) events) (sym run.0) c)))
+
+  rises : (first last : State) (before after : List Step) (s : Step) → IsRun conf first (before ++ (s ∷ after)) last → armed_in first ≡ Nothing → Rises name s
+      → HasArm name (events_of before)
+  rises first last before after s run none rise =
+      let p = run_parts conf first last before (s ∷ after) run in
+      ⊎_elim
+      (λ free. absurd (let same = quiet_step name s.event (s.before.disks name) (s.after.disks name) (kind s p.2.1)
+      (ap armed_in p.2.0 ∙ free) in omega (arith, same, rise)))
+      (λ h. h)
+      (calm first p.0 [] before p.1 (inl none))
+
+  quiet : (first last : State) (steps : List Step) → IsRun conf first steps last → armed_in first ≡ Nothing → AllByRecursion (NoArm name) (events_of steps)
+      → AllByRecursion (IsQuiet name) steps
+  quiet first last [] run none free = tt
+  quiet first last (s ∷ steps) run none free =
+      let was = ap armed_in run.0 ∙ none in (
+        quiet_step name s.event (s.before.disks name) (s.after.disks name) (kind s run.1) was,
+        quiet s.after last steps run.2 (still_none name s.event (s.before.disks name) (s.after.disks name) (kind s run.1) was free.0) free.1,
+      )
+
+  shots : (first last : State) (steps : List Step) → IsRun conf first steps last → IsOneShot (armed_in first) → AllByRecursion (NoArm name) (events_of steps)
+      → RisesOnce name steps
+  shots first last [] run one free = tt
+  shots first last (s ∷ steps) run one free = ⊎_elim
+      (λ p. inl (p.0, shots s.after last steps run.2 p.1 free.1))
+      (λ none. inr (quiet s.after last steps run.2 none free.1))
+      (shot name s.event (s.before.disks name) (s.after.disks name) (kind s run.1)
+      (subst (λ (x : State). IsOneShot (armed_in x)) (sym run.0) one) free.0)
+
+  once : (first last : State) (before between after : List Step) (s : Step) → IsRun conf first (before ++ (s ∷ (between ++ after))) last
+      → ArmsOne name s.event → AllByRecursion (NoArm name) (events_of between) → RisesOnce name between
+  once first last before between after s run one free =
+      let p = run_parts conf first last before (s ∷ (between ++ after)) run in
+      let q = run_parts conf s.after last between after p.2.2 in
+      shots s.after q.0 between q.1 (armed_one name s.event (s.before.disks name) (s.after.disks name) (kind s p.2.1) one) free
+
+-- ---- all together
+
+module _ (conf : ConfigParts) (first last : State) (steps : List Step) (run : IsRun conf first steps last) where
+  fails : (first.disks state_a).armed ≡ Nothing → (before after : List Step) (s : Step) → steps ≡ before ++ (s ∷ after)
+      → failures_in s.call ≢ 0 → faults_of s.before state_a < 2 ^ 64 - 1 → HasArm state_a (events_of before)
+  fails none before after s split some room =
+      let parted = subst (λ (l : List Step). IsRun conf first l last) split run in
+      let p = run_parts conf first last before (s ∷ after) parted in
+      rises conf state_a (inl refl) first last before after s parted none
+      (⊎_elim (λ zero. absurd (some zero)) (λ one. let rose = one.1 in omega (arith, rose, room)) (counted conf s p.2.1))
+
+  pub holds : HoldsOfRun first steps last
+  holds =
+      let l = losses conf first last steps run in
+      record {
+        lost = l.0;
+        are_losses = l.2;
+        covered = (covered conf first last steps run).1;
+        disks = λ name taken. record {
+          losses = l.1 name taken;
+          arms = arms conf name taken first last steps run;
+          rises = λ none before after s split rise.
+              rises conf name taken first last before after s (subst (λ (l : List Step). IsRun conf first l last) split run) none rise;
+          once = λ before between after s split one free.
+              once conf name taken first last before between after s (subst (λ (l : List Step). IsRun conf first l last) split run) one free;
+        };
+        fails = fails;
+      }

@@ -1,0 +1,108 @@
+-- What a step leaves alone: the other connections, the shards that it doesn't call, and their disks.
+use Rattle.std.proofs.Common.{◌≡◌, ◌≢◌, ◌⊎◌, inl, inr, ⊎_elim, refl, sym, ap, ◌∙◌, subst, rules, ℕ, List, Bool, true, false, cond, if◌then◌else◌, Option, Some, None}
+use Rattle.std.proofs.lemmas.Map.Lookups.{exact_unsigned}
+use Rattle.std.specs.Ordering.{nat_cmp}
+use Rattle.std.specs.Cmp.{nat_cmp_total}
+use Rattle.std.specs.Map.{remove_entry}
+use Rattle.edge_io.specs.Causes.{Rose}
+use Rattle.session_script.specs.declared.event.Event.{Event}
+use Rattle.session_script.specs.declared.event.Event.TheVariants.{Open, Bytes, Close, Step, Arm, Power}
+use Rattle.session_script.specs.declared.event.Outcome.{Outcome}
+use Rattle.topic_conf.specs.Configs.{ConfigParts}
+use Rattle.conn_core.specs.declared.next.Next.{Next}
+use Rattle.conn_core.specs.declared.next.Next.TheVariants.{Idle, Ask, Ready, Closed as NextClosed, Gone}
+use Rattle.conn_core.specs.Conns.{ConnParts, new_conn, conn_after_bytes, conn_after_end, is_gone}
+use Rattle.conn_core.specs.Turning.{turn}
+use Rattle.broker_model.specs.Shards.{Shards, ShardCall, calls, same_name}
+use Rattle.broker_model.specs.Machine.{Machine, named, conn_at, opened_at, opened, at_connection, left, ended_in}
+use Rattle.broker_model.specs.Steps.{Does, Serves, StepsTo}
+use Rattle.broker_model.specs.Disks.{Facts, IsTaken, OnCalled, OnDisk, with_arm}
+use Rattle.broker_model.specs.Cutting.{Spares}
+use Rattle.broker_model.specs.Laws.{NoPower, NoArm}
+use Rattle.broker_model.specs.States.{State, IsStep, faults_of}
+use Rattle.broker_model.specs.Touching.{TouchesItsOwn, StepsTouchTheirOwn}
+use Rattle.broker_model.proofs.Maps.{set_other, removed_other}
+use Rattle.broker_model.proofs.Others.{conn_other}
+
+-- ---- connections
+
+module _ (conn id : ℕ) (ne : conn ≢ id) where
+  differ : id ≢ conn
+  differ e = ne (sym e)
+
+  opened_apart : (c : Option ConnParts) (es : List (ℕ × ConnParts)) → conn_at id (opened_at conn c es) ≡ conn_at id es
+  opened_apart (Some c) es = refl
+  opened_apart None es = set_other nat_cmp nat_cmp_total exact_unsigned conn new_conn id differ es
+
+  left_apart : (c : ConnParts) (es : List (ℕ × ConnParts)) → conn_at id (left conn c es) ≡ conn_at id es
+  left_apart c es = go (is_gone c) where
+    go : (gone : Bool) → conn_at id (cond gone (remove_entry (named conn) es) (at_connection conn (λ d. c) es)) ≡ conn_at id es
+    go true = removed_other nat_cmp nat_cmp_total exact_unsigned conn id differ es
+    go false = conn_other conn id differ (λ d. c) es
+
+  ended_apart : (c : Option ConnParts) (es : List (ℕ × ConnParts)) → conn_at id (ended_in conn c es) ≡ conn_at id es
+  ended_apart None es = refl
+  ended_apart (Some c) es = left_apart (conn_after_end c) es
+
+  served_apart : (conf : ConfigParts) (rose : List ℕ → Type 0) (ends : List ℕ → ℕ) (old : Machine) (c : Option ConnParts) (call : Option ShardCall)
+      (outcomes : List Outcome) (new : Machine) → Serves conf rose ends old conn c call outcomes new
+      → conn_at id new.connections ≡ conn_at id old.connections
+  served_apart conf rose ends old None call outcomes new does = ap (λ (m : Machine). conn_at id m.connections) does.same
+  served_apart conf rose ends old (Some c) call outcomes new takes = ap (conn_at id) takes.leaves ∙ left_apart takes.after old.connections
+
+module _ (conf : ConfigParts) (rose : List ℕ → Type 0) (ends : List ℕ → ℕ) (old new : Machine) (call : Option ShardCall) (outcomes : List Outcome) where
+  connections_apart : (id : ℕ) (event : Event) → Spares id event → StepsTo conf rose ends old event call outcomes new
+      → conn_at id new.connections ≡ conn_at id old.connections
+  connections_apart id (Open conn) ne does =
+      ap (λ (m : Machine). conn_at id m.connections) does.same ∙ opened_apart conn id ne (conn_at conn old.connections) old.connections
+  connections_apart id (Bytes conn bytes) ne does =
+      ap (λ (m : Machine). conn_at id m.connections) does.same ∙ conn_other conn id (differ conn id ne) (conn_after_bytes bytes) old.connections
+  connections_apart id (Close conn) ne does =
+      ap (λ (m : Machine). conn_at id m.connections) does.same ∙ ended_apart conn id ne (conn_at conn old.connections) old.connections
+  connections_apart id (Step conn now) ne does =
+      served_apart conn id ne conf rose ends old (conn_at conn old.connections) call outcomes new does
+  connections_apart id (Arm disk after mode) ne does = ap (λ (m : Machine). conn_at id m.connections) does.same
+  connections_apart id (Power choice) ne does = absurd ne
+
+  -- ---- shards
+
+  some_none : (did : ShardCall) → call ≡ Some did → call ≡ None → ⊥
+  some_none did is none = cc
+
+  turned_apart : (id : ℕ) (next : Next) (conn : ConnParts) (after : ConnParts) → call ≡ None
+      → Does rose ends id next conn old.shards new.shards call outcomes after → new.shards ≡ old.shards
+  turned_apart id Idle conn after none does = does.stays
+  turned_apart id (Ask part) conn after none does = absurd (some_none does.did does.is none)
+  turned_apart id Ready conn after none does = does.stays
+  turned_apart id (NextClosed cause) conn after none does = does.stays
+  turned_apart id Gone conn after none does = does.stays
+
+  shards_served : (id : ℕ) (c : Option ConnParts) → call ≡ None → Serves conf rose ends old id c call outcomes new → new.shards ≡ old.shards
+  shards_served id None none does = ap (λ (m : Machine). m.shards) does.same
+  shards_served id (Some c) none takes = turned_apart id (turn conf c).next (turn conf c).conn takes.after none takes.does
+
+  shards_apart : (event : Event) → NoPower event → call ≡ None → StepsTo conf rose ends old event call outcomes new → new.shards ≡ old.shards
+  shards_apart (Open conn) free none does = ap (λ (m : Machine). m.shards) does.same
+  shards_apart (Bytes conn bytes) free none does = ap (λ (m : Machine). m.shards) does.same
+  shards_apart (Close conn) free none does = ap (λ (m : Machine). m.shards) does.same
+  shards_apart (Step conn now) free none does = shards_served conn (conn_at conn old.connections) none does
+  shards_apart (Arm disk after mode) free none does = ap (λ (m : Machine). m.shards) does.same
+  shards_apart (Power choice) free none does = absurd free
+
+-- ---- disks
+
+disk_apart : (name : List ℕ) (event : Event) (call : Option ShardCall) (old new : Facts) → NoPower event → NoArm name event → calls call name ≡ false
+    → OnDisk name event call old new → new ≡ old
+disk_apart name (Open conn) call old new free unarmed away d = d
+disk_apart name (Bytes conn bytes) call old new free unarmed away d = d
+disk_apart name (Close conn) call old new free unarmed away d = d
+disk_apart name (Step conn now) call old new free unarmed away d = subst (λ (b : Bool). OnCalled b old new) away d
+disk_apart name (Arm disk after mode) call old new free unarmed away d = d ∙ ap (λ (t : Bool). if t then with_arm after mode old else old) unarmed
+disk_apart name (Power choice) call old new free unarmed away d = absurd free
+
+pub touches : (conf : ConfigParts) → StepsTouchTheirOwn conf
+touches conf old new event call outcomes step = record {
+  connections = λ id spares. connections_apart conf (λ name. Rose (faults_of old name) (faults_of new name)) old.ends old.machine new.machine call outcomes id event spares step.machine;
+  shards = λ free none. shards_apart conf (λ name. Rose (faults_of old name) (faults_of new name)) old.ends old.machine new.machine call outcomes event free none step.machine;
+  disks = λ name taken free unarmed away. disk_apart name event call (old.disks name) (new.disks name) free unarmed away (step.disks name taken);
+}
