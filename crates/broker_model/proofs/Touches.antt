@@ -11,7 +11,7 @@ use Rattle.session_script.specs.declared.event.Outcome.{Outcome}
 use Rattle.topic_conf.specs.Configs.{ConfigParts}
 use Rattle.conn_core.specs.declared.next.Next.{Next}
 use Rattle.conn_core.specs.declared.next.Next.TheVariants.{Idle, Ask, Ready, Closed as NextClosed, Gone}
-use Rattle.conn_core.specs.Conns.{ConnParts, opened as conn_opened, fed, ended, is_gone}
+use Rattle.conn_core.specs.Conns.{ConnParts, new_conn, conn_after_bytes, conn_after_end, is_gone}
 use Rattle.conn_core.specs.Turning.{turn}
 use Rattle.broker_model.specs.Shards.{Shards, ShardCall, calls, same_name}
 use Rattle.broker_model.specs.Machine.{Machine, named, conn_at, opened_at, opened, at_connection, left, ended_in}
@@ -32,7 +32,7 @@ module _ (conn id : ℕ) (ne : conn ≢ id) where
 
   opened_apart : (c : Option ConnParts) (es : List (ℕ × ConnParts)) → conn_at id (opened_at conn c es) ≡ conn_at id es
   opened_apart (Some c) es = refl
-  opened_apart None es = set_other nat_cmp nat_cmp_total exact_unsigned conn conn_opened id differ es
+  opened_apart None es = set_other nat_cmp nat_cmp_total exact_unsigned conn new_conn id differ es
 
   left_apart : (c : ConnParts) (es : List (ℕ × ConnParts)) → conn_at id (left conn c es) ≡ conn_at id es
   left_apart c es = go (is_gone c) where
@@ -42,7 +42,7 @@ module _ (conn id : ℕ) (ne : conn ≢ id) where
 
   ended_apart : (c : Option ConnParts) (es : List (ℕ × ConnParts)) → conn_at id (ended_in conn c es) ≡ conn_at id es
   ended_apart None es = refl
-  ended_apart (Some c) es = left_apart (ended c) es
+  ended_apart (Some c) es = left_apart (conn_after_end c) es
 
   served_apart : (conf : ConfigParts) (rose : List ℕ → Type 0) (ends : List ℕ → ℕ) (old : Machine) (c : Option ConnParts) (call : Option ShardCall)
       (outcomes : List Outcome) (new : Machine) → Serves conf rose ends old conn c call outcomes new
@@ -56,7 +56,7 @@ module _ (conf : ConfigParts) (rose : List ℕ → Type 0) (ends : List ℕ → 
   connections_apart id (Open conn) ne does =
       ap (λ (m : Machine). conn_at id m.connections) does.same ∙ opened_apart conn id ne (conn_at conn old.connections) old.connections
   connections_apart id (Bytes conn bytes) ne does =
-      ap (λ (m : Machine). conn_at id m.connections) does.same ∙ conn_other conn id (differ conn id ne) (fed bytes) old.connections
+      ap (λ (m : Machine). conn_at id m.connections) does.same ∙ conn_other conn id (differ conn id ne) (conn_after_bytes bytes) old.connections
   connections_apart id (Close conn) ne does =
       ap (λ (m : Machine). conn_at id m.connections) does.same ∙ ended_apart conn id ne (conn_at conn old.connections) old.connections
   connections_apart id (Step conn now) ne does =

@@ -21,5 +21,5 @@ pub record AskingParts (C Q R : Type 0) : Type 0 where
   pub rows : List R
 
 -- the part that is asked
-abbrev pub asked_by : {C Q R : Type 0} → Acts C Q R → AskingParts C Q R → Part
-asked_by acts a = acts.part a.call a.question
+abbrev pub question_part : {C Q R : Type 0} → Acts C Q R → AskingParts C Q R → Part
+question_part acts a = acts.part a.call a.question

@@ -19,5 +19,5 @@ abbrev pub IsAnswerTo : Part → PartAnswer → Type 0
 IsAnswerTo (PartForeign op) (Foreign answer) = All IsTellable answer.runs
 
 -- the answer of the foreign shard
-abbrev pub answer_in : PartAnswer → ForeignAnswer
-answer_in (Foreign answer) = answer
+abbrev pub foreign_answer : PartAnswer → ForeignAnswer
+foreign_answer (Foreign answer) = answer

@@ -1,7 +1,7 @@
 ghost use Rattle.std.specs.Prelude.{◌≡◌, IfOk, OnOk};
 ghost use Rattle.call_fold.specs.Parts.{IsAnswerTo};
-ghost use Rattle.call_fold.specs.Calls.{Acts, asked_by};
-ghost use Rattle.call_fold.specs.Going.{going_on, taken, rows_known};
+ghost use Rattle.call_fold.specs.Calls.{Acts, question_part};
+ghost use Rattle.call_fold.specs.Going.{stage_of, stage_after, known_rows};
 
 use crate::part::{Part, PartAnswer};
 use flex_fields::Bytes;
@@ -78,7 +78,7 @@ pub fn go_on<C: Call>(
     mut left: VecDeque<Entry<C::Question, C::Row>>,
     mut rows: VecDeque<C::Row>,
 ) -> Result<Stage<Asking<C, C::Question, C::Row>>, NoMemory>
-    ensures { IfOk result (λ stage. stage ≡ going_on C.acts call left.items rows.items) }
+    ensures { IfOk result (λ stage. stage ≡ stage_of C.acts call left.items rows.items) }
 {
     while let Some(entry) = left.pop_front() {
         match entry {
@@ -102,7 +102,7 @@ pub fn part_of<C: Call>(
     alloc: Global,
     asking: &Asking<C, C::Question, C::Row>,
 ) -> Result<Part, NoMemory>
-    ensures { IfOk result (λ part. part ≡ asked_by C.acts asking.now) }
+    ensures { IfOk result (λ part. part ≡ question_part C.acts asking.now) }
 {
     asking.call.part(alloc, &asking.question)
 }
@@ -113,8 +113,8 @@ pub fn take<C: Call>(
     asking: Asking<C, C::Question, C::Row>,
     answer: PartAnswer,
 ) -> Result<Stage<Asking<C, C::Question, C::Row>>, NoMemory>
-    requires fits { IsAnswerTo (asked_by C.acts asking) answer }
-    ensures { IfOk result (λ stage. stage ≡ taken C.acts asking answer) }
+    requires fits { IsAnswerTo (question_part C.acts asking) answer }
+    ensures { IfOk result (λ stage. stage ≡ stage_after C.acts asking answer) }
 {
     let Asking {
         mut call,
@@ -128,11 +128,11 @@ pub fn take<C: Call>(
 }
 
 /// The rows that are known.
-pub fn rows_known<Q: Drop, R: Drop>(
+pub fn known_rows<Q: Drop, R: Drop>(
     alloc: Global,
     mut entries: VecDeque<Entry<Q, R>>,
 ) -> Result<VecDeque<R>, NoMemory>
-    ensures { IfOk result (λ rows. rows.items ≡ rows_known entries.items) }
+    ensures { IfOk result (λ rows. rows.items ≡ known_rows entries.items) }
 {
     let mut rows = VecDeque::new(alloc);
     while let Some(entry) = entries.pop_front() {

@@ -6,6 +6,6 @@ mod call;
 mod law;
 mod part;
 
-pub use call::{Asking, Call, Entry, Stage, go_on, part_of, rows_known, take};
+pub use call::{Asking, Call, Entry, Stage, go_on, known_rows, part_of, take};
 pub use law::each_row_is_of_its_own_entry;
 pub use part::{Part, PartAnswer};

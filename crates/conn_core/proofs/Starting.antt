@@ -5,11 +5,11 @@ use Rattle.flex_fields.specs.declared.fault.NoMemory.{NoMemory}
 use Rattle.flex_fields.specs.Reading.{At}
 use Rattle.topic_conf.specs.Configs.{ConfigParts}
 use Rattle.req_head.specs.InTwo.{head_start}
-use Rattle.conn_core.specs.declared.judge.Judged.{Judged}
-use Rattle.conn_core.specs.Judging.{routed, started, judged}
+use Rattle.conn_core.specs.declared.judge.Verdict.{Verdict}
+use Rattle.conn_core.specs.Judging.{call_verdict, start_verdict, verdict}
 
-pub started_by : (conf : ConfigParts) (frame : List ℕ) (key version correlation : ℤ) (at : At) (result : Result Judged NoMemory) →
+pub started_by : (conf : ConfigParts) (frame : List ℕ) (key version correlation : ℤ) (at : At) (result : Result Verdict NoMemory) →
     head_start.read (record { place = 0; left = frame }) ≡ Ok ((key, (version, correlation)), at) →
-    IfOk result (λ j. j ≡ routed conf key version correlation at) → IfOk result (λ j. j ≡ judged conf frame)
+    IfOk result (λ j. j ≡ call_verdict conf key version correlation at) → IfOk result (λ j. j ≡ verdict conf frame)
 started_by conf frame key version correlation at result read told =
-    subst (λ r. IfOk result (λ j. j ≡ started conf r)) (sym read) told
+    subst (λ r. IfOk result (λ j. j ≡ start_verdict conf r)) (sym read) told

@@ -24,7 +24,7 @@ use Rattle.conn_core.specs.declared.hand.Hand.TheVariants.{Initialize, Read}
 use Rattle.conn_core.specs.Versions.{versions_answer}
 use Rattle.conn_core.specs.Metadata.{metadata_answer}
 use Rattle.conn_core.specs.Coordinators.{coordinator_answer}
-use Rattle.conn_core.specs.Hands.{held}
+use Rattle.conn_core.specs.Hands.{hand_stage}
 
 -- A is the request's message
 abbrev pub Begins : Type 0 → Type 0
@@ -40,7 +40,7 @@ abbrev pub versions_begins : Begins ApiVersionsRequest
 versions_begins conf m = Says (Some (api_versions_reply.bytes versions_answer))
 
 abbrev pub initialize_begins : Begins (StateRequest InitializePartition)
-initialize_begins conf m = held (λ a. Initialize a) (state_stage initialize_means partition_result conf.topics (record {}) m)
+initialize_begins conf m = hand_stage (λ a. Initialize a) (state_stage initialize_means partition_result conf.topics (record {}) m)
 
 abbrev pub read_begins : Begins (StateRequest ReadPartition)
-read_begins conf m = held (λ a. Read a) (state_stage read_means read_partition_result conf.topics (record {}) m)
+read_begins conf m = hand_stage (λ a. Read a) (state_stage read_means read_partition_result conf.topics (record {}) m)

@@ -3,8 +3,8 @@ use Rattle.call_fold.specs.declared.part.Part.{Part}
 use Rattle.call_fold.specs.declared.part.PartAnswer.{PartAnswer}
 use Rattle.call_fold.specs.declared.call.Stage.{Stage}
 use Rattle.call_fold.specs.declared.call.Stage.TheVariants.{Asks, Says}
-use Rattle.call_fold.specs.Calls.{Acts, AskingParts, asked_by}
-use Rattle.call_fold.specs.Going.{taken}
+use Rattle.call_fold.specs.Calls.{Acts, AskingParts, question_part}
+use Rattle.call_fold.specs.Going.{stage_after}
 use Rattle.msgs_state.specs.StateReply.{partition_result}
 use Rattle.msgs_state.specs.ReadReply.{read_partition_result}
 use Rattle.state_calls.specs.StateCalls.{state_acts}
@@ -14,15 +14,15 @@ use Rattle.conn_core.specs.declared.hand.Hand.{Hand}
 use Rattle.conn_core.specs.declared.hand.Hand.TheVariants.{Initialize, Read}
 
 -- the part that is asked
-abbrev pub asked_part : Hand → Part
-asked_part (Initialize a) = asked_by (state_acts initialize_means partition_result) a
-asked_part (Read a) = asked_by (state_acts read_means read_partition_result) a
+abbrev pub hand_part : Hand → Part
+hand_part (Initialize a) = question_part (state_acts initialize_means partition_result) a
+hand_part (Read a) = question_part (state_acts read_means read_partition_result) a
 
-abbrev pub held : {A : Type 0} → (A → Hand) → Stage A → Stage Hand
-held hold (Asks a) = Asks (hold a)
-held hold (Says body) = Says body
+abbrev pub hand_stage : {A : Type 0} → (A → Hand) → Stage A → Stage Hand
+hand_stage hold (Asks a) = Asks (hold a)
+hand_stage hold (Says body) = Says body
 
 -- it has this answer
-abbrev pub answered : Hand → PartAnswer → Stage Hand
-answered (Initialize a) answer = held (λ b. Initialize b) (taken (state_acts initialize_means partition_result) a answer)
-answered (Read a) answer = held (λ b. Read b) (taken (state_acts read_means read_partition_result) a answer)
+abbrev pub hand_stage_after : Hand → PartAnswer → Stage Hand
+hand_stage_after (Initialize a) answer = hand_stage (λ b. Initialize b) (stage_after (state_acts initialize_means partition_result) a answer)
+hand_stage_after (Read a) answer = hand_stage (λ b. Read b) (stage_after (state_acts read_means read_partition_result) a answer)

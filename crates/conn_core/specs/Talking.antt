@@ -9,7 +9,7 @@ use Rattle.msgs_state.specs.declared.read_request.ReadPartition.{ReadPartition}
 use Rattle.msgs_state.specs.StateReply.{partition_result}
 use Rattle.msgs_state.specs.ReadReply.{read_partition_result}
 use Rattle.call_fold.specs.declared.part.PartAnswer.{PartAnswer}
-use Rattle.call_fold.specs.Talks.{Talk, asks, goes, stage_talk}
+use Rattle.call_fold.specs.Talks.{Talk, asks, talk_after, stage_talk}
 use Rattle.state_calls.specs.declared.initialize.Initialize.{Initialize as InitializeCall}
 use Rattle.state_calls.specs.declared.read.Read.{Read as ReadCall}
 use Rattle.state_calls.specs.StateCalls.{state_acts}
@@ -18,15 +18,15 @@ use Rattle.state_calls.specs.Initialize.{initialize_means}
 use Rattle.state_calls.specs.Read.{read_means}
 use Rattle.conn_core.specs.declared.hand.Hand.{Hand}
 use Rattle.conn_core.specs.declared.hand.Hand.TheVariants.{Initialize, Read}
-use Rattle.conn_core.specs.Hands.{asked_part, answered}
+use Rattle.conn_core.specs.Hands.{hand_part, hand_stage_after}
 use Rattle.conn_core.specs.Beginning.{initialize_begins, read_begins}
 
-abbrev pub goes_on : Hand → PartAnswer → Talk
-goes_on (Initialize a) answer = goes (state_acts initialize_means partition_result) a answer
-goes_on (Read a) answer = goes (state_acts read_means read_partition_result) a answer
+abbrev pub hand_talk_after : Hand → PartAnswer → Talk
+hand_talk_after (Initialize a) answer = talk_after (state_acts initialize_means partition_result) a answer
+hand_talk_after (Read a) answer = talk_after (state_acts read_means read_partition_result) a answer
 
 abbrev pub hand_talk : Hand → Talk
-hand_talk hand = asks (asked_part hand) (goes_on hand)
+hand_talk hand = asks (hand_part hand) (hand_talk_after hand)
 
 -- Under its name each call begins with the talk of its request, and keeps to it by each answer.
 pub record KeepsToItsTalk : Type 0 where
@@ -34,4 +34,4 @@ pub record KeepsToItsTalk : Type 0 where
       stage_talk hand_talk (initialize_begins conf m) ≡ state_talk {S = InitializeCall} initialize_means partition_result conf.topics (record {}) m
   pub read : (conf : ConfigParts) (m : StateRequest ReadPartition) →
       stage_talk hand_talk (read_begins conf m) ≡ state_talk {S = ReadCall} read_means read_partition_result conf.topics (record {}) m
-  pub goes : (hand : Hand) (answer : PartAnswer) → stage_talk hand_talk (answered hand answer) ≡ goes_on hand answer
+  pub goes : (hand : Hand) (answer : PartAnswer) → stage_talk hand_talk (hand_stage_after hand answer) ≡ hand_talk_after hand answer

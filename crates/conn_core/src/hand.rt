@@ -1,7 +1,7 @@
 //! The calls that ask parts, each under its own name: what has to know all of them.
 ghost use Rattle.std.specs.Prelude.{◌≡◌, IfOk};
 ghost use Rattle.call_fold.specs.Parts.{IsAnswerTo};
-ghost use Rattle.conn_core.specs.Hands.{asked_part, answered};
+ghost use Rattle.conn_core.specs.Hands.{hand_part, hand_stage_after};
 
 use call_fold::{Asking, Part, PartAnswer, Stage, part_of, take};
 use msgs_state::{PartitionResult, ReadPartitionResult};
@@ -17,7 +17,7 @@ pub enum Hand {
 }
 
 // A call's stage, under its name in hand.
-macro_rules! held {
+macro_rules! under_name {
     ($name:ident, $stage:expr) => {
         match $stage {
             Stage::Asks(asking) => Ok(Stage::Asks(Hand::$name(asking))),
@@ -26,12 +26,12 @@ macro_rules! held {
     };
 }
 
-pub(crate) use held;
+pub(crate) use under_name;
 
 impl Hand {
     /// The part that is asked.
     pub fn part(&self, alloc: Global) -> Result<Part, NoMemory>
-        ensures { IfOk result (λ part. part ≡ asked_part self.now) }
+        ensures { IfOk result (λ part. part ≡ hand_part self.now) }
     {
         match self {
             Hand::Initialize(asking) => part_of(alloc, asking),
@@ -41,12 +41,12 @@ impl Hand {
 
     /// It has this answer.
     pub fn answer(self, alloc: Global, answer: PartAnswer) -> Result<Stage<Hand>, NoMemory>
-        requires fits { IsAnswerTo (asked_part self) answer }
-        ensures { IfOk result (λ stage. stage ≡ answered self answer) }
+        requires fits { IsAnswerTo (hand_part self) answer }
+        ensures { IfOk result (λ stage. stage ≡ hand_stage_after self answer) }
     {
         match self {
-            Hand::Initialize(asking) => held!(Initialize, take(alloc, asking, answer)?),
-            Hand::Read(asking) => held!(Read, take(alloc, asking, answer)?),
+            Hand::Initialize(asking) => under_name!(Initialize, take(alloc, asking, answer)?),
+            Hand::Read(asking) => under_name!(Read, take(alloc, asking, answer)?),
         }
     }
 }

@@ -3,7 +3,7 @@ ghost use Rattle.std.specs.Prelude.{◌≡◌, IfOk};
 ghost use Rattle.conn_core.specs.Beginning.{Begins, metadata_begins, coordinator_begins, versions_begins, initialize_begins, read_begins};
 
 use crate::coordinators::coordinator_reply;
-use crate::hand::{Hand, held};
+use crate::hand::{Hand, under_name};
 use crate::metadata::metadata_reply;
 use crate::versions::versions_reply;
 use call_fold::Stage;
@@ -61,7 +61,7 @@ impl Request for InitializeShareGroupStateRequest {
     ghost begins = { initialize_begins };
 
     fn begin(self, alloc: Global, conf: &Config) -> Result<Stage<Hand>, NoMemory> {
-        held!(Initialize, state_call(alloc, conf, Initialize, self)?)
+        under_name!(Initialize, state_call(alloc, conf, Initialize, self)?)
     }
 }
 
@@ -69,6 +69,6 @@ impl Request for ReadShareGroupStateRequest {
     ghost begins = { read_begins };
 
     fn begin(self, alloc: Global, conf: &Config) -> Result<Stage<Hand>, NoMemory> {
-        held!(Read, state_call(alloc, conf, Read, self)?)
+        under_name!(Read, state_call(alloc, conf, Read, self)?)
     }
 }

@@ -89,7 +89,6 @@ fn no_memory(told: &mut String) -> io::Result<Turn> {
 
 /// Answers the part that is asked, where an answer is there.
 fn give_next(
-    alloc: Global,
     conf: &Config,
     conn: &mut Conn,
     answers: &mut VecDeque<Answer>,
@@ -107,7 +106,7 @@ fn give_next(
         start: answer.start,
         runs: Items::new(answer.runs),
     };
-    match conn.give(alloc, conf, PartAnswer::Foreign(answer)) {
+    match conn.give(conf, PartAnswer::Foreign(answer)) {
         Ok(()) => Ok(Turn::GoesOn),
         Err(_) => no_memory(told),
     }
@@ -121,11 +120,11 @@ fn take_turn(
     answers: &mut VecDeque<Answer>,
     told: &mut String,
 ) -> io::Result<Turn> {
-    match conn.next_part(alloc, conf) {
+    match conn.next_part(conf) {
         Ok(Next::Ask(Part::Foreign(op))) => {
             let text = part_text(alloc, &op)?;
             push_line(told, "asks", text.as_str())?;
-            give_next(alloc, conf, conn, answers, told)
+            give_next(conf, conn, answers, told)
         }
         Ok(Next::Ready) => {
             told.push_str("ready\n")?;
@@ -142,8 +141,8 @@ fn take_turn(
 }
 
 /// What a connection does next.
-fn next_word(alloc: Global, conf: &Config, conn: &mut Conn) -> &'static str {
-    match conn.next_part(alloc, conf) {
+fn next_word(conf: &Config, conn: &mut Conn) -> &'static str {
+    match conn.next_part(conf) {
         Ok(Next::Ask(_)) => "asks",
         Ok(Next::Ready) => "ready",
         Ok(Next::Closed(_)) => "closed",
@@ -159,9 +158,9 @@ fn only_waits(alloc: Global, conf: &Config, bytes: &[u8]) -> bool {
     if conn.feed(bytes).is_err() {
         return false;
     }
-    let before = next_word(alloc, conf, &mut conn);
+    let before = next_word(conf, &mut conn);
     conn.end();
-    let after = next_word(alloc, conf, &mut conn);
+    let after = next_word(conf, &mut conn);
     before == "waits" && after == "gone" && conn.take_reply().is_none()
 }
 
@@ -237,7 +236,7 @@ impl Session {
 
     /// The end of a case.
     fn judge(&mut self, alloc: Global, state: &str) -> io::Result<Taken> {
-        let next = next_word(alloc, &self.conf, &mut self.conn);
+        let next = next_word(&self.conf, &mut self.conn);
         self.take_replies(alloc)?;
         push_line(&mut self.told, "then", next)?;
         push_line(&mut self.wanted, "then", state)?;

@@ -1,0 +1,1 @@
+-- No lemmas of its own: what each `put` writes follows from `structure_writes` of flex_fields.

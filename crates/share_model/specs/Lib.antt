@@ -1,5 +1,7 @@
+pub mod Acks
 pub mod Foreign
 pub mod ForeignRules
+pub mod Held
 pub mod Keys
 pub mod Logs
 pub mod Names

@@ -1,6 +1,7 @@
 //! The plain data of share groups that every other crate speaks of, and the definitions that are said of it.
 #![tactic(auto)]
 
+mod ack;
 mod blob;
 mod close_cause;
 mod fault;
@@ -13,7 +14,9 @@ mod reset;
 mod room;
 mod row;
 mod run;
+mod visit;
 
+pub use ack::{AckBatch, AckFault, AckKind, AckList};
 pub use blob::Blob;
 pub use close_cause::CloseCause;
 pub use fault::{BatchFault, Code, LogFault, StoreFault};
@@ -27,3 +30,4 @@ pub use reset::Reset;
 pub use room::Room;
 pub use row::{Row, RowState};
 pub use run::{Run, canonical_runs_are_unique};
+pub use visit::{AckOutcome, ShardId, Then, ThenOutcome, Visit, VisitAnswer};

@@ -6,12 +6,12 @@ use Rattle.msgs_state.specs.declared.delete_request.DeletePartition.{DeleteParti
 use Rattle.msgs_state.specs.declared.state_reply.PartitionResult.{PartitionResult}
 use Rattle.state_calls.specs.declared.delete.Deleting.{Deleting}
 use Rattle.state_calls.specs.States.{StateMeans}
-use Rattle.state_calls.specs.Told.{coded}
+use Rattle.state_calls.specs.Told.{code_row}
 
 abbrev pub delete_means : StateMeans DeletePartition Deleting PartitionResult
 delete_means = record {
   wish = λ p. (p.partition, record {});
   hosted = INVALID_REQUEST;
   op = λ key wish. ForeignDelete key;
-  row = λ partition answer. coded partition answer.code;
+  row = λ partition answer. code_row partition answer.code;
 }

@@ -7,12 +7,12 @@ use Rattle.msgs_state.specs.declared.initialize_request.InitializePartition.{Ini
 use Rattle.msgs_state.specs.declared.state_reply.PartitionResult.{PartitionResult}
 use Rattle.state_calls.specs.declared.initialize.Beginning.{Beginning}
 use Rattle.state_calls.specs.States.{StateMeans}
-use Rattle.state_calls.specs.Told.{coded}
+use Rattle.state_calls.specs.Told.{code_row}
 
 abbrev pub initialize_means : StateMeans InitializePartition Beginning PartitionResult
 initialize_means = record {
   wish = λ p. (p.partition, record { state_epoch = p.state_epoch; start = p.start_offset });
   hosted = INVALID_REQUEST;
   op = λ key wish. Init key wish.state_epoch wish.start;
-  row = λ partition answer. coded partition answer.code;
+  row = λ partition answer. code_row partition answer.code;
 }

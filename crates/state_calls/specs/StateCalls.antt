@@ -7,32 +7,32 @@ use Rattle.msgs_state.specs.declared.state_message.StateTopic.{StateTopic}
 use Rattle.msgs_state.specs.declared.state_message.StateRequest.{StateRequest}
 use Rattle.msgs_state.specs.StateMessage.{state_reply}
 use Rattle.call_fold.specs.declared.part.Part.TheVariants.{Foreign as PartForeign}
-use Rattle.call_fold.specs.Parts.{answer_in}
+use Rattle.call_fold.specs.Parts.{foreign_answer}
 use Rattle.call_fold.specs.declared.call.Stage.{Stage}
 use Rattle.call_fold.specs.declared.call.Stage.TheVariants.{Says}
 use Rattle.call_fold.specs.Calls.{Acts, AskingParts}
-use Rattle.call_fold.specs.Going.{going_on, rows_known}
+use Rattle.call_fold.specs.Going.{stage_of, known_rows}
 use Rattle.state_calls.specs.declared.plan.Wished.{Wished}
 use Rattle.state_calls.specs.declared.state.StateHand.{StateHand}
 use Rattle.state_calls.specs.Places.{ShapeParts, key_at}
-use Rattle.state_calls.specs.States.{StateMeans, is_group, planned_topic, shape_of}
+use Rattle.state_calls.specs.States.{StateMeans, is_group, topic_entries, shape_of}
 
 -- the rows under the topics of the request, in order
-abbrev pub regrouped : {R : Type 0} → List ShapeParts → List R → List (StateTopic R)
-regrouped [] rows = []
-regrouped (one ∷ shape) rows = record { topic_id = one.topic; partitions = take one.count rows } ∷ regrouped shape (drop one.count rows)
+abbrev pub rows_by_topic : {R : Type 0} → List ShapeParts → List R → List (StateTopic R)
+rows_by_topic [] rows = []
+rows_by_topic (one ∷ shape) rows = record { topic_id = one.topic; partitions = take one.count rows } ∷ rows_by_topic shape (drop one.count rows)
 
 abbrev pub body_of : {R : Type 0} → Format R → List (StateTopic R) → Option (List ℕ)
 body_of f topics = Some ((state_reply f).bytes (record { results = topics }))
 
 abbrev pub state_body : {R : Type 0} → Format R → List ShapeParts → List R → Option (List ℕ)
-state_body f shape rows = body_of f (regrouped shape rows)
+state_body f shape rows = body_of f (rows_by_topic shape rows)
 
 -- each row is made of its own question and of the answer to it
 abbrev pub state_acts : {S P W R : Type 0} → StateMeans P W R → Format R → Acts (StateHand S) (Wished W) R
 state_acts means f = record {
   part = λ hand q. PartForeign (means.op (key_at hand.group q.place) q.wish);
-  row = λ hand q answer. means.row (pos q.place.part) (answer_in answer);
+  row = λ hand q answer. means.row (pos q.place.part) (foreign_answer answer);
   next = λ hand q answer. hand;
   body = λ hand rows. state_body f hand.shape rows;
 }
@@ -44,5 +44,5 @@ hand_of call request = record { call = call; group = request.group_id; shape = m
 abbrev pub state_stage : {S P W R : Type 0} → StateMeans P W R → Format R → List Topic → S → StateRequest P → Stage (AskingParts (StateHand S) (Wished W) R)
 state_stage means f topics call request =
     if is_group request.group_id
-    then going_on (state_acts means f) (hand_of call request) (flat_map (planned_topic means topics true) request.topics) []
-    else Says (state_body f (map shape_of request.topics) (rows_known (flat_map (planned_topic means topics false) request.topics)))
+    then stage_of (state_acts means f) (hand_of call request) (flat_map (topic_entries means topics true) request.topics) []
+    else Says (state_body f (map shape_of request.topics) (known_rows (flat_map (topic_entries means topics false) request.topics)))

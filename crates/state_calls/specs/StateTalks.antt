@@ -16,13 +16,13 @@ use Rattle.call_fold.specs.declared.part.Part.{Part}
 use Rattle.call_fold.specs.declared.part.Part.TheVariants.{Foreign as PartForeign}
 use Rattle.call_fold.specs.declared.part.PartAnswer.{PartAnswer}
 use Rattle.call_fold.specs.declared.part.PartAnswer.TheVariants.{Foreign}
-use Rattle.call_fold.specs.Talks.{Talk, says, asking, stage_talk, asked, said}
-use Rattle.state_calls.specs.States.{StateMeans, is_group, is_hosted, known}
+use Rattle.call_fold.specs.Talks.{Talk, says, talk_of, stage_talk, talk_parts, talk_reply}
+use Rattle.state_calls.specs.States.{StateMeans, is_group, is_hosted, immediate_code}
 use Rattle.state_calls.specs.StateCalls.{state_acts, state_stage, body_of}
 
 -- the code that a partition of this topic has at once, if it needs no shard
 abbrev pub code_at : {P W R : Type 0} → StateMeans P W R → List Topic → List ℕ → P → Option Code
-code_at means topics topic p = known true (is_hosted topics topic) means.hosted (means.wish p).0
+code_at means topics topic p = immediate_code true (is_hosted topics topic) means.hosted (means.wish p).0
 
 -- ---- the parts
 
@@ -40,8 +40,8 @@ parts_of means topics request = flat_map (parts_in means topics request.group_id
 -- ---- the reply, where each partition stands beside the answer of its part
 
 -- the topic as it is asked
-abbrev pub asked_topic : {P : Type 0} → StateTopic (P × ForeignAnswer) → StateTopic P
-asked_topic t = record { topic_id = t.topic_id; partitions = map (λ x. x.0) t.partitions }
+abbrev pub request_topic : {P : Type 0} → StateTopic (P × ForeignAnswer) → StateTopic P
+request_topic t = record { topic_id = t.topic_id; partitions = map (λ x. x.0) t.partitions }
 
 -- a partition that needs no shard has no answer
 abbrev pub answer_unless : Option Code → ForeignAnswer → List PartAnswer
@@ -69,16 +69,16 @@ refused_topic means t = record { topic_id = t.topic_id; partitions = map (λ p. 
 
 -- what the request asks and says as it is done
 abbrev pub state_talk : {S P W R : Type 0} → StateMeans P W R → Format R → List Topic → S → StateRequest P → Talk
-state_talk means f topics call request = stage_talk (asking (state_acts means f)) (state_stage means f topics call request)
+state_talk means f topics call request = stage_talk (talk_of (state_acts means f)) (state_stage means f topics call request)
 
 -- S is what the call itself is
 pub record TellsByItsPart (S : Type 0) {P W R : Type 0} (means : StateMeans P W R) (f : Format R) : Type 0 where
   -- the parts are those of the partitions, each asked once the answers to those before it have come
   pub asks : (topics : List Topic) (call : S) (request : StateRequest P) (answers : List PartAnswer) → is_group request.group_id ≡ true →
-      asked (state_talk means f topics call request) answers ≡ take (suc (length answers)) (parts_of means topics request)
+      talk_parts (state_talk means f topics call request) answers ≡ take (suc (length answers)) (parts_of means topics request)
   -- once all answers have come, the reply tells each partition by its own
   pub says_own : (topics : List Topic) (call : S) (group : List ℕ) (told : List (StateTopic (P × ForeignAnswer))) → is_group group ≡ true →
-      said (state_talk means f topics call (record { group_id = group; topics = map asked_topic told })) (flat_map (answers_in means topics) told)
+      talk_reply (state_talk means f topics call (record { group_id = group; topics = map request_topic told })) (flat_map (answers_in means topics) told)
       ≡ Some (body_of f (map (own_topic means topics) told))
   pub refuses : (topics : List Topic) (call : S) (request : StateRequest P) → is_group request.group_id ≡ false →
       state_talk means f topics call request ≡ says (body_of f (map (refused_topic means) request.topics))

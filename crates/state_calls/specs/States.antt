@@ -37,19 +37,19 @@ abbrev pub is_hosted : List Topic → List ℕ → Bool
 is_hosted topics topic = is_some (place_by_id topic topics)
 
 -- the code that needs no shard, by the first that applies; `fits` says whether the group is one
-abbrev pub known : Bool → Bool → Code → ℤ → Option Code
-known fits hosted code partition =
+abbrev pub immediate_code : Bool → Bool → Code → ℤ → Option Code
+immediate_code fits hosted code partition =
     if fits then (if int_lt partition (pos 0) then Some INVALID_REQUEST else if hosted then Some code else None) else Some INVALID_GROUP_ID
 
 abbrev pub entry_of : {P W R : Type 0} → StateMeans P W R → List ℕ → ℤ × W → Option Code → Entry (Wished W) R
 entry_of means topic x None = Ask (record { place = record { topic = topic; part = nat_abs x.0 }; wish = x.1 })
 entry_of means topic x (Some code) = Known (means.row x.0 (code_alone code))
 
-abbrev pub planned : {P W R : Type 0} → StateMeans P W R → Bool → Bool → List ℕ → P → Entry (Wished W) R
-planned means fits hosted topic p = entry_of means topic (means.wish p) (known fits hosted means.hosted (means.wish p).0)
+abbrev pub partition_entry : {P W R : Type 0} → StateMeans P W R → Bool → Bool → List ℕ → P → Entry (Wished W) R
+partition_entry means fits hosted topic p = entry_of means topic (means.wish p) (immediate_code fits hosted means.hosted (means.wish p).0)
 
-abbrev pub planned_topic : {P W R : Type 0} → StateMeans P W R → List Topic → Bool → StateTopic P → List (Entry (Wished W) R)
-planned_topic means topics fits t = map (planned means fits (is_hosted topics t.topic_id) t.topic_id) t.partitions
+abbrev pub topic_entries : {P W R : Type 0} → StateMeans P W R → List Topic → Bool → StateTopic P → List (Entry (Wished W) R)
+topic_entries means topics fits t = map (partition_entry means fits (is_hosted topics t.topic_id) t.topic_id) t.partitions
 
 abbrev pub shape_of : {P : Type 0} → StateTopic P → ShapeParts
 shape_of t = record { topic = t.topic_id; count = length t.partitions }

@@ -23,5 +23,5 @@ abbrev pub batch_in : StateBatch → Batch
 batch_in batch = record { first = batch.first_offset; last = batch.last_offset; state = batch.delivery_state; count = batch.delivery_count }
 
 -- what is told of a partition by its code alone; no message is ever told
-abbrev pub coded : ℤ → Code → PartitionResult
-coded partition code = record { partition = partition; error_code = code.0; error_message = None }
+abbrev pub code_row : ℤ → Code → PartitionResult
+code_row partition code = record { partition = partition; error_code = code.0; error_message = None }

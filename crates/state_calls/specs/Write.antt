@@ -7,7 +7,7 @@ use Rattle.msgs_state.specs.declared.write_request.WritePartition.{WritePartitio
 use Rattle.msgs_state.specs.declared.state_reply.PartitionResult.{PartitionResult}
 use Rattle.state_calls.specs.declared.write.Writing.{Writing}
 use Rattle.state_calls.specs.States.{StateMeans}
-use Rattle.state_calls.specs.Told.{batch_in, coded}
+use Rattle.state_calls.specs.Told.{batch_in, code_row}
 
 abbrev pub write_means : StateMeans WritePartition Writing PartitionResult
 write_means = record {
@@ -17,5 +17,5 @@ write_means = record {
   );
   hosted = INVALID_REQUEST;
   op = λ key wish. ForeignWrite key wish.state_epoch wish.leader_epoch wish.start (map batch_in wish.batches);
-  row = λ partition answer. coded partition answer.code;
+  row = λ partition answer. code_row partition answer.code;
 }

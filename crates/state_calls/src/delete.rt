@@ -3,7 +3,7 @@ ghost use Rattle.std.specs.Prelude.{◌≡◌};
 ghost use Rattle.state_calls.specs.Delete.{delete_means};
 
 use crate::state::StateCall;
-use crate::told::coded;
+use crate::told::code_row;
 use msgs_state::{DeletePartition, PartitionResult};
 use share_model::{Code, ForeignAnswer, ForeignOp, Key, NoMemory};
 use std::alloc::Global;
@@ -38,6 +38,6 @@ impl StateCall for Delete {
     }
 
     fn row(_: Global, partition: i32, answer: ForeignAnswer) -> Result<PartitionResult, NoMemory> {
-        Ok(coded(partition, answer.code))
+        Ok(code_row(partition, answer.code))
     }
 }

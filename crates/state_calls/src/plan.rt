@@ -1,7 +1,7 @@
 // The entries of a state call.
 ghost use Rattle.std.specs.Prelude.{◌≡◌, ◌≤ℤ◌, ◌++◌, pos, map, flat_map, IfOk, OnOk, IfNone};
 ghost use Rattle.share_model.specs.Foreign.{code_alone};
-ghost use Rattle.state_calls.specs.States.{known, planned, planned_topic, shape_of};
+ghost use Rattle.state_calls.specs.States.{immediate_code, partition_entry, topic_entries, shape_of};
 
 use crate::place::{Place, Shape};
 use crate::state::StateCall;
@@ -41,8 +41,8 @@ fn code_alone(alloc: Global, code: Code) -> ForeignAnswer
 }
 
 // The code that is known at once.
-fn known(fits: bool, hosted: bool, code: Code, partition: i32) -> Option<Code>
-    ensures code { result ≡ known fits hosted code partition }
+fn immediate_code(fits: bool, hosted: bool, code: Code, partition: i32) -> Option<Code>
+    ensures code { result ≡ immediate_code fits hosted code partition }
     ensures partition { IfNone result (pos 0 ≤ℤ partition) }
 {
     if !fits {
@@ -57,17 +57,17 @@ fn known(fits: bool, hosted: bool, code: Code, partition: i32) -> Option<Code>
     None
 }
 
-fn planned<S: StateCall>(
+fn plan_partition<S: StateCall>(
     alloc: Global,
     fits: bool,
     hosted: bool,
     topic: Uuid,
     partition: S::Partition,
 ) -> Result<Entry<Wished<S::Wish>, S::Row>, NoMemory>
-    ensures { IfOk result (λ entry. entry ≡ planned S.means fits hosted topic partition) }
+    ensures { IfOk result (λ entry. entry ≡ partition_entry S.means fits hosted topic partition) }
 {
     let (partition, wish) = S::wish(partition);
-    match known(fits, hosted, S::hosted(), partition) {
+    match immediate_code(fits, hosted, S::hosted(), partition) {
         Some(code) => {
             let row = S::row(alloc, partition, code_alone(alloc, code))?;
             Ok(Entry::Known(row))
@@ -90,10 +90,10 @@ fn plan_partitions<S: StateCall>(
     partitions: Vec<S::Partition>,
     left: &mut VecDeque<Entry<Wished<S::Wish>, S::Row>>,
 ) -> Result<(), NoMemory>
-    ensures { OnOk result (left.new.items ≡ left.old.items ++ map (planned S.means fits hosted topic) partitions.items) }
+    ensures { OnOk result (left.new.items ≡ left.old.items ++ map (partition_entry S.means fits hosted topic) partitions.items) }
 {
     for partition in partitions {
-        let entry = planned::<S>(alloc, fits, hosted, topic, partition)?;
+        let entry = plan_partition::<S>(alloc, fits, hosted, topic, partition)?;
         left.push_back(entry)?;
     }
     Ok(())
@@ -108,7 +108,7 @@ fn plan_topic<S: StateCall>(
     left: &mut VecDeque<Entry<Wished<S::Wish>, S::Row>>,
 ) -> Result<Shape, NoMemory>
     ensures shape { IfOk result (λ shape. shape ≡ shape_of topic) }
-    ensures left { OnOk result (left.new.items ≡ left.old.items ++ planned_topic S.means conf.now.topics fits topic) }
+    ensures left { OnOk result (left.new.items ≡ left.old.items ++ topic_entries S.means conf.now.topics fits topic) }
 {
     let StateTopic {
         topic_id,
@@ -132,7 +132,7 @@ pub fn plan_topics<S: StateCall>(
     topics: Items<StateTopic<S::Partition>>,
 ) -> Result<Plan<S::Wish, S::Row>, NoMemory>
     ensures shape { IfOk result (λ plan. plan.shape ≡ map shape_of topics) }
-    ensures left { IfOk result (λ plan. plan.left.items ≡ flat_map (planned_topic S.means conf.now.topics fits) topics) }
+    ensures left { IfOk result (λ plan. plan.left.items ≡ flat_map (topic_entries S.means conf.now.topics fits) topics) }
 {
     let topics = topics.into_vec();
     let mut shape = Vec::with_capacity(alloc, topics.len())?;

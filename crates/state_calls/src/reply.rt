@@ -1,6 +1,6 @@
 // The reply of a state call, which has the form of its request.
 ghost use Rattle.std.specs.Prelude.{◌≡◌, ◌+◌, ◌<◌, ◌^◌, take, drop, IfOk, OnOk};
-ghost use Rattle.state_calls.specs.StateCalls.{regrouped, state_body};
+ghost use Rattle.state_calls.specs.StateCalls.{rows_by_topic, state_body};
 
 use crate::place::Shape;
 use flex_fields::{Bytes, Items, Wire, write_whole};
@@ -31,12 +31,12 @@ fn next_rows<R: Drop>(
 }
 
 // The rows under their topics.
-fn regrouped<R: Drop>(
+fn group_rows<R: Drop>(
     alloc: Global,
     shape: Items<Shape>,
     mut rows: VecDeque<R>,
 ) -> Result<Items<StateTopic<R>>, NoMemory>
-    ensures { IfOk result (λ topics. topics ≡ regrouped shape rows.items) }
+    ensures { IfOk result (λ topics. topics ≡ rows_by_topic shape rows.items) }
 {
     let shape = shape.into_vec();
     let mut topics = Vec::with_capacity(alloc, shape.len())?;
@@ -58,7 +58,7 @@ pub fn state_body<R: Wire>(
 ) -> Result<Option<Bytes>, NoMemory>
     ensures { IfOk result (λ body. body ≡ state_body R.format shape rows.items) }
 {
-    let results = regrouped(alloc, shape, rows)?;
+    let results = group_rows(alloc, shape, rows)?;
     let body = write_whole(alloc, &StateReply { results })?;
     Ok(Some(body))
 }

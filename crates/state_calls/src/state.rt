@@ -6,7 +6,7 @@ ghost use Rattle.state_calls.specs.StateCalls.{state_acts, state_body, state_sta
 use crate::place::Shape;
 use crate::plan::{Plan, Wished, plan_topics};
 use crate::reply::state_body;
-use call_fold::{Asking, Call, Part, PartAnswer, Stage, go_on, rows_known};
+use call_fold::{Asking, Call, Part, PartAnswer, Stage, go_on, known_rows};
 use flex_fields::{Bytes, Items, Wire};
 use msgs_state::StateRequest;
 use share_model::{Code, ForeignAnswer, ForeignOp, Key, Name, NoMemory};
@@ -99,7 +99,7 @@ pub fn state_call<S: StateCall>(
         }
         None => {
             let Plan { shape, left } = plan_topics::<S>(alloc, conf, false, topics)?;
-            let rows = rows_known(alloc, left)?;
+            let rows = known_rows(alloc, left)?;
             let body = state_body(alloc, shape, rows)?;
             Ok(Stage::Says(body))
         }

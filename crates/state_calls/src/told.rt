@@ -1,7 +1,7 @@
 // What a reply tells, and what a request tells, of the rows of a partition.
 ghost use Rattle.std.specs.Prelude.{◌≡◌, All, map, IfOk};
 ghost use Rattle.call_fold.specs.Parts.{IsTellable};
-ghost use Rattle.state_calls.specs.Told.{batch_of, batch_in, coded};
+ghost use Rattle.state_calls.specs.Told.{batch_of, batch_in, code_row};
 
 use flex_fields::Items;
 use msgs_state::{PartitionResult, StateBatch};
@@ -57,8 +57,8 @@ pub fn batches_in(alloc: Global, batches: &Items<StateBatch>) -> Result<StateBat
 }
 
 /// What a reply tells of a partition by its code alone.
-pub fn coded(partition: i32, code: Code) -> PartitionResult
-    ensures { result ≡ coded partition code }
+pub fn code_row(partition: i32, code: Code) -> PartitionResult
+    ensures { result ≡ code_row partition code }
 {
     PartitionResult {
         partition,

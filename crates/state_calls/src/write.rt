@@ -3,7 +3,7 @@ ghost use Rattle.std.specs.Prelude.{◌≡◌};
 ghost use Rattle.state_calls.specs.Write.{write_means};
 
 use crate::state::StateCall;
-use crate::told::{batches_in, coded};
+use crate::told::{batches_in, code_row};
 use flex_fields::Items;
 use msgs_state::{PartitionResult, StateBatch, WritePartition};
 use share_model::{Code, ForeignAnswer, ForeignOp, Key, NoMemory};
@@ -57,6 +57,6 @@ impl StateCall for Write {
     }
 
     fn row(_: Global, partition: i32, answer: ForeignAnswer) -> Result<PartitionResult, NoMemory> {
-        Ok(coded(partition, answer.code))
+        Ok(code_row(partition, answer.code))
     }
 }

@@ -1,0 +1,167 @@
+// The clients that are connected, each under the number of its connection.
+ghost use Rattle.std.specs.Prelude.{◌≡◌, ◌≤◌, ◌∷◌, [], List, ℕ, OnOk, OnErr, IfOk, if◌then◌else◌};
+ghost use Rattle.std.specs.Map.{remove_entry};
+ghost use Rattle.session_script.specs.declared.event.Outcome.{Outcome};
+ghost use Rattle.conn_core.specs.Conns.{ConnParts, conn_after_bytes, without_replies, is_gone};
+ghost use Rattle.conn_core.specs.Turning.{Awaits, turn};
+ghost use Rattle.foreign_coord.specs.Shards.{ForeignShardState};
+ghost use Rattle.broker_model.specs.Machine.{Machine, named, opened, at_connection, conn_at, ended_in};
+ghost use Rattle.broker_model.specs.Steps.{Does, DoesTurn, Serves, replies_to};
+ghost use Rattle.broker_core.specs.Carried.{IsCarried, Leads, Halts, GoesOn, rose_by, ends_by};
+
+use crate::shard::act;
+use conn_core::{Conn, Next, Part, PartAnswer};
+use edge_io::Disk;
+use foreign_coord::ForeignShard;
+use session_script::Outcome;
+use share_model::NoMemory;
+use std::alloc::Global;
+use std::collections::BTreeMap;
+use topic_conf::Config;
+
+pub fn one(alloc: Global, outcome: Outcome) -> Result<Vec<Outcome>, NoMemory>
+    ensures { IfOk result (λ outcomes. outcomes.items ≡ outcome ∷ []) }
+{
+    let mut outcomes = Vec::new(alloc);
+    outcomes.push(outcome)?;
+    Ok(outcomes)
+}
+
+// The finished replies are sent.
+#[tactic(auto, using(crate::proofs::Stepping::none_waiting))]
+fn replies(alloc: Global, id: u32, conn: &mut Conn) -> Result<Vec<Outcome>, NoMemory>
+    ensures told { IfOk result (λ outcomes. outcomes.items ≡ replies_to id conn.old) }
+    ensures conn { OnOk result (conn.new ≡ without_replies conn.old) }
+{
+    let mut outcomes = Vec::new(alloc);
+    while let Some(frame) = conn.take_reply() {
+        outcomes.push(Outcome::Reply { conn: id, frame })?;
+    }
+    Ok(outcomes)
+}
+
+// What the connection tells is done.
+fn done<D: Disk>(
+    alloc: Global,
+    conf: &Config,
+    id: u32,
+    next: Next,
+    conn: &mut Conn,
+    shard: &mut ForeignShard<D>,
+) -> Result<Vec<Outcome>, NoMemory>
+    requires { Awaits next conn.old }
+    ensures ok { IfOk result (λ outcomes. (s : ForeignShardState) → IsCarried D.content D.image D.starved shard.old s →
+        Leads D.content D.image D.starved D.faults D.losses D.arms D.armed shard.old s shard.new
+        (λ a call b. Does (rose_by D.faults shard.old shard.new) (ends_by shard.old) id next conn.old a b call outcomes.items conn.new)) }
+    ensures stopped { OnErr result ((s : ForeignShardState) → IsCarried D.content D.image D.starved shard.old s →
+        Halts D.content D.image s shard.new
+        (λ a call b. (outcomes : List Outcome) × (after : ConnParts) × Does (rose_by D.faults shard.old shard.new) (ends_by shard.old) id next conn.old a b call outcomes after)) }
+    ensures first { GoesOn D.content D.faults shard.old.journal.live.disk shard.new.journal.live.disk }
+    ensures second { shard.new.journal.idle ≡ shard.old.journal.idle }
+{
+    match next {
+        Next::Ask(Part::Foreign(op)) => {
+            let answer = act(&op, shard)?;
+            conn.give(conf, PartAnswer::Foreign(answer))?;
+            replies(alloc, id, conn)
+        }
+        Next::Ready => replies(alloc, id, conn),
+        Next::Closed(cause) => one(alloc, Outcome::Closed { conn: id, cause }),
+        Next::Idle | Next::Gone => Ok(Vec::new(alloc)),
+    }
+}
+
+// One step of a client: one part, or the answer to a request that asks none, or the end. Beside the outcomes it tells whether
+// the client is gone.
+fn step<D: Disk>(
+    alloc: Global,
+    conf: &Config,
+    id: u32,
+    conn: &mut Conn,
+    shard: &mut ForeignShard<D>,
+) -> Result<(Vec<Outcome>, bool), NoMemory>
+    ensures ok { IfOk result (λ did. (s : ForeignShardState) → IsCarried D.content D.image D.starved shard.old s →
+        Leads D.content D.image D.starved D.faults D.losses D.arms D.armed shard.old s shard.new
+        (λ a call b. DoesTurn (rose_by D.faults shard.old shard.new) (ends_by shard.old) id (turn conf.now conn.old) a b call did.0.items conn.new)) }
+    ensures stopped { OnErr result ((s : ForeignShardState) → IsCarried D.content D.image D.starved shard.old s →
+        Halts D.content D.image s shard.new
+        (λ a call b. (outcomes : List Outcome) × (after : ConnParts) × DoesTurn (rose_by D.faults shard.old shard.new) (ends_by shard.old) id (turn conf.now conn.old) a b call outcomes after)) }
+    ensures gone { IfOk result (λ did. did.1 ≡ is_gone conn.new) }
+    ensures first { GoesOn D.content D.faults shard.old.journal.live.disk shard.new.journal.live.disk }
+    ensures second { shard.new.journal.idle ≡ shard.old.journal.idle }
+{
+    let next = conn.next_part(conf)?;
+    let outcomes = done(alloc, conf, id, next, conn, shard)?;
+    Ok((outcomes, conn.is_gone()))
+}
+
+// A client that is gone is removed.
+fn let_go(gone: bool, id: u32, clients: &mut BTreeMap<u32, Conn>)
+    ensures { clients.new.entries ≡ (if gone then remove_entry (named id) clients.old.entries else clients.old.entries) }
+{
+    if gone {
+        let _ = clients.remove(&id);
+    }
+}
+
+/// The client of this number does one step, if it is connected.
+pub fn serve<D: Disk>(
+    alloc: Global,
+    conf: &Config,
+    id: u32,
+    clients: &mut BTreeMap<u32, Conn>,
+    shard: &mut ForeignShard<D>,
+) -> Result<Vec<Outcome>, NoMemory>
+    ensures ok { IfOk result (λ outcomes. (s : ForeignShardState) → IsCarried D.content D.image D.starved shard.old s →
+        Leads D.content D.image D.starved D.faults D.losses D.arms D.armed shard.old s shard.new
+        (λ a call b. Serves conf.now (rose_by D.faults shard.old shard.new) (ends_by shard.old) (record { connections = clients.old.entries; shards = a }) id
+        (conn_at id clients.old.entries) call outcomes.items (record { connections = clients.new.entries; shards = b }))) }
+    ensures stopped { OnErr result ((s : ForeignShardState) → IsCarried D.content D.image D.starved shard.old s →
+        Halts D.content D.image s shard.new
+        (λ a call b. (outcomes : List Outcome) × (after : Machine) × (after.shards ≡ b)
+        × Serves conf.now (rose_by D.faults shard.old shard.new) (ends_by shard.old) (record { connections = clients.old.entries; shards = a }) id
+        (conn_at id clients.old.entries) call outcomes after)) }
+    ensures first { GoesOn D.content D.faults shard.old.journal.live.disk shard.new.journal.live.disk }
+    ensures second { shard.new.journal.idle ≡ shard.old.journal.idle }
+{
+    let Some(conn) = clients.get_mut(&id) else {
+        return Ok(Vec::new(alloc));
+    };
+    let (outcomes, gone) = step(alloc, conf, id, conn, shard)?;
+    let_go(gone, id, clients);
+    Ok(outcomes)
+}
+
+/// A client connects, unless one of this number is connected.
+pub fn connect(alloc: Global, id: u32, clients: &mut BTreeMap<u32, Conn>) -> Result<(), NoMemory>
+    ensures { OnOk result (clients.new.entries ≡ opened id clients.old.entries) }
+{
+    if clients.contains_key(&id) {
+        return Ok(());
+    }
+    match clients.insert(id, Conn::open(alloc)) {
+        Ok(_) => Ok(()),
+        Err(_) => Err(NoMemory),
+    }
+}
+
+/// Bytes come from the client of this number, if there is one.
+pub fn send(id: u32, bytes: &[u8], clients: &mut BTreeMap<u32, Conn>) -> Result<(), NoMemory>
+    ensures { OnOk result (clients.new.entries ≡ at_connection id (conn_after_bytes bytes.now) clients.old.entries) }
+{
+    match clients.get_mut(&id) {
+        None => Ok(()),
+        Some(conn) => conn.feed(bytes),
+    }
+}
+
+/// The client of this number closes its connection.
+pub fn disconnect(id: u32, clients: &mut BTreeMap<u32, Conn>)
+    ensures { clients.new.entries ≡ ended_in id (conn_at id clients.old.entries) clients.old.entries }
+{
+    if let Some(conn) = clients.get_mut(&id) {
+        conn.end();
+        let gone = conn.is_gone();
+        let_go(gone, id, clients);
+    }
+}

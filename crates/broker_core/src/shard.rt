@@ -1,0 +1,139 @@
+// Calls, openings and restarts of the shard of foreign state on its two disks.
+ghost use Rattle.std.specs.Prelude.{◌≡◌, ◌≢◌, ◌⊎◌, ◌≤◌, List, ℕ, Bool, true, false, Some, None, All, is_some, IfOk, IfErr, OnOk, OnErr, MatchResult};
+ghost use Rattle.std.specs.declared.option.Option.{Option};
+ghost use Rattle.edge_io.specs.declared.fault.Armed.TheVariants.{Nothing};
+ghost use Rattle.edge_io.specs.Causes.{Rose};
+ghost use Rattle.edge_io.specs.Disk.{IsTold};
+ghost use Rattle.call_fold.specs.Parts.{IsTellable};
+ghost use Rattle.share_model.specs.ForeignRules.{ShareStates};
+ghost use Rattle.share_model.specs.declared.fault.StoreFault.{StoreFault};
+ghost use Rattle.foreign_coord.specs.Shards.{ForeignShardState, StepsForeign};
+ghost use Rattle.broker_model.specs.Shards.{StepsShards};
+ghost use Rattle.broker_model.specs.Shards.ShardCall.{CallForeign};
+ghost use Rattle.broker_model.specs.Machine.{StandForStates};
+ghost use Rattle.broker_core.specs.Carried.{IsCarried, Leads, Halts, GoesOn, shards_of, rose_by, ends_by};
+ghost use Rattle.broker_core.specs.Restarts.{IsOpened, IsDamagedDisk, IsRestartedShard, IsNotRestarted, ImagesStandAs};
+
+use crate::fault::CoreOpen;
+use edge_io::{Disk, DiskName};
+use foreign_coord::ForeignShard;
+use share_coord::CoordOpen;
+use share_model::{ForeignAnswer, ForeignOp, NoMemory};
+use std::alloc::Global;
+
+/// Does a call on foreign state. Where a disk has found no memory, it answers want of memory.
+pub fn act<D: Disk>(op: &ForeignOp, shard: &mut ForeignShard<D>) -> Result<ForeignAnswer, NoMemory>
+    ensures ok { IfOk result (λ answer. (s : ForeignShardState) → IsCarried D.content D.image D.starved shard.old s →
+        (fault : Option StoreFault) × Leads D.content D.image D.starved D.faults D.losses D.arms D.armed shard.old s shard.new
+        (λ a call b. (call ≡ Some (CallForeign op.now answer fault))
+        × StepsShards (rose_by D.faults shard.old shard.new) (ends_by shard.old) a (CallForeign op.now answer fault) b)) }
+    ensures stopped { OnErr result ((s : ForeignShardState) → IsCarried D.content D.image D.starved shard.old s →
+        Halts D.content D.image s shard.new (λ a call b. (answer : _) × (fault : Option StoreFault) × (call ≡ Some (CallForeign op.now answer fault))
+        × StepsShards (rose_by D.faults shard.old shard.new) (ends_by shard.old) a (CallForeign op.now answer fault) b)) }
+    ensures tellable { IfOk result (λ answer. All IsTellable answer.runs) }
+    ensures first { GoesOn D.content D.faults shard.old.journal.live.disk shard.new.journal.live.disk }
+    ensures second { shard.new.journal.idle ≡ shard.old.journal.idle }
+{
+    let answer = shard.act(op)?;
+    if shard.starved() {
+        return Err(NoMemory);
+    }
+    Ok(answer)
+}
+
+// Why a call of a disk failed.
+fn fault_of_call<D: Disk>(disk: &D) -> CoreOpen
+    ensures device { result ≡ CoreOpen.Device → D.starved disk.now ≡ false }
+    ensures only { (result ≡ CoreOpen.Device) ⊎ (result ≡ CoreOpen.NoMemory) }
+{
+    if disk.starved() {
+        CoreOpen::NoMemory
+    } else {
+        CoreOpen::Device
+    }
+}
+
+// Why the store was not opened, where neither disk has found no memory.
+fn fault_of_open(fault: CoordOpen) -> CoreOpen
+    ensures no_bay { result ≢ CoreOpen.Bay }
+    ensures device { result ≡ CoreOpen.Device → (second : Bool) × (fault ≡ CoordOpen.Device second) }
+    ensures damaged { (name : List ℕ) (place : ℕ) → result ≡ CoreOpen.Damaged name place →
+        (second : Bool) × (fault ≡ CoordOpen.Damaged second place) × (name ≡ name_of second) }
+{
+    match fault {
+        CoordOpen::Damaged { second, place } => CoreOpen::Damaged {
+            disk: if second {
+                DiskName::foreign_state_b()
+            } else {
+                DiskName::foreign_state_a()
+            },
+            place,
+        },
+        CoordOpen::Device { .. } => CoreOpen::Device,
+        CoordOpen::NoMemory => CoreOpen::NoMemory,
+    }
+}
+
+/// Opens the shard on its two disks, which come back at an `Err`.
+pub fn open<D: Disk>(alloc: Global, first: D, second: D) -> Result<ForeignShard<D>, (D, D, CoreOpen)>
+    ensures opens { IfOk result (λ shard. (a b : List ℕ) → D.content first ≡ Some a → D.content second ≡ Some b →
+        IsOpened D.content D.image D.starved D.faults D.losses D.arms D.armed first second a b shard) }
+    // Contents that stand for states are opened, where memory is found and nothing is armed; and these states come.
+    ensures recovers { (a b : List ℕ) (states : ShareStates) → D.content first ≡ Some a → D.content second ≡ Some b → StandForStates a b states →
+        IfErr result (λ e. (name : List ℕ) (place : ℕ) → e.2 ≢ CoreOpen.Damaged name place) }
+    ensures sound { IsTold (D.content first) → IsTold (D.content second) → D.armed first ≡ Nothing → D.armed second ≡ Nothing →
+        IfErr result (λ e. e.2 ≢ CoreOpen.Device) }
+    ensures damaged { IfErr result (λ e. (name : List ℕ) (place : ℕ) → e.2 ≡ CoreOpen.Damaged name place →
+        (a b : List ℕ) → D.content first ≡ Some a → D.content second ≡ Some b → IsDamagedDisk a b name place) }
+    ensures device { IfErr result (λ e. e.2 ≡ CoreOpen.Device → Rose (D.faults first) (D.faults e.0) ⊎ Rose (D.faults second) (D.faults e.1)) }
+    ensures no_bay { IfErr result (λ e. e.2 ≢ CoreOpen.Bay) }
+    ensures images { IfErr result (λ e. ImagesStandAs D.image first second e.0 e.1) }
+    ensures first { MatchResult result (λ new. GoesOn D.content D.faults first new.journal.live.disk) (λ e. GoesOn D.content D.faults first e.0) }
+    ensures second { MatchResult result (λ new. GoesOn D.content D.faults second new.journal.idle) (λ e. GoesOn D.content D.faults second e.1) }
+{
+    match ForeignShard::open(alloc, first, second) {
+        Ok(shard) => {
+            if shard.starved() {
+                let (first, second) = shard.into_disks();
+                return Err((first, second, CoreOpen::NoMemory));
+            }
+            Ok(shard)
+        }
+        Err((first, second, fault)) => {
+            if first.starved() || second.starved() {
+                return Err((first, second, CoreOpen::NoMemory));
+            }
+            Err((first, second, fault_of_open(fault)))
+        }
+    }
+}
+
+/// Loses the power of both disks of a shard, and opens it again. They come back at an `Err`.
+pub fn restart<D: Disk>(
+    alloc: Global,
+    shard: ForeignShard<D>,
+    choice: u64,
+) -> Result<ForeignShard<D>, (D, D, CoreOpen)>
+    ensures ok { IfOk result (λ new. (s : ForeignShardState) → IsCarried D.content D.image D.starved shard s →
+        IsRestartedShard D.content D.image D.starved D.faults D.losses D.arms D.armed choice shard s new) }
+    ensures err { IfErr result (λ e. (s : ForeignShardState) → IsCarried D.content D.image D.starved shard s →
+        IsNotRestarted D.content D.image s e.0 e.1 × (e.2 ≡ CoreOpen.NoMemory)) }
+    ensures device { IfErr result (λ e. e.2 ≡ CoreOpen.Device →
+        Rose (D.faults shard.journal.live.disk) (D.faults e.0) ⊎ Rose (D.faults shard.journal.idle) (D.faults e.1)) }
+    ensures no_bay { IfErr result (λ e. e.2 ≢ CoreOpen.Bay) }
+    ensures first { MatchResult result (λ new. GoesOn D.content D.faults shard.journal.live.disk new.journal.live.disk)
+        (λ e. GoesOn D.content D.faults shard.journal.live.disk e.0) }
+    ensures second { MatchResult result (λ new. GoesOn D.content D.faults shard.journal.idle new.journal.idle)
+        (λ e. GoesOn D.content D.faults shard.journal.idle e.1) }
+{
+    let (mut first, mut second) = shard.into_disks();
+    if let Err(_) = first.power_loss(choice) {
+        let fault = fault_of_call(&first);
+        return Err((first, second, fault));
+    }
+    if let Err(_) = second.power_loss(choice) {
+        let fault = fault_of_call(&second);
+        return Err((first, second, fault));
+    }
+    open(alloc, first, second)
+}
