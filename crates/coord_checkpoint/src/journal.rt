@@ -127,6 +127,7 @@ impl<D: Disk> StateJournal<D> {
             ArmsAlone D.content D.image D.losses D.arms D.armed D.starved D.faults after mode self.old.live.disk self.new.live.disk × (self.new.idle ≡ self.old.idle) }
         ensures second { disk ≡ DiskPlace.StateB →
             ArmsAlone D.content D.image D.losses D.arms D.armed D.starved D.faults after mode self.old.idle self.new.idle × (self.new.live ≡ self.old.live) }
+        ensures end { self.new.live.end ≡ self.old.live.end }
         ensures stays { (frames : List (List ℕ)) (pending : Option (List ℕ)) → Keeps D.image self.old frames pending → Keeps D.image self.new frames pending }
     {
         match disk {

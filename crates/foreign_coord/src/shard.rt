@@ -14,6 +14,7 @@ ghost use Rattle.share_coord.specs.Holding.{Holds};
 ghost use Rattle.share_coord.specs.Opening.{IsOpened, IsNotOpened};
 ghost use Rattle.foreign_coord.specs.Acts.{states_of};
 ghost use Rattle.foreign_coord.specs.Once.{ActsOnce};
+ghost use Rattle.state_records.specs.States.{AreStoredRuns};
 ghost use Rattle.foreign_coord.specs.Shards.{ForeignShardState, StepsForeign, IsFull, Carries, IsFound};
 
 use crate::batches::runs_of;
@@ -48,7 +49,8 @@ fn read(
     known: Option<&StateView>,
     leader_epoch: i32,
 ) -> Result<ForeignAnswer, NoMemory>
-    ensures { IfOk result (λ answer. answer ≡ read_share_state (option_copied known.entry) leader_epoch) }
+    ensures answer { IfOk result (λ answer. answer ≡ read_share_state (option_copied known.entry) leader_epoch) }
+    ensures ranges { IfOk result (λ answer. AreStoredRuns answer.runs) }
 {
     if leader_epoch < 0 {
         return Ok(alone(alloc, Code::INVALID_REQUEST));
@@ -90,6 +92,7 @@ impl<D: Disk> ForeignShard<D> {
             (Init key.now state_epoch start) self.old self.new result }
         ensures runs { RunsOn D.content D.losses D.arms D.armed D.starved D.faults self.old.journal.live.disk self.new.journal.live.disk }
         ensures idle { self.new.journal.idle ≡ self.old.journal.idle }
+        ensures ranges { IfOk result (λ answer. AreStoredRuns answer.runs) }
     {
         let done = self.coord.init(key, state_epoch, start);
         answer(self.alloc, done)
@@ -100,6 +103,7 @@ impl<D: Disk> ForeignShard<D> {
             (Read key.now leader_epoch) self.old self.new result }
         ensures runs { RunsOn D.content D.losses D.arms D.armed D.starved D.faults self.old.journal.live.disk self.new.journal.live.disk }
         ensures idle { self.new.journal.idle ≡ self.old.journal.idle }
+        ensures ranges { IfOk result (λ answer. AreStoredRuns answer.runs) }
     {
         read(self.alloc, self.coord.look(key), leader_epoch)
     }
@@ -116,6 +120,7 @@ impl<D: Disk> ForeignShard<D> {
             (write_call key.now state_epoch leader_epoch start batches.now) self.old self.new result }
         ensures runs { RunsOn D.content D.losses D.arms D.armed D.starved D.faults self.old.journal.live.disk self.new.journal.live.disk }
         ensures idle { self.new.journal.idle ≡ self.old.journal.idle }
+        ensures ranges { IfOk result (λ answer. AreStoredRuns answer.runs) }
     {
         let Some(runs) = runs_of(self.alloc, batches.as_slice())? else {
             return Ok(alone(self.alloc, Code::INVALID_REQUEST));
@@ -131,6 +136,7 @@ impl<D: Disk> ForeignShard<D> {
             (Delete key.now) self.old self.new result }
         ensures runs { RunsOn D.content D.losses D.arms D.armed D.starved D.faults self.old.journal.live.disk self.new.journal.live.disk }
         ensures idle { self.new.journal.idle ≡ self.old.journal.idle }
+        ensures ranges { IfOk result (λ answer. AreStoredRuns answer.runs) }
     {
         match self.coord.remove(key) {
             Ok(_) => Ok(alone(self.alloc, Code::NONE)),
@@ -142,6 +148,7 @@ impl<D: Disk> ForeignShard<D> {
         ensures once { ActsOnce D.content D.image D.moment D.since D.armed D.starved D.faults op.now self.old self.new result }
         ensures runs { RunsOn D.content D.losses D.arms D.armed D.starved D.faults self.old.journal.live.disk self.new.journal.live.disk }
         ensures idle { self.new.journal.idle ≡ self.old.journal.idle }
+        ensures ranges { IfOk result (λ answer. AreStoredRuns answer.runs) }
     {
         match op {
             ForeignOp::Init {
@@ -182,6 +189,7 @@ impl<D: Disk> ForeignShard<D> {
             self.old.journal.live.disk self.new.journal.live.disk self.old.journal.idle self.new.journal.idle (IsFound old op.now) }
         ensures runs { RunsOn D.content D.losses D.arms D.armed D.starved D.faults self.old.journal.live.disk self.new.journal.live.disk }
         ensures idle { self.new.journal.idle ≡ self.old.journal.idle }
+        ensures ranges { IfOk result (λ answer. AreStoredRuns answer.runs) }
     {
         self.dispatch(op)
     }
@@ -216,6 +224,7 @@ impl<D: Disk> ForeignShard<D> {
         ensures second { disk ≡ DiskPlace.StateB →
             ArmsAlone D.content D.image D.losses D.arms D.armed D.starved D.faults after mode self.old.journal.idle self.new.journal.idle
             × (self.new.journal.live ≡ self.old.journal.live) }
+        ensures end { self.new.journal.live.end ≡ self.old.journal.live.end }
         ensures states { self.new.entries ≡ self.old.entries }
         ensures holds { (pending : Option Entries) → Holds D.image self.old pending → Holds D.image self.new pending }
         ensures stays { (shard : ForeignShardState) → Carries D.image self.old shard → Carries D.image self.new shard }

@@ -171,6 +171,7 @@ impl<D: Disk> Coord<D> {
         ensures second { disk ≡ DiskPlace.StateB →
             ArmsAlone D.content D.image D.losses D.arms D.armed D.starved D.faults after mode self.old.journal.idle self.new.journal.idle
             × (self.new.journal.live ≡ self.old.journal.live) }
+        ensures end { self.new.journal.live.end ≡ self.old.journal.live.end }
         ensures states { self.new.entries ≡ self.old.entries }
         ensures stays { (pending : Option Entries) → Holds D.image self.old pending → Holds D.image self.new pending }
     {
