@@ -25,13 +25,13 @@ use Rattle.share_model.specs.declared.foreign.StateBatch.{StateBatch}
 use Rattle.share_model.specs.declared.row.Row.{Row}
 use Rattle.share_model.specs.declared.run.Run.{Run}
 use Rattle.foreign_coord.specs.Shards.{is_granted}
-use Rattle.broker_model.specs.History.{Call, AreDone, Accepted, is_of, with_call, history_of, state_epoch_of, leader_epoch_of, start_of, row_given, PassesOver, HasRow, IsStateOf, IsToldBy, StatesTellHistories}
+use Rattle.broker_model.specs.History.{Call, AreDone, Accepted, is_of, with_call, history_after, state_epoch_of, leader_epoch_of, start_of, row_given, PassesOver, HasRow, IsStateOf, IsToldBy}
 use Rattle.broker_model.specs.History.Accepted.{Initialised, Written}
 use Rattle.broker_model.proofs.Maps.{Rises, at_is, at_self, apart, set_found, set_other, removed_other, removed_gone, rises_set, rises_removed}
 
 -- ---- keys
 
-keys_total : IsTotalOrder key_cmp
+pub keys_total : IsTotalOrder key_cmp
 keys_total = then_total (on_total (λ k. k.group) nat_list_cmp_total) (then_total (on_total (λ k. k.topic) nat_list_cmp_total) (on_total (λ k. k.part) nat_cmp_total))
 
 both_equal : (a b : Ordering) → ordering_then a b ≡ Equal → (a ≡ Equal) × (b ≡ Equal)
@@ -39,7 +39,7 @@ both_equal Less b e = absurd (cc)
 both_equal Equal b e = (refl, e)
 both_equal Greater b e = absurd (cc)
 
-keys_exact : CmpEqualImpliesEq key_cmp
+pub keys_exact : CmpEqualImpliesEq key_cmp
 keys_exact a b e =
     let front = both_equal (slice_cmp nat_cmp a.group b.group) (ordering_then (slice_cmp nat_cmp a.topic b.topic) (nat_cmp a.part b.part)) e in
     let rest = both_equal (slice_cmp nat_cmp a.topic b.topic) (nat_cmp a.part b.part) front.1 in
@@ -50,7 +50,7 @@ keys_exact a b e =
 
 -- ---- rows, from the newest write back
 
-abbrev row_in : List Accepted → ℕ → Option Row
+abbrev pub row_in : List Accepted → ℕ → Option Row
 row_in [] offset = None
 row_in (Initialised state_epoch start ∷ earlier) offset = None
 row_in (Written state_epoch leader_epoch start batches ∷ earlier) offset =
@@ -159,18 +159,18 @@ module _ (offset : ℕ) (row : Row) where
 
 -- ---- what is known of a key
 
-record IsKnown (newest : Accepted) (earlier : List Accepted) (state : ShareState) : Type 0 where
-  state_epoch : state.state_epoch ≡ state_epoch_of newest
-  leader_epoch : state.leader_epoch ≡ leader_epoch_of newest
-  start : state.start ≡ start_of (newest ∷ earlier)
-  canonical : IsCanonical state.runs
-  rows : (offset : ℕ) → row_at state.runs offset ≡ row_in (newest ∷ earlier) offset
+pub record IsKnown (newest : Accepted) (earlier : List Accepted) (state : ShareState) : Type 0 where
+  pub state_epoch : state.state_epoch ≡ state_epoch_of newest
+  pub leader_epoch : state.leader_epoch ≡ leader_epoch_of newest
+  pub start : state.start ≡ start_of (newest ∷ earlier)
+  pub canonical : IsCanonical state.runs
+  pub rows : (offset : ℕ) → row_at state.runs offset ≡ row_in (newest ∷ earlier) offset
 
-abbrev Known : List Accepted → Option ShareState → Type 0
+abbrev pub Known : List Accepted → Option ShareState → Type 0
 Known [] known = known ≡ None
 Known (newest ∷ earlier) known = (state : ShareState) × (known ≡ Some state) × IsKnown newest earlier state
 
-told_by : (history : List Accepted) (known : Option ShareState) → Known history known → IsToldBy history known
+pub told_by : (history : List Accepted) (known : Option ShareState) → Known history known → IsToldBy history known
 told_by [] known k = k
 told_by (newest ∷ earlier) known k = (
   k.0,
@@ -206,12 +206,12 @@ refused_code code refused = go (is_granted (code_alone code)) refl where
   go false is = refl
 
 -- the histories of all keys, and what is known by them
-abbrev Histories : Type 0
+abbrev pub Histories : Type 0
 Histories = KeyParts → List Accepted
 
-record AreKnown (histories : Histories) (states : ShareStates) : Type 0 where
-  rises : Rises key_cmp keys_total keys_exact states
-  known : (key : KeyParts) → Known (histories key) (share_state_at states key)
+pub record AreKnown (histories : Histories) (states : ShareStates) : Type 0 where
+  pub rises : Rises key_cmp keys_total keys_exact states
+  pub known : (key : KeyParts) → Known (histories key) (share_state_at states key)
 
 abbrev then_histories : ForeignOp → ForeignAnswer → Histories → Histories
 then_histories op answer histories key = if is_granted answer then with_call key op (histories key) else histories key
@@ -356,13 +356,8 @@ module _ (histories : Histories) (old : ShareStates) (before : AreKnown historie
 
 -- ---- all calls
 
-all_known : (calls : List Call) (states : ShareStates) → AreDone calls states → AreKnown (λ key. history_of key calls) states
-all_known [] states is = record {
-  rises = subst (λ (s : ShareStates). Rises key_cmp keys_total keys_exact s) (sym is) tt;
-  known = λ key. subst (λ (s : ShareStates). Known [] (share_state_at s key)) (sym is) refl;
-}
-all_known (call ∷ earlier) states p =
-    does_known (λ key. history_of key earlier) p.0 (all_known earlier p.0 p.1) call.op call.answer states p.2
-
-pub states_tell : StatesTellHistories
-states_tell calls states done key = told_by (history_of key calls) (share_state_at states key) ((all_known calls states done).known key)
+pub all_known : (calls : List Call) (histories : Histories) (first last : ShareStates) → AreDone first calls last → AreKnown histories first
+    → AreKnown (λ key. history_after key (histories key) calls) last
+all_known [] histories first last is known = subst (λ (s : ShareStates). AreKnown histories s) (sym is) known
+all_known (call ∷ calls) histories first last p known =
+    all_known calls (then_histories call.op call.answer histories) p.0 last p.2 (does_known histories first known call.op call.answer p.0 p.1)

@@ -3,10 +3,11 @@
 -- For example a key is initialised with epoch 1 and start 0, and then three writes are accepted: 0 to 9 acknowledged; 5 to 5
 -- available; no batch with start 4. Offset 3 has no row, nor has it one after a later write with start 0; offset 5 has the row of
 -- the second write, and 6 that of the first. Once the key is deleted its list is empty, and there is no key.
-use Rattle.std.specs.Prelude.{◌≡◌, ◌↔◌, ℕ, ℤ, pos, negsuc, Bool, false, List, [], ◌∷◌, ◌++◌, Option, None, Some, if◌then◌else◌}
+use Rattle.std.specs.Prelude.{◌≡◌, ◌↔◌, ℕ, ℤ, pos, negsuc, Bool, false, List, [], ◌∷◌, ◌++◌, map, Option, None, Some, if◌then◌else◌}
 use Rattle.std.specs.List.{AllByRecursion}
 use Rattle.std.specs.BTreeMap.{is_at}
 use Rattle.share_model.specs.Keys.{KeyParts, key_cmp}
+use Rattle.share_model.specs.Rows.{state_number}
 use Rattle.share_model.specs.Runs.{IsCanonical, row_at}
 use Rattle.share_model.specs.ShareStates.{ShareState, start_after, is_below, last_row}
 use Rattle.share_model.specs.ForeignRules.{ShareStates, Does, share_state_at, runs_of}
@@ -24,14 +25,14 @@ pub record Call : Type 0 where
   pub op : ForeignOp
   pub answer : ForeignAnswer
 
--- Calls one after another by the rules, the newest first, from no keys on.
-abbrev pub AreDone : List Call → ShareStates → Type 0
-AreDone [] states = states ≡ []
-AreDone (call ∷ earlier) states = (before : ShareStates) × AreDone earlier before × Does before call.op call.answer states
+-- calls one after another by the rules, from these states to those
+abbrev pub AreDone : ShareStates → List Call → ShareStates → Type 0
+AreDone states [] last = last ≡ states
+AreDone states (call ∷ calls) last = (mid : ShareStates) × Does states call.op call.answer mid × AreDone mid calls last
 
 -- ---- the history of a key
 
--- an initialisation or a write that was accepted, as it was asked
+-- An initialisation or a write that was accepted, as it was asked. A history is a list of these, the newest first.
 pub data Accepted : Type 0 where
   Initialised : (state_epoch start : ℤ) → Accepted
   Written : (state_epoch leader_epoch start : ℤ) (batches : List StateBatch) → Accepted
@@ -47,11 +48,21 @@ with_call key (Write other state_epoch leader_epoch start batches) history =
     if is_of key other then Written state_epoch leader_epoch start batches ∷ history else history
 with_call key (Delete other) history = if is_of key other then [] else history
 
--- The initialisations and writes of a key that were accepted since it was last made, the newest first. A call is accepted where it is
--- answered with code 0.
-abbrev pub history_of : KeyParts → List Call → List Accepted
-history_of key [] = []
-history_of key (call ∷ earlier) = if is_granted call.answer then with_call key call.op (history_of key earlier) else history_of key earlier
+-- The initialisations and writes of a key that were accepted since it was last made; `history` are those before these calls. A call is
+-- accepted where it is answered with code 0.
+abbrev pub history_after : KeyParts → List Accepted → List Call → List Accepted
+history_after key history [] = history
+history_after key history (call ∷ calls) = history_after key (if is_granted call.answer then with_call key call.op history else history) calls
+
+-- the batch that gives the rows of a run
+abbrev pub batch_of : Run → StateBatch
+batch_of run = record { first = pos run.first; last = pos run.last; state = pos (state_number run.state); count = pos run.count }
+
+-- A key that is read from a disk has the history of one initialisation and one write, which give its epochs, start and rows.
+abbrev pub history_read : Option ShareState → List Accepted
+history_read None = []
+history_read (Some state) =
+    Written state.state_epoch state.leader_epoch state.start (map batch_of state.runs) ∷ Initialised state.state_epoch state.start ∷ []
 
 -- ---- what it gives
 
@@ -108,7 +119,7 @@ abbrev pub IsToldBy : List Accepted → Option ShareState → Type 0
 IsToldBy [] known = known ≡ None
 IsToldBy (newest ∷ earlier) known = (state : ShareState) × (known ≡ Some state) × IsStateOf newest earlier state
 
--- The states are, key by key, what the accepted calls give.
-abbrev pub StatesTellHistories : Type 0
-StatesTellHistories = (calls : List Call) (states : ShareStates) → AreDone calls states →
-    (key : KeyParts) → IsToldBy (history_of key calls) (share_state_at states key)
+-- After any calls from these states on, the states are, key by key, what their histories give.
+abbrev pub StatesTellHistories : ShareStates → Type 0
+StatesTellHistories first = (calls : List Call) (last : ShareStates) → AreDone first calls last →
+    (key : KeyParts) → IsToldBy (history_after key (history_read (share_state_at first key)) calls) (share_state_at last key)
