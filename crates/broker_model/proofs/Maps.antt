@@ -72,6 +72,15 @@ module _ {K : Type 0} (cmp : K → K → Ordering) (order : IsTotalOrder cmp) (e
         sym (ap (λ b. cond b (Some e.1) (found other es)) there)
     go ih false is = ap (cond (is_at (cmp other) e.0) (Some e.1)) ih
 
+  -- one that isn't there
+  pub removed_none : {X : Type 0} (key : K) (es : List (K × X)) → found key es ≡ None → remove_entry (is_at (cmp key)) es ≡ es
+  removed_none key [] none = refl
+  removed_none key (e ∷ es) none = go (is_at (cmp key) e.0) (removed_none key es) none where
+    go : (b : Bool) → (found key es ≡ None → remove_entry (is_at (cmp key)) es ≡ es) → cond b (Some e.1) (found key es) ≡ None
+        → cond b es (e ∷ remove_entry (is_at (cmp key)) es) ≡ e ∷ es
+    go true ih none = absurd (cc)
+    go false ih none = ap (λ l. e ∷ l) (ih none)
+
   -- ---- keys in order
 
   abbrev IsAbove : {X : Type 0} → K → List (K × X) → Type 0

@@ -42,7 +42,7 @@ fair first last state count le = grind (arith, nat_tests)
 run_back : (run : Run) → run.first ≤ run.last → run_of (batch_of run) ≡ Some run
 run_back run le =
     ap (λ (b : Bool). if b then run_with (batch_of run) (state_of (state_number run.state)) else None)
-        (fair run.first run.last (state_number run.state) run.count le)
+    (fair run.first run.last (state_number run.state) run.count le)
     ∙ ap (run_with (batch_of run)) (state_back run.state)
 
 runs_back : (runs : List Run) → IsCanonical runs → runs_of (map batch_of runs) ≡ Some runs
@@ -89,13 +89,17 @@ module _ (state : ShareState) (readable : IsReadable state) where
         ∙ or_none (last_row state.runs offset) ∙ last_row_at state.runs offset readable.canonical)
 
   state_known : Known (history_read (Some state)) (Some state)
-  state_known = (state, refl, record {
-    state_epoch = refl;
-    leader_epoch = refl;
-    start = sym (start_same state.start);
-    canonical = readable.canonical;
-    rows = rows_read;
-  })
+  state_known = (
+    state,
+    refl,
+    record {
+      state_epoch = refl;
+      leader_epoch = refl;
+      start = sym (start_same state.start);
+      canonical = readable.canonical;
+      rows = rows_read;
+    },
+  )
 
 -- ---- states that disks may keep
 
