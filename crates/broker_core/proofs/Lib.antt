@@ -1,1 +1,5 @@
-
+-- Stepping: what a step of a client means to the map of all clients. Leading: calls on the shard, and what they lead to. Opening:
+-- openings and restarts of the shard. Slots: the shard as a broker holds it. Events: what each event makes of the machine.
+pub mod Stepping
+pub mod Leading
+pub mod Opening

@@ -6,6 +6,7 @@ use Rattle.edge_io.specs.declared.fault.Armed.{Armed}
 use Rattle.edge_io.specs.Armed.{Spends}
 use Rattle.edge_io.specs.Disk.{IsTold, Within}
 use Rattle.gate_journal.specs.Frames.{StandsAs}
+use Rattle.share_model.specs.ForeignRules.{ShareStates}
 use Rattle.share_coord.specs.Parts.{StoreParts}
 use Rattle.share_coord.specs.Stored.{AreDamaged}
 use Rattle.foreign_coord.specs.Shards.{ForeignShardState}
@@ -29,6 +30,7 @@ pub record IsOpened {D : Type 0} (content : D → Option (List ℕ)) (image : D 
   pub shard : ForeignShardState
   pub carried : IsCarried content image starved store shard
   pub stands : StandForStates a b shard.states
+  pub only : (states : ShareStates) → StandForStates a b states → shard.states ≡ states
   pub nothing : shard.pending ≡ None
   pub on_first : IsOpenedDisk (facts_of faults losses arms armed first) (facts_of faults losses arms armed store.journal.live.disk)
   pub on_second : IsOpenedDisk (facts_of faults losses arms armed second) (facts_of faults losses arms armed store.journal.idle)

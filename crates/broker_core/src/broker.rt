@@ -3,7 +3,15 @@ ghost use Rattle.edge_io.specs.Bays.{IsSound};
 ghost use Rattle.edge_io.specs.Causes.{Rose};
 ghost use Rattle.session_script.specs.declared.event.Event.TheVariants.{Power};
 ghost use Rattle.broker_model.specs.Machine.{Machine};
-ghost use Rattle.broker_core.specs.Cores.{Advances, GoOn, IsCore, IsHeld, IsOpen, OneRose, StopsIn, disks_in};
+ghost use Rattle.broker_model.specs.Machine.{StandForStates};
+ghost use Rattle.broker_model.specs.Shards.{state_a, state_b};
+ghost use Rattle.broker_model.specs.Disks.{Disks};
+ghost use Rattle.topic_conf.specs.Configs.{ConfigParts};
+ghost use Rattle.share_model.specs.ForeignRules.{ShareStates};
+ghost use Rattle.edge_io.specs.Bays.{Holds};
+ghost use Rattle.broker_core.specs.Restarts.{IsDamagedDisk};
+ghost use Rattle.broker_core.specs.Bays.{AreOut, IsFirst, TellsDisks, TellsStill};
+ghost use Rattle.broker_core.specs.Cores.{state_of, Advances, GoOn, IsCore, IsHeld, IsOpen, OneRose, StopsIn, disks_in};
 
 use crate::client::{connect, disconnect, one, send};
 use crate::fault::{CoreFault, CoreOpen};
@@ -39,7 +47,86 @@ impl<D: Disk> Model for Core<D> {
     ghost invariant = { λ c. IsHeld c.foreign };
 }
 
-impl<D: Disk> Core<D> {
+// Why a bay gave no disk.
+fn no_disk<B: Bay>(bay: &B) -> CoreOpen
+    ensures bay { result ≡ CoreOpen.Bay → B.starved bay.now ≡ false }
+    ensures only { (result ≡ CoreOpen.Bay) ⊎ (result ≡ CoreOpen.NoMemory) }
+{
+    if bay.starved() {
+        CoreOpen::NoMemory
+    } else {
+        CoreOpen::Bay
+    }
+}
+
+impl<D: Disk + Drop> Core<D> {
+    /// Takes the broker's disks from the bay, and opens its shards: those of the states that the disks stand for, with nothing pending,
+    /// to which nobody is connected.
+    ///
+    /// After a refusal each disk is back in the bay.
+    pub fn start<B: Bay<D = D>>(
+        alloc: Global,
+        bay: &mut B,
+        conf: Config,
+    ) -> Result<Core<D>, CoreOpen>
+        requires { AreOut B.out false bay.old }
+        ensures opens { IfOk result (λ core. (contents : List ℕ → List ℕ) (was : Disks) →
+            TellsDisks B.disk D.content D.faults D.losses D.arms D.armed bay.old contents was → (m : Machine) × IsCore D.content D.image D.starved core m
+            × IsFirst contents was (state_of D.faults D.losses D.arms D.armed m core)) }
+        ensures open { IfOk result (λ core. IsOpen core.foreign × (core.conf ≡ conf)) }
+        ensures taken { OnOk result (AreOut B.out true bay.new) }
+        ensures back { OnErr result (AreOut B.out false bay.new) }
+
+        // Each refusal has its cause. Contents that stand for states are never damaged.
+        ensures damaged { (disk : List ℕ) (place : ℕ) → result ≡ Err (CoreOpen.Damaged disk place) → (contents : List ℕ → List ℕ) (was : Disks) →
+            TellsDisks B.disk D.content D.faults D.losses D.arms D.armed bay.old contents was → IsDamagedDisk (contents state_a) (contents state_b) disk place }
+        ensures recovers { (contents : List ℕ → List ℕ) (was : Disks) (states : ShareStates) →
+            TellsDisks B.disk D.content D.faults D.losses D.arms D.armed bay.old contents was → StandForStates (contents state_a) (contents state_b) states →
+            (disk : List ℕ) (place : ℕ) → result ≢ Err (CoreOpen.Damaged disk place) }
+        ensures bay { result ≡ Err CoreOpen.Bay → Rose (B.faults bay.old) (B.faults bay.new) }
+        ensures later { B.faults bay.old ≤ B.faults bay.new }
+        ensures told { TellsStill B.disk bay.old bay.new }
+        ensures sound { IsSound B.disk B.steady D.content D.armed D.arms D.starved D.faults bay.old → (result ≢ Err CoreOpen.Bay) × (result ≢ Err CoreOpen.Device) }
+    {
+        let first_name = DiskName::foreign_state_a();
+        let second_name = DiskName::foreign_state_b();
+        let Ok(first) = bay.take(&first_name) else {
+            return Err(no_disk(bay));
+        };
+        let Ok(second) = bay.take(&second_name) else {
+            let fault = no_disk(bay);
+            bay.put_back(&first_name, first);
+            return Err(fault);
+        };
+        match open(alloc, first, second) {
+            Ok(shard) => Ok(Core {
+                conf,
+                clients: BTreeMap::new(alloc),
+                foreign: ForeignSlot::Open(shard),
+                alloc,
+            }),
+            Err((first, second, fault)) => {
+                bay.put_back(&first_name, first);
+                bay.put_back(&second_name, second);
+                Err(fault)
+            }
+        }
+    }
+
+    /// Puts the disks back into the bay from which they were taken.
+    pub fn finish<B: Bay<D = D>>(self, bay: &mut B)
+        requires { AreOut B.out true bay.old }
+        ensures back { (first second : D) → disks_in self.foreign ≡ Some (first, second) →
+            Holds (B.disk bay.old state_a) (B.disk bay.new state_a) first × Holds (B.disk bay.old state_b) (B.disk bay.new state_b) second }
+        ensures in_again { AreOut B.out false bay.new }
+        ensures later { B.faults bay.old ≤ B.faults bay.new }
+    {
+        let Core { foreign, .. } = self;
+        let (first, second) = into_disks(foreign);
+        bay.put_back(&DiskName::foreign_state_a(), first);
+        bay.put_back(&DiskName::foreign_state_b(), second);
+    }
+
     /// Does one event, and gives what comes of it, in order.
     ///
     /// An event on a connection or a disk that isn't there, and an open of a connection that is, change nothing and give nothing. At an

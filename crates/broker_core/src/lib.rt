@@ -4,7 +4,7 @@
 mod broker;
 mod client;
 mod fault;
-mod opening;
+mod shard;
 mod slot;
 
 pub use broker::Core;

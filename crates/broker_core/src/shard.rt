@@ -4,6 +4,7 @@ ghost use Rattle.std.specs.declared.option.Option.{Option};
 ghost use Rattle.edge_io.specs.declared.fault.Armed.TheVariants.{Nothing};
 ghost use Rattle.edge_io.specs.Causes.{Rose};
 ghost use Rattle.edge_io.specs.Disk.{IsTold};
+ghost use Rattle.share_model.specs.declared.foreign.ForeignAnswer.{ForeignAnswer};
 ghost use Rattle.call_fold.specs.Parts.{IsTellable};
 ghost use Rattle.share_model.specs.ForeignRules.{ShareStates};
 ghost use Rattle.share_model.specs.declared.fault.StoreFault.{StoreFault};
@@ -12,7 +13,7 @@ ghost use Rattle.broker_model.specs.Shards.{StepsShards};
 ghost use Rattle.broker_model.specs.Shards.ShardCall.{CallForeign};
 ghost use Rattle.broker_model.specs.Machine.{StandForStates};
 ghost use Rattle.broker_core.specs.Carried.{IsCarried, Leads, Halts, GoesOn, shards_of, rose_by, ends_by};
-ghost use Rattle.broker_core.specs.Restarts.{IsOpened, IsDamagedDisk, IsRestartedShard, IsNotRestarted, ImagesStandAs};
+ghost use Rattle.broker_core.specs.Restarts.{IsOpened, IsDamagedDisk, name_of, IsRestartedShard, IsNotRestarted, ImagesStandAs};
 
 use crate::fault::CoreOpen;
 use edge_io::{Disk, DiskName};
@@ -28,7 +29,7 @@ pub fn act<D: Disk>(op: &ForeignOp, shard: &mut ForeignShard<D>) -> Result<Forei
         (λ a call b. (call ≡ Some (CallForeign op.now answer fault))
         × StepsShards (rose_by D.faults shard.old shard.new) (ends_by shard.old) a (CallForeign op.now answer fault) b)) }
     ensures stopped { OnErr result ((s : ForeignShardState) → IsCarried D.content D.image D.starved shard.old s →
-        Halts D.content D.image s shard.new (λ a call b. (answer : _) × (fault : Option StoreFault) × (call ≡ Some (CallForeign op.now answer fault))
+        Halts D.content D.image s shard.new (λ a call b. (answer : ForeignAnswer) × (fault : Option StoreFault) × (call ≡ Some (CallForeign op.now answer fault))
         × StepsShards (rose_by D.faults shard.old shard.new) (ends_by shard.old) a (CallForeign op.now answer fault) b)) }
     ensures tellable { IfOk result (λ answer. All IsTellable answer.runs) }
     ensures first { GoesOn D.content D.faults shard.old.journal.live.disk shard.new.journal.live.disk }

@@ -1,0 +1,220 @@
+-- Openings and restarts of the shard.
+use Rattle.std.proofs.Common.{◌≡◌, ◌≢◌, ◌≤◌, ◌⊎◌, ◌∷◌, ◌++◌, [], inl, inr, ⊎_elim, refl, sym, ap, ◌∙◌, subst, ℕ, List, Bool, true, false, Some, None, is_some}
+use Rattle.std.specs.declared.option.Option.{Option}
+use Rattle.std.specs.Option.{option_map}
+use Rattle.edge_io.specs.declared.fault.Armed.{Armed}
+use Rattle.edge_io.specs.declared.fault.Armed.TheVariants.{Nothing}
+use Rattle.edge_io.specs.Armed.{RunsOn, Spends}
+use Rattle.edge_io.specs.Disk.{IsTold, Within, Synced}
+use Rattle.gate_journal.specs.Frames.{StandsFor, StandsAs}
+use Rattle.gate_journal.proofs.Once.{once}
+use Rattle.share_model.specs.ForeignRules.{ShareStates}
+use Rattle.share_model.specs.Pending.{WithPending}
+use Rattle.share_coord.specs.Holding.{Holds}
+use Rattle.share_coord.specs.Parts.{StoreParts}
+use Rattle.share_coord.specs.Stored.{Entries, AreStored}
+use Rattle.coord_checkpoint.specs.Lists.{IsListed}
+use Rattle.foreign_coord.specs.Acts.{states_of}
+use Rattle.foreign_coord.specs.Shards.{ForeignShardState, Carries}
+use Rattle.broker_model.specs.Machine.{StandForStates, StandWith, Lands}
+use Rattle.broker_model.specs.Disks.{facts_of}
+use Rattle.broker_core.specs.declared.fault.CoreOpen.{CoreOpen}
+use Rattle.broker_core.specs.declared.fault.CoreOpen.TheVariants as fault
+use Rattle.broker_core.specs.Carried.{IsCarried, shards_of}
+use Rattle.broker_core.specs.Restarts.{IsOpened, IsOpenedDisk, IsRestartedShard, IsNotRestarted, ImagesStand, ImagesStandAs}
+
+-- ---- pending writes
+
+pub pending_map : {S : Type 0} (P Q : S → Type 0) → ((x : S) → P x → Q x) → (s : S) (p : Option S) → WithPending P s p → WithPending Q s p
+pending_map P Q f s None h = f s h
+pending_map P Q f s (Some w) (inl h) = inl (f s h)
+pending_map P Q f s (Some w) (inr h) = inr (f w h)
+
+-- what stands for the entries stands for their states
+pub of_states : (P : ShareStates → Type 0) (entries : Entries) (pending : Option Entries) (shard : ForeignShardState) → shard.states ≡ states_of entries
+    → shard.pending ≡ option_map states_of pending → WithPending (λ e. P (states_of e)) entries pending → WithPending P shard.states shard.pending
+of_states P entries None shard e p h = subst (λ q. WithPending P shard.states q) (sym p) (subst P (sym e) h)
+of_states P entries (Some w) shard e p (inl h) = subst (λ q. WithPending P shard.states q) (sym p) (inl (subst P (sym e) h))
+of_states P entries (Some w) shard e p (inr h) = subst (λ q. WithPending P shard.states q) (sym p) (inr h)
+
+-- one of the states for which it stands is what landed
+pub chosen : (P : ShareStates → Type 0) (shard : ForeignShardState) (states : ShareStates) (pending : Option ShareStates) → shard.states ≡ states
+    → shard.pending ≡ pending → WithPending P states pending → (after : ForeignShardState) × P after.states × Lands shard after
+chosen P shard states None e p h = (
+  record { states = states; pending = None },
+  h,
+  record { states = subst (λ q. WithPending (λ s. states ≡ s) shard.states q) (sym p) (sym e); nothing = refl },
+)
+chosen P shard states (Some w) e p (inl h) = (
+  record { states = states; pending = None },
+  h,
+  record { states = subst (λ q. WithPending (λ s. states ≡ s) shard.states q) (sym p) (inl (sym e)); nothing = refl },
+)
+chosen P shard states (Some w) e p (inr h) = (
+  record { states = w; pending = None },
+  h,
+  record { states = subst (λ q. WithPending (λ s. w ≡ s) shard.states q) (sym p) (inr refl); nothing = refl },
+)
+
+-- ---- contents
+
+pub is_told : (o : Option (List ℕ)) → is_some o ≡ true → (c : List ℕ) × (o ≡ Some c)
+is_told None e = absurd cc
+is_told (Some c) e = (c, refl)
+
+pub told_of : (o : Option (List ℕ)) (c : List ℕ) → o ≡ Some c → is_some o ≡ true
+told_of o c e = ap is_some e
+
+pub same_some : (o : Option (List ℕ)) (c d : List ℕ) → o ≡ Some c → o ≡ Some d → c ≡ d
+same_some o c d e f = let g : Some c ≡ Some d = sym e ∙ f in cc
+
+-- a content that is read as the same frames stands for the same states
+same_frames : (a b c : List ℕ) (states : ShareStates) → (a ≡ c) ⊎ ((frames : List (List ℕ)) × StandsFor a frames × StandsFor c frames)
+    → StandForStates a b states → StandForStates c b states
+same_frames a b c states (inl e) h = subst (λ x. StandForStates x b states) e h
+same_frames a b c states (inr f) h = (
+  h.0,
+  record {
+    frames = h.1.frames;
+    listed = record {
+      listed = subst (λ fs. StandsFor c fs) (once a f.0 h.1.frames f.1 h.1.listed.listed) f.2;
+      bare = h.1.listed.bare;
+    };
+    accepted = h.1.accepted;
+  },
+  h.2,
+)
+
+module _ {D : Type 0} (content : D → Option (List ℕ)) (image : D → List ℕ → Type 0) (starved : D → Bool) (faults : D → ℕ)
+    (losses : D → List (ℕ × List ℕ)) (arms : D → ℕ) (armed : D → Armed) where
+  -- the images of a carried shard
+  pub carried_stands : (store : StoreParts D) (shard : ForeignShardState) → Carries image store shard → ImagesStand image shard store.journal.live.disk store.journal.idle
+  carried_stands store shard k a b on_first on_second =
+      of_states (StandForStates a b) store.entries k.pending shard k.states k.pending_is
+      (pending_map (AreStored a b) (λ e. StandForStates a b (states_of e)) (λ e h. (e, h, refl)) store.entries k.pending (k.holds.images a b on_first on_second))
+
+  abbrev Runs : D → D → Type 0
+  Runs old new = RunsOn content losses arms armed starved faults old new
+
+  opened_disk : (old new : D) → Runs old new → IsTold (content old) → starved new ≡ false
+      → IsOpenedDisk (facts_of faults losses arms armed old) (facts_of faults losses arms armed new)
+  opened_disk old new runs told fed =
+      record { losses = runs.same_losses; arms = runs.same_arms; later = runs.later; spends = runs.spends told fed }
+
+  pub opened : (first second : D) (a b : List ℕ) (store : StoreParts D) → content first ≡ Some a → content second ≡ Some b
+      → ((x y : List ℕ) → content first ≡ Some x → content second ≡ Some y → AreStored x y store.entries)
+      → ((x y : List ℕ) (entries : Entries) → content first ≡ Some x → content second ≡ Some y → AreStored x y entries → store.entries ≡ entries)
+      → Carries image store (record { states = states_of store.entries; pending = None })
+      → Runs first store.journal.live.disk → Runs second store.journal.idle → starved store.journal.live.disk ≡ false → starved store.journal.idle ≡ false
+      → IsOpened content image starved faults losses arms armed first second a b store
+  opened first second a b store is is_second opens only carries runs second_runs fed second_fed = record {
+    shard = record { states = states_of store.entries; pending = None };
+    carried = record {
+      carries = carries;
+      told = runs.told ∙ told_of (content first) a is;
+      second_told = second_runs.told ∙ told_of (content second) b is_second;
+      fed = fed;
+      second_fed = second_fed;
+    };
+    stands = (store.entries, opens a b is is_second, refl);
+    only = λ states h. ap states_of (only a b h.0 is is_second h.1) ∙ sym h.2;
+    nothing = refl;
+    on_first = opened_disk first store.journal.live.disk runs (told_of (content first) a is) fed;
+    on_second = opened_disk second store.journal.idle second_runs (told_of (content second) b is_second) second_fed;
+  }
+
+  -- ---- restarts
+
+  -- what a power loss left of a disk
+  pub record IsLost (choice : ℕ) (old new : D) (c : List ℕ) : Type 0 where
+    pub is : content new ≡ Some c
+    pub was : image old c
+    pub only : (d : List ℕ) → image new d → d ≡ c
+    pub lost : losses new ≡ losses old ++ (choice, c) ∷ []
+    pub same_arms : arms new ≡ arms old
+    pub disarmed : armed new ≡ Nothing
+    pub quiet : faults new ≡ faults old
+
+  restarted_disk : (choice : ℕ) (old mid new : D) (c : List ℕ) → IsLost choice old mid c
+      → IsOpenedDisk (facts_of faults losses arms armed mid) (facts_of faults losses arms armed new)
+      → (arms new ≡ arms old) × (armed new ≡ Nothing) × (faults new ≡ faults old)
+  restarted_disk choice old mid new c l o =
+      (o.arms ∙ l.same_arms, (o.spends.disarmed l.disarmed).0, (o.spends.disarmed l.disarmed).1 ∙ l.quiet)
+
+  pub restarted : (choice : ℕ) (store : StoreParts D) (shard : ForeignShardState) (mid_first mid_second : D) (a b : List ℕ) (new : StoreParts D)
+      → IsCarried content image starved store shard → IsLost choice store.journal.live.disk mid_first a → IsLost choice store.journal.idle mid_second b
+      → IsOpened content image starved faults losses arms armed mid_first mid_second a b new
+      → IsRestartedShard content image starved faults losses arms armed choice store shard new
+  restarted choice store shard mid_first mid_second a b new k l m o =
+      let first = restarted_disk choice store.journal.live.disk mid_first new.journal.live.disk a l o.on_first in
+      let second = restarted_disk choice store.journal.idle mid_second new.journal.idle b m o.on_second in
+      record {
+        a = a;
+        b = b;
+        after = o.shard;
+        carried = o.carried;
+        lands = record {
+          states = pending_map (StandForStates a b) (λ s. o.shard.states ≡ s) o.only shard.states shard.pending
+              (carried_stands store shard k.carries a b l.was m.was);
+          nothing = o.nothing;
+        };
+        stands = o.stands;
+        lost = o.on_first.losses ∙ l.lost;
+        second_lost = o.on_second.losses ∙ m.lost;
+        on_first = record { arms = first.0; disarmed = first.1; quiet = first.2 };
+        on_second = record { arms = second.0; disarmed = second.1; quiet = second.2 };
+      }
+
+  -- a loss was refused
+  pub not_lost : (store : StoreParts D) (shard : ForeignShardState) (first second : D) → IsCarried content image starved store shard
+      → Within (image store.journal.live.disk) (image first) → Within (image store.journal.idle) (image second)
+      → IsTold (content first) → IsTold (content second) → IsNotRestarted content image shard first second
+  not_lost store shard first second k within second_within told second_told = record {
+    after = shard;
+    lands = inl refl;
+    stand = λ a b on_first on_second. carried_stands store shard k.carries a b (within a on_first) (second_within b on_second);
+    told = told;
+    second_told = second_told;
+  }
+
+  -- it was not opened again
+  pub not_opened : (choice : ℕ) (store : StoreParts D) (shard : ForeignShardState) (mid_first mid_second first second : D) (a b : List ℕ)
+      → IsCarried content image starved store shard → IsLost choice store.journal.live.disk mid_first a → IsLost choice store.journal.idle mid_second b
+      → ImagesStandAs image mid_first mid_second first second → IsTold (content first) → IsTold (content second)
+      → IsNotRestarted content image shard first second
+  not_opened choice store shard mid_first mid_second first second a b k l m as_before told second_told =
+      let c = chosen (StandForStates a b) shard shard.states shard.pending refl refl (carried_stands store shard k.carries a b l.was m.was) in
+      record {
+        after = c.0;
+        lands = inr c.2;
+        stand = λ x y on_first on_second.
+            let f = as_before.on_first x on_first in
+            let stands : StandForStates x b c.0.states = same_frames a b x c.0.states (led a f.0 x (l.only f.0 f.1) f.2) c.1 in
+            subst (λ p. WithPending (StandForStates x y) c.0.states p) (sym c.2.nothing)
+            (subst (λ z. StandForStates x z c.0.states) (sym (m.only y (as_before.on_second y on_second))) stands);
+        told = told;
+        second_told = second_told;
+      }
+    where
+      led : (a d x : List ℕ) → d ≡ a → (d ≡ x) ⊎ ((frames : List (List ℕ)) × StandsFor d frames × StandsFor x frames)
+          → (a ≡ x) ⊎ ((frames : List (List ℕ)) × StandsFor a frames × StandsFor x frames)
+      led a d x e (inl same) = inl (sym e ∙ same)
+      led a d x e (inr f) = inr (f.0, subst (λ z. StandsFor z f.0) e f.1, f.2)
+
+  -- contents that stood for states are neither damaged nor met by a fault with nothing armed
+  pub only_memory : (choice : ℕ) (store : StoreParts D) (shard : ForeignShardState) (mid_first mid_second : D) (a b : List ℕ) (e : CoreOpen)
+      → IsCarried content image starved store shard → IsLost choice store.journal.live.disk mid_first a → IsLost choice store.journal.idle mid_second b
+      → ((x y : List ℕ) (states : ShareStates) → content mid_first ≡ Some x → content mid_second ≡ Some y → StandForStates x y states
+      → (name : List ℕ) (place : ℕ) → e ≢ fault.Damaged name place)
+      → (IsTold (content mid_first) → IsTold (content mid_second) → armed mid_first ≡ Nothing → armed mid_second ≡ Nothing → e ≢ fault.Device)
+      → e ≢ fault.Bay → e ≡ fault.NoMemory
+  only_memory choice store shard mid_first mid_second a b e k l m recovers sound no_bay =
+      let c = chosen (StandForStates a b) shard shard.states shard.pending refl refl (carried_stands store shard k.carries a b l.was m.was) in
+      one_left e (recovers a b c.0.states l.is m.is c.1)
+      (sound (told_of (content mid_first) a l.is) (told_of (content mid_second) b m.is) l.disarmed m.disarmed) no_bay
+    where
+      one_left : (e : CoreOpen) → ((name : List ℕ) (place : ℕ) → e ≢ fault.Damaged name place) → e ≢ fault.Device → e ≢ fault.Bay → e ≡ fault.NoMemory
+      one_left (fault.Damaged name place) d f g = absurd (d name place refl)
+      one_left fault.Device d f g = absurd (f refl)
+      one_left fault.Bay d f g = absurd (g refl)
+      one_left fault.NoMemory d f g = refl

@@ -1,0 +1,48 @@
+-- What a client's step means to the broker.
+use Rattle.std.proofs.Common.{◌≡◌, ℕ, Bool, true, false, cond, List, [], ◌∷◌, Option, Some, None, Result, Ok, Err, OnOk, refl, sym, ap, subst, ◌∙◌}
+use Rattle.std.specs.Map.{lookup, set_value, remove_entry}
+use Rattle.conn_core.specs.Conns.{ConnParts, is_gone, without_replies}
+use Rattle.broker_model.specs.Machine.{named, conn_at, at_connection, left}
+
+-- a connection without replies
+pub none_waiting : (conn : ConnParts) → conn.replies ≡ [] → conn ≡ without_replies conn
+none_waiting conn e = λ i. record { unread = conn.unread; work = conn.work; releases = conn.releases; replies = e i }
+
+pub on_ok : {X Y P Q : Type 0} (result : Result X Y) → (P → Q) → OnOk result P → OnOk result Q
+on_ok (Ok x) f p = f p
+on_ok (Err y) f p = tt
+
+-- a value that is written where a look-up found one
+pub changed_at : (id : ℕ) (f : ConnParts → ConnParts) (es : List (ℕ × ConnParts)) (c : ConnParts) → conn_at id es ≡ Some c →
+    set_value (named id) es (f c) ≡ at_connection id f es
+changed_at id f [] c e = absurd (cc)
+changed_at id f (x ∷ es) c e = go (named id x.0) (changed_at id f es c) e where
+  go : (b : Bool) → (conn_at id es ≡ Some c → set_value (named id) es (f c) ≡ at_connection id f es) → cond b (Some x.1) (conn_at id es) ≡ Some c →
+      cond b ((x.0, f c) ∷ es) (x ∷ set_value (named id) es (f c)) ≡ cond b ((x.0, f x.1) ∷ es) (x ∷ at_connection id f es)
+  go true ih e = let same : x.1 ≡ c = cc in ap (λ d. (x.0, f d) ∷ es) (sym same)
+  go false ih e = ap (λ l. x ∷ l) (ih e)
+
+pub changed_none : (id : ℕ) (f : ConnParts → ConnParts) (es : List (ℕ × ConnParts)) → conn_at id es ≡ None → es ≡ at_connection id f es
+changed_none id f [] e = refl
+changed_none id f (x ∷ es) e = go (named id x.0) (changed_none id f es) e where
+  go : (b : Bool) → (conn_at id es ≡ None → es ≡ at_connection id f es) → cond b (Some x.1) (conn_at id es) ≡ None →
+      x ∷ es ≡ cond b ((x.0, f x.1) ∷ es) (x ∷ at_connection id f es)
+  go true ih e = absurd (cc)
+  go false ih e = ap (λ l. x ∷ l) (ih e)
+
+removed_set : (id : ℕ) (d : ConnParts) (es : List (ℕ × ConnParts)) → remove_entry (named id) (set_value (named id) es d) ≡ remove_entry (named id) es
+removed_set id d [] = refl
+removed_set id d (x ∷ es) = go (named id x.0) refl (removed_set id d es) where
+  go : (b : Bool) → named id x.0 ≡ b → remove_entry (named id) (set_value (named id) es d) ≡ remove_entry (named id) es →
+      remove_entry (named id) (cond b ((x.0, d) ∷ es) (x ∷ set_value (named id) es d)) ≡ cond b es (x ∷ remove_entry (named id) es)
+  go true is ih = ap (λ b. cond b es ((x.0, d) ∷ remove_entry (named id) es)) is
+  go false is ih = ap (λ b. cond b (set_value (named id) es d) (x ∷ remove_entry (named id) (set_value (named id) es d))) is ∙ ap (λ l. x ∷ l) ih
+
+-- the connection stands like this now, or is gone
+pub left_at : (id : ℕ) (d c : ConnParts) (es : List (ℕ × ConnParts)) → conn_at id es ≡ Some c →
+    cond (is_gone d) (remove_entry (named id) (set_value (named id) es d)) (set_value (named id) es d) ≡ left id d es
+left_at id d c es e = go (is_gone d) where
+  go : (gone : Bool) → cond gone (remove_entry (named id) (set_value (named id) es d)) (set_value (named id) es d)
+      ≡ cond gone (remove_entry (named id) es) (at_connection id (λ x. d) es)
+  go true = removed_set id d es
+  go false = changed_at id (λ x. d) es c e

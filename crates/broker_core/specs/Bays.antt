@@ -1,0 +1,38 @@
+-- The broker's disks in a bay, and what a start makes of them. This project's own.
+-- For example a fresh bay in memory tells two empty disks, which stand for no keys.
+use Rattle.std.specs.Prelude.{◌≡◌, ◌≤◌, ◌⊎◌, ℕ, List, Bool, Some, None, is_some}
+use Rattle.std.specs.declared.option.Option.{Option}
+use Rattle.edge_io.specs.declared.fault.Armed.{Armed}
+use Rattle.edge_io.specs.Causes.{Rose}
+use Rattle.share_model.specs.ForeignRules.{ShareStates}
+use Rattle.broker_model.specs.Shards.{state_a, state_b}
+use Rattle.broker_model.specs.Machine.{Opening, StandForStates}
+use Rattle.broker_model.specs.Disks.{Facts, Disks, IsTaken}
+use Rattle.broker_model.specs.States.{State}
+use Rattle.broker_core.specs.Carried.{facts_by}
+use Rattle.broker_core.specs.Restarts.{IsOpenedDisk}
+
+-- The bay tells the broker's disks, with these contents, of which this is known. The members of the bay and of its disks come first.
+pub record TellsDisks {B D : Type 0} (disk : B → List ℕ → Option D) (content : D → Option (List ℕ)) (faults : D → ℕ)
+    (losses : D → List (ℕ × List ℕ)) (arms : D → ℕ) (armed : D → Armed) (bay : B) (contents : List ℕ → List ℕ) (facts : Disks) : Type 0 where
+  pub first : D
+  pub second : D
+  pub is_first : disk bay state_a ≡ Some first
+  pub is_second : disk bay state_b ≡ Some second
+  pub content_first : content first ≡ Some (contents state_a)
+  pub content_second : content second ≡ Some (contents state_b)
+  pub are : facts ≡ facts_by faults losses arms armed first second
+
+-- the state with which a run begins, on disks that had these contents and of which this was known
+pub record IsFirst (contents : List ℕ → List ℕ) (was : Disks) (first : State) : Type 0 where
+  pub opens : Opening contents first.machine
+  pub disks : (name : List ℕ) → IsTaken name → IsOpenedDisk (was name) (first.disks name)
+
+-- both disks are out, or in
+abbrev pub AreOut : {B : Type 0} → (B → List ℕ → Bool) → Bool → B → Type 0
+AreOut out are bay = (out bay state_a ≡ are) × (out bay state_b ≡ are)
+
+-- what a bay told before it tells still
+pub record TellsStill {B D : Type 0} (disk : B → List ℕ → Option D) (old new : B) : Type 0 where
+  pub first : is_some (disk new state_a) ≡ is_some (disk old state_a)
+  pub second : is_some (disk new state_b) ≡ is_some (disk old state_b)
