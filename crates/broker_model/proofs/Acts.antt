@@ -1,5 +1,6 @@
 -- What a step does to the shards: nothing, or one call. A power loss is told apart.
 use Rattle.std.proofs.Common.{◌≡◌, ◌⊎◌, inl, inr, refl, ap, ℕ, List, Option, Some, None}
+use Rattle.edge_io.specs.Causes.{Rose}
 use Rattle.session_script.specs.declared.event.Event.{Event}
 use Rattle.session_script.specs.declared.event.Event.TheVariants.{Open, Bytes, Close, Step as StepOf, Arm, Power}
 use Rattle.session_script.specs.declared.event.Outcome.{Outcome}
@@ -11,6 +12,7 @@ use Rattle.conn_core.specs.Turning.{turn}
 use Rattle.broker_model.specs.Shards.{Shards, ShardCall, StepsShards}
 use Rattle.broker_model.specs.Machine.{Machine, conn_at}
 use Rattle.broker_model.specs.Steps.{Does, Serves, StepsTo}
+use Rattle.broker_model.specs.States.{State, faults_of}
 use Rattle.broker_model.specs.Laws.{NoPower}
 
 -- no shard was called, and all are as they were
@@ -49,6 +51,10 @@ module _ (rose : List ℕ → Type 0) (ends : List ℕ → ℕ) where
     step_acts (StepOf conn now) free does = service_acts conn (conn_at conn old.connections) does
     step_acts (Arm disk after mode) free does = inl (record { none = does.none; same = ap (λ (m : Machine). m.shards) does.same })
     step_acts (Power choice) free does = absurd free
+
+-- the count of a disk rose, or stands at its last value
+abbrev pub rose_in : State → State → List ℕ → Type 0
+rose_in old new name = Rose (faults_of old name) (faults_of new name)
 
 -- it is a power loss, or none
 pub power_or_not : (event : Event) → NoPower event ⊎ ((choice : ℕ) × (event ≡ Power choice))

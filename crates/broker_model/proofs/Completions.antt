@@ -1,13 +1,12 @@
 -- A run leaves the foreign state that its completed calls make.
-use Rattle.std.proofs.Common.{◌≡◌, ◌≢◌, ◌⊎◌, inl, inr, ⊎_elim, ℕ, ℤ, Bool, true, false, cond, List, [], ◌∷◌, ◌++◌, Option, Some, None, if◌then◌else◌, refl, sym, ap, ◌∙◌, subst}
+use Rattle.std.proofs.Common.{◌≡◌, inl, inr, ⊎_elim, ℕ, ℤ, Bool, true, false, cond, List, [], ◌∷◌, ◌++◌, Option, Some, None, if◌then◌else◌, refl, sym, ap, ◌∙◌, subst}
 use Rattle.std.proofs.lemmas.Bool.{true≢false}
 use Rattle.std.specs.Prelude.{is_some}
-use Rattle.edge_io.specs.Causes.{Rose}
 use Rattle.session_script.specs.declared.event.Event.{Event}
 use Rattle.session_script.specs.declared.event.Event.TheVariants.{Open, Bytes, Close, Step as StepOf, Arm, Power}
 use Rattle.share_model.specs.Foreign.{code_alone}
 use Rattle.share_model.specs.Pending.{WithPending}
-use Rattle.share_model.specs.ForeignRules.{ShareStates, Does, Initialises, Writes, WritesBatches, share_state_at, runs_of}
+use Rattle.share_model.specs.ForeignRules.{ShareStates, Does, Initialises, WritesBatches, share_state_at, runs_of}
 use Rattle.share_model.specs.declared.fault.StoreFault.{StoreFault}
 use Rattle.share_model.specs.declared.fault.StoreFault.TheVariants.{Device, Full}
 use Rattle.share_model.specs.declared.fault.TheConstants.Code.{NONE}
@@ -22,12 +21,12 @@ use Rattle.broker_model.specs.Shards.{Shards, ShardCall, StepsShards, state_a}
 use Rattle.broker_model.specs.Shards.ShardCall.{CallForeign}
 use Rattle.broker_model.specs.Machine.{Lands}
 use Rattle.broker_model.specs.Steps.{IsRestart, StepsTo}
-use Rattle.broker_model.specs.States.{State, IsStep, faults_of}
+use Rattle.broker_model.specs.States.{State, IsStep}
 use Rattle.broker_model.specs.Runs.{Step, IsRun}
 use Rattle.broker_model.specs.Laws.{NoPower}
 use Rattle.broker_model.specs.History.{Call, AreDone}
-use Rattle.broker_model.specs.Completed.{foreign_of, without_fault, Leaves, Called, Landed, Completes, AreCompleted, IsPending, EndsAsCompleted}
-use Rattle.broker_model.proofs.Acts.{Acts, step_acts, power_or_not}
+use Rattle.broker_model.specs.Completed.{foreign_of, Called, Landed, Completes, AreCompleted, IsPending, EndsAsCompleted}
+use Rattle.broker_model.proofs.Acts.{Acts, rose_in, step_acts, power_or_not}
 use Rattle.broker_model.proofs.Maps.{removed_none}
 use Rattle.broker_model.proofs.Histories.{keys_total, keys_exact}
 
@@ -183,16 +182,14 @@ module _ (conf : ConfigParts) where
       → IsTied unfinished (foreign_of s.before) → Stepped unfinished s.event s.call (foreign_of s.before) (foreign_of s.after)
   step_completes unfinished s step tied = ⊎_elim
       (λ free. called_steps unfinished s.event s.call (foreign_of s.before) (foreign_of s.after) free
-      (acts_complete rose s.before.ends unfinished s.before.machine.shards s.after.machine.shards tied s.call
-      (step_acts rose s.before.ends conf s.before.machine s.after.machine s.call s.outcomes s.event free step.machine)))
+      (acts_complete (rose_in s.before s.after) s.before.ends unfinished s.before.machine.shards s.after.machine.shards tied s.call
+      (step_acts (rose_in s.before s.after) s.before.ends conf s.before.machine s.after.machine s.call s.outcomes s.event free step.machine)))
       (λ p.
       let restart : IsRestart s.before.machine s.call s.outcomes s.after.machine =
-      subst (λ (e : Event). StepsTo conf rose s.before.ends s.before.machine e s.call s.outcomes s.after.machine) p.1 step.machine in
+      subst (λ (e : Event). StepsTo conf (rose_in s.before s.after) s.before.ends s.before.machine e s.call s.outcomes s.after.machine) p.1 step.machine in
       subst (λ (e : Event). Stepped unfinished e s.call (foreign_of s.before) (foreign_of s.after)) (sym p.1)
       (loss_completes unfinished (foreign_of s.before) (foreign_of s.after) tied restart.lands))
-      (power_or_not s.event) where
-        rose : List ℕ → Type 0
-        rose name = Rose (faults_of s.before name) (faults_of s.after name)
+      (power_or_not s.event)
 
   -- ---- a run
 

@@ -1,7 +1,6 @@
 -- A step in which a write fails on a device is one in which the count of its disk rose.
 use Rattle.std.proofs.Common.{◌≡◌, ◌⊎◌, inl, inr, ⊎_elim, refl, ap, ◌∙◌, subst, ℕ, List, Option, Some, None}
 use Rattle.session_script.specs.declared.event.Event.{Event}
-use Rattle.session_script.specs.declared.event.Event.TheVariants.{Power}
 use Rattle.session_script.specs.declared.event.Outcome.{Outcome}
 use Rattle.share_model.specs.declared.fault.StoreFault.TheVariants.{Device, Full}
 use Rattle.topic_conf.specs.Configs.{ConfigParts}

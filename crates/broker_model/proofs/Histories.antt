@@ -1,6 +1,6 @@
 -- Foreign state is what the list of accepted calls gives.
-use Rattle.std.proofs.Common.{◌≡◌, ◌≢◌, ◌⊎◌, inl, inr, ◌↔◌, ℕ, ℤ, pos, int_eq, int_cmp, Bool, true, false, cond, List, [], ◌∷◌, ◌++◌, Option, Some, None, if◌then◌else◌, refl, sym, ap, ◌∙◌, subst, rules}
-use Rattle.std.proofs.lemmas.Bool.{cases_Bool, true≢false}
+use Rattle.std.proofs.Common.{◌≡◌, ◌≢◌, inl, inr, ℕ, ℤ, pos, int_eq, int_cmp, Bool, true, false, cond, List, [], ◌∷◌, ◌++◌, Option, Some, None, if◌then◌else◌, refl, sym, ap, ◌∙◌, subst}
+use Rattle.std.proofs.lemmas.Bool.{true≢false}
 use Rattle.std.proofs.lemmas.Map.Lookups.{CmpEqualImpliesEq, exact_signed, exact_bytes, exact_unsigned}
 use Rattle.std.specs.Cmp.{IsTotalOrder, then_total, on_total, nat_cmp_total}
 use Rattle.std.specs.Cmp.Lexicographic.{slice_cmp, nat_list_cmp_total}
@@ -8,16 +8,16 @@ use Rattle.std.specs.List.{AllByRecursion}
 use Rattle.std.specs.Map.{remove_entry}
 use Rattle.std.specs.BTreeMap.{insert_entry, is_at}
 use Rattle.std.specs.Option.{option_or}
-use Rattle.std.specs.Ordering.{nat_cmp, ordering_then, is_eq}
+use Rattle.std.specs.Ordering.{nat_cmp, ordering_then}
 use Rattle.std.specs.declared.cmp.Ordering.{Ordering}
 use Rattle.std.specs.declared.cmp.Ordering.TheVariants.{Less, Equal, Greater}
 use Rattle.share_model.specs.Foreign.{code_alone}
 use Rattle.share_model.specs.Keys.{KeyParts, key_cmp}
 use Rattle.share_model.specs.Runs.{IsCanonical, row_at}
-use Rattle.share_model.specs.ShareStates.{ShareState, start_after, is_below, last_row}
+use Rattle.share_model.specs.ShareStates.{ShareState, start_after, is_below}
 use Rattle.share_model.specs.ForeignRules.{ShareStates, Does, Initialises, Writes, WritesBatches, IsGranted, share_state_at, init_code, write_code, runs_of}
 use Rattle.share_model.specs.declared.fault.Code.{Code}
-use Rattle.share_model.specs.declared.fault.TheConstants.Code.{NONE, INVALID_REQUEST}
+use Rattle.share_model.specs.declared.fault.TheConstants.Code.{NONE}
 use Rattle.share_model.specs.declared.foreign.ForeignAnswer.{ForeignAnswer}
 use Rattle.share_model.specs.declared.foreign.ForeignOp.{ForeignOp}
 use Rattle.share_model.specs.declared.foreign.ForeignOp.TheVariants.{Init, Read, Write, Delete}
@@ -25,9 +25,9 @@ use Rattle.share_model.specs.declared.foreign.StateBatch.{StateBatch}
 use Rattle.share_model.specs.declared.row.Row.{Row}
 use Rattle.share_model.specs.declared.run.Run.{Run}
 use Rattle.foreign_coord.specs.Shards.{is_granted}
-use Rattle.broker_model.specs.History.{Call, AreDone, Accepted, is_of, with_call, history_after, state_epoch_of, leader_epoch_of, start_of, row_given, PassesOver, HasRow, IsStateOf, IsToldBy}
+use Rattle.broker_model.specs.History.{Call, AreDone, Accepted, is_of, with_call, history_after, state_epoch_of, leader_epoch_of, start_of, row_given, PassesOver, HasRow, IsToldBy}
 use Rattle.broker_model.specs.History.Accepted.{Initialised, Written}
-use Rattle.broker_model.proofs.Maps.{Rises, at_is, at_self, apart, set_found, set_other, removed_other, removed_gone, rises_set, rises_removed}
+use Rattle.broker_model.proofs.Maps.{Rises, equal_is, at_is, at_self, set_found, set_other, removed_other, removed_gone, rises_set, rises_removed}
 
 -- ---- keys
 
@@ -191,11 +191,6 @@ told_by (newest ∷ earlier) known k = (
 
 granted_code : (code : Code) → is_granted (code_alone code) ≡ true → code ≡ NONE
 granted_code code e = let make : ℤ → Code = λ n. record { 0 = n } in ap make (int_same code.0 (pos 0) e) where
-  equal_is : (a : Ordering) → is_eq a ≡ true → a ≡ Equal
-  equal_is Less e = absurd (cc)
-  equal_is Equal e = refl
-  equal_is Greater e = absurd (cc)
-
   int_same : (x y : ℤ) → int_eq x y ≡ true → x ≡ y
   int_same x y e = exact_signed x y (equal_is (int_cmp x y) e)
 

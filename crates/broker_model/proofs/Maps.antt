@@ -9,7 +9,7 @@ use Rattle.std.specs.Ordering.{match_ordering, ordering_reverse, is_eq}
 use Rattle.std.specs.declared.cmp.Ordering.{Ordering}
 use Rattle.std.specs.declared.cmp.Ordering.TheVariants.{Less, Equal, Greater}
 
-equal_is : (a : Ordering) → is_eq a ≡ true → a ≡ Equal
+pub equal_is : (a : Ordering) → is_eq a ≡ true → a ≡ Equal
 equal_is Less e = absurd (cc)
 equal_is Equal e = refl
 equal_is Greater e = absurd (cc)

@@ -7,10 +7,9 @@ use Rattle.std.specs.Option.{option_or}
 use Rattle.std.specs.declared.cmp.Ordering.TheVariants.{Less}
 use Rattle.share_model.specs.Keys.{KeyParts, key_cmp}
 use Rattle.share_model.specs.Rows.{state_number, state_of}
-use Rattle.share_model.specs.Runs.{IsCanonical, Follows, row_at, row_of}
+use Rattle.share_model.specs.Runs.{IsCanonical, row_at, row_of}
 use Rattle.share_model.specs.ShareStates.{ShareState, AreLaid, start_after, is_below, last_row}
-use Rattle.share_model.specs.ForeignRules.{ShareStates, share_state_at, size_of, run_of, run_with, runs_of, joined_runs}
-use Rattle.share_model.specs.declared.foreign.StateBatch.{StateBatch}
+use Rattle.share_model.specs.ForeignRules.{ShareStates, share_state_at, run_of, run_with, runs_of, joined_runs}
 use Rattle.share_model.specs.declared.row.Row.{Row}
 use Rattle.share_model.specs.declared.row.RowState.{RowState}
 use Rattle.share_model.specs.declared.row.RowState.TheVariants.{Available, Acknowledged, Archived}
@@ -23,10 +22,9 @@ use Rattle.share_coord.specs.declared.view.Kept.{Kept}
 use Rattle.share_coord.proofs.Keys.{all_with, all_without}
 use Rattle.foreign_coord.specs.Acts.{states_of}
 use Rattle.broker_model.specs.Machine.{StandForStates}
-use Rattle.broker_model.specs.History.{Call, AreDone, Accepted, history_after, history_read, batch_of, start_of, row_given, StatesTellHistories}
-use Rattle.broker_model.specs.History.Accepted.{Initialised, Written}
+use Rattle.broker_model.specs.History.{history_after, history_read, batch_of, row_given, StatesTellHistories}
 use Rattle.broker_model.proofs.Maps.{Rises, rises_set, rises_removed}
-use Rattle.broker_model.proofs.Histories.{Histories, IsKnown, Known, AreKnown, row_in, keys_total, keys_exact, told_by, all_known}
+use Rattle.broker_model.proofs.Histories.{Histories, Known, AreKnown, keys_total, keys_exact, told_by, all_known}
 
 -- ---- the batches of runs give their rows
 

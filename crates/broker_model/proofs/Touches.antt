@@ -1,24 +1,22 @@
 -- What a step leaves alone: the other connections, the shards that it doesn't call, and their disks.
-use Rattle.std.proofs.Common.{◌≡◌, ◌≢◌, ◌⊎◌, inl, inr, ⊎_elim, refl, sym, ap, ◌∙◌, subst, rules, ℕ, List, Bool, true, false, cond, if◌then◌else◌, Option, Some, None}
+use Rattle.std.proofs.Common.{◌≡◌, ◌≢◌, ⊎_elim, refl, sym, ap, ◌∙◌, subst, ℕ, List, Bool, true, false, cond, if◌then◌else◌, Option, Some, None}
 use Rattle.std.proofs.lemmas.Map.Lookups.{exact_unsigned}
 use Rattle.std.specs.Ordering.{nat_cmp}
 use Rattle.std.specs.Cmp.{nat_cmp_total}
 use Rattle.std.specs.Map.{remove_entry}
-use Rattle.edge_io.specs.Causes.{Rose}
 use Rattle.session_script.specs.declared.event.Event.{Event}
 use Rattle.session_script.specs.declared.event.Event.TheVariants.{Open, Bytes, Close, Step, Arm, Power}
 use Rattle.session_script.specs.declared.event.Outcome.{Outcome}
 use Rattle.topic_conf.specs.Configs.{ConfigParts}
 use Rattle.conn_core.specs.Conns.{ConnParts, new_conn, conn_after_bytes, conn_after_end, is_gone}
-use Rattle.broker_model.specs.Shards.{ShardCall, calls, same_name}
-use Rattle.broker_model.specs.Machine.{Machine, named, conn_at, opened_at, opened, at_connection, left, ended_in}
+use Rattle.broker_model.specs.Shards.{ShardCall, calls}
+use Rattle.broker_model.specs.Machine.{Machine, named, conn_at, opened_at, at_connection, left, ended_in}
 use Rattle.broker_model.specs.Steps.{Serves, StepsTo}
-use Rattle.broker_model.specs.Disks.{Facts, IsTaken, OnCalled, OnDisk, with_arm}
+use Rattle.broker_model.specs.Disks.{Facts, OnCalled, OnDisk, with_arm}
 use Rattle.broker_model.specs.Cutting.{Spares}
 use Rattle.broker_model.specs.Laws.{NoPower, NoArm}
-use Rattle.broker_model.specs.States.{State, IsStep, faults_of}
-use Rattle.broker_model.specs.Touching.{TouchesItsOwn, StepsTouchTheirOwn}
-use Rattle.broker_model.proofs.Acts.{step_acts}
+use Rattle.broker_model.specs.Touching.{StepsTouchTheirOwn}
+use Rattle.broker_model.proofs.Acts.{rose_in, step_acts}
 use Rattle.broker_model.proofs.Maps.{set_other, removed_other}
 use Rattle.broker_model.proofs.Others.{conn_other}
 
@@ -84,7 +82,7 @@ disk_apart name (Power choice) call old new free unarmed away d = absurd free
 
 pub touches : (conf : ConfigParts) → StepsTouchTheirOwn conf
 touches conf old new event call outcomes step = record {
-  connections = λ id spares. connections_apart conf (λ name. Rose (faults_of old name) (faults_of new name)) old.ends old.machine new.machine call outcomes id event spares step.machine;
-  shards = λ free none. shards_apart conf (λ name. Rose (faults_of old name) (faults_of new name)) old.ends old.machine new.machine call outcomes event free none step.machine;
+  connections = λ id spares. connections_apart conf (rose_in old new) old.ends old.machine new.machine call outcomes id event spares step.machine;
+  shards = λ free none. shards_apart conf (rose_in old new) old.ends old.machine new.machine call outcomes event free none step.machine;
   disks = λ name taken free unarmed away. disk_apart name event call (old.disks name) (new.disks name) free unarmed away (step.disks name taken);
 }

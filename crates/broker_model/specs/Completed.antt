@@ -2,7 +2,7 @@
 -- (this project's own).
 -- For example an initialisation of `g1` meets a device fault and is answered with code 56; then power is lost. The completed calls are
 -- none, or that initialisation. Where a write of `g2` was answered with code 0 in between, it alone was completed.
-use Rattle.std.specs.Prelude.{◌≡◌, ◌⊎◌, ℕ, List, [], ◌∷◌, ◌++◌, Option, None, Some, if◌then◌else◌}
+use Rattle.std.specs.Prelude.{◌≡◌, ◌⊎◌, List, [], ◌∷◌, ◌++◌, Option, None, Some, if◌then◌else◌}
 use Rattle.session_script.specs.declared.event.Event.{Event}
 use Rattle.session_script.specs.declared.event.Event.TheVariants.{Open, Bytes, Close, Step as StepOf, Arm, Power}
 use Rattle.share_model.specs.Foreign.{code_alone}
