@@ -25,7 +25,7 @@ use Rattle.broker_model.specs.States.{State, IsStep}
 use Rattle.broker_model.specs.Runs.{Step, IsRun}
 use Rattle.broker_model.specs.Laws.{NoPower}
 use Rattle.broker_model.specs.History.{Call, AreDone}
-use Rattle.broker_model.specs.Completed.{foreign_of, Called, Landed, Completes, AreCompleted, IsPending, EndsAsCompleted}
+use Rattle.broker_model.specs.Completed.{foreign_of, CompletesCall, MayLand, Completes, AreCompleted, IsPending, EndsAsCompleted}
 use Rattle.broker_model.proofs.Acts.{Acts, rose_in, step_acts, power_or_not}
 use Rattle.broker_model.proofs.Maps.{removed_none}
 use Rattle.broker_model.proofs.Histories.{keys_total, keys_exact}
@@ -79,7 +79,7 @@ record IsCompleted (By : List Call → Option ForeignOp → Type 0) (old new : F
 
 module _ (unfinished : Option ForeignOp) (old new : ForeignShardState) (tied : IsTied unfinished old) where
   done_completes : (op : ForeignOp) (answer : ForeignAnswer) → IsDone op answer old new
-      → IsCompleted (Called old.states unfinished (Some (CallForeign op answer None))) old new
+      → IsCompleted (CompletesCall old.states unfinished (Some (CallForeign op answer None))) old new
   done_completes op answer p = record {
     calls = record { op = op; answer = answer } ∷ [];
     unfinished = if writes old.states op answer then None else unfinished;
@@ -92,7 +92,7 @@ module _ (unfinished : Option ForeignOp) (old new : ForeignShardState) (tied : I
     go false is pending = tied_same unfinished old new (unwritten old.states new.states answer op is p.does) pending tied
 
   did_completes : (rose : Type 0) (end : ℕ) (op : ForeignOp) (answer : ForeignAnswer) (fault : Option StoreFault)
-      → StepsForeign rose end old op answer fault new → IsCompleted (Called old.states unfinished (Some (CallForeign op answer fault))) old new
+      → StepsForeign rose end old op answer fault new → IsCompleted (CompletesCall old.states unfinished (Some (CallForeign op answer fault))) old new
   did_completes rose end op answer None p = done_completes op answer p
   did_completes rose end op answer (Some Device) p = ⊎_elim
       (λ stays. record {
@@ -118,7 +118,7 @@ module _ (unfinished : Option ForeignOp) (old new : ForeignShardState) (tied : I
     tied = subst (IsTied unfinished) (sym p.2) tied;
   }
 
-  same_completes : new ≡ old → IsCompleted (Called old.states unfinished None) old new
+  same_completes : new ≡ old → IsCompleted (CompletesCall old.states unfinished None) old new
   same_completes is = record {
     calls = [];
     unfinished = unfinished;
@@ -129,7 +129,7 @@ module _ (unfinished : Option ForeignOp) (old new : ForeignShardState) (tied : I
 
 -- a power loss
 loss_completes : (unfinished : Option ForeignOp) (old new : ForeignShardState) → IsTied unfinished old → Lands old new
-    → IsCompleted (λ calls behind. Landed unfinished calls × (behind ≡ None)) old new
+    → IsCompleted (λ calls behind. MayLand unfinished calls × (behind ≡ None)) old new
 loss_completes None old new tied lands = record {
   calls = [];
   unfinished = None;
@@ -154,7 +154,7 @@ abbrev Stepped : Option ForeignOp → Event → Option ShardCall → ForeignShar
 Stepped unfinished event call old new = IsCompleted (Completes old.states unfinished event call) old new
 
 called_steps : (unfinished : Option ForeignOp) (event : Event) (call : Option ShardCall) (old new : ForeignShardState) → NoPower event
-    → IsCompleted (Called old.states unfinished call) old new → Stepped unfinished event call old new
+    → IsCompleted (CompletesCall old.states unfinished call) old new → Stepped unfinished event call old new
 called_steps unfinished (Open conn) call old new free c = c
 called_steps unfinished (Bytes conn bytes) call old new free c = c
 called_steps unfinished (Close conn) call old new free c = c
@@ -164,17 +164,17 @@ called_steps unfinished (Power choice) call old new free c = absurd free
 
 module _ (rose : List ℕ → Type 0) (ends : List ℕ → ℕ) (unfinished : Option ForeignOp) (old new : Shards) (tied : IsTied unfinished old.foreign) where
   shard_completes : (did : ShardCall) → StepsShards rose ends old did new
-      → IsCompleted (Called old.foreign.states unfinished (Some did)) old.foreign new.foreign
+      → IsCompleted (CompletesCall old.foreign.states unfinished (Some did)) old.foreign new.foreign
   shard_completes (CallForeign op answer fault) p =
       did_completes unfinished old.foreign new.foreign tied (rose state_a) (ends state_a) op answer fault p
 
   acts_complete : (call : Option ShardCall) → Acts rose ends old new call
-      → IsCompleted (Called old.foreign.states unfinished call) old.foreign new.foreign
+      → IsCompleted (CompletesCall old.foreign.states unfinished call) old.foreign new.foreign
   acts_complete call (inl quiet) =
-      subst (λ (c : Option ShardCall). IsCompleted (Called old.foreign.states unfinished c) old.foreign new.foreign) (sym quiet.none)
+      subst (λ (c : Option ShardCall). IsCompleted (CompletesCall old.foreign.states unfinished c) old.foreign new.foreign) (sym quiet.none)
       (same_completes unfinished old.foreign new.foreign tied (ap (λ (s : Shards). s.foreign) quiet.same))
   acts_complete call (inr d) =
-      subst (λ (c : Option ShardCall). IsCompleted (Called old.foreign.states unfinished c) old.foreign new.foreign) (sym d.is)
+      subst (λ (c : Option ShardCall). IsCompleted (CompletesCall old.foreign.states unfinished c) old.foreign new.foreign) (sym d.is)
       (shard_completes d.did d.step)
 
 module _ (conf : ConfigParts) where

@@ -32,23 +32,23 @@ Leaves states old (CallForeign op answer None) new = new ≡ (if writes states o
 Leaves states old (CallForeign op answer (Some Device)) new = (new ≡ old) ⊎ (new ≡ Some op)
 Leaves states old (CallForeign op answer (Some (Full end))) new = new ≡ old
 
-abbrev pub Called : ShareStates → Option ForeignOp → Option ShardCall → List Call → Option ForeignOp → Type 0
-Called states old None calls new = (calls ≡ []) × (new ≡ old)
-Called states old (Some call) calls new = (calls ≡ without_fault call) × Leaves states old call new
+abbrev pub CompletesCall : ShareStates → Option ForeignOp → Option ShardCall → List Call → Option ForeignOp → Type 0
+CompletesCall states old None calls new = (calls ≡ []) × (new ≡ old)
+CompletesCall states old (Some call) calls new = (calls ≡ without_fault call) × Leaves states old call new
 
 -- an unfinished write that a power loss found done counts as one that was accepted
-abbrev pub Landed : Option ForeignOp → List Call → Type 0
-Landed None calls = calls ≡ []
-Landed (Some op) calls = (calls ≡ []) ⊎ (calls ≡ record { op = op; answer = code_alone NONE } ∷ [])
+abbrev pub MayLand : Option ForeignOp → List Call → Type 0
+MayLand None calls = calls ≡ []
+MayLand (Some op) calls = (calls ≡ []) ⊎ (calls ≡ record { op = op; answer = code_alone NONE } ∷ [])
 
 -- the calls that a step completes
 abbrev pub Completes : ShareStates → Option ForeignOp → Event → Option ShardCall → List Call → Option ForeignOp → Type 0
-Completes states old (Open conn) call calls new = Called states old call calls new
-Completes states old (Bytes conn bytes) call calls new = Called states old call calls new
-Completes states old (Close conn) call calls new = Called states old call calls new
-Completes states old (StepOf conn now) call calls new = Called states old call calls new
-Completes states old (Arm disk after mode) call calls new = Called states old call calls new
-Completes states old (Power choice) call calls new = Landed old calls × (new ≡ None)
+Completes states old (Open conn) call calls new = CompletesCall states old call calls new
+Completes states old (Bytes conn bytes) call calls new = CompletesCall states old call calls new
+Completes states old (Close conn) call calls new = CompletesCall states old call calls new
+Completes states old (StepOf conn now) call calls new = CompletesCall states old call calls new
+Completes states old (Arm disk after mode) call calls new = CompletesCall states old call calls new
+Completes states old (Power choice) call calls new = MayLand old calls × (new ≡ None)
 
 -- the calls that a run completes, in order
 abbrev pub AreCompleted : Option ForeignOp → List Step → List Call → Option ForeignOp → Type 0
