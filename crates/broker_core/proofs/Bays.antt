@@ -1,8 +1,10 @@
 -- The broker's disks are taken from a bay and put back.
-use Rattle.std.proofs.Common.{◌≡◌, ◌≢◌, ◌≤◌, ◌⊎◌, [], inl, inr, refl, sym, ap, ◌∙◌, subst, rules, ℕ, List, Bool, true, false, Some, None, is_some, Result, Ok, Err}
+use Rattle.std.proofs.Common.{◌≡◌, ◌≢◌, ◌≤◌, ◌<◌, ◌+◌, ◌-◌, ◌^◌, min, ◌⊎◌, [], nat_lt, arith, inl, inr, refl, sym, ap, ◌∙◌, subst, rules, ℕ, List, Bool, true, false, Some, None, is_some, Result, Ok, Err}
+use Rattle.std.proofs.lemmas.Bool.{cases_Bool}
 use Rattle.std.specs.declared.option.Option.{Option}
 use Rattle.edge_io.specs.declared.fault.Armed.{Armed}
 use Rattle.edge_io.specs.declared.fault.Armed.TheVariants.{Nothing}
+use Rattle.edge_io.specs.Causes.{Rose}
 use Rattle.edge_io.specs.Bays.{IsAsTold, Holds, SameSlot, IsSound}
 use Rattle.edge_io.specs.Disk.{IsTold}
 use Rattle.edge_io.specs.Names.{IsDiskName}
@@ -70,6 +72,29 @@ module _ {B D : Type 0} (disk : B → List ℕ → Option D) (out : B → List �
             ∙ some_told (disk b4 n2) given_second (h4 (ap is_some (same_at n2 n1 b2 b3 away o3) ∙ t2 ∙ ap is_some (same_at n2 n1 b0 b1 away o1)
             ∙ ap (λ n. is_some (disk b0 n)) is_second ∙ told));
       }
+
+-- ---- counts
+
+-- a count that rose below its last value is greater
+greater : (before now : ℕ) → Rose before now → (before < now) ⊎ (2 ^ 64 - 1 ≤ before)
+greater before now rose = go (cases_Bool (nat_lt before (2 ^ 64 - 1))) where
+  go : (nat_lt before (2 ^ 64 - 1) ≡ true) ⊎ (nat_lt before (2 ^ 64 - 1) ≡ false) → (before < now) ⊎ (2 ^ 64 - 1 ≤ before)
+  go (inl less) = inl (let l : before < 2 ^ 64 - 1 = search rules in omega (arith, rose, l))
+  go (inr not) = inr (let l : (before < 2 ^ 64 - 1) → ⊥ = search rules in grind (arith, l))
+
+-- one of two disks that were taken has failed, and both are put back
+pub bay_rose : {D : Type 0} (faults : D → ℕ) (b0 b1 b2 b3 b4 t1 t2 : ℕ) (first second given given_second : D)
+    → Rose (faults first) (faults given) ⊎ Rose (faults second) (faults given_second) → b0 ≤ b1 → b1 ≤ b2 → b2 ≤ b3 → b3 ≤ b4
+    → t1 ≡ faults first → t2 ≡ faults second → b3 ≡ min (b2 + (faults given - t1)) (2 ^ 64 - 1) → b4 ≡ min (b3 + (faults given_second - t2)) (2 ^ 64 - 1)
+    → Rose b0 b4 ⊎ ((disk : D) × (2 ^ 64 - 1 ≤ faults disk))
+bay_rose faults b0 b1 b2 b3 b4 t1 t2 first second given given_second (inl rose) l1 l2 l3 l4 e1 e2 p q = go (greater (faults first) (faults given) rose) where
+  go : (faults first < faults given) ⊎ (2 ^ 64 - 1 ≤ faults first) → Rose b0 b4 ⊎ ((disk : _) × (2 ^ 64 - 1 ≤ faults disk))
+  go (inl less) = inl (omega (arith, less, l1, l2, l3, l4, e1, p))
+  go (inr last) = inr (first, last)
+bay_rose faults b0 b1 b2 b3 b4 t1 t2 first second given given_second (inr rose) l1 l2 l3 l4 e1 e2 p q = go (greater (faults second) (faults given_second) rose) where
+  go : (faults second < faults given_second) ⊎ (2 ^ 64 - 1 ≤ faults second) → Rose b0 b4 ⊎ ((disk : _) × (2 ^ 64 - 1 ≤ faults disk))
+  go (inl less) = inl (omega (arith, less, l1, l2, l3, l4, e2, q))
+  go (inr last) = inr (second, last)
 
 -- ---- a start
 

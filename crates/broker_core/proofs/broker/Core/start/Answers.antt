@@ -1,7 +1,7 @@
-use Rattle.std.proofs.Common.{◌≡◌, ◌∙◌, refl, sym, ap, rules, Err, is_some}
+use Rattle.std.proofs.Common.{◌≡◌, ◌≢◌, ◌∙◌, refl, sym, ap, rules, Err, is_some}
 use Rattle.broker_model.specs.Shards.{state_a, state_b}
 use Rattle.broker_core.specs.declared.fault.CoreOpen.TheVariants.{Damaged, Device, Bay}
-use Rattle.broker_core.proofs.Bays.{first_is, second_is, one_told, both_told, first_content, second_content, started, a_is_name, b_is_name, err_is}
+use Rattle.broker_core.proofs.Bays.{first_is, second_is, one_told, both_told, first_content, second_content, started, a_is_name, b_is_name, err_is, bay_rose, apart as apart_names}
 use Rattle.broker_core.proofs.broker.Core.start.Goals as goal
 
 pub returns-in_default-take-clause-told : goal.returns-in_default-take-clause-told
@@ -46,3 +46,15 @@ returns-in-Err-clause-sound g c = λ sound.
       λ err. c.in-Err.ensures.sound (ap (λ d. is_some (g.D.Disk.content d)) first ∙ a.2.tells) (ap (λ d. is_some (g.D.Disk.content d)) second ∙ b.2.tells)
           (ap g.D.Disk.armed first ∙ a.2.is_unarmed) (ap g.D.Disk.armed second ∙ b.2.is_unarmed) (err_is c.in-Err.fault Device err),
     )
+
+pub returns-in-Err-clause-device : goal.returns-in-Err-clause-device
+returns-in-Err-clause-device g c = λ err.
+    let apart : c.foreign_state_b-second_name.result ≢ c.foreign_state_a-first_name.result =
+        λ e. apart_names (sym c.foreign_state_a-first_name.ensures ∙ sym e ∙ c.foreign_state_b-second_name.ensures) in
+    bay_rose g.D.Disk.faults (g.B.Bay.faults c.args.bay.now) (g.B.Bay.faults c.take.new.self) (g.B.Bay.faults c.take-2.new.self) (g.B.Bay.faults c.put_back-in-Err.new.self)
+    (g.B.Bay.faults c.put_back-in-Err-2.new.self) (g.B.Bay.taken c.take-2.new.self c.foreign_state_a-first_name.result)
+    (g.B.Bay.taken c.put_back-in-Err.new.self c.foreign_state_b-second_name.result) c.in-Ok.first c.in-Ok-take.second c.in-Err.first c.in-Err.second
+    (c.in-Err.ensures.device (err_is c.in-Err.fault Device err)) c.take.ensures.cause.later c.take-2.ensures.cause.later c.put_back-in-Err.ensures.later c.put_back-in-Err-2.ensures.later
+    ((c.take-2.ensures.others c.foreign_state_a-first_name.result (λ e. apart (sym e))).same_taken ∙ c.in-Ok.ensures.is_out.1)
+    ((c.put_back-in-Err.ensures.others c.foreign_state_b-second_name.result apart).same_taken ∙ c.in-Ok-take.ensures.is_out.1)
+    c.put_back-in-Err.ensures.counts c.put_back-in-Err-2.ensures.counts
