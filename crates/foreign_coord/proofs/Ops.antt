@@ -4,8 +4,7 @@ use Rattle.std.specs.Option.{IsSome, option_map}
 use Rattle.std.proofs.lemmas.Int.{to_z-of_z}
 use Rattle.std.proofs.lemmas.Result.{IfOk-weaker}
 use Rattle.flex_fields.specs.declared.fault.NoMemory.{NoMemory as want}
-use Rattle.share_model.specs.Foreign.{code_alone}
-use Rattle.share_model.specs.ForeignRules.{ShareStates, runs_of, read_share_state, Does, WritesBatches}
+use Rattle.share_model.specs.ForeignRules.{ShareStates, runs_of, read_share_state, Does, WritesBatches, code_alone}
 use Rattle.share_model.specs.Keys.{KeyParts}
 use Rattle.share_model.specs.ShareStates.{ShareState}
 use Rattle.share_model.specs.declared.fault.TheConstants.Code.{NONE}

@@ -1,8 +1,7 @@
 -- What the store does is what the rules of the calls say.
 use Rattle.std.proofs.Common.{◌≡◌, ◌≢◌, inl, inr, ◌∙◌, refl, sym, ap, subst, arith, ℕ, ℤ, pos, negsuc, List, Option, Some, None, Result, Ok, Err}
 use Rattle.std.specs.Option.{option_map}
-use Rattle.share_model.specs.Foreign.{code_alone}
-use Rattle.share_model.specs.ForeignRules.{Initialises, Writes}
+use Rattle.share_model.specs.ForeignRules.{Initialises, Writes, code_alone}
 use Rattle.share_model.specs.Keys.{KeyParts}
 use Rattle.share_model.specs.declared.fault.TheConstants.Code.{NONE, INVALID_REQUEST}
 use Rattle.share_model.specs.declared.fault.Code.{Code}

@@ -1,4 +1,3 @@
-pub mod Foreign
 pub mod ForeignRules
 pub mod Keys
 pub mod Logs
