@@ -4,7 +4,7 @@ use Rattle.std.proofs.lemmas.Bool.{true≢false}
 use Rattle.std.specs.Prelude.{is_some}
 use Rattle.session_script.specs.declared.event.Event.{Event}
 use Rattle.session_script.specs.declared.event.Event.TheVariants.{Open, Bytes, Close, Step as StepOf, Arm, Power}
-use Rattle.share_model.specs.Foreign.{code_alone}
+use Rattle.share_model.specs.ForeignRules.{code_alone}
 use Rattle.share_model.specs.Pending.{WithPending}
 use Rattle.share_model.specs.ForeignRules.{ShareStates, Does, Initialises, WritesBatches, share_state_at, runs_of}
 use Rattle.share_model.specs.declared.fault.StoreFault.{StoreFault}

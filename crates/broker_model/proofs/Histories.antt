@@ -11,7 +11,7 @@ use Rattle.std.specs.Option.{option_or}
 use Rattle.std.specs.Ordering.{nat_cmp, ordering_then}
 use Rattle.std.specs.declared.cmp.Ordering.{Ordering}
 use Rattle.std.specs.declared.cmp.Ordering.TheVariants.{Less, Equal, Greater}
-use Rattle.share_model.specs.Foreign.{code_alone}
+use Rattle.share_model.specs.ForeignRules.{code_alone}
 use Rattle.share_model.specs.Keys.{KeyParts, key_cmp}
 use Rattle.share_model.specs.Runs.{IsCanonical, row_at}
 use Rattle.share_model.specs.ShareStates.{ShareState, start_after, is_below}
