@@ -3,11 +3,9 @@
 use Rattle.std.specs.Prelude.{◌≡◌, ◌≤◌, ◌<◌, ◌⊎◌, ℕ, List, Bool, true, Some, None, is_some}
 use Rattle.std.specs.declared.option.Option.{Option}
 use Rattle.edge_io.specs.declared.fault.Armed.{Armed}
-use Rattle.edge_io.specs.Causes.{Rose}
-use Rattle.share_model.specs.ForeignRules.{ShareStates}
 use Rattle.broker_model.specs.Shards.{state_a, state_b}
-use Rattle.broker_model.specs.Machine.{Opening, StandForStates}
-use Rattle.broker_model.specs.Disks.{Facts, Disks, IsTaken}
+use Rattle.broker_model.specs.Machine.{Opening}
+use Rattle.broker_model.specs.Disks.{Disks, IsTaken}
 use Rattle.broker_model.specs.States.{State}
 use Rattle.broker_core.specs.Carried.{facts_by}
 use Rattle.broker_core.specs.Restarts.{IsOpenedDisk}

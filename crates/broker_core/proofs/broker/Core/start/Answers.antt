@@ -1,4 +1,4 @@
-use Rattle.std.proofs.Common.{◌≡◌, ◌≢◌, ◌∙◌, refl, sym, ap, rules, Err, is_some}
+use Rattle.std.proofs.Common.{◌≢◌, ◌∙◌, refl, sym, ap, is_some}
 use Rattle.broker_model.specs.Shards.{state_a, state_b}
 use Rattle.broker_core.specs.declared.fault.CoreOpen.TheVariants.{Damaged, Device, Bay}
 use Rattle.broker_core.proofs.Bays.{first_is, second_is, one_told, both_told, first_content, second_content, started, a_is_name, b_is_name, err_is, bay_rose, apart as apart_names}
@@ -50,7 +50,7 @@ returns-in-Err-clause-sound g c = λ sound.
 pub returns-in-Err-clause-device : goal.returns-in-Err-clause-device
 returns-in-Err-clause-device g c = λ err.
     let apart : c.foreign_state_b-second_name.result ≢ c.foreign_state_a-first_name.result =
-        λ e. apart_names (sym c.foreign_state_a-first_name.ensures ∙ sym e ∙ c.foreign_state_b-second_name.ensures) in
+    λ e. apart_names (sym c.foreign_state_a-first_name.ensures ∙ sym e ∙ c.foreign_state_b-second_name.ensures) in
     bay_rose g.D.Disk.faults (g.B.Bay.faults c.args.bay.now) (g.B.Bay.faults c.take.new.self) (g.B.Bay.faults c.take-2.new.self) (g.B.Bay.faults c.put_back-in-Err.new.self)
     (g.B.Bay.faults c.put_back-in-Err-2.new.self) (g.B.Bay.taken c.take-2.new.self c.foreign_state_a-first_name.result)
     (g.B.Bay.taken c.put_back-in-Err.new.self c.foreign_state_b-second_name.result) c.in-Ok.first c.in-Ok-take.second c.in-Err.first c.in-Err.second
