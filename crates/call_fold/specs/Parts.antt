@@ -2,7 +2,7 @@
 -- For example an answer with the run 7 to 9, acknowledged and counted once, can be told (conn_rows,
 -- `a read tells the batches of its answer`).
 use Rattle.std.specs.Prelude.{◌<◌, ◌^◌, All}
-use Rattle.share_model.specs.Foreign.{code_alone}
+use Rattle.share_model.specs.ForeignRules.{code_alone}
 use Rattle.share_model.specs.declared.fault.TheConstants.Code.{NONE}
 use Rattle.share_model.specs.declared.fault.StoreFault.TheVariants.{Device}
 use Rattle.share_model.specs.declared.foreign.ForeignAnswer.{ForeignAnswer}
