@@ -1,5 +1,12 @@
 -- Calls on the shard of foreign state, and what they lead to.
-use Rattle.std.proofs.Common.{◌≡◌, ◌≤◌, ◌⊎◌, inl, inr, refl, sym, ap, ◌∙◌, subst, ℕ, List, Bool, true, false, Some, None, is_some}
+use Rattle.std.proofs.lemmas.List.Elements.{All-from_recursion}
+use Rattle.std.specs.List.{AllByRecursion}
+use Rattle.std.specs.Prelude.{All}
+use Rattle.share_model.specs.declared.run.Run.{Run}
+use Rattle.share_model.specs.Runs.{IsCanonical}
+use Rattle.state_records.specs.States.{AreStoredRuns, IsStoredRun}
+use Rattle.call_fold.specs.Parts.{IsTellable}
+use Rattle.std.proofs.Common.{◌≡◌, ◌≤◌, ◌<◌, ◌^◌, ◌⊎◌, [], ◌∷◌, arith, inl, inr, refl, sym, ap, ◌∙◌, subst, ℕ, List, Bool, true, false, Some, None, is_some}
 use Rattle.std.specs.declared.option.Option.{Option}
 use Rattle.edge_io.specs.declared.fault.Armed.{Armed}
 use Rattle.edge_io.specs.Armed.{RunsOn}
@@ -13,6 +20,17 @@ use Rattle.foreign_coord.specs.Shards.{ForeignShardState, Carries, StepsForeign}
 use Rattle.broker_model.specs.Shards.{Shards, ShardCall, StepsShards}
 use Rattle.broker_model.specs.Shards.ShardCall.{CallForeign}
 use Rattle.broker_core.specs.Carried.{IsCarried, Leads, Halts, GoesOn, IsMoved, shards_of, rose_by, ends_by}
+
+-- runs that are stored can be told
+each_tellable : (runs : List Run) → IsCanonical runs → AllByRecursion IsStoredRun runs → AllByRecursion IsTellable runs
+each_tellable [] c s = tt
+each_tellable (run ∷ runs) c s = (
+  record { first = omega (arith, c.0, s.0.0); last = s.0.0; count = s.0.1 },
+  each_tellable runs c.2 s.1,
+)
+
+pub tellable : (runs : List Run) → AreStoredRuns runs → All IsTellable runs
+tellable runs stored = All-from_recursion IsTellable runs (each_tellable runs stored.0 stored.1)
 
 module _ {D : Type 0} (content : D → Option (List ℕ)) (image : D → List ℕ → Type 0) (starved : D → Bool) (faults : D → ℕ)
     (losses : D → List (ℕ × List ℕ)) (arms : D → ℕ) (armed : D → Armed) where
@@ -82,7 +100,7 @@ module _ {D : Type 0} (content : D → Option (List ℕ)) (image : D → List �
 
   abbrev Acts : StoreParts D → StoreParts D → ForeignOp → ForeignAnswer → Type 0
   Acts old new op answer = (t : ForeignShardState) → Carries image old t → (n : ForeignShardState) × (fault : Option StoreFault) × Carries image new n
-      × StepsForeign (Rose (faults old.journal.live.disk) (faults new.journal.live.disk)) old.journal.live.end op answer fault t n
+      × StepsForeign (Rose (faults old.journal.live.disk) (faults new.journal.live.disk)) old.journal.live.end t op answer fault n
 
   abbrev Called : StoreParts D → StoreParts D → ForeignOp → ForeignAnswer → Option StoreFault → Shards → Option ShardCall → Shards → Type 0
   Called old new op answer fault a call b =

@@ -3,3 +3,5 @@
 pub mod Stepping
 pub mod Leading
 pub mod Opening
+pub mod Slots
+pub mod Events

@@ -24,23 +24,27 @@ pub record IsCarried {D : Type 0} (content : D → Option (List ℕ)) (image : D
 abbrev pub shards_of : ForeignShardState → Shards
 shards_of shard = record { foreign = shard }
 
+-- what the first and the second disk have, by the name
+abbrev pub by_name : {A : Type 0} → A → A → List ℕ → A
+by_name first second name = if same_name name state_a then first else second
+
 -- what is known of the disks, by their names
 abbrev pub facts_by : {D : Type 0} → (D → ℕ) → (D → List (ℕ × List ℕ)) → (D → ℕ) → (D → Armed) → D → D → Disks
-facts_by faults losses arms armed first second name =
-    if same_name name state_a then facts_of faults losses arms armed first else facts_of faults losses arms armed second
-
--- the count of faults of a disk, by its name
-abbrev pub count_by : {D : Type 0} → (D → ℕ) → D → D → List ℕ → ℕ
-count_by faults first second name = if same_name name state_a then faults first else faults second
+facts_by faults losses arms armed first second name = record {
+  faults = by_name (faults first) (faults second) name;
+  losses = by_name (losses first) (losses second) name;
+  arms = by_name (arms first) (arms second) name;
+  armed = by_name (armed first) (armed second) name;
+}
 
 -- a count rose from the one pair of disks to the other
 abbrev pub rose_by : {D : Type 0} → (D → ℕ) → StoreParts D → StoreParts D → List ℕ → Type 0
 rose_by faults old new name =
-    Rose (count_by faults old.journal.live.disk old.journal.idle name) (count_by faults new.journal.live.disk new.journal.idle name)
+    Rose (by_name (faults old.journal.live.disk) (faults old.journal.idle) name) (by_name (faults new.journal.live.disk) (faults new.journal.idle) name)
 
 -- where the journals end, by the names of their disks
 abbrev pub ends_by : {D : Type 0} → StoreParts D → List ℕ → ℕ
-ends_by store name = if same_name name state_a then store.journal.live.end else 0
+ends_by store name = by_name store.journal.live.end 0 name
 
 -- what a call on a shard, or none, did to the disks
 pub record IsMoved {D : Type 0} (faults : D → ℕ) (losses : D → List (ℕ × List ℕ)) (arms : D → ℕ) (armed : D → Armed)

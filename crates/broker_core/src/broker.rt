@@ -59,7 +59,7 @@ fn no_disk<B: Bay>(bay: &B) -> CoreOpen
     }
 }
 
-impl<D: Disk> Core<D> {
+impl<D: Disk + Drop> Core<D> {
     /// Takes the broker's disks from the bay, and opens its shards: those of the states that the disks stand for, with nothing pending,
     /// to which nobody is connected.
     ///

@@ -32,7 +32,7 @@ module _ (call : Option ShardCall) (machine : Machine) (old new last : Disks) (r
   kept event free disks name taken =
       more name taken
       ∙ ap (λ (l : List _). l ++ losses_on name rest)
-          (same_losses name event (old name) (new name) (kind_of name call (old name) (new name) event (disks name taken)) free)
+      (same_losses name event (old name) (new name) (kind_of name call (old name) (new name) event (disks name taken)) free)
 
   take_loss : (event : Event) → OnDisks event call old new → OnLosses event old new machine → Rest rest
       → (lost : List Loss) × Lengthens old last lost × TakesLoss event machine lost Rest
@@ -77,10 +77,10 @@ module _ (conf : ConfigParts) where
       let more = covered s.after last steps run.2 in
       let later = run.1.later state_a (inl refl) in
       subst (λ (x : State). (faults_of x state_a ≤ faults_of last state_a)
-          × Covers (faults_of x state_a) (faults_of last state_a) (failures_in s.call + failures (calls_of steps))) run.0 (
+      × Covers (faults_of x state_a) (faults_of last state_a) (failures_in s.call + failures (calls_of steps))) run.0 (
         (let a = more.0 in omega (arith, later, a)),
         more_covered (faults_of s.before state_a) (faults_of s.after state_a) (faults_of last state_a) (failures_in s.call) (failures (calls_of steps))
-        later (counted s run.1) more.0 more.1,
+            later (counted s run.1) more.0 more.1,
       )
 
 -- ---- one disk

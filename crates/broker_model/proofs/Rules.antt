@@ -60,9 +60,9 @@ module _ (old : ShareStates) (key : KeyParts) where
     granted_once one other p q =
         let s = finds_once start runs p.known q.known p.written q.written p.laid q.laid (granted_finds one p) (granted_finds other q) in
         p.is ∙ (λ i. insert_state (s.known_same i) (s.laid_same i)) ∙ sym q.is where
-      insert_state : ShareState → List Run → ShareStates
-      insert_state known laid =
-          insert_entry key_cmp old key (record { state_epoch = state_epoch; leader_epoch = leader_epoch; start = start_after known.start start; runs = laid })
+          insert_state : ShareState → List Run → ShareStates
+          insert_state known laid =
+              insert_entry key_cmp old key (record { state_epoch = state_epoch; leader_epoch = leader_epoch; start = start_after known.start start; runs = laid })
 
     too_many : (w l : ℕ) → 1000000 < max w l → w ≤ 1000000 → l ≤ 1000000 → ⊥
     too_many w l many few laid = omega arith

@@ -57,11 +57,17 @@ module _ (name : List ℕ) (call : Option ShardCall) (old new : Facts) where
   kind_of (StepOf conn now) d = inl (record { used = called (calls call name) old new d; unarmed = tt; powered = tt })
   kind_of (Arm disk after mode) d = ⊎_elim
       (λ yes. inr (inl (record {
-        disk = disk; after = after; mode = mode; is = refl; same = yes;
+        disk = disk;
+        after = after;
+        mode = mode;
+        is = refl;
+        same = yes;
         armed = d ∙ ap (λ (t : Bool). if t then with_arm after mode old else old) yes;
       })))
       (λ away. inl (record {
-        used = stays old new (d ∙ ap (λ (t : Bool). if t then with_arm after mode old else old) away); unarmed = away; powered = tt;
+        used = stays old new (d ∙ ap (λ (t : Bool). if t then with_arm after mode old else old) away);
+        unarmed = away;
+        powered = tt;
       }))
       (cases_Bool (same_name disk name))
   kind_of (Power choice) d = inr (inr (record { choice = choice; is = refl; lost = d }))

@@ -3,12 +3,11 @@ ghost use Rattle.std.specs.Prelude.{◌≡◌, ◌≢◌, ◌⊎◌, ◌↔◌, 
 ghost use Rattle.std.specs.Prelude.{Some, None, IfOk, IfErr, OnOk, OnErr, Err, MatchResult};
 ghost use Rattle.std.specs.declared.option.Option.{Option};
 ghost use Rattle.edge_io.specs.declared.fault.Armed.{Armed};
-ghost use Rattle.edge_io.specs.Armed.{ArmsAlone, RunsOn, StarvesUnarmed};
-ghost use Rattle.edge_io.specs.Causes.{Rose};
-ghost use Rattle.edge_io.specs.Disk.{SameContent, Within};
-ghost use Rattle.edge_io.specs.Moments.{LeavesOnly, LeavesPairs};
-ghost use Rattle.gate_journal.specs.Frames.{IsFrame, StandsAs, frame_in};
+ghost use Rattle.edge_io.specs.Armed.{ArmsAlone, RunsOn};
+ghost use Rattle.edge_io.specs.Moments.{LeavesPairs};
+ghost use Rattle.gate_journal.specs.Frames.{IsFrame, frame_in};
 ghost use Rattle.share_model.specs.Pending.{WithPending, WithinWrite};
+ghost use Rattle.coord_checkpoint.specs.Disks.{HasFailed, RunsBoth};
 ghost use Rattle.coord_checkpoint.specs.Lists.{IsListed, Keeps, IsUnlisted, and_pending};
 
 use crate::bare::has_frames;
@@ -63,22 +62,11 @@ pub fn open<D: Disk>(
     // Each refusal has its cause.
     ensures damaged { IfErr result (λ e. (on_second : Bool) (place : ℕ) → e.2 ≡ CoordOpen.Damaged on_second place →
         (a b : List ℕ) → D.content first ≡ Some a → D.content second ≡ Some b → IsUnlisted a b on_second place) }
-    ensures device { IfErr result (λ e. e.2 ≡ CoordOpen.Device false →
-        Rose (D.faults first) (D.faults e.0) × StarvesUnarmed D.content D.armed D.starved first e.0) }
-    ensures second_device { IfErr result (λ e. e.2 ≡ CoordOpen.Device true →
-        Rose (D.faults second) (D.faults e.1) × StarvesUnarmed D.content D.armed D.starved second e.1) }
-
-    // At each moment since the call began each image is one from before it, or stands for the frames of one.
-    ensures any_moment { MatchResult result (λ x. LeavesOnly D.moment D.since first x.0.live.disk (StandsAs (D.image first)))
-        (λ e. LeavesOnly D.moment D.since first e.0 (StandsAs (D.image first))) }
-    ensures second_moment { MatchResult result (λ x. LeavesOnly D.moment D.since second x.0.idle (D.image second))
-        (λ e. LeavesOnly D.moment D.since second e.1 (D.image second)) }
-    ensures untouched { MatchResult result (λ x. SameContent (D.content second) (D.content x.0.idle) (D.size second) (D.size x.0.idle))
-        (λ e. SameContent (D.content second) (D.content e.1) (D.size second) (D.size e.1)) }
-    ensures runs { MatchResult result (λ x. RunsOn D.content D.losses D.arms D.armed D.starved D.faults first x.0.live.disk)
-        (λ e. RunsOn D.content D.losses D.arms D.armed D.starved D.faults first e.0) }
-    ensures second_runs { MatchResult result (λ x. RunsOn D.content D.losses D.arms D.armed D.starved D.faults second x.0.idle)
-        (λ e. RunsOn D.content D.losses D.arms D.armed D.starved D.faults second e.1) }
+    ensures device { IfErr result (λ e. e.2 ≡ CoordOpen.Device false → HasFailed D.content D.armed D.starved D.faults first e.0) }
+    ensures second_device { IfErr result (λ e. e.2 ≡ CoordOpen.Device true → HasFailed D.content D.armed D.starved D.faults second e.1) }
+    ensures both { MatchResult result
+        (λ x. RunsBoth D.content D.size D.image D.moment D.since D.losses D.arms D.armed D.starved D.faults first second x.0.live.disk x.0.idle)
+        (λ e. RunsBoth D.content D.size D.image D.moment D.since D.losses D.arms D.armed D.starved D.faults first second e.0 e.1) }
 {
     match start(alloc, first) {
         Ok((live, frames)) => match has_frames(&mut second) {
@@ -112,7 +100,7 @@ impl<D: Disk> StateJournal<D> {
             Keeps D.image self.new frames pending ⊎ Keeps D.image self.new frames (Some (frame_in buffer.old))) }
         ensures full { (end : ℕ) → (result ≡ Err (StoreFault.Full end)) ↔ ((end ≡ self.old.live.end) × (2 ^ 62 < self.old.live.end + length buffer.old)) }
         ensures untouched { (end : ℕ) → result ≡ Err (StoreFault.Full end) → self.new ≡ self.old }
-        ensures device { result ≡ Err StoreFault.Device → Rose (D.faults self.old.live.disk) (D.faults self.new.live.disk) }
+        ensures device { result ≡ Err StoreFault.Device → HasFailed D.content D.armed D.starved D.faults self.old.live.disk self.new.live.disk }
 
         // At each moment since the call began a crash leaves the frames, with or without the pending one, or with this one.
         ensures any_moment { (frames : List (List ℕ)) (pending : Option (List ℕ)) → Keeps D.image self.old frames pending →
@@ -139,6 +127,7 @@ impl<D: Disk> StateJournal<D> {
             ArmsAlone D.content D.image D.losses D.arms D.armed D.starved D.faults after mode self.old.live.disk self.new.live.disk × (self.new.idle ≡ self.old.idle) }
         ensures second { disk ≡ DiskPlace.StateB →
             ArmsAlone D.content D.image D.losses D.arms D.armed D.starved D.faults after mode self.old.idle self.new.idle × (self.new.live ≡ self.old.live) }
+        ensures end { self.new.live.end ≡ self.old.live.end }
         ensures stays { (frames : List (List ℕ)) (pending : Option (List ℕ)) → Keeps D.image self.old frames pending → Keeps D.image self.new frames pending }
     {
         match disk {

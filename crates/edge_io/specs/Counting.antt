@@ -1,11 +1,12 @@
 -- Counted calls in a row, on a disk that tells its content, where the first that fails is the last one: reads, writes, cuts
 -- and syncs. This project's own. Worked example: four calls of a disk whose fault is armed after four calls or more pass; of
 -- a disk whose fault is armed after one the second fails, and there is no third.
-use Rattle.std.specs.Prelude.{◌≡◌, ◌⊎◌, ℕ, ◌-◌, ◌≤◌, ◌<◌, Bool, true, List}
+use Rattle.std.specs.Prelude.{◌≡◌, ◌⊎◌, ℕ, ◌-◌, ◌≤◌, ◌<◌, Bool, true, List, Result, Err, OnOk}
 use Rattle.std.specs.declared.option.Option.{Option}
 use Rattle.edge_io.specs.declared.fault.Armed.{Armed}
 use Rattle.edge_io.specs.declared.fault.Armed.TheVariants.{Nothing, After, Broken}
-use Rattle.edge_io.specs.Armed.{breaks, next_armed}
+use Rattle.edge_io.specs.Armed.{breaks, next_armed, RunsOn, StarvesUnarmed}
+use Rattle.edge_io.specs.Causes.{Rose}
 use Rattle.edge_io.specs.Disk.{IsTold}
 
 -- the armed fault breaks none of the next n calls
@@ -47,3 +48,23 @@ FailsInCalls content armed starved n old new = IsTold (content old) → EndAtFau
 -- at most so many calls, each done
 abbrev pub DoesUpTo : {D : Type 0} → (D → Option (List ℕ)) → (D → Armed) → (D → Bool) → (D → ℕ) → ℕ → D → D → Type 0
 DoesUpTo content armed starved faults most old new = (n : ℕ) × (n ≤ most) × DoesCalls content armed starved faults n old new
+
+-- What a call got from its disk in n calls. At Ok each of them was done. Where the answer is this fault, one of them failed and
+-- was the last, and the count of faults rose; with nothing armed that comes only where no memory was found. The members of
+-- the disk come first.
+pub record MakesCalls {D T E : Type 0} (content : D → Option (List ℕ)) (losses : D → List (ℕ × List ℕ)) (arms : D → ℕ)
+    (armed : D → Armed) (starved : D → Bool) (faults : D → ℕ) (n : ℕ) (old new : D) (fault : E) (result : Result T E) : Type 0 where
+  pub runs : RunsOn content losses arms armed starved faults old new
+  pub done : OnOk result (DoesCalls content armed starved faults n old new)
+  pub fails : result ≡ Err fault → FailsInCalls content armed starved n old new
+  pub rose : result ≡ Err fault → Rose (faults old) (faults new)
+  pub memory : result ≡ Err fault → StarvesUnarmed content armed starved old new
+
+-- The same of at most so many calls: each was done unless one failed, which is told apart by `failed`.
+pub record MakesUpTo {D : Type 0} (content : D → Option (List ℕ)) (losses : D → List (ℕ × List ℕ)) (arms : D → ℕ)
+    (armed : D → Armed) (starved : D → Bool) (faults : D → ℕ) (most : ℕ) (old new : D) (failed : Type 0) : Type 0 where
+  pub runs : RunsOn content losses arms armed starved faults old new
+  pub done : (failed → ⊥) → DoesUpTo content armed starved faults most old new
+  pub fails : failed → FailsInCalls content armed starved most old new
+  pub rose : failed → Rose (faults old) (faults new)
+  pub memory : failed → StarvesUnarmed content armed starved old new

@@ -1,14 +1,16 @@
 -- What the store does is what the rules of the calls say.
-use Rattle.std.proofs.Common.{◌≡◌, ◌≢◌, inl, inr, ◌∙◌, refl, sym, ap, subst, arith, ℕ, ℤ, pos, negsuc, List, Option, Some, None, Result, Ok, Err}
+use Rattle.std.proofs.Common.{◌≡◌, ◌≢◌, inl, inr, ◌∙◌, refl, sym, ap, arith, ℕ, ℤ, pos, negsuc, List, Option, Some, None, Bool, true, false, int_lt, if◌then◌else◌}
 use Rattle.std.specs.Option.{option_map}
 use Rattle.share_model.specs.Foreign.{code_alone}
-use Rattle.share_model.specs.ForeignRules.{Initialises, Writes}
+use Rattle.share_model.specs.ForeignRules.{Initialises, Writes, read_known, read_share_state}
 use Rattle.share_model.specs.Keys.{KeyParts}
-use Rattle.share_model.specs.declared.fault.TheConstants.Code.{NONE, INVALID_REQUEST}
+use Rattle.share_model.specs.declared.fault.TheConstants.Code.{NONE, INVALID_REQUEST, FENCED_LEADER_EPOCH, KAFKA_STORAGE_ERROR}
 use Rattle.share_model.specs.declared.fault.Code.{Code}
+use Rattle.share_model.specs.declared.foreign.ForeignAnswer.{ForeignAnswer}
 use Rattle.share_model.specs.declared.run.Run.{Run}
+use Rattle.share_model.specs.ShareStates.{ShareState}
 use Rattle.share_coord.specs.Stored.{Entries, kept_at}
-use Rattle.share_coord.specs.Calls.{IsWritten, IsTooMany, initialised, init_refusal, write_refusal}
+use Rattle.share_coord.specs.Calls.{IsInitialised, IsWritten, IsTooMany, init_refusal, write_refusal}
 use Rattle.share_coord.specs.declared.fault.CoordFault.{CoordFault}
 use Rattle.share_coord.specs.declared.fault.CoordFault.TheVariants.{Invalid, Unknown, FencedLeader, FencedState, TooMany, Store, NoMemory}
 use Rattle.foreign_coord.specs.Acts.{states_of}
@@ -25,7 +27,7 @@ IsNumeric (TooMany n) = ⊥
 IsNumeric (Store fault) = ⊥
 IsNumeric NoMemory = ⊥
 
-number_of : Code → ℕ
+pub number_of : Code → ℕ
 number_of c = mag c.0
   where
     mag : ℤ → ℕ
@@ -42,21 +44,48 @@ numeric_code (TooMany k) h is = h
 numeric_code (Store f) h is = h
 numeric_code NoMemory h is = h
 
--- what was done was not refused
-pub not_refused : {T : Type 0} (o : Option CoordFault) (x : T) (r : Result T CoordFault) → r ≡ Ok x → ((e : CoordFault) → o ≡ Some e → r ≡ Err e) → o ≡ None
-not_refused None x r is f = refl
-not_refused (Some e) x r is f = absurd (subst is_err (sym (f e refl) ∙ is) tt)
-  where
-    is_err : {T E : Type 0} → Result T E → Type 0
-    is_err (Ok x) = ⊥
-    is_err (Err e) = Unit {0}
+-- a refusal that isn't one of the store's device
+abbrev pub IsOther : CoordFault → Type 0
+IsOther Invalid = Unit {0}
+IsOther Unknown = Unit {0}
+IsOther (FencedLeader n) = Unit {0}
+IsOther (FencedState n) = Unit {0}
+IsOther (TooMany n) = Unit {0}
+IsOther (Store fault) = ⊥
+IsOther NoMemory = Unit {0}
+
+pub other_code : (e : CoordFault) → IsOther e → code_in e ≢ KAFKA_STORAGE_ERROR
+unfolding number_of
+other_code Invalid h is = let n : 42 ≡ 56 = ap number_of is in omega (arith, n)
+other_code Unknown h is = let n : 3 ≡ 56 = ap number_of is in omega (arith, n)
+other_code (FencedLeader k) h is = let n : 74 ≡ 56 = ap number_of is in omega (arith, n)
+other_code (FencedState k) h is = let n : 124 ≡ 56 = ap number_of is in omega (arith, n)
+other_code (TooMany k) h is = let n : 42 ≡ 56 = ap number_of is in omega (arith, n)
+other_code (Store f) h is = h
+other_code NoMemory h is = let n : 0 ≡ 56 = ap number_of is in omega (arith, n)
+
+pub none_code : NONE ≢ KAFKA_STORAGE_ERROR
+unfolding number_of
+none_code is = let n : 0 ≡ 56 = ap number_of is in omega (arith, n)
+
+-- a read is not answered with the code of a store fault
+either_code : (b : Bool) (x y : ForeignAnswer) → x.code ≢ KAFKA_STORAGE_ERROR → y.code ≢ KAFKA_STORAGE_ERROR → (if b then x else y).code ≢ KAFKA_STORAGE_ERROR
+either_code true x y p q = p
+either_code false x y p q = q
+
+known_code : (known : Option ShareState) (leader : ℤ) → (read_known known leader).code ≢ KAFKA_STORAGE_ERROR
+known_code None leader = other_code Unknown tt
+known_code (Some known) leader = either_code (int_lt leader known.leader_epoch) (code_alone FENCED_LEADER_EPOCH)
+    (record { code = NONE; state_epoch = known.state_epoch; start = known.start; runs = known.runs }) (other_code (FencedLeader (pos 0)) tt) none_code
+
+pub read_code : (known : Option ShareState) (leader : ℤ) → (read_share_state known leader).code ≢ KAFKA_STORAGE_ERROR
+read_code known leader = either_code (int_lt leader (pos 0)) (code_alone INVALID_REQUEST) (read_known known leader) (other_code Invalid tt) (known_code known leader)
 
 module _ (old : Entries) (key : KeyParts) (state start : ℤ) where
-  pub init_granted : (new : Entries) → init_refusal (kept_at old key) state start ≡ None → new ≡ initialised old key state start
-      → Initialises (states_of old) key state start (code_alone NONE) (states_of new)
-  init_granted new none is =
-      let code = init_code_is old key state start ∙ ap code_or none in
-      (ap code_alone (sym code), inr (code, ap states_of is ∙ with_seen old key _))
+  pub init_granted : (new : Entries) → IsInitialised old key state start new → Initialises (states_of old) key state start (code_alone NONE) (states_of new)
+  init_granted new is =
+      let code = init_code_is old key state start ∙ ap code_or is.granted in
+      (ap code_alone (sym code), inr (code, ap states_of is.is ∙ with_seen old key _))
 
   pub init_refused : (e : CoordFault) → init_refusal (kept_at old key) state start ≡ Some e → IsNumeric e
       → Initialises (states_of old) key state start (code_alone (code_in e)) (states_of old)
@@ -65,10 +94,9 @@ module _ (old : Entries) (key : KeyParts) (state start : ℤ) where
       (ap code_alone (sym code), inl ((λ none. numeric_code e numeric (sym code ∙ none)), refl))
 
 module _ (old : Entries) (key : KeyParts) (state leader start : ℤ) (runs : List Run) where
-  pub write_granted : (new : Entries) → write_refusal (kept_at old key) state leader start runs ≡ None → IsWritten old key state leader start runs new
-      → Writes (states_of old) key state leader start runs (code_alone NONE) (states_of new)
-  write_granted new none is =
-      let code = write_code_is old key state leader start runs ∙ ap code_or none in
+  pub write_granted : (new : Entries) → IsWritten old key state leader start runs new → Writes (states_of old) key state leader start runs (code_alone NONE) (states_of new)
+  write_granted new is =
+      let code = write_code_is old key state leader start runs ∙ ap code_or is.granted in
       inr (
         code,
         inr (

@@ -1,3 +1,4 @@
 pub mod Acts
 pub mod Codes
 pub mod Shards
+pub mod Once

@@ -8,6 +8,7 @@ use Rattle.std.specs.Option.{option_map}
 use Rattle.std.specs.Ordering.{int_eq}
 use Rattle.share_model.specs.Foreign.{code_alone}
 use Rattle.share_model.specs.ForeignRules.{ShareStates, Does, share_state_at}
+use Rattle.share_model.specs.Pending.{WithPending}
 use Rattle.share_model.specs.declared.fault.StoreFault.{StoreFault}
 use Rattle.share_model.specs.declared.fault.StoreFault.TheVariants.{Device, Full}
 use Rattle.share_model.specs.declared.fault.TheConstants.Code.{NONE, KAFKA_STORAGE_ERROR}
@@ -17,7 +18,7 @@ use Rattle.share_model.specs.declared.foreign.ForeignOp.TheVariants.{Init, Read,
 use Rattle.share_coord.specs.Holding.{Holds}
 use Rattle.share_coord.specs.Parts.{StoreParts}
 use Rattle.share_coord.specs.Stored.{Entries, Accepts}
-use Rattle.foreign_coord.specs.Acts.{states_of}
+use Rattle.foreign_coord.specs.Acts.{states_of, AreStates}
 
 -- the shard of foreign state: the states, and what the pending write would leave
 pub record ForeignShardState : Type 0 where
@@ -74,3 +75,8 @@ pub record Carries {D : Type 0} (image : D → List ℕ → Type 0) (store : Sto
   pub holds : Holds image store pending
   pub states : shard.states ≡ states_of store.entries
   pub pending_is : shard.pending ≡ option_map states_of pending
+
+-- contents found at a moment of a call: those of what stood at entry, with or without its pending write, or of what the call leaves
+-- where it is granted
+abbrev pub IsFound : ForeignShardState → ForeignOp → List ℕ → List ℕ → Type 0
+IsFound old op a b = WithPending (AreStates a b) old.states old.pending ⊎ ((new : ShareStates) × Grants old.states op new × AreStates a b new)

@@ -1,5 +1,5 @@
 // The answers of the calls.
-ghost use Rattle.std.specs.Prelude.{◌≡◌};
+ghost use Rattle.std.specs.Prelude.{◌≡◌, [], IfOk};
 ghost use Rattle.share_model.specs.Foreign.{code_alone};
 ghost use Rattle.foreign_coord.specs.Codes.{Tells, TellsFault};
 
@@ -22,7 +22,8 @@ pub fn alone(alloc: Global, code: Code) -> ForeignAnswer
 
 // The answer to a call that the store has refused.
 pub fn refusal(alloc: Global, fault: CoordFault) -> Result<ForeignAnswer, NoMemory>
-    ensures { TellsFault fault result }
+    ensures tells { TellsFault fault result }
+    ensures runs { IfOk result (λ answer. answer.runs ≡ []) }
 {
     match fault {
         CoordFault::Invalid => Ok(alone(alloc, Code::INVALID_REQUEST)),
@@ -37,7 +38,8 @@ pub fn refusal(alloc: Global, fault: CoordFault) -> Result<ForeignAnswer, NoMemo
 
 // The answer to a call that the store has done or refused.
 pub fn answer(alloc: Global, done: Result<(), CoordFault>) -> Result<ForeignAnswer, NoMemory>
-    ensures { Tells done result }
+    ensures tells { Tells done result }
+    ensures runs { IfOk result (λ answer. answer.runs ≡ []) }
 {
     match done {
         Ok(()) => Ok(alone(alloc, Code::NONE)),

@@ -1,17 +1,21 @@
-ghost use Rattle.std.specs.Prelude.{◌≡◌, ◌≢◌, ◌⊎◌, ◌↔◌, List, ℕ, Bool, true, false, Some, None, IfOk, IfErr, slice_get, MatchResult};
+ghost use Rattle.std.specs.Prelude.{◌≡◌, ◌⊎◌, ◌↔◌, true, None, IfOk, IfErr, OnErr, slice_get, MatchResult};
 ghost use Rattle.std.specs.Option.{option_map, option_copied};
 ghost use Rattle.std.specs.Map.{keys_of};
 ghost use Rattle.std.specs.declared.option.Option.{Option};
 ghost use Rattle.edge_io.specs.Armed.{ArmsAlone, RunsOn, StarvesUnarmed};
 ghost use Rattle.edge_io.specs.Causes.{Rose};
-ghost use Rattle.edge_io.specs.Disk.{SameContent};
-ghost use Rattle.edge_io.specs.Moments.{LeavesOnly};
-ghost use Rattle.gate_journal.specs.Frames.{StandsAs};
+ghost use Rattle.edge_io.specs.Moments.{LeavesPairs};
 ghost use Rattle.share_model.specs.ForeignRules.{read_share_state};
+ghost use Rattle.share_model.specs.declared.fault.StoreFault.{StoreFault};
 ghost use Rattle.share_model.specs.declared.foreign.ForeignOp.TheVariants.{Init, Read, Write as write_call, Delete};
-ghost use Rattle.share_coord.specs.Stored.{Entries, AreStored, AreDamaged, kept_at};
+ghost use Rattle.coord_checkpoint.specs.Disks.{RunsBoth};
+ghost use Rattle.share_coord.specs.Stored.{Entries, kept_at};
 ghost use Rattle.share_coord.specs.Holding.{Holds};
-ghost use Rattle.foreign_coord.specs.Acts.{ActsOnce};
+ghost use Rattle.share_coord.specs.Opening.{IsOpened, IsNotOpened};
+ghost use Rattle.foreign_coord.specs.Acts.{states_of};
+ghost use Rattle.foreign_coord.specs.Once.{ActsOnce};
+ghost use Rattle.state_records.specs.States.{AreStoredRuns};
+ghost use Rattle.foreign_coord.specs.Shards.{ForeignShardState, StepsForeign, IsFull, Carries, IsFound};
 
 use crate::batches::runs_of;
 use crate::codes::{alone, answer, refusal};
@@ -45,7 +49,8 @@ fn read(
     known: Option<&StateView>,
     leader_epoch: i32,
 ) -> Result<ForeignAnswer, NoMemory>
-    ensures { IfOk result (λ answer. answer ≡ read_share_state (option_copied known.entry) leader_epoch) }
+    ensures answer { IfOk result (λ answer. answer ≡ read_share_state (option_copied known.entry) leader_epoch) }
+    ensures ranges { IfOk result (λ answer. AreStoredRuns answer.runs) }
 {
     if leader_epoch < 0 {
         return Ok(alone(alloc, Code::INVALID_REQUEST));
@@ -69,33 +74,12 @@ fn read(
 impl<D: Disk> ForeignShard<D> {
     /// Opens the states of two disks, as `Coord` does. They come back at an `Err`.
     pub fn open(alloc: Global, a: D, b: D) -> Result<ForeignShard<D>, (D, D, CoordOpen)>
-        // The states are those for which the contents stand; each image stands for them from now on, and nothing is pending.
-        ensures holds { IfOk result (λ c. Holds D.image c None) }
-        ensures opens { IfOk result (λ c. (x y : List ℕ) → D.content a ≡ Some x → D.content b ≡ Some y → AreStored x y c.entries) }
-
-        // Contents that stand for states are never damaged, and give these states.
-        ensures recovers { (x y : List ℕ) (entries : Entries) → D.content a ≡ Some x → D.content b ≡ Some y → AreStored x y entries →
-            MatchResult result (λ c. c.entries ≡ entries) (λ e. (second : Bool) (place : ℕ) → e.2 ≢ CoordOpen.Damaged second place) }
-
-        // Each refusal has its cause.
-        ensures damaged { IfErr result (λ e. (second : Bool) (place : ℕ) → e.2 ≡ CoordOpen.Damaged second place →
-            (x y : List ℕ) → D.content a ≡ Some x → D.content b ≡ Some y → AreDamaged x y second place) }
-        ensures device { IfErr result (λ e. e.2 ≡ CoordOpen.Device false →
-            Rose (D.faults a) (D.faults e.0) × StarvesUnarmed D.content D.armed D.starved a e.0) }
-        ensures second_device { IfErr result (λ e. e.2 ≡ CoordOpen.Device true →
-            Rose (D.faults b) (D.faults e.1) × StarvesUnarmed D.content D.armed D.starved b e.1) }
-
-        // At each moment since the call began each image is one from before it, or stands for the frames of one.
-        ensures any_moment { MatchResult result (λ c. LeavesOnly D.moment D.since a c.journal.live.disk (StandsAs (D.image a)))
-            (λ e. LeavesOnly D.moment D.since a e.0 (StandsAs (D.image a))) }
-        ensures second_moment { MatchResult result (λ c. LeavesOnly D.moment D.since b c.journal.idle (D.image b))
-            (λ e. LeavesOnly D.moment D.since b e.1 (D.image b)) }
-        ensures untouched { MatchResult result (λ c. SameContent (D.content b) (D.content c.journal.idle) (D.size b) (D.size c.journal.idle))
-            (λ e. SameContent (D.content b) (D.content e.1) (D.size b) (D.size e.1)) }
-        ensures runs { MatchResult result (λ c. RunsOn D.content D.losses D.arms D.armed D.starved D.faults a c.journal.live.disk)
-            (λ e. RunsOn D.content D.losses D.arms D.armed D.starved D.faults a e.0) }
-        ensures second_runs { MatchResult result (λ c. RunsOn D.content D.losses D.arms D.armed D.starved D.faults b c.journal.idle)
-            (λ e. RunsOn D.content D.losses D.arms D.armed D.starved D.faults b e.1) }
+        ensures opened { IfOk result (IsOpened D.content D.image a b) }
+        ensures carries { IfOk result (λ c. Carries D.image c (record { states = states_of c.entries; pending = None })) }
+        ensures refused { IfErr result (IsNotOpened D.content D.armed D.starved D.faults a b) }
+        ensures both { MatchResult result
+            (λ c. RunsBoth D.content D.size D.image D.moment D.since D.losses D.arms D.armed D.starved D.faults a b c.journal.live.disk c.journal.idle)
+            (λ e. RunsBoth D.content D.size D.image D.moment D.since D.losses D.arms D.armed D.starved D.faults a b e.0 e.1) }
     {
         match Coord::open(alloc, a, b) {
             Ok(coord) => Ok(ForeignShard { coord, alloc }),
@@ -104,18 +88,22 @@ impl<D: Disk> ForeignShard<D> {
     }
 
     fn init(&mut self, key: &Key, state_epoch: i32, start: i64) -> Result<ForeignAnswer, NoMemory>
-        ensures once { ActsOnce D.image D.moment D.since D.faults (Init key.now state_epoch start) self.old self.new result }
+        ensures once { ActsOnce D.content D.image D.moment D.since D.armed D.starved D.faults
+            (Init key.now state_epoch start) self.old self.new result }
         ensures runs { RunsOn D.content D.losses D.arms D.armed D.starved D.faults self.old.journal.live.disk self.new.journal.live.disk }
         ensures idle { self.new.journal.idle ≡ self.old.journal.idle }
+        ensures ranges { IfOk result (λ answer. AreStoredRuns answer.runs) }
     {
         let done = self.coord.init(key, state_epoch, start);
         answer(self.alloc, done)
     }
 
     fn read(&mut self, key: &Key, leader_epoch: i32) -> Result<ForeignAnswer, NoMemory>
-        ensures once { ActsOnce D.image D.moment D.since D.faults (Read key.now leader_epoch) self.old self.new result }
+        ensures once { ActsOnce D.content D.image D.moment D.since D.armed D.starved D.faults
+            (Read key.now leader_epoch) self.old self.new result }
         ensures runs { RunsOn D.content D.losses D.arms D.armed D.starved D.faults self.old.journal.live.disk self.new.journal.live.disk }
         ensures idle { self.new.journal.idle ≡ self.old.journal.idle }
+        ensures ranges { IfOk result (λ answer. AreStoredRuns answer.runs) }
     {
         read(self.alloc, self.coord.look(key), leader_epoch)
     }
@@ -128,9 +116,11 @@ impl<D: Disk> ForeignShard<D> {
         start: i64,
         batches: &StateBatchList,
     ) -> Result<ForeignAnswer, NoMemory>
-        ensures once { ActsOnce D.image D.moment D.since D.faults (write_call key.now state_epoch leader_epoch start batches.now) self.old self.new result }
+        ensures once { ActsOnce D.content D.image D.moment D.since D.armed D.starved D.faults
+            (write_call key.now state_epoch leader_epoch start batches.now) self.old self.new result }
         ensures runs { RunsOn D.content D.losses D.arms D.armed D.starved D.faults self.old.journal.live.disk self.new.journal.live.disk }
         ensures idle { self.new.journal.idle ≡ self.old.journal.idle }
+        ensures ranges { IfOk result (λ answer. AreStoredRuns answer.runs) }
     {
         let Some(runs) = runs_of(self.alloc, batches.as_slice())? else {
             return Ok(alone(self.alloc, Code::INVALID_REQUEST));
@@ -142,9 +132,11 @@ impl<D: Disk> ForeignShard<D> {
     }
 
     fn delete(&mut self, key: &Key) -> Result<ForeignAnswer, NoMemory>
-        ensures once { ActsOnce D.image D.moment D.since D.faults (Delete key.now) self.old self.new result }
+        ensures once { ActsOnce D.content D.image D.moment D.since D.armed D.starved D.faults
+            (Delete key.now) self.old self.new result }
         ensures runs { RunsOn D.content D.losses D.arms D.armed D.starved D.faults self.old.journal.live.disk self.new.journal.live.disk }
         ensures idle { self.new.journal.idle ≡ self.old.journal.idle }
+        ensures ranges { IfOk result (λ answer. AreStoredRuns answer.runs) }
     {
         match self.coord.remove(key) {
             Ok(_) => Ok(alone(self.alloc, Code::NONE)),
@@ -152,14 +144,11 @@ impl<D: Disk> ForeignShard<D> {
         }
     }
 
-    /// Does a call, and answers it by the rules of the share-group state calls. A write whose record couldn't be stored is answered
-    /// with code 56, and changes no state.
-    ///
-    /// It takes its memory first. A call that is refused, a read, and a delete of a key that isn't there make no device call.
-    pub fn act(&mut self, op: &ForeignOp) -> Result<ForeignAnswer, NoMemory>
-        ensures once { ActsOnce D.image D.moment D.since D.faults op.now self.old self.new result }
+    fn dispatch(&mut self, op: &ForeignOp) -> Result<ForeignAnswer, NoMemory>
+        ensures once { ActsOnce D.content D.image D.moment D.since D.armed D.starved D.faults op.now self.old self.new result }
         ensures runs { RunsOn D.content D.losses D.arms D.armed D.starved D.faults self.old.journal.live.disk self.new.journal.live.disk }
         ensures idle { self.new.journal.idle ≡ self.old.journal.idle }
+        ensures ranges { IfOk result (λ answer. AreStoredRuns answer.runs) }
     {
         match op {
             ForeignOp::Init {
@@ -177,6 +166,32 @@ impl<D: Disk> ForeignShard<D> {
             } => self.write(key, *state_epoch, *leader_epoch, *start, batches),
             ForeignOp::Delete { key } => self.delete(key),
         }
+    }
+
+    /// Does a call, and answers it by the rules of the share-group state calls. A write whose record couldn't be stored is answered
+    /// with code 56, and changes no state.
+    ///
+    /// It takes its memory first. A call that is refused, a read, and a delete of a key that isn't there make no device call.
+    pub fn act(&mut self, op: &ForeignOp) -> Result<ForeignAnswer, NoMemory>
+        // Where it answers, a step of the shard was made; where it finds no memory, nothing has changed.
+        ensures ok { IfOk result (λ answer. (old : ForeignShardState) → Carries D.image self.old old → (new : ForeignShardState) × (fault : Option StoreFault)
+            × Carries D.image self.new new
+            × StepsForeign (Rose (D.faults self.old.journal.live.disk) (D.faults self.new.journal.live.disk)) self.old.journal.live.end old op.now answer fault new) }
+        ensures memory { OnErr result ((old : ForeignShardState) → Carries D.image self.old old → Carries D.image self.new old) }
+
+        // With nothing armed, a store fault comes only of a full journal, or where the disk finds no memory.
+        ensures sound { IfOk result (λ answer. answer.code ≡ Code.KAFKA_STORAGE_ERROR →
+            StarvesUnarmed D.content D.armed D.starved self.old.journal.live.disk self.new.journal.live.disk
+            ⊎ IsFull self.old.journal.live.end (states_of self.old.entries) op.now) }
+
+        // At each moment since it began, a crash leaves what stood at entry, or what it leaves where it is granted.
+        ensures any_moment { (old : ForeignShardState) → Carries D.image self.old old → LeavesPairs D.moment D.since D.moment D.since
+            self.old.journal.live.disk self.new.journal.live.disk self.old.journal.idle self.new.journal.idle (IsFound old op.now) }
+        ensures runs { RunsOn D.content D.losses D.arms D.armed D.starved D.faults self.old.journal.live.disk self.new.journal.live.disk }
+        ensures idle { self.new.journal.idle ≡ self.old.journal.idle }
+        ensures ranges { IfOk result (λ answer. AreStoredRuns answer.runs) }
+    {
+        self.dispatch(op)
     }
 
     /// The state of a key. `None` where it isn't there.
@@ -209,8 +224,10 @@ impl<D: Disk> ForeignShard<D> {
         ensures second { disk ≡ DiskPlace.StateB →
             ArmsAlone D.content D.image D.losses D.arms D.armed D.starved D.faults after mode self.old.journal.idle self.new.journal.idle
             × (self.new.journal.live ≡ self.old.journal.live) }
+        ensures end { self.new.journal.live.end ≡ self.old.journal.live.end }
         ensures states { self.new.entries ≡ self.old.entries }
-        ensures stays { (pending : Option Entries) → Holds D.image self.old pending → Holds D.image self.new pending }
+        ensures holds { (pending : Option Entries) → Holds D.image self.old pending → Holds D.image self.new pending }
+        ensures stays { (shard : ForeignShardState) → Carries D.image self.old shard → Carries D.image self.new shard }
     {
         self.coord.arm(disk, after, mode);
     }

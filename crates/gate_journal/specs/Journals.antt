@@ -1,10 +1,15 @@
 -- What a journal and its disk stand for. This project's own. Worked example: a journal of no frames whose append of `61`
 -- failed at its last sync stands for no frames with `61` pending, as a crash may leave `00 00000001 61 00` or
 -- `01 00000001 61 00`.
-use Rattle.std.specs.Prelude.{◌≡◌, ℕ, ◌+◌, ◌<◌, ◌≤◌, List, length, Some, None}
+use Rattle.std.specs.Prelude.{◌≡◌, ◌↔◌, ℕ, ◌+◌, ◌^◌, ◌<◌, ◌≤◌, List, [], ◌∷◌, ◌++◌, length, Some, None, Result, Ok, Err, MatchResult}
 use Rattle.std.specs.declared.option.Option.{Option}
 use Rattle.std.specs.List.{AllByRecursion}
-use Rattle.gate_journal.specs.Frames.{IsFrame, IsRest, IsShut, IsAjar, IsWithPending, blocks}
+use Rattle.edge_io.specs.Disk.{IsTold, WhereTold, SameContent}
+use Rattle.share_model.specs.declared.fault.StoreFault.{StoreFault}
+use Rattle.share_model.specs.declared.fault.StoreFault.TheVariants.{Device as device, Full}
+use Rattle.gate_journal.specs.Frames.{IsFrame, IsRest, IsShut, IsAjar, IsWithPending, StandsFor, blocks, frame_in, framed, repaired, text_of}
+use Rattle.gate_journal.specs.declared.opening.StartFault.{StartFault}
+use Rattle.gate_journal.specs.declared.opening.StartFault.TheVariants.{Device}
 use Rattle.gate_journal.specs.declared.writer.Writer.{Writer}
 use Rattle.gate_journal.specs.declared.writer.Mending.{Mending}
 use Rattle.gate_journal.specs.declared.writer.Mending.TheVariants.{Nothing, Behind, Gate}
@@ -51,3 +56,49 @@ pub record IsAtRest {D : Type 0} (image : D → List ℕ → Type 0) (writer : W
   pub stands : Stands image writer frames None
   pub rests : (c : List ℕ) → image writer.disk c → IsRest frames c
   pub mended : writer.mending ≡ Nothing
+
+-- ---- appends
+
+-- An append at Ok: whatever the frames were and whichever write was pending, this frame stands behind them, the journal is at
+-- rest, and each image is the text of these frames.
+pub record Adds {D : Type 0} (image : D → List ℕ → Type 0) (frame : List ℕ) (old new : Writer D) : Type 0 where
+  pub rests : (frames : List (List ℕ)) (pending : Option (List ℕ)) → Stands image old frames pending → IsAtRest image new (frames ++ frame ∷ [])
+  pub text : (frames : List (List ℕ)) (pending : Option (List ℕ)) → Stands image old frames pending →
+      (c : List ℕ) → image new.disk c → c ≡ text_of (frames ++ frame ∷ [])
+
+-- An append is refused as full exactly where its frame would end past 2^62 bytes, with the end of the last gate, and then
+-- nothing is changed, its buffer included.
+pub record RefusesFull {D : Type 0} (old new : Writer D) (before after : List ℕ) (result : Result ℕ StoreFault) : Type 0 where
+  pub exact : (end : ℕ) → (result ≡ Err (Full end)) ↔ ((end ≡ old.end) × (2 ^ 62 < old.end + length before))
+  pub same : (end : ℕ) → result ≡ Err (Full end) → (new ≡ old) × (after ≡ before)
+
+-- Unless it was refused as full, an append has set the length before its frame and the closed gate behind it. The buffer has
+-- the frame in any case.
+pub record SetsBuffer (before after : List ℕ) (result : Result ℕ StoreFault) : Type 0 where
+  pub set : MatchResult result (λ _. after ≡ framed (frame_in before)) (λ e. e ≡ device → after ≡ framed (frame_in before))
+  pub frame : frame_in after ≡ frame_in before
+
+-- ---- openings
+
+-- A journal was opened over a disk: the content stands for its frames, it is at rest, and each image is what the repair of the
+-- content's end leaves.
+pub record Opens {D : Type 0} (content : D → Option (List ℕ)) (image : D → List ℕ → Type 0) (disk : D) (writer : Writer D)
+    (frames : List (List ℕ)) : Type 0 where
+  pub stands : WhereTold (content disk) (λ c. StandsFor c frames)
+  pub rests : IsAtRest image writer frames
+  pub text : WhereTold (content disk) (λ c. (d : List ℕ) → image writer.disk d → d ≡ repaired writer.end c)
+
+-- the content is as it was, and no call was a fault
+pub record KeepsContent {D : Type 0} (content : D → Option (List ℕ)) (size faults : D → ℕ) (old new : D) : Type 0 where
+  pub same : SameContent (content old) (content new) (size old) (size new)
+  pub quiet : IsTold (content old) → faults new ≡ faults old
+
+-- the disk behind an opening, which holds it in the journal or gives it back
+abbrev pub disk_after : {D F : Type 0} → Result (Writer D × F) (D × StartFault) → D
+disk_after (Ok opened) = opened.0.disk
+disk_after (Err refused) = refused.0
+
+-- it was refused since its disk failed
+abbrev pub IsDeviceFault : {T D : Type 0} → Result T (D × StartFault) → Type 0
+IsDeviceFault (Ok opened) = ⊥
+IsDeviceFault (Err refused) = refused.1 ≡ Device

@@ -1,11 +1,9 @@
-ghost use Rattle.std.specs.Prelude.{◌≡◌, ◌⊎◌, ◌↔◌, ◌+◌, ◌<◌, ◌≤◌, ◌^◌, ◌++◌, [], ◌∷◌, List, ℕ, length};
-ghost use Rattle.std.specs.Prelude.{Some, IfOk, OnOk, OnErr, MatchResult, Err};
+ghost use Rattle.std.specs.Prelude.{◌≡◌, ◌⊎◌, ◌+◌, ◌≤◌, List, ℕ, length, Some, IfOk, OnOk, OnErr};
 ghost use Rattle.std.specs.declared.option.Option.{Option};
-ghost use Rattle.edge_io.specs.Armed.{ArmsAlone, RunsOn, StarvesUnarmed};
-ghost use Rattle.edge_io.specs.Causes.{Rose};
-ghost use Rattle.edge_io.specs.Counting.{DoesCalls, FailsInCalls};
+ghost use Rattle.edge_io.specs.Armed.{ArmsAlone};
+ghost use Rattle.edge_io.specs.Counting.{MakesCalls};
 ghost use Rattle.edge_io.specs.Moments.{Elapses, LeavesOnly};
-ghost use Rattle.gate_journal.specs.Frames.{IsBeforeOrAfter, IsWithPending, IsFrame, frame_in, framed, text_of};
+ghost use Rattle.gate_journal.specs.Frames.{IsBeforeOrAfter, IsWithPending, IsFrame, frame_in, framed};
 
 use crate::writer::{Mending, Writer};
 use edge_io::{Disk, FaultMode};
@@ -47,7 +45,7 @@ impl<D: Disk> Model for Journal<D> {
 }
 
 impl<D: Disk> Journal<D> {
-    ghost use Rattle.gate_journal.specs.Journals.{HasRoom, Stands, IsAtRest, calls_to_mend};
+    ghost use Rattle.gate_journal.specs.Journals.{HasRoom, Stands, Adds, RefusesFull, SetsBuffer, calls_to_mend};
 
     // A journal of frames that were read from the disk.
     pub(crate) fn opened(disk: D, end: u64, count: u64) -> Self
@@ -78,33 +76,23 @@ impl<D: Disk> Journal<D> {
     pub fn append(&mut self, buffer: &mut [u8]) -> Result<u64, StoreFault>
         requires { IsFrame (frame_in buffer.old) }
 
-        // At Ok each image is the text of the frames with this one, and no write is pending.
-        ensures kept { OnOk result ((frames : List (List ℕ)) (pending : Option (List ℕ)) → Stands D.image self.old frames pending →
-            IsAtRest D.image self.new (frames ++ frame_in buffer.old ∷ [])) }
-        ensures text { OnOk result ((frames : List (List ℕ)) (pending : Option (List ℕ)) → Stands D.image self.old frames pending →
-            (c : List ℕ) → D.image self.new.disk c → c ≡ text_of (frames ++ frame_in buffer.old ∷ [])) }
+        // At Ok the frame stands behind the others, and no write is pending.
+        ensures ok { OnOk result (Adds D.image (frame_in buffer.old) self.old self.new) }
         ensures number { IfOk result (λ n. n ≡ self.old.count) }
 
         // At Err the frames are the same. The pending write is the one from before, or this one.
         ensures failed { OnErr result ((frames : List (List ℕ)) (pending : Option (List ℕ)) → Stands D.image self.old frames pending →
             Stands D.image self.new frames pending ⊎ Stands D.image self.new frames (Some (frame_in buffer.old))) }
-        ensures full { (end : ℕ) → (result ≡ Err (StoreFault.Full end)) ↔ ((end ≡ self.old.end) × (2 ^ 62 < self.old.end + length buffer.old)) }
-        ensures untouched { (end : ℕ) → result ≡ Err (StoreFault.Full end) → (self.new ≡ self.old) × (buffer.new ≡ buffer.old) }
-        ensures device { result ≡ Err StoreFault.Device → Rose (D.faults self.old.disk) (D.faults self.new.disk) }
+        ensures full { RefusesFull self.old self.new buffer.old buffer.new result }
 
         // At each moment since the call began a crash leaves the frames, with or without the pending one, or with this one.
         ensures any_moment { (frames : List (List ℕ)) (pending : Option (List ℕ)) → Stands D.image self.old frames pending →
             LeavesOnly D.moment D.since self.old.disk self.new.disk (λ c. IsWithPending frames pending c ⊎ IsBeforeOrAfter frames (frame_in buffer.old) c) }
-        ensures runs { RunsOn D.content D.losses D.arms D.armed D.starved D.faults self.old.disk self.new.disk }
 
-        // Of a disk that tells: the calls that mend and four more, and the first that fails is the last.
-        ensures calls { OnOk result (DoesCalls D.content D.armed D.starved D.faults (calls_to_mend self.old.mending + 4) self.old.disk self.new.disk) }
-        ensures fails { result ≡ Err StoreFault.Device →
-            FailsInCalls D.content D.armed D.starved (calls_to_mend self.old.mending + 4) self.old.disk self.new.disk }
-        ensures memory { result ≡ Err StoreFault.Device → StarvesUnarmed D.content D.armed D.starved self.old.disk self.new.disk }
-        ensures set { MatchResult result (λ _. buffer.new ≡ framed (frame_in buffer.old))
-            (λ e. e ≡ StoreFault.Device → buffer.new ≡ framed (frame_in buffer.old)) }
-        ensures buffer { frame_in buffer.new ≡ frame_in buffer.old }
+        // The calls that mend, and four more.
+        ensures disk { MakesCalls D.content D.losses D.arms D.armed D.starved D.faults (calls_to_mend self.old.mending + 4)
+            self.old.disk self.new.disk StoreFault.Device result }
+        ensures buffer { SetsBuffer buffer.old buffer.new result }
     {
         let len = buffer.len() as u64;
         let end = self.writer.end;

@@ -3,11 +3,11 @@ ghost use Rattle.std.specs.Prelude.{◌≡◌, ◌≢◌, ◌+◌, ◌<◌, ◌�
 ghost use Rattle.std.specs.List.{AllByRecursion};
 ghost use Rattle.edge_io.specs.Armed.{RunsOn, StarvesUnarmed};
 ghost use Rattle.edge_io.specs.Causes.{Rose};
-ghost use Rattle.edge_io.specs.Counting.{DoesUpTo, FailsInCalls};
+ghost use Rattle.edge_io.specs.Counting.{DoesUpTo, FailsInCalls, MakesUpTo};
 ghost use Rattle.edge_io.specs.Disk.{Within, Synced, IsTold, WhereTold, SameContent};
 ghost use Rattle.edge_io.specs.Moments.{LeavesOnly};
 ghost use Rattle.gate_journal.specs.Frames.{IsRead, IsRest, IsFrame, blocks, IsDamaged, StandsFor, StandsAs, repaired};
-ghost use Rattle.gate_journal.specs.Journals.{IsAtRest};
+ghost use Rattle.gate_journal.specs.Journals.{IsDeviceFault, KeepsContent, Opens, disk_after};
 
 use crate::journal::Journal;
 use crate::repair::repair;
@@ -128,34 +128,19 @@ pub fn start<D: Disk>(
     mut disk: D,
 ) -> Result<(Journal<D>, Vec<Blob>), (D, StartFault)>
     // The frames are those that the content stands for, each image stands for them from now on, and nothing is pending.
-    ensures frames { IfOk result (λ x. WhereTold (D.content disk) (λ c. StandsFor c x.1.items)) }
-    ensures kept { IfOk result (λ x. IsAtRest D.image x.0 x.1.items) }
-    ensures text { IfOk result (λ x. WhereTold (D.content disk) (λ c. (d : List ℕ) → D.image x.0.disk d → d ≡ repaired x.0.end c)) }
-
-    // Each refusal has its cause.
-    ensures damaged { IfErr result (λ e. (place : ℕ) → e.1 ≡ StartFault.Damaged place → WhereTold (D.content disk) (λ c. IsDamaged c place)) }
-    ensures device { IfErr result (λ e. e.1 ≡ StartFault.Device → Rose (D.faults disk) (D.faults e.0)) }
-    ensures memory { IfErr result (λ e. e.1 ≡ StartFault.Device → StarvesUnarmed D.content D.armed D.starved disk e.0) }
-
-    // Unless the disk failed, the content is as it was, and no call was a fault.
-    ensures stays { IfErr result (λ e. e.1 ≢ StartFault.Device →
-        SameContent (D.content disk) (D.content e.0) (D.size disk) (D.size e.0)) }
-    ensures quiet { IfErr result (λ e. e.1 ≢ StartFault.Device → IsTold (D.content disk) → D.faults e.0 ≡ D.faults disk) }
-
-    // It makes at most four calls, of which the first that fails is the last.
-    ensures calls { MatchResult result (λ x. DoesUpTo D.content D.armed D.starved D.faults 4 disk x.0.disk)
-        (λ e. e.1 ≢ StartFault.Device → DoesUpTo D.content D.armed D.starved D.faults 4 disk e.0) }
-    ensures fails { IfErr result (λ e. e.1 ≡ StartFault.Device → FailsInCalls D.content D.armed D.starved 4 disk e.0) }
+    ensures ok { IfOk result (λ x. Opens D.content D.image disk x.0 x.1.items) }
 
     // A content that stands for frames is never damaged, and gives these frames.
     ensures recovers { (c : List ℕ) (frames : List (List ℕ)) → D.content disk ≡ Some c → StandsFor c frames →
         MatchResult result (λ x. x.1.items ≡ frames) (λ e. (place : ℕ) → e.1 ≢ StartFault.Damaged place) }
 
+    // Each refusal has its cause. Unless the disk failed, the content is as it was.
+    ensures damaged { IfErr result (λ e. (place : ℕ) → e.1 ≡ StartFault.Damaged place → WhereTold (D.content disk) (λ c. IsDamaged c place)) }
+    ensures stays { IfErr result (λ e. e.1 ≢ StartFault.Device → KeepsContent D.content D.size D.faults disk e.0) }
+
     // At each moment since the call began each image is one from before it, or stands for the frames of one.
-    ensures any_moment { MatchResult result (λ x. LeavesOnly D.moment D.since disk x.0.disk (StandsAs (D.image disk)))
-        (λ e. LeavesOnly D.moment D.since disk e.0 (StandsAs (D.image disk))) }
-    ensures runs { MatchResult result (λ x. RunsOn D.content D.losses D.arms D.armed D.starved D.faults disk x.0.disk)
-        (λ e. RunsOn D.content D.losses D.arms D.armed D.starved D.faults disk e.0) }
+    ensures any_moment { LeavesOnly D.moment D.since disk (disk_after result) (StandsAs (D.image disk)) }
+    ensures disk { MakesUpTo D.content D.losses D.arms D.armed D.starved D.faults 4 disk (disk_after result) (IsDeviceFault result) }
 {
     match recover(alloc, &mut disk) {
         Ok((frames, end)) => {

@@ -2,7 +2,6 @@
 use Rattle.std.proofs.Common.{◌≡◌, ◌≢◌, ◌⊎◌, ◌<◌, ◌+◌, ◌^◌, inl, inr, ⊎_elim, refl, sym, ap, ◌∙◌, subst, arith, ℕ, List, [], ◌∷◌, ◌++◌, length}
 use Rattle.std.proofs.Common.{Option, Some, None, Result, Ok, Err}
 use Rattle.std.proofs.lemmas.Result.{on_ok_weaker, on_err_weaker}
-use Rattle.edge_io.specs.Causes.{Rose}
 use Rattle.edge_io.specs.Moments.{LeavesPairs}
 use Rattle.share_model.specs.declared.fault.StoreFault.{StoreFault}
 use Rattle.share_model.specs.declared.fault.StoreFault.TheVariants.{Device, Full}
@@ -20,11 +19,11 @@ use Rattle.share_coord.proofs.Faults.{ok_is_no_err, err_of}
 use Rattle.share_coord.proofs.Held.{accepts, done, lost, moments}
 
 -- what does nothing, and refuses by its numbers or for want of memory
-pub untouched : {D T : Type 0} (image : D → List ℕ → Type 0) (moment : D → ℕ) (since : D → ℕ → List ℕ → Type 0) (faults : D → ℕ)
+pub untouched : {D T : Type 0} (image : D → List ℕ → Type 0) (moment : D → ℕ) (since : D → ℕ → List ℕ → Type 0) (Failed : D → D → Type 0)
     (only_now : (d : D) (c : List ℕ) → since d (moment d) c → image d c)
     (Written : Entries → Type 0) (store : StoreParts D) (e : CoordFault) → ((fault : StoreFault) → e ≢ Store fault)
-    → WritesOnce {T = T} image moment since faults Written store store (Err e)
-untouched image moment since faults only_now Written store e other = record {
+    → WritesOnce {T = T} image moment since Failed Written store store (Err e)
+untouched image moment since Failed only_now Written store e other = record {
   written = tt;
   kept = tt;
   same = refl;
@@ -39,7 +38,7 @@ untouched image moment since faults only_now Written store e other = record {
   };
 }
 
-module _ {D T : Type 0} (image : D → List ℕ → Type 0) (moment : D → ℕ) (since : D → ℕ → List ℕ → Type 0) (faults : D → ℕ)
+module _ {D T : Type 0} (image : D → List ℕ → Type 0) (moment : D → ℕ) (since : D → ℕ → List ℕ → Type 0) (Failed : D → D → Type 0)
     (Written : Entries → Type 0) (record_is : StateRecord) (old new : StateJournal D) (entries next : Entries)
     (follows : Follows entries record_is next) (is : Written next)
     (run : (frames : List (List ℕ)) (pending : Option (List ℕ)) → Keeps image old frames pending
@@ -48,7 +47,7 @@ module _ {D T : Type 0} (image : D → List ℕ → Type 0) (moment : D → ℕ)
   pub stored : (x : T) → IsRecord record_is
       → ((frames : List (List ℕ)) (pending : Option (List ℕ)) → Keeps image old frames pending
       → Keeps image new (frames ++ record_bytes record_is ∷ []) None × (length frames < 2 ^ 62))
-      → WritesOnce image moment since faults Written (record { journal = old; entries = entries }) (record { journal = new; entries = next }) (Ok x)
+      → WritesOnce image moment since Failed Written (record { journal = old; entries = entries }) (record { journal = new; entries = next }) (Ok x)
   stored x valid keeps = record {
     written = is;
     kept = done image record_is old new entries next valid follows keeps;
@@ -63,27 +62,27 @@ module _ {D T : Type 0} (image : D → List ℕ → Type 0) (moment : D → ℕ)
   pub stored_at : (x : T) (es : Entries) → es ≡ next → IsRecord record_is
       → ((frames : List (List ℕ)) (pending : Option (List ℕ)) → Keeps image old frames pending
       → Keeps image new (frames ++ record_bytes record_is ∷ []) None × (length frames < 2 ^ 62))
-      → WritesOnce image moment since faults Written (record { journal = old; entries = entries }) (record { journal = new; entries = es }) (Ok x)
+      → WritesOnce image moment since Failed Written (record { journal = old; entries = entries }) (record { journal = new; entries = es }) (Ok x)
   stored_at x es same valid keeps =
-      subst (λ (l : Entries). WritesOnce image moment since faults Written (record { journal = old; entries = entries }) (record { journal = new; entries = l }) (Ok x))
+      subst (λ (l : Entries). WritesOnce image moment since Failed Written (record { journal = old; entries = entries }) (record { journal = new; entries = l }) (Ok x))
       (sym same) (stored x valid keeps)
 
   pub refused : (r : Result (Unit {0}) CoordFault) (e : CoordFault) → r ≡ Err e
       → ((e ≡ NoMemory) ⊎ ((fault : StoreFault) × (e ≡ Store fault)))
       → ((frames : List (List ℕ)) (pending : Option (List ℕ)) → Keeps image old frames pending
       → Keeps image new frames pending ⊎ (IsRecord record_is × Keeps image new frames (Some (record_bytes record_is))))
-      → (r ≡ Err (Store Device) → Rose (faults old.live.disk) (faults new.live.disk))
+      → (r ≡ Err (Store Device) → Failed old.live.disk new.live.disk)
       → ((end : ℕ) → r ≡ Err (Store (Full end)) → (end ≡ old.live.end) × IsRecord record_is
       × (2 ^ 62 < end + (length (record_bytes record_is) + 5)) × (new ≡ old))
       → (r ≡ Err NoMemory → new ≡ old)
-      → WritesOnce {T = T} image moment since faults Written (record { journal = old; entries = entries }) (record { journal = new; entries = entries }) (Err e)
+      → WritesOnce {T = T} image moment since Failed Written (record { journal = old; entries = entries }) (record { journal = new; entries = entries }) (Err e)
   refused r e from causes keeps device full memory = record {
     written = tt;
     kept = tt;
     same = refl;
     stays = λ other pending held. subst (λ (j : StateJournal D). Holds image (record { journal = j; entries = entries }) pending) (sym (unchanged causes other)) held;
     failed = lost image record_is old new entries next Written follows is keeps;
-    device = λ at. device (from ∙ ap Err (err_of e _ at));
+    device = λ at. (device (from ∙ ap Err (err_of e _ at)), (next, is));
     full = λ end at.
         let f = full end (from ∙ ap Err (err_of e _ at)) in
         (f.0, (record_bytes record_is, next, is, accepts image record_is old new entries next f.1 follows, f.2));
@@ -98,24 +97,24 @@ module _ {D T : Type 0} (image : D → List ℕ → Type 0) (moment : D → ℕ)
       unchanged (inl at) other = memory (from ∙ ap Err at)
       unchanged (inr at) other = by_fault at.0 at.1 other
 
-module _ {D T : Type 0} (image : D → List ℕ → Type 0) (moment : D → ℕ) (since : D → ℕ → List ℕ → Type 0) (faults : D → ℕ)
+module _ {D T : Type 0} (image : D → List ℕ → Type 0) (moment : D → ℕ) (since : D → ℕ → List ℕ → Type 0) (Failed : D → D → Type 0)
     (Written : Entries → Type 0) (old new : StoreParts D) where
   -- a store whose entries are the same
-  pub same_entries : (es : Entries) (r : Result T CoordFault) → es ≡ new.entries → WritesOnce image moment since faults Written old new r
-      → WritesOnce image moment since faults Written old (record { journal = new.journal; entries = es }) r
-  same_entries es r same once = subst (λ (l : Entries). WritesOnce image moment since faults Written old (record { journal = new.journal; entries = l }) r) (sym same) once
+  pub same_entries : (es : Entries) (r : Result T CoordFault) → es ≡ new.entries → WritesOnce image moment since Failed Written old new r
+      → WritesOnce image moment since Failed Written old (record { journal = new.journal; entries = es }) r
+  same_entries es r same once = subst (λ (l : Entries). WritesOnce image moment since Failed Written old (record { journal = new.journal; entries = l }) r) (sym same) once
 
 -- what may be written is said otherwise
-pub rewritten : {D T : Type 0} (image : D → List ℕ → Type 0) (moment : D → ℕ) (since : D → ℕ → List ℕ → Type 0) (faults : D → ℕ)
+pub rewritten : {D T : Type 0} (image : D → List ℕ → Type 0) (moment : D → ℕ) (since : D → ℕ → List ℕ → Type 0) (Failed : D → D → Type 0)
     (P Q : Entries → Type 0) (old new : StoreParts D) (r : Result T CoordFault) → ((es : Entries) → P es → Q es)
-    → WritesOnce image moment since faults P old new r → WritesOnce image moment since faults Q old new r
-rewritten image moment since faults P Q old new r f once = record {
+    → WritesOnce image moment since Failed P old new r → WritesOnce image moment since Failed Q old new r
+rewritten image moment since Failed P Q old new r f once = record {
   written = on_ok_weaker r (f new.entries) once.written;
   kept = once.kept;
   same = once.same;
   stays = once.stays;
   failed = on_err_weaker r (λ h pending held. ⊎_elim (λ x. inl x) (λ x. inr (x.0, f x.0 x.1, x.2)) (h pending held)) once.failed;
-  device = once.device;
+  device = λ at. let x = once.device at in (x.0, (x.1.0, f x.1.0 x.1.1));
   full = λ end at. let x = once.full end at in (x.0, (x.1.0, x.1.1, f x.1.1 x.1.2, x.1.3, x.1.4));
   any_moment = λ pending held. let run = once.any_moment pending held in record {
     later_a = run.later_a;
@@ -125,9 +124,9 @@ rewritten image moment since faults P Q old new r f once = record {
 }
 
 -- a call that writes once leaves a store that holds what it holds
-pub held_after : {D T : Type 0} (image : D → List ℕ → Type 0) (moment : D → ℕ) (since : D → ℕ → List ℕ → Type 0) (faults : D → ℕ)
-    (Written : Entries → Type 0) (old new : StoreParts D) (r : Result T CoordFault) → WritesOnce image moment since faults Written old new r
+pub held_after : {D T : Type 0} (image : D → List ℕ → Type 0) (moment : D → ℕ) (since : D → ℕ → List ℕ → Type 0) (Failed : D → D → Type 0)
+    (Written : Entries → Type 0) (old new : StoreParts D) (r : Result T CoordFault) → WritesOnce image moment since Failed Written old new r
     → IsHeld image old → IsHeld image new
-held_after image moment since faults Written old new (Ok x) once held = (None, once.kept held.0 held.1)
-held_after image moment since faults Written old new (Err e) once held =
+held_after image moment since Failed Written old new (Ok x) once held = (None, once.kept held.0 held.1)
+held_after image moment since Failed Written old new (Err e) once held =
     ⊎_elim (λ h. (held.0, h)) (λ h. (Some h.0, h.2)) (once.failed held.0 held.1)

@@ -86,3 +86,12 @@ unfolding which where_at
 refused_damaged x y frames told second place listed is e =
     subst (λ (b : Bool). AreDamaged x y b place) (ap which e)
     (inr (frames, listed, subst (λ (n : ℕ). IsRefused frames n) (ap where_at e) is))
+
+is_damaged : CoordOpen → Type 0
+is_damaged (Damaged second place) = Unit {0}
+is_damaged (Device second) = ⊥
+is_damaged NoMemory = ⊥
+
+pub no_device : (second other : Bool) (place : ℕ) → Damaged second place ≡ Device other → ⊥
+unfolding is_damaged
+no_device second other place is = subst is_damaged is tt

@@ -8,7 +8,7 @@ use Rattle.share_model.specs.declared.run.Run.{Run}
 use Rattle.state_records.specs.States.{IsEpoch, IsStart}
 use Rattle.share_coord.specs.Stored.{Entries, kept_at, with_kept, next_snapshot}
 use Rattle.share_model.specs.ShareStates.{is_writable}
-use Rattle.share_coord.specs.Calls.{fenced_write, write_refusal, initialised, IsWritten}
+use Rattle.share_coord.specs.Calls.{fenced_write, init_refusal, write_refusal, initialised, IsInitialised, IsWritten}
 use Rattle.share_coord.specs.declared.fault.CoordFault.{CoordFault}
 use Rattle.share_coord.specs.declared.fault.CoordFault.TheVariants.{Invalid}
 use Rattle.share_coord.specs.declared.view.Kept.{Kept}
@@ -73,20 +73,37 @@ initial state leader start runs n = record {
   updates = 0;
 }
 
-pub initialised_as : (old : Entries) (key : KeyParts) (state start : ℤ) (runs : List Run) (n : ℕ) (kept : Kept) (es : Entries)
+initialised_by : (old : Entries) (key : KeyParts) (state start : ℤ) (runs : List Run) (n : ℕ) (kept : Kept) (es : Entries)
     → FitsSigned w32 state → FitsSigned w64 start → runs ≡ [] → n ≡ next_snapshot (kept_at old key)
     → kept ≡ record { view = record { state_epoch = to_z w32 (of_z w32 state); leader_epoch = pos 0; start = to_z w64 (of_z w64 start); runs = runs }; snapshot = n; updates = 0 }
     → es ≡ with_kept old key kept → es ≡ initialised old key state start
 unfolding initial
-initialised_as old key state start runs n kept es f g none next is e =
+initialised_by old key state start runs n kept es f g none next is e =
     e ∙ ap (with_kept old key) (is ∙ (ap (λ (z : ℤ). initial z (pos 0) (to_z w64 (of_z w64 start)) runs n) (to_z-of_z w32 state f)
     ∙ (ap (λ (z : ℤ). initial state (pos 0) z runs n) (to_z-of_z w64 start g)
     ∙ (ap (λ (r : List Run). initial state (pos 0) start r n) none ∙ ap (λ (m : ℕ). initial state (pos 0) start [] m) next))))
 
 -- the refusal is that of the numbers as they came
+pub init_refusal_as : (known : Option Kept) (state start : ℤ) → FitsSigned w32 state → FitsSigned w64 start
+    → init_refusal known state start ≡ init_refusal known (to_z w32 (of_z w32 state)) (to_z w64 (of_z w64 start))
+init_refusal_as known state start f g = sym
+    (ap (λ (z : ℤ). init_refusal known z (to_z w64 (of_z w64 start))) (to_z-of_z w32 state f)
+    ∙ ap (λ (z : ℤ). init_refusal known state z) (to_z-of_z w64 start g))
+
 pub refusal_as : (known : Option Kept) (state leader start : ℤ) (runs : List Run) → FitsSigned w32 state → FitsSigned w32 leader → FitsSigned w64 start
     → write_refusal known state leader start runs ≡ write_refusal known (to_z w32 (of_z w32 state)) (to_z w32 (of_z w32 leader)) (to_z w64 (of_z w64 start)) runs
 refusal_as known state leader start runs f g h = sym
     (ap (λ (z : ℤ). write_refusal known z (to_z w32 (of_z w32 leader)) (to_z w64 (of_z w64 start)) runs) (to_z-of_z w32 state f)
     ∙ (ap (λ (z : ℤ). write_refusal known state z (to_z w64 (of_z w64 start)) runs) (to_z-of_z w32 leader g)
     ∙ ap (λ (z : ℤ). write_refusal known state leader z runs) (to_z-of_z w64 start h)))
+
+-- an initialisation of numbers that are not refused
+pub initialised_as : (old : Entries) (key : KeyParts) (state start : ℤ) (runs : List Run) (n : ℕ) (kept : Kept) (es : Entries) (known : Option Kept)
+    → FitsSigned w32 state → FitsSigned w64 start → known ≡ kept_at old key → init_refusal known (to_z w32 (of_z w32 state)) (to_z w64 (of_z w64 start)) ≡ None
+    → runs ≡ [] → n ≡ next_snapshot (kept_at old key)
+    → kept ≡ record { view = record { state_epoch = to_z w32 (of_z w32 state); leader_epoch = pos 0; start = to_z w64 (of_z w64 start); runs = runs }; snapshot = n; updates = 0 }
+    → es ≡ with_kept old key kept → IsInitialised old key state start es
+initialised_as old key state start runs n kept es known f g seen granted none next is e = record {
+  granted = ap (λ (o : Option Kept). init_refusal o state start) (sym seen) ∙ (init_refusal_as known state start f g ∙ granted);
+  is = initialised_by old key state start runs n kept es f g none next is e;
+}

@@ -51,6 +51,11 @@ initialised old key state_epoch start = with_kept old key (record {
   updates = 0;
 })
 
+-- an initialisation that isn't refused
+pub record IsInitialised (old : Entries) (key : KeyParts) (state_epoch start : ℤ) (new : Entries) : Type 0 where
+  pub granted : init_refusal (kept_at old key) state_epoch start ≡ None
+  pub is : new ≡ initialised old key state_epoch start
+
 -- A write is stored as an update, and as a snapshot where its key has 500 updates since its last one.
 abbrev pub written_of : Kept → ℤ → ℤ → ℤ → List Run → Kept
 written_of kept state_epoch leader_epoch start runs = record {
@@ -59,8 +64,9 @@ written_of kept state_epoch leader_epoch start runs = record {
   updates = if nat_lt kept.updates 500 then kept.updates + 1 else 0;
 }
 
--- Both epochs and the start are set, and these runs are laid over the key's.
+-- A write that isn't refused: both epochs and the start are set, and these runs are laid over the key's.
 pub record IsWritten (old : Entries) (key : KeyParts) (state_epoch leader_epoch start : ℤ) (runs : List Run) (new : Entries) : Type 0 where
+  pub granted : write_refusal (kept_at old key) state_epoch leader_epoch start runs ≡ None
   pub kept : Kept
   pub written : List Run
   pub laid : List Run

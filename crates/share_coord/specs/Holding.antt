@@ -3,7 +3,6 @@
 -- power loss finds it done or not.
 use Rattle.std.specs.Prelude.{◌≡◌, ◌≢◌, ◌⊎◌, ◌<◌, ◌+◌, ◌^◌, ℕ, List, [], length, Some, None, Result, OnOk, OnErr, IfErr, Err}
 use Rattle.std.specs.declared.option.Option.{Option}
-use Rattle.edge_io.specs.Causes.{Rose}
 use Rattle.edge_io.specs.Moments.{LeavesPairs}
 use Rattle.share_model.specs.declared.fault.StoreFault.TheVariants.{Device, Full}
 use Rattle.coord_checkpoint.specs.Lists.{Keeps}
@@ -41,8 +40,9 @@ IsHeld image store = (pending : Option Entries) × Holds image store pending
 abbrev pub IsWithin : (Entries → Type 0) → Entries → Option Entries → List ℕ → List ℕ → Type 0
 IsWithin Written old pending a b = WithPending (AreStored a b) old pending ⊎ ((new : Entries) × Written new × AreStored a b new)
 
--- A call that writes once, which would leave this. The members of the disk come first.
-pub record WritesOnce {D T : Type 0} (image : D → List ℕ → Type 0) (moment : D → ℕ) (since : D → ℕ → List ℕ → Type 0) (faults : D → ℕ)
+-- A call that writes once, and what it leaves where it is granted. The members of the disk come first; `Failed` says that a device
+-- call failed.
+pub record WritesOnce {D T : Type 0} (image : D → List ℕ → Type 0) (moment : D → ℕ) (since : D → ℕ → List ℕ → Type 0) (Failed : D → D → Type 0)
     (Written : Entries → Type 0) (old new : StoreParts D) (result : Result T CoordFault) : Type 0 where
   -- where it answers Ok, it is written, and nothing is pending
   pub written : OnOk result (Written new.entries)
@@ -53,8 +53,8 @@ pub record WritesOnce {D T : Type 0} (image : D → List ℕ → Type 0) (moment
   pub stays : IfErr result (λ e. e ≢ store_fault Device → (pending : Option Entries) → Holds image old pending → Holds image new pending)
   pub failed : OnErr result ((pending : Option Entries) → Holds image old pending →
       Holds image new pending ⊎ ((lost : Entries) × Written lost × Holds image new (Some lost)))
-  -- a device fault comes only where the count of faults rose, and Full where the frame would end past 2^62
-  pub device : result ≡ Err (store_fault Device) → Rose (faults old.journal.live.disk) (faults new.journal.live.disk)
+  -- a device fault comes only to a call that is granted and where a device call failed, and Full where the frame would end past 2^62
+  pub device : result ≡ Err (store_fault Device) → Failed old.journal.live.disk new.journal.live.disk × ((lost : Entries) × Written lost)
   pub full : (end : ℕ) → result ≡ Err (store_fault (Full end)) → (end ≡ old.journal.live.end)
       × ((frame : List ℕ) × (lost : Entries) × Written lost × Accepts old.entries frame lost × (2 ^ 62 < end + (length frame + 5)))
   -- at each moment since it began, a crash leaves what stood at entry, or what it writes

@@ -3,3 +3,4 @@ pub mod Parts
 pub mod Stored
 pub mod Calls
 pub mod Holding
+pub mod Opening

@@ -1,15 +1,13 @@
-ghost use Rattle.std.specs.Prelude.{◌≡◌, ◌≢◌, ◌⊎◌, ◌↔◌, List, ℕ, Bool, true, false, Some, None, Ok, Err, is_some, IsSome, IfOk, IfErr, slice_get, MatchResult};
+ghost use Rattle.std.specs.Prelude.{◌≡◌, ◌⊎◌, ◌↔◌, true, false, Some, None, Ok, Err, is_some, IsSome, IfOk, IfErr, slice_get, MatchResult};
 ghost use Rattle.std.specs.Option.{option_map, option_copied};
 ghost use Rattle.std.specs.Map.{keys_of};
 ghost use Rattle.std.specs.declared.option.Option.{Option};
-ghost use Rattle.edge_io.specs.Armed.{ArmsAlone, RunsOn, StarvesUnarmed};
-ghost use Rattle.edge_io.specs.Causes.{Rose};
-ghost use Rattle.edge_io.specs.Disk.{SameContent};
-ghost use Rattle.edge_io.specs.Moments.{LeavesOnly};
-ghost use Rattle.gate_journal.specs.Frames.{StandsAs};
-ghost use Rattle.share_coord.specs.Stored.{Entries, AreStored, AreDamaged, kept_at};
-ghost use Rattle.share_coord.specs.Calls.{Causes, IsWritten, IsTooMany, IsForgotten, init_refusal, write_refusal, initialised};
+ghost use Rattle.edge_io.specs.Armed.{ArmsAlone, RunsOn};
+ghost use Rattle.coord_checkpoint.specs.Disks.{HasFailed, RunsBoth};
+ghost use Rattle.share_coord.specs.Stored.{Entries, kept_at};
+ghost use Rattle.share_coord.specs.Calls.{Causes, IsInitialised, IsWritten, IsTooMany, IsForgotten, init_refusal, write_refusal};
 ghost use Rattle.share_coord.specs.Holding.{Holds, WritesOnce};
+ghost use Rattle.share_coord.specs.Opening.{IsOpened, IsNotOpened};
 
 use crate::fault::CoordFault;
 use crate::replay::{ReplayFault, replay};
@@ -49,33 +47,11 @@ impl<D: Disk> Coord<D> {
     /// It syncs each disk before it reads it, repairs the end of the journal on `a`, and leaves the content of `b` as it is, in which
     /// no frame may stand. It is linear in the journal.
     pub fn open(alloc: Global, a: D, b: D) -> Result<Coord<D>, (D, D, CoordOpen)>
-        // The states are those for which the contents stand; each image stands for them from now on, and nothing is pending.
-        ensures holds { IfOk result (λ c. Holds D.image c None) }
-        ensures opens { IfOk result (λ c. (x y : List ℕ) → D.content a ≡ Some x → D.content b ≡ Some y → AreStored x y c.entries) }
-
-        // Contents that stand for states are never damaged, and give these states.
-        ensures recovers { (x y : List ℕ) (entries : Entries) → D.content a ≡ Some x → D.content b ≡ Some y → AreStored x y entries →
-            MatchResult result (λ c. c.entries ≡ entries) (λ e. (second : Bool) (place : ℕ) → e.2 ≢ CoordOpen.Damaged second place) }
-
-        // Each refusal has its cause.
-        ensures damaged { IfErr result (λ e. (second : Bool) (place : ℕ) → e.2 ≡ CoordOpen.Damaged second place →
-            (x y : List ℕ) → D.content a ≡ Some x → D.content b ≡ Some y → AreDamaged x y second place) }
-        ensures device { IfErr result (λ e. e.2 ≡ CoordOpen.Device false →
-            Rose (D.faults a) (D.faults e.0) × StarvesUnarmed D.content D.armed D.starved a e.0) }
-        ensures second_device { IfErr result (λ e. e.2 ≡ CoordOpen.Device true →
-            Rose (D.faults b) (D.faults e.1) × StarvesUnarmed D.content D.armed D.starved b e.1) }
-
-        // At each moment since the call began each image is one from before it, or stands for the frames of one.
-        ensures any_moment { MatchResult result (λ c. LeavesOnly D.moment D.since a c.journal.live.disk (StandsAs (D.image a)))
-            (λ e. LeavesOnly D.moment D.since a e.0 (StandsAs (D.image a))) }
-        ensures second_moment { MatchResult result (λ c. LeavesOnly D.moment D.since b c.journal.idle (D.image b))
-            (λ e. LeavesOnly D.moment D.since b e.1 (D.image b)) }
-        ensures untouched { MatchResult result (λ c. SameContent (D.content b) (D.content c.journal.idle) (D.size b) (D.size c.journal.idle))
-            (λ e. SameContent (D.content b) (D.content e.1) (D.size b) (D.size e.1)) }
-        ensures runs { MatchResult result (λ c. RunsOn D.content D.losses D.arms D.armed D.starved D.faults a c.journal.live.disk)
-            (λ e. RunsOn D.content D.losses D.arms D.armed D.starved D.faults a e.0) }
-        ensures second_runs { MatchResult result (λ c. RunsOn D.content D.losses D.arms D.armed D.starved D.faults b c.journal.idle)
-            (λ e. RunsOn D.content D.losses D.arms D.armed D.starved D.faults b e.1) }
+        ensures opened { IfOk result (IsOpened D.content D.image a b) }
+        ensures refused { IfErr result (IsNotOpened D.content D.armed D.starved D.faults a b) }
+        ensures both { MatchResult result
+            (λ c. RunsBoth D.content D.size D.image D.moment D.since D.losses D.arms D.armed D.starved D.faults a b c.journal.live.disk c.journal.idle)
+            (λ e. RunsBoth D.content D.size D.image D.moment D.since D.losses D.arms D.armed D.starved D.faults a b e.0 e.1) }
     {
         let _len = a.len(); // places are those of a u64
         let (journal, frames) = match coord_checkpoint::open(alloc, a, b) {
@@ -113,8 +89,8 @@ impl<D: Disk> Coord<D> {
     pub fn init(&mut self, key: &Key, state_epoch: i32, start: i64) -> Result<(), CoordFault>
         ensures refused { (fault : CoordFault) → init_refusal (kept_at self.old.entries key.now) state_epoch start ≡ Some fault → result ≡ Err fault }
         ensures causes { IfErr result (Causes (init_refusal (kept_at self.old.entries key.now) state_epoch start) (λ _. ⊥)) }
-        ensures once { WritesOnce D.image D.moment D.since D.faults (λ new. new ≡ initialised self.old.entries key.now state_epoch start)
-            self.old self.new result }
+        ensures once { WritesOnce D.image D.moment D.since (HasFailed D.content D.armed D.starved D.faults)
+            (IsInitialised self.old.entries key.now state_epoch start) self.old self.new result }
         ensures runs { RunsOn D.content D.losses D.arms D.armed D.starved D.faults self.old.journal.live.disk self.new.journal.live.disk }
         ensures idle { self.new.journal.idle ≡ self.old.journal.idle }
     {
@@ -140,8 +116,8 @@ impl<D: Disk> Coord<D> {
             result ≡ Err fault }
         ensures causes { IfErr result (Causes (write_refusal (kept_at self.old.entries key.now) state_epoch leader_epoch start runs.now)
             (IsTooMany self.old.entries key.now start runs.now)) }
-        ensures once { WritesOnce D.image D.moment D.since D.faults (IsWritten self.old.entries key.now state_epoch leader_epoch start runs.now)
-            self.old self.new result }
+        ensures once { WritesOnce D.image D.moment D.since (HasFailed D.content D.armed D.starved D.faults)
+            (IsWritten self.old.entries key.now state_epoch leader_epoch start runs.now) self.old self.new result }
         ensures runs { RunsOn D.content D.losses D.arms D.armed D.starved D.faults self.old.journal.live.disk self.new.journal.live.disk }
         ensures idle { self.new.journal.idle ≡ self.old.journal.idle }
     {
@@ -155,7 +131,7 @@ impl<D: Disk> Coord<D> {
         ensures present { IsSome (kept_at self.old.entries key.now) → IfOk result (λ there. there ≡ true) }
         ensures causes { IfErr result (Causes None (λ _. ⊥)) }
         ensures once { IsSome (kept_at self.old.entries key.now) →
-            WritesOnce D.image D.moment D.since D.faults (IsForgotten self.old.entries key.now) self.old self.new result }
+            WritesOnce D.image D.moment D.since (HasFailed D.content D.armed D.starved D.faults) (IsForgotten self.old.entries key.now) self.old self.new result }
         ensures runs { RunsOn D.content D.losses D.arms D.armed D.starved D.faults self.old.journal.live.disk self.new.journal.live.disk }
         ensures idle { self.new.journal.idle ≡ self.old.journal.idle }
     {
@@ -195,6 +171,7 @@ impl<D: Disk> Coord<D> {
         ensures second { disk ≡ DiskPlace.StateB →
             ArmsAlone D.content D.image D.losses D.arms D.armed D.starved D.faults after mode self.old.journal.idle self.new.journal.idle
             × (self.new.journal.live ≡ self.old.journal.live) }
+        ensures end { self.new.journal.live.end ≡ self.old.journal.live.end }
         ensures states { self.new.entries ≡ self.old.entries }
         ensures stays { (pending : Option Entries) → Holds D.image self.old pending → Holds D.image self.new pending }
     {

@@ -1,5 +1,5 @@
 // What a write leaves of its key, and the record that says so.
-ghost use Rattle.std.specs.Prelude.{◌≡◌, ◌≢◌, ◌⊎◌, ◌<◌, ◌≤◌, ◌+◌, ◌^◌, ℕ, List, length, true, Some, IfOk, IfErr};
+ghost use Rattle.std.specs.Prelude.{◌≡◌, ◌≢◌, ◌⊎◌, ◌<◌, ◌≤◌, ◌+◌, ◌^◌, ℕ, List, length, true, Some, None, IfOk, IfErr};
 ghost use Rattle.std.specs.List.{list_all};
 ghost use Rattle.gate_journal.specs.Frames.{IsFrame};
 ghost use Rattle.share_model.specs.ShareStates.{is_writable, start_after};
@@ -7,7 +7,7 @@ ghost use Rattle.state_records.specs.Spelling.{record_bytes};
 ghost use Rattle.state_records.specs.States.{IsKey, IsEpoch, IsStart, AreStoredRuns};
 ghost use Rattle.state_records.specs.declared.record.StateRecord.TheVariants.{Snapshot as snapshot_record, Update as update_record};
 ghost use Rattle.share_coord.specs.Stored.{Entries, Follows, kept_at, with_kept};
-ghost use Rattle.share_coord.specs.Calls.{IsWritten, IsTooMany};
+ghost use Rattle.share_coord.specs.Calls.{IsWritten, IsTooMany, write_refusal};
 
 use crate::fault::CoordFault;
 use crate::rows::{laid, start_after, written};
@@ -163,6 +163,7 @@ pub(crate) fn planned(
     requires runs { list_all is_writable runs.now ≡ true }
     requires snapshot { kept.now.snapshot + 1 < 2 ^ 64 }
     ensures written { IfOk result (λ c. (old : Entries) → kept_at old numbers.now.key ≡ Some kept.now →
+        write_refusal (kept_at old numbers.now.key) numbers.now.state_epoch numbers.now.leader_epoch numbers.now.start runs.now ≡ None →
         IsWritten old numbers.now.key numbers.now.state_epoch numbers.now.leader_epoch numbers.now.start runs.now (with_kept old numbers.now.key c.kept)) }
     ensures follows { IfOk result (λ c. (old : Entries) → kept_at old numbers.now.key ≡ Some kept.now →
         Follows old c.written (with_kept old numbers.now.key c.kept)) }

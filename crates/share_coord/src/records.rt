@@ -2,11 +2,11 @@
 ghost use Rattle.std.specs.Prelude.{◌≡◌, ◌⊎◌, ◌+◌, ◌<◌, ◌^◌, ◌++◌, [], ◌∷◌, List, ℕ, length, Some, None, IfOk, IfErr, OnOk, OnErr, Err};
 ghost use Rattle.std.specs.declared.option.Option.{Option};
 ghost use Rattle.edge_io.specs.Armed.{RunsOn};
-ghost use Rattle.edge_io.specs.Causes.{Rose};
 ghost use Rattle.edge_io.specs.Moments.{LeavesPairs};
 ghost use Rattle.gate_journal.specs.Frames.{IsFrame, frame_in};
 ghost use Rattle.share_model.specs.Pending.{WithPending};
 ghost use Rattle.state_records.specs.Spelling.{IsRecord, record_bytes};
+ghost use Rattle.coord_checkpoint.specs.Disks.{HasFailed};
 ghost use Rattle.coord_checkpoint.specs.Lists.{IsListed, Keeps, and_pending};
 
 use crate::fault::CoordFault;
@@ -41,7 +41,8 @@ pub(crate) fn put_record<D: Disk>(
     ensures failed { OnErr result ((frames : List (List ℕ)) (pending : Option (List ℕ)) → Keeps D.image journal.old frames pending →
         Keeps D.image journal.new frames pending ⊎ (IsRecord written.now × Keeps D.image journal.new frames (Some (record_bytes written.now)))) }
     ensures causes { IfErr result (λ e. (e ≡ CoordFault.NoMemory) ⊎ ((fault : StoreFault) × (e ≡ CoordFault.Store fault))) }
-    ensures device { result ≡ Err (CoordFault.Store StoreFault.Device) → Rose (D.faults journal.old.live.disk) (D.faults journal.new.live.disk) }
+    ensures device { result ≡ Err (CoordFault.Store StoreFault.Device) →
+        HasFailed D.content D.armed D.starved D.faults journal.old.live.disk journal.new.live.disk }
     ensures full { (end : ℕ) → result ≡ Err (CoordFault.Store (StoreFault.Full end)) → (end ≡ journal.old.live.end)
         × IsRecord written.now × (2 ^ 62 < end + (length (record_bytes written.now) + 5)) × (journal.new ≡ journal.old) }
     ensures memory { result ≡ Err CoordFault.NoMemory → journal.new ≡ journal.old }

@@ -2,10 +2,11 @@ ghost use Rattle.std.specs.Prelude.{◌≡◌, ◌≢◌, ◌<◌, ◌+◌, ◌^
 ghost use Rattle.std.specs.Option.{option_copied};
 ghost use Rattle.std.specs.declared.option.Option.{Option};
 ghost use Rattle.edge_io.specs.Armed.{RunsOn};
+ghost use Rattle.coord_checkpoint.specs.Disks.{HasFailed};
 ghost use Rattle.gate_journal.specs.Frames.{IsFrame};
 ghost use Rattle.state_records.specs.Spelling.{record_bytes};
 ghost use Rattle.share_coord.specs.Stored.{Entries, Follows, kept_at, with_kept, next_snapshot};
-ghost use Rattle.share_coord.specs.Calls.{Causes, IsWritten, IsTooMany, IsForgotten, init_refusal, write_refusal, initialised};
+ghost use Rattle.share_coord.specs.Calls.{Causes, IsInitialised, IsWritten, IsTooMany, IsForgotten, init_refusal, write_refusal};
 ghost use Rattle.share_coord.specs.Holding.{IsHeld, WritesOnce, parts_of};
 
 use crate::fault::CoordFault;
@@ -46,8 +47,8 @@ impl<D: Disk> Store<D> {
         requires known { IsSome (kept_at self.old.map.entries key.now) }
         requires frame { IsFrame (record_bytes change.written) }
         requires follows { Follows self.old.map.entries change.written (with_kept self.old.map.entries key.now change.kept) }
-        ensures once { WritesOnce D.image D.moment D.since D.faults (λ new. new ≡ with_kept self.old.map.entries key.now change.kept)
-            (parts_of self.old) (parts_of self.new) result }
+        ensures once { WritesOnce D.image D.moment D.since (HasFailed D.content D.armed D.starved D.faults)
+            (λ new. new ≡ with_kept self.old.map.entries key.now change.kept) (parts_of self.old) (parts_of self.new) result }
         ensures causes { IfErr result (Causes None (λ _. ⊥)) }
         ensures runs { RunsOn D.content D.losses D.arms D.armed D.starved D.faults self.old.journal.live.disk self.new.journal.live.disk }
         ensures idle { self.new.journal.idle ≡ self.old.journal.idle }
@@ -67,8 +68,8 @@ impl<D: Disk> Store<D> {
         requires absent { kept_at self.old.map.entries key.now ≡ None }
         requires frame { IsFrame (record_bytes change.written) }
         requires follows { Follows self.old.map.entries change.written (with_kept self.old.map.entries key.now change.kept) }
-        ensures once { WritesOnce D.image D.moment D.since D.faults (λ new. new ≡ with_kept self.old.map.entries key.now change.kept)
-            (parts_of self.old) (parts_of self.new) result }
+        ensures once { WritesOnce D.image D.moment D.since (HasFailed D.content D.armed D.starved D.faults)
+            (λ new. new ≡ with_kept self.old.map.entries key.now change.kept) (parts_of self.old) (parts_of self.new) result }
         ensures causes { IfErr result (Causes None (λ _. ⊥)) }
         ensures runs { RunsOn D.content D.losses D.arms D.armed D.starved D.faults self.old.journal.live.disk self.new.journal.live.disk }
         ensures idle { self.new.journal.idle ≡ self.old.journal.idle }
@@ -88,8 +89,8 @@ impl<D: Disk> Store<D> {
         requires held { IsHeld D.image (parts_of self.old) }
         ensures refused { (fault : CoordFault) → init_refusal (kept_at self.old.map.entries key.now) state_epoch start ≡ Some fault → result ≡ Err fault }
         ensures causes { IfErr result (Causes (init_refusal (kept_at self.old.map.entries key.now) state_epoch start) (λ _. ⊥)) }
-        ensures once { WritesOnce D.image D.moment D.since D.faults (λ new. new ≡ initialised self.old.map.entries key.now state_epoch start)
-            (parts_of self.old) (parts_of self.new) result }
+        ensures once { WritesOnce D.image D.moment D.since (HasFailed D.content D.armed D.starved D.faults)
+            (IsInitialised self.old.map.entries key.now state_epoch start) (parts_of self.old) (parts_of self.new) result }
         ensures runs { RunsOn D.content D.losses D.arms D.armed D.starved D.faults self.old.journal.live.disk self.new.journal.live.disk }
         ensures idle { self.new.journal.idle ≡ self.old.journal.idle }
     {
@@ -129,8 +130,8 @@ impl<D: Disk> Store<D> {
             result ≡ Err fault }
         ensures causes { IfErr result (Causes (write_refusal (kept_at self.old.map.entries key.now) state_epoch leader_epoch start runs.now)
             (IsTooMany self.old.map.entries key.now start runs.now)) }
-        ensures once { WritesOnce D.image D.moment D.since D.faults (IsWritten self.old.map.entries key.now state_epoch leader_epoch start runs.now)
-            (parts_of self.old) (parts_of self.new) result }
+        ensures once { WritesOnce D.image D.moment D.since (HasFailed D.content D.armed D.starved D.faults)
+            (IsWritten self.old.map.entries key.now state_epoch leader_epoch start runs.now) (parts_of self.old) (parts_of self.new) result }
         ensures runs { RunsOn D.content D.losses D.arms D.armed D.starved D.faults self.old.journal.live.disk self.new.journal.live.disk }
         ensures idle { self.new.journal.idle ≡ self.old.journal.idle }
     {
@@ -159,7 +160,8 @@ impl<D: Disk> Store<D> {
         ensures present { IsSome (kept_at self.old.map.entries key.now) → IfOk result (λ there. there ≡ true) }
         ensures causes { IfErr result (Causes None (λ _. ⊥)) }
         ensures once { IsSome (kept_at self.old.map.entries key.now) →
-            WritesOnce D.image D.moment D.since D.faults (IsForgotten self.old.map.entries key.now) (parts_of self.old) (parts_of self.new) result }
+            WritesOnce D.image D.moment D.since (HasFailed D.content D.armed D.starved D.faults)
+            (IsForgotten self.old.map.entries key.now) (parts_of self.old) (parts_of self.new) result }
         ensures runs { RunsOn D.content D.losses D.arms D.armed D.starved D.faults self.old.journal.live.disk self.new.journal.live.disk }
         ensures idle { self.new.journal.idle ≡ self.old.journal.idle }
     {

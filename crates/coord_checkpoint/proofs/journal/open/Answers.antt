@@ -11,5 +11,5 @@ returns-in-Err-clause-recovers g c = λ a b frames told _ is second place damage
 
 pub returns-in-Ok-true-clause-damaged : goal.returns-in-Ok-true-clause-damaged
 returns-in-Ok-true-clause-damaged g c = λ second place e a b on_a on_b.
-    second_unlisted a b c.in-Ok.frames.items second place (c.in-Ok.ensures.frames a on_a)
+    second_unlisted a b c.in-Ok.frames.items second place (c.in-Ok.ensures.ok.stands a on_a)
     (c.has_frames.ensures.open (c.in-Ok-true.is ∙ ap (λ (r : Bool). Ok r) c.in-Ok-true.field-0-test) b on_b) e

@@ -1,4 +1,4 @@
-use Rattle.std.proofs.Common.{◌≡◌, ◌≤◌, ap, arith, List, length}
+use Rattle.std.proofs.Common.{rules, ◌≡◌, ◌≤◌, ap, arith, List, length}
 use Rattle.share_model.specs.declared.run.Run.{Run}
 use Rattle.share_coord.proofs.Sizes.{update_fits, snapshot_fits}
 use Rattle.share_coord.proofs.Spans.{written_stored, laid_stored}
@@ -24,3 +24,20 @@ returns-in-Ok-snapshot-clause-frame c =
     let two : length c.list-2.result.now ≡ length c.in-Ok-laid.rows = ap (λ (l : List Run). length l) c.list-2.ensures.same in
     let few : length c.in-Ok-laid.rows ≤ 1000000 = omega (arith, two, c.max-count.ensures, c.if-count-gt-MAX_RUNS.false) in
     snapshot_fits _ _ c.in-Ok-snapshot.ensures.written c.key_fits.ensures few
+
+pub returns-in-Ok-snapshot-clause-written : goal.returns-in-Ok-snapshot-clause-written
+returns-in-Ok-snapshot-clause-written c =
+    let one : length c.list.result.now ≡ length c.in-Ok.over = ap (λ (l : List Run). length l) c.list.ensures.same in
+    let two : length c.list-2.result.now ≡ length c.in-Ok-laid.rows = ap (λ (l : List Run). length l) c.list-2.ensures.same in
+    λ old known none. record {
+      granted = none;
+      kept = c.args.kept.now;
+      written = c.in-Ok.over;
+      laid = c.in-Ok-laid.rows;
+      known = known;
+      are_written = c.in-Ok.ensures;
+      are_laid = search rules;
+      few_written = omega (arith, one, c.max-count.ensures, c.if-count-gt-MAX_RUNS.false);
+      few = omega (arith, two, c.max-count.ensures, c.if-count-gt-MAX_RUNS.false);
+      is = search rules;
+    }

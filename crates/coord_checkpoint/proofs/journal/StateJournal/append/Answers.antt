@@ -5,7 +5,7 @@ use Rattle.coord_checkpoint.proofs.journal.StateJournal.append.Goals as goal
 
 pub returns-clause-kept : goal.returns-clause-kept
 returns-clause-kept g c = on_ok_weaker c.append.result (λ h frames pending was.
-    keeps_by g.D.Disk.image c.append.new.self c.args.self.now.idle _ _ (h frames pending was.stands).stands was.bare) c.append.ensures.kept
+    keeps_by g.D.Disk.image c.append.new.self c.args.self.now.idle _ _ (h.rests frames pending was.stands).stands was.bare) c.append.ensures.ok
 
 pub returns-clause-failed : goal.returns-clause-failed
 returns-clause-failed g c = on_err_weaker c.append.result (λ h frames pending was.
@@ -18,4 +18,4 @@ returns-clause-any_moment g c = λ frames pending was.
 
 pub returns-clause-few : goal.returns-clause-few
 returns-clause-few g c = on_ok_weaker c.append.result (λ room frames pending was.
-    omega (arith, room, stands_few g.D.Disk.image c.args.self.now.live frames pending was.stands)) (has_room c.append.result _ _ c.append.ensures.full)
+    omega (arith, room, stands_few g.D.Disk.image c.args.self.now.live frames pending was.stands)) (has_room c.append.result _ _ c.append.ensures.full.exact)

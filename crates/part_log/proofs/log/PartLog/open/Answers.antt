@@ -14,7 +14,7 @@ returns-in-Err-read_frames-clause-recovers g c = λ content batches told text pl
 
 pub returns-in-Err-read_frames-clause-damaged : goal.returns-in-Err-read_frames-clause-damaged
 returns-in-Err-read_frames-clause-damaged g c = λ place is content told.
-    inr (c.in-Ok.frames.items, c.in-Ok.ensures.frames content told, c.in-Err-read_frames.ensures.damaged place (ap Err is))
+    inr (c.in-Ok.frames.items, c.in-Ok.ensures.ok.stands content told, c.in-Err-read_frames.ensures.damaged place (ap Err is))
 
 pub returns-in-Err-clause-recovers : goal.returns-in-Err-clause-recovers
 returns-in-Err-clause-recovers g c = λ content batches told text place is.

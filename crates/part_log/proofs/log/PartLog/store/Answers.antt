@@ -25,7 +25,7 @@ returns-in-Err-clause-any_moment g c = λ pending k.
 
 pub invariant_of-self-in-Ok : goal.invariant_of-self-in-Ok
 invariant_of-self-in-Ok g c =
-    let kept = refilled c.append.new.buffer c.args.buffer.items c.args.buffer.len (c.append.auto.buffer ∙ c.deref_mut.ensures.len) ∙ c.append.ensures.buffer ∙ ap frame_in c.deref_mut.ensures.value in
+    let kept = refilled c.append.new.buffer c.args.buffer.items c.args.buffer.len (c.append.auto.buffer ∙ c.deref_mut.ensures.len) ∙ c.append.ensures.buffer.frame ∙ ap frame_in c.deref_mut.ensures.value in
     let batches = pushed_all c.self.inside.entries.items _ c.push.new.self.items _ (frame_in c.args.buffer.items) c.in_default-push.ensures.items c.reserve.ensures.items kept
     c.requires.base c.requires.last in
     let follows = subst (λ (v : LogParts g.row.D.Denot). MayFollow v.batches (batch_in (frame_in c.args.buffer.items))) (sym c.self.view_is) c.requires.follows in
@@ -33,14 +33,14 @@ invariant_of-self-in-Ok g c =
 
 pub returns-in_default-push-clause-ok : goal.returns-in_default-push-clause-ok
 returns-in_default-push-clause-ok g c =
-    let kept = refilled c.append.new.buffer c.args.buffer.items c.args.buffer.len (c.append.auto.buffer ∙ c.deref_mut.ensures.len) ∙ c.append.ensures.buffer ∙ ap frame_in c.deref_mut.ensures.value in
+    let kept = refilled c.append.new.buffer c.args.buffer.items c.args.buffer.len (c.append.auto.buffer ∙ c.deref_mut.ensures.len) ∙ c.append.ensures.buffer.frame ∙ ap frame_in c.deref_mut.ensures.value in
     let batches = pushed_all c.self.inside.entries.items _ c.push.new.self.items _ (frame_in c.args.buffer.items) c.in_default-push.ensures.items c.reserve.ensures.items kept
     c.requires.base c.requires.last in
     added g.D.Disk.image c.args.self.now _ (batch_in (frame_in c.args.buffer.items)) c.requires.follows
     (batches ∙ ap (λ (v : LogParts g.row.D.Denot). v.batches ++ batch_in (frame_in c.args.buffer.items) ∷ []) c.self.view_is)
     (λ frames pending s.
     subst (λ bytes. IsAtRest g.D.Disk.image c.append.new.self (frames ++ frame_in bytes ∷ [])) c.deref_mut.ensures.value
-    (c.in-Ok.ensures.kept frames pending (subst (λ (v : LogParts g.row.D.Denot). Stands g.D.Disk.image v.journal frames pending) (sym c.self.view_is) s)))
+    (c.in-Ok.ensures.ok.rests frames pending (subst (λ (v : LogParts g.row.D.Denot). Stands g.D.Disk.image v.journal frames pending) (sym c.self.view_is) s)))
 
 pub returns-in_default-push-clause-any_moment : goal.returns-in_default-push-clause-any_moment
 returns-in_default-push-clause-any_moment g c = λ pending k.
@@ -70,13 +70,13 @@ returns-in-Err-append-clause-device g c = λ is.
           (ap (map seen) c.reserve.ensures.items ∙ ap (λ (v : LogParts g.row.D.Denot). v.batches) c.self.view_is)
           (λ frames pending s. subst (λ bytes. Stands g.D.Disk.image c.append.new.self frames pending ⊎ Stands g.D.Disk.image c.append.new.self frames (Some (frame_in bytes))) c.deref_mut.ensures.value
           (c.in-Err-append.ensures.failed frames pending (subst (λ (v : LogParts g.row.D.Denot). Stands g.D.Disk.image v.journal frames pending) (sym c.self.view_is) s))),
-      subst (λ (v : LogParts g.row.D.Denot). Rose (g.D.Disk.faults v.journal.disk) (g.D.Disk.faults c.append.new.self.disk)) c.self.view_is (c.in-Err-append.ensures.device failed),
-      subst (λ (v : LogParts g.row.D.Denot). StarvesUnarmed g.D.Disk.content g.D.Disk.armed g.D.Disk.starved v.journal.disk c.append.new.self.disk) c.self.view_is (c.in-Err-append.ensures.memory failed),
+      subst (λ (v : LogParts g.row.D.Denot). Rose (g.D.Disk.faults v.journal.disk) (g.D.Disk.faults c.append.new.self.disk)) c.self.view_is (c.in-Err-append.ensures.disk.rose failed),
+      subst (λ (v : LogParts g.row.D.Denot). StarvesUnarmed g.D.Disk.content g.D.Disk.armed g.D.Disk.starved v.journal.disk c.append.new.self.disk) c.self.view_is (c.in-Err-append.ensures.disk.memory failed),
     )
 
 pub returns-in-Err-append-clause-full : goal.returns-in-Err-append-clause-full
 returns-in-Err-append-clause-full g c = λ end is.
-    let full = (c.in-Err-append.ensures.full end).0 (ap Err (store_is c.in-Err-append.fault (Full end) is)) in
+    let full = (c.in-Err-append.ensures.full.exact end).0 (ap Err (store_is c.in-Err-append.fault (Full end) is)) in
     let len = ap length c.deref_mut.ensures.value in
     let at = ap (λ (v : LogParts g.row.D.Denot). v.journal.end) c.self.view_is in
     (omega (arith, full.1, len, at), full.0 ∙ at)
@@ -84,10 +84,10 @@ returns-in-Err-append-clause-full g c = λ end is.
 pub returns-in_default-push-clause-room : goal.returns-in_default-push-clause-room
 returns-in_default-push-clause-room g c =
     let at = ap (λ (v : LogParts g.row.D.Denot). v.journal.end) c.self.view_is in
-    inr (inl (omega (arith, ok_room c.in-Ok.field-0 _ _ c.in-Ok.ensures.full, at, ap length c.deref_mut.ensures.value)))
+    inr (inl (omega (arith, ok_room c.in-Ok.field-0 _ _ c.in-Ok.ensures.full.exact, at, ap length c.deref_mut.ensures.value)))
 
 pub returns-in-Err-append-clause-room : goal.returns-in-Err-append-clause-room
 returns-in-Err-append-clause-room g c =
     let at = ap (λ (v : LogParts g.row.D.Denot). v.journal.end) c.self.view_is in
     ⊎_elim (λ le. inr (inl (omega (arith, le, at, ap length c.deref_mut.ensures.value))))
-    (λ is. inr (inr (ap (λ (f : StoreFault). Err (Store f)) (fault_is c.in-Err-append.fault _ is ∙ ap Full at)))) (has_room (Err c.in-Err-append.fault) _ _ c.in-Err-append.ensures.full)
+    (λ is. inr (inr (ap (λ (f : StoreFault). Err (Store f)) (fault_is c.in-Err-append.fault _ is ∙ ap Full at)))) (has_room (Err c.in-Err-append.fault) _ _ c.in-Err-append.ensures.full.exact)

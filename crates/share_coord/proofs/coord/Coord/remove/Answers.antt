@@ -7,7 +7,7 @@ use Rattle.share_coord.proofs.coord.Coord.remove.Goals as goal
 pub invariant_of-self : goal.invariant_of-self
 invariant_of-self g c = ⊎_elim
     (λ none. subst (λ s. IsHeld g.D.Disk.image (parts_of s)) (sym (c.remove.ensures.absent none).1) c.self.invariant)
-    (λ there. held_after g.D.Disk.image g.D.Disk.moment g.D.Disk.since g.D.Disk.faults _ _ _ c.remove.result (c.remove.ensures.once there) c.self.invariant) (either_there _)
+    (λ there. held_after g.D.Disk.image g.D.Disk.moment g.D.Disk.since _ _ _ _ c.remove.result (c.remove.ensures.once there) c.self.invariant) (either_there _)
 
 pub returns-clause-once : goal.returns-clause-once
-returns-clause-once g c = seen_remove g.D.Disk.image g.D.Disk.moment g.D.Disk.since g.D.Disk.faults _ _ _ c.remove.result _ c.self.view_is c.remove.ensures.once
+returns-clause-once g c = seen_remove g.D.Disk.image g.D.Disk.moment g.D.Disk.since _ _ _ _ c.remove.result _ c.self.view_is c.remove.ensures.once

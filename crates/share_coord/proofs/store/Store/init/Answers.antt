@@ -11,7 +11,7 @@ use Rattle.share_coord.proofs.Sizes.{snapshot_fits}
 use Rattle.share_coord.proofs.store.Store.init.Goals as goal
 
 pub returns-in-Some-clause-once : goal.returns-in-Some-clause-once
-returns-in-Some-clause-once g c = untouched g.D.Disk.image g.D.Disk.moment g.D.Disk.since g.D.Disk.faults g.met.D.Disk.only_now _ _ c.in-Some.fault
+returns-in-Some-clause-once g c = untouched g.D.Disk.image g.D.Disk.moment g.D.Disk.since _ g.met.D.Disk.only_now _ _ c.in-Some.fault
     (init_apart (option_copied c.get-known.result) (to_z w32 (of_z w32 c.args.state_epoch)) (to_z w64 (of_z w64 c.args.start)) c.in-Some.fault (sym c.init_refusal.ensures ∙ c.in-Some.is))
 
 pub next_snapshot-next-requires : goal.next_snapshot-next-requires
@@ -19,7 +19,7 @@ next_snapshot-next-requires g c = subst (λ (o : Option Kept). next_snapshot o <
     (next_few c.requires.held.1.frames c.args.self.now.map.entries c.args.key.now c.requires.held.1.accepted c.requires.held.1.few)
 
 pub returns-in_default-snapshot-clause-once : goal.returns-in_default-snapshot-clause-once
-returns-in_default-snapshot-clause-once g c = untouched g.D.Disk.image g.D.Disk.moment g.D.Disk.since g.D.Disk.faults g.met.D.Disk.only_now _ _ _ memory_apart
+returns-in_default-snapshot-clause-once g c = untouched g.D.Disk.image g.D.Disk.moment g.D.Disk.since _ g.met.D.Disk.only_now _ _ _ memory_apart
 
 pub replace-requires-clause-frame : goal.replace-requires-clause-frame
 replace-requires-clause-frame g c =
@@ -34,11 +34,13 @@ add-requires-clause-frame g c =
     snapshot_fits _ _ c.in-Ok.ensures.written c.key_fits.ensures few
 
 pub returns-then-is_known-clause-once : goal.returns-then-is_known-clause-once
-returns-then-is_known-clause-once g c = rewritten g.D.Disk.image g.D.Disk.moment g.D.Disk.since g.D.Disk.faults _ _ _ _ _
-    (λ es e. initialised_as c.args.self.now.map.entries c.args.key.now c.args.state_epoch c.args.start _ _ _ es c.ranges.state_epoch c.ranges.start c.new.ensures
+returns-then-is_known-clause-once g c = rewritten g.D.Disk.image g.D.Disk.moment g.D.Disk.since _ _ _ _ _ _
+    (λ es e. initialised_as c.args.self.now.map.entries c.args.key.now c.args.state_epoch c.args.start _ _ _ es (option_copied c.get-known.result) c.ranges.state_epoch c.ranges.start
+    c.get-known.ensures.value (sym c.init_refusal.ensures ∙ c.in_default.is) c.new.ensures
     (c.next_snapshot-next.ensures ∙ ap next_snapshot c.get-known.ensures.value) c.in-Ok.ensures.kept e) c.replace.ensures.once
 
 pub returns-else-is_known-clause-once : goal.returns-else-is_known-clause-once
-returns-else-is_known-clause-once g c = rewritten g.D.Disk.image g.D.Disk.moment g.D.Disk.since g.D.Disk.faults _ _ _ _ _
-    (λ es e. initialised_as c.args.self.now.map.entries c.args.key.now c.args.state_epoch c.args.start _ _ _ es c.ranges.state_epoch c.ranges.start c.new.ensures
+returns-else-is_known-clause-once g c = rewritten g.D.Disk.image g.D.Disk.moment g.D.Disk.since _ _ _ _ _ _
+    (λ es e. initialised_as c.args.self.now.map.entries c.args.key.now c.args.state_epoch c.args.start _ _ _ es (option_copied c.get-known.result) c.ranges.state_epoch c.ranges.start
+    c.get-known.ensures.value (sym c.init_refusal.ensures ∙ c.in_default.is) c.new.ensures
     (c.next_snapshot-next.ensures ∙ ap next_snapshot c.get-known.ensures.value) c.in-Ok.ensures.kept e) c.add.ensures.once

@@ -13,7 +13,7 @@ pub returns-in-Err-clause-once : goal.returns-in-Err-clause-once
 returns-in-Err-clause-once g c = λ there.
     let es = c.args.self.now.map.entries in
     let key = c.args.key.now in
-    refused g.D.Disk.image g.D.Disk.moment g.D.Disk.since g.D.Disk.faults _ (Removal key) _ _ es (without_key es key) (removes es key there) (forgets es key there)
+    refused g.D.Disk.image g.D.Disk.moment g.D.Disk.since _ _ (Removal key) _ _ es (without_key es key) (removes es key there) (forgets es key there)
     c.put_record.ensures.any_moment c.put_record.result _ c.in-Err.is c.in-Err.ensures.causes c.in-Err.ensures.failed
     c.put_record.ensures.device c.put_record.ensures.full c.put_record.ensures.memory
 
@@ -21,5 +21,5 @@ pub returns-clause-once : goal.returns-clause-once
 returns-clause-once g c = λ there.
     let es = c.args.self.now.map.entries in
     let key = c.args.key.now in
-    stored_at g.D.Disk.image g.D.Disk.moment g.D.Disk.since g.D.Disk.faults _ (Removal key) _ _ es (without_key es key) (removes es key there) (forgets es key there)
+    stored_at g.D.Disk.image g.D.Disk.moment g.D.Disk.since _ _ (Removal key) _ _ es (without_key es key) (removes es key there) (forgets es key there)
     c.put_record.ensures.any_moment _ _ c.remove.ensures.entries c.in_default.ensures.valid c.in_default.ensures.kept
