@@ -28,7 +28,7 @@ use Rattle.share_top.specs.declared.status.Status.TheVariants.{Done, Usage, Malf
 use Rattle.share_top.specs.Changes.{InputChange, OutputChange}
 use Rattle.share_top.specs.Sessions.{Ending, Leaves, LeavesWithin, Ran, IsSession, StandIn, OfBay, OverBay, HoldsStates, NamesDamage, CountRose, Writes, WritesThen, WritesFront, WritesFrontOf, WritesPart}
 use Rattle.share_top.specs.Statuses.{IsPlayed, IsNotOpened, IsDone, IsRefusedScript, IsCut, IsBegun}
-use Rattle.share_top.specs.Going.{FromCore, IsRefusal}
+use Rattle.share_top.specs.Going.{FromCore, NeverFrom, IsRefusal}
 
 -- ---- how a run may end
 
@@ -182,17 +182,16 @@ module _ {B D : Type 0} (disk : B → List ℕ → Option D) (content : D → Op
 
     pub played_over : (input : InputChange) (output : OutputChange) (status : Status)
         → IsPlayed core.conf input output (FromCore content image starved faults losses arms armed core left)
-        ((m : Machine) → IsCore content image starved core m → ⊥) status
-        → IsPlayed conf input output Session (OfBay disk content faults losses arms armed old (λ contents was. ⊥)) status
+        (NeverFrom content image starved core) status → IsPlayed conf input output Session (OfBay disk content faults losses arms armed old (λ contents was. ⊥)) status
     played_over input output status p =
         played conf input output (FromCore content image starved faults losses arms armed core left) Session
-        ((m : Machine) → IsCore content image starved core m → ⊥) (OfBay disk content faults losses arms armed old (λ contents was. ⊥))
+        (NeverFrom content image starved core) (OfBay disk content faults losses arms armed old (λ contents was. ⊥))
         (λ events Says from. over Leaves leaves_ends events Says from)
         (λ events Says from. over (LeavesWithin conf) (within_ends conf) events Says from)
         (λ never contents was t. let o = opens contents was t in never o.0 o.1)
         status
         (subst (λ (c : ConfigParts). IsPlayed c input output (FromCore content image starved faults losses arms armed core left)
-        ((m : Machine) → IsCore content image starved core m → ⊥) status) same p)
+        (NeverFrom content image starved core) status) same p)
 
   -- ---- a broker that was not opened
 
@@ -231,3 +230,15 @@ module _ {B D : Type 0} (disk : B → List ℕ → Option D) (content : D → Op
           are = refl;
         },
       )
+
+  -- a replay over disks that tell their contents isn't stopped by a power loss
+  pub never_stopped : (core : CoreParts D) (left : Option (D × D)) (input : InputChange) (output : OutputChange) (status : Status)
+      → IsPlayed core.conf input output (FromCore content image starved faults losses arms armed core left) (NeverFrom content image starved core) status
+      → (status ≡ Damaged) ⊎ (status ≡ Device) → NeverFrom content image starved core
+  never_stopped core left input output status p (inl is) = subst (λ (s : Status). IsPlayed core.conf input output
+      (FromCore content image starved faults losses arms armed core left) (NeverFrom content image starved core) s) is p
+  never_stopped core left input output status p (inr is) = subst (λ (s : Status). IsPlayed core.conf input output
+      (FromCore content image starved faults losses arms armed core left) (NeverFrom content image starved core) s) is p
+
+pub refusal_damaged : (fault : CoreOpen) (output : OutputChange) (status : Status) → IsRefusal fault output status → status ≡ Damaged → IsRefusal fault output Damaged
+refusal_damaged fault output status r is = subst (λ (s : Status). IsRefusal fault output s) is r

@@ -11,7 +11,6 @@ use Rattle.session_script.specs.declared.event.Event.{Event}
 use Rattle.session_script.specs.declared.event.Outcome.{Outcome}
 use Rattle.session_script.specs.Output.{outcome_line, output_of}
 use Rattle.topic_conf.specs.Configs.{ConfigParts}
-use Rattle.foreign_coord.specs.Shards.{ForeignShardState}
 use Rattle.broker_model.specs.Shards.{Shards, ShardCall, state_a, state_b}
 use Rattle.broker_model.specs.Machine.{Machine}
 use Rattle.broker_model.specs.Disks.{IsTaken}
@@ -20,7 +19,6 @@ use Rattle.broker_model.specs.States.{State, IsStep, faults_of}
 use Rattle.broker_model.specs.Runs.{Step, outcomes_of}
 use Rattle.broker_core.specs.declared.slot.ForeignSlot.{ForeignSlot}
 use Rattle.broker_core.specs.declared.slot.ForeignSlot.TheVariants.{Open, Shut, Gone}
-use Rattle.broker_core.specs.Carried.{shards_of}
 use Rattle.broker_core.specs.Cores.{CoreParts, IsCore, IsSlot, Reaches, GoOn, StandStill, state_of, facts_in, ends_in, disks_in}
 use Rattle.broker_core.proofs.Opening.{carried_stands}
 use Rattle.share_top.specs.Changes.{OutputChange}
@@ -106,14 +104,14 @@ module _ {D : Type 0} (content : D → Option (List ℕ)) (image : D → List �
 
   -- ---- what is left
 
-  slot_still : (slot : ForeignSlot D) (shard : ForeignShardState) → IsSlot content image starved slot shard → Still (disks_in slot) (shards_of shard)
-  slot_still (Open store) shard k = record {
-    stand = carried_stands content image starved faults losses arms armed store shard k.carries;
+  slot_still : (slot : ForeignSlot D) (shards : Shards) → IsSlot content image starved slot shards.foreign → Still (disks_in slot) shards
+  slot_still (Open store) shards k = record {
+    stand = carried_stands content image starved faults losses arms armed store shards.foreign k.carries;
     told = k.told;
     second_told = k.second_told;
   }
-  slot_still (Shut first second) shard k = absurd k
-  slot_still Gone shard k = absurd k
+  slot_still (Shut first second) shards k = absurd k
+  slot_still Gone shards k = absurd k
 
   pub ran : (conf : ConfigParts) (first : State) (events : List Event) (T : List Outcome → Type 0) (core : CoreParts D) → G conf first events T core
       → Ran conf first events T (Leaves (Still (disks_in core.foreign)) (facts_in faults losses arms armed (disks_in core.foreign)))
@@ -123,7 +121,7 @@ module _ {D : Type 0} (content : D → Option (List ℕ)) (image : D → List �
     run = g.run;
     events_are = g.events_are;
     tells = g.tells;
-    ends = record { known = λ name taken. refl; stands = slot_still core.foreign g.machine.shards.foreign g.core.foreign };
+    ends = record { known = λ name taken. refl; stands = slot_still core.foreign g.machine.shards g.core.foreign };
   }
 
   pub ran_within : (conf : ConfigParts) (first : State) (events : List Event) (T : List Outcome → Type 0) (core : CoreParts D) → G conf first events T core
@@ -138,7 +136,7 @@ module _ {D : Type 0} (content : D → Option (List ℕ)) (image : D → List �
       after = g.machine;
       reaches = inl refl;
       later = λ name taken. omega arith;
-      stands = slot_still core.foreign g.machine.shards.foreign g.core.foreign;
+      stands = slot_still core.foreign g.machine.shards g.core.foreign;
     };
   }
 
@@ -152,6 +150,17 @@ module _ {D : Type 0} (content : D → Option (List ℕ)) (image : D → List �
   later (Some old) None g name taken = absurd g
   later (Some old) (Some new) g name (inl e) = subst (λ (n : List ℕ). count_at (Some old) n ≤ count_at (Some new) n) (sym e) g.0.later
   later (Some old) (Some new) g name (inr e) = subst (λ (n : List ℕ). count_at (Some old) n ≤ count_at (Some new) n) (sym e) g.1.later
+
+  abbrev Rising : CoreParts D → CoreParts D → List ℕ → Type 0
+  Rising core next name = Rose (count_at (disks_in core.foreign) name) (count_at (disks_in next.foreign) name)
+
+  reached : (conf : ConfigParts) (core next : CoreParts D) → core.conf ≡ conf → (old after : Machine) (e : Event)
+      → Reaches core.conf (Rising core next) (ends_in core.foreign) old e after
+      → (after ≡ old) ⊎ ((event : Event) × (call : Option ShardCall) × (outcomes : List Outcome)
+      × StepsTo conf (Rising core next) (ends_in core.foreign) old event call outcomes after)
+  reached conf core next same old after e (inl still) = inl still
+  reached conf core next same old after e (inr r) =
+      inr (e, r.0, r.1, subst (λ (c : ConfigParts). StepsTo c (Rising core next) (ends_in core.foreign) old e r.0 r.1 after) same r.2)
 
   pub halted : (conf : ConfigParts) (first : State) (events : List Event) (e : Event) (T U : List Outcome → Type 0) (output : OutputChange)
       → ((xs : List Outcome) → T xs → Keeps output.held output.held_after → U xs) → (core next : CoreParts D) → core.conf ≡ conf → G conf first events T core
@@ -167,17 +176,8 @@ module _ {D : Type 0} (content : D → Option (List ℕ)) (image : D → List �
         tells = keep (outcomes_of g.steps) g.tells h.kept;
         ends = record {
           after = h.stops.after;
-          reaches = reached h.stops.after h.stops.reaches;
+          reaches = reached conf core next same g.machine h.stops.after e h.stops.reaches;
           later = later (disks_in core.foreign) (disks_in next.foreign) h.disks;
           stands = h.stops.still;
         };
       }
-    where
-      abbrev Rising : List ℕ → Type 0
-      Rising name = Rose (count_at (disks_in core.foreign) name) (count_at (disks_in next.foreign) name)
-
-      reached : (after : Machine) → Reaches core.conf Rising (ends_in core.foreign) g.machine e after
-          → (after ≡ g.machine) ⊎ ((event : Event) × (call : Option ShardCall) × (outcomes : List Outcome)
-          × StepsTo conf Rising (ends_in core.foreign) g.machine event call outcomes after)
-      reached after (inl still) = inl still
-      reached after (inr r) = inr (e, r.0, r.1, subst (λ (c : ConfigParts). StepsTo c Rising (ends_in core.foreign) g.machine e r.0 r.1 after) same r.2)

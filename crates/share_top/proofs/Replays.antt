@@ -10,6 +10,7 @@ use Rattle.session_script.specs.Script.{IsEvent, IsRefused, HasNoEvent, line_of,
 use Rattle.session_script.specs.Unread.{Unread}
 use Rattle.session_script.specs.Reading.{Takes}
 use Rattle.broker_model.specs.Machine.{Machine}
+use Rattle.broker_model.specs.States.{State}
 use Rattle.broker_core.specs.Cores.{CoreParts, IsCore, IsOpen, disks_in, state_of}
 use Rattle.share_top.specs.declared.status.Status.{Status}
 use Rattle.share_top.specs.declared.status.Status.TheVariants.{Done, Usage, Malformed, ReadFault, WriteFault, Damaged, Device, NoMemory}
@@ -27,11 +28,11 @@ module _ {D : Type 0} (content : D → Option (List ℕ)) (image : D → List �
 
   pub starts : (left : Option (List ℕ)) (first : CoreParts D) (Tells : List Outcome → Type 0) → IsOpen first.foreign → Tells []
       → Going content image starved faults losses arms armed left left (record { place = 0; pending = [] }) Tells first first
-  starts left first Tells is_open told = record {
+  starts left first Tells opened told = record {
     read = reads.starts left;
     goes = λ m k. begins content image starved faults losses arms armed m first Tells k told;
     conf = refl;
-    open = is_open;
+    is_open = opened;
   }
 
   module _ (first now : CoreParts D) (T : List Outcome → Type 0) (left mid : Option (List ℕ)) (u v : Unread)
@@ -40,12 +41,12 @@ module _ {D : Type 0} (content : D → Option (List ℕ)) (image : D → List �
     pub goes : (after : Option (List ℕ)) (U V : List Outcome → Type 0) → ((xs ys : List Outcome) → T xs → U ys → V (xs ++ ys)) → (e : Event) (next : CoreParts D)
         → Takes u v mid after (line_of e) → IsEvent e → v.place ≤ longest → Plays content image starved faults losses arms armed now e U next
         → next.conf ≡ now.conf → IsOpen next.foreign → Going content image starved faults losses arms armed left after v V first next
-    goes after U V join e next t is le plays same is_open = record {
+    goes after U V join e next t is le plays same opened = record {
       read = reads.read_on left mid after u v e going.read t is le;
       goes = λ m k. goes_on content image starved faults losses arms armed first.conf (state_of faults losses arms armed m first) going.read.events e T U V join
           now next going.conf (going.goes m k) plays;
       conf = same ∙ going.conf;
-      open = is_open;
+      is_open = opened;
     }
 
   module _ (input : InputChange) (first now : CoreParts D) (T : List Outcome → Type 0) (mid : Option (List ℕ)) (u v : Unread)
@@ -53,7 +54,7 @@ module _ {D : Type 0} (content : D → Option (List ℕ)) (image : D → List �
     abbrev Took : List ℕ → Type 0
     Took line = Takes u v mid input.left_after line
 
-    abbrev begun : (m : Machine) → _
+    abbrev begun : Machine → State
     begun m = state_of faults losses arms armed m first
 
     whole : From first now going.read.events T Leaves

@@ -31,11 +31,11 @@ all_less : (events : List Event) (e : Event) → AllByRecursion IsEvent (events 
 all_less [] e p = tt
 all_less (f ∷ events) e p = (p.0, all_less events e p.1)
 
-nothing_left : (left : Held) → Consumes left left []
+pub nothing_left : (left : Held) → Consumes left left []
 nothing_left None = tt
 nothing_left (Some xs) = refl
 
-pub starts : (left : Held) → IsRead left left (record { place = 0; pending = [] })
+abbrev pub starts : (left : Held) → IsRead left left (record { place = 0; pending = [] })
 starts left = record {
   given = [];
   events = [];
@@ -72,12 +72,12 @@ given_then given more events u v line b p =
     ap (λ (l : List ℕ). l ++ more) b.parts ∙ append_assoc (lines events) u.pending more ∙ ap (λ (l : List ℕ). lines events ++ l) p
     ∙ sym (append_assoc (lines events) line v.pending)
 
-place_line : (left mid after : Held) (u v : Unread) (e : Event) (g : IsRead left mid u) (t : Takes u v mid after (line_of e))
+pub place_line : (left mid after : Held) (u v : Unread) (e : Event) (g : IsRead left mid u) (t : Takes u v mid after (line_of e))
     → v.place ≡ length (lines (g.events ++ e ∷ []))
 place_line left mid after u v e g t = sym (ap length (lines_then g.events e) ∙ length-append (lines g.events) (line_of e)
     ∙ ap (λ (n : ℕ). n + length (line_of e)) (sym g.place) ∙ sym t.place)
 
-begins_line : (left mid after : Held) (u v : Unread) (e : Event) (g : IsRead left mid u) (t : Takes u v mid after (line_of e)) → IsEvent e → v.place ≤ longest
+pub begins_line : (left mid after : Held) (u v : Unread) (e : Event) (g : IsRead left mid u) (t : Takes u v mid after (line_of e)) → IsEvent e → v.place ≤ longest
     → Begins (g.given ++ t.given) (g.events ++ e ∷ []) v.pending
 begins_line left mid after u v e g t is le =
     let size = place_line left mid after u v e g t in

@@ -1,6 +1,6 @@
 // Why a broker was not opened, told as the last line and the status.
 ghost use Rattle.std.specs.Prelude.{◌≡◌, ◌≢◌};
-ghost use Rattle.share_top.specs.Statuses.{output_change};
+ghost use Rattle.share_top.specs.Changes.{output_change};
 ghost use Rattle.share_top.specs.Going.{IsRefusal, IsStop};
 
 use crate::status::Status;
