@@ -1,5 +1,5 @@
 -- What each event makes of the machine.
-use Rattle.std.proofs.Common.{◌≡◌, ◌≤◌, ◌⊎◌, ◌∷◌, ◌++◌, [], inl, inr, refl, sym, ap, ◌∙◌, subst, arith, ℕ, List, Bool, Some, None}
+use Rattle.std.proofs.Common.{◌≡◌, ◌≤◌, ◌⊎◌, ◌∷◌, ◌++◌, [], inl, inr, refl, sym, ap, ◌∙◌, subst, arith, ℕ, List, Bool, Some, None, Result, Ok, Err, IfErr}
 use Rattle.std.specs.declared.option.Option.{Option}
 use Rattle.edge_io.specs.declared.fault.Armed.{Armed}
 use Rattle.edge_io.specs.declared.fault.FaultMode.{FaultMode}
@@ -16,6 +16,8 @@ use Rattle.broker_model.specs.Machine.{Machine, Lands, conn_at, opened, at_conne
 use Rattle.broker_model.specs.Disks.{IsTaken}
 use Rattle.broker_model.specs.Steps.{StepsTo, Serves, DoesNothing}
 use Rattle.broker_model.specs.States.{State, IsStep, faults_of, OnEnd, OnLosses}
+use Rattle.broker_core.specs.declared.fault.CoreFault.{CoreFault}
+use Rattle.broker_core.specs.declared.fault.CoreFault.TheVariants.{NoMemory}
 use Rattle.broker_core.specs.declared.slot.ForeignSlot.{ForeignSlot}
 use Rattle.broker_core.specs.declared.slot.ForeignSlot.TheVariants as slot
 use Rattle.broker_core.specs.Carried.{shards_of}
@@ -234,3 +236,32 @@ module _ {D : Type 0} (content : D → Option (List ℕ)) (image : D → List �
         reaches = inr (None, Restarted ∷ [], record { none = refl; tells = refl; nobody = refl; lands = lands });
         still = v.still;
       }
+
+  -- ---- where old and event are known by equations
+
+  pub advances_at : (o old : CoreParts D) (e event : Event) (out outcomes : List Outcome) (new : CoreParts D) → o ≡ old → event ≡ e → outcomes ≡ out
+      → A o e out new → A old event outcomes new
+  advances_at o old e event out outcomes new same is told a =
+      subst (λ (x : CoreParts D). A x event outcomes new) same (subst (λ (x : Event). A o x outcomes new) (sym is) (subst (λ (x : List Outcome). A o e x new) (sym told) a))
+
+  stops_at : (o old : CoreParts D) (e event : Event) (new : CoreParts D) → o ≡ old → event ≡ e
+      → ((m : Machine) → C o m → S o m e new) → (m : Machine) → C old m → S old m event new
+  stops_at o old e event new same is f =
+      subst (λ (x : CoreParts D). (m : Machine) → C x m → S x m event new) same (subst (λ (x : Event). (m : Machine) → C o m → S o m x new) (sym is) f)
+
+  pub memory_stops : {T : Type 0} (r : Result T CoreFault) (o old : CoreParts D) (e event : Event) (new : CoreParts D) → r ≡ Err NoMemory → o ≡ old
+      → event ≡ e → ((m : Machine) → C o m → S o m e new) → IfErr r (λ x. (m : Machine) → C old m → S old m event new × (x ≡ NoMemory))
+  memory_stops {T} r o old e event new err same is f =
+      subst (λ (q : Result T CoreFault). IfErr q (λ x. (m : Machine) → C old m → S old m event new × (x ≡ NoMemory))) (sym err)
+      (λ m k. (stops_at o old e event new same is f m k, refl))
+
+  pub power_stops : {T : Type 0} (r : Result T CoreFault) (fault : CoreFault) (o old : CoreParts D) (choice : ℕ) (event : Event) (new : CoreParts D)
+      → r ≡ Err fault → o ≡ old → event ≡ Power choice
+      → ((s : ForeignShardState) → IsSlot content image starved o.foreign s → IsShutSlot content image s new.foreign × (fault ≡ NoMemory))
+      → IfErr r (λ x. (m : Machine) → C old m → S old m event new × (x ≡ NoMemory))
+  power_stops {T} r fault o old choice event new err same is f =
+      subst (λ (q : Result T CoreFault). IfErr q (λ x. (m : Machine) → C old m → S old m event new × (x ≡ NoMemory))) (sym err)
+      (λ m k. (
+        stops_at o old (Power choice) event new same is (λ n j. stops_power o new n choice j (f n.shards.foreign j.foreign).0) m k,
+        (f m.shards.foreign (subst (λ (x : CoreParts D). C x m) (sym same) k).foreign).1,
+      ))

@@ -6,7 +6,7 @@ use Rattle.share_model.specs.declared.run.Run.{Run}
 use Rattle.share_model.specs.Runs.{IsCanonical}
 use Rattle.state_records.specs.States.{AreStoredRuns, IsStoredRun}
 use Rattle.call_fold.specs.Parts.{IsTellable}
-use Rattle.std.proofs.Common.{◌≡◌, ◌≤◌, ◌<◌, ◌^◌, ◌⊎◌, [], ◌∷◌, arith, inl, inr, refl, sym, ap, ◌∙◌, subst, ℕ, List, Bool, true, false, Some, None, is_some}
+use Rattle.std.proofs.Common.{◌≡◌, ◌≤◌, ◌<◌, ◌^◌, ◌⊎◌, ◌↔◌, [], ◌∷◌, arith, inl, inr, refl, sym, ap, ◌∙◌, subst, ℕ, List, Bool, true, false, Some, None, is_some}
 use Rattle.std.specs.declared.option.Option.{Option}
 use Rattle.edge_io.specs.declared.fault.Armed.{Armed}
 use Rattle.edge_io.specs.Armed.{RunsOn}
@@ -19,6 +19,15 @@ use Rattle.share_coord.specs.Parts.{StoreParts}
 use Rattle.foreign_coord.specs.Shards.{ForeignShardState, Carries, StepsForeign}
 use Rattle.broker_model.specs.Shards.{Shards, ShardCall, StepsShards}
 use Rattle.broker_model.specs.Shards.ShardCall.{CallForeign}
+use Rattle.call_fold.specs.declared.part.Part.{Part}
+use Rattle.call_fold.specs.declared.part.Part.TheVariants.{Foreign}
+use Rattle.call_fold.specs.declared.part.PartAnswer.TheVariants.{Foreign as AnswerForeign}
+use Rattle.conn_core.specs.declared.next.Next.{Next}
+use Rattle.conn_core.specs.declared.next.Next.TheVariants.{Ask}
+use Rattle.conn_core.specs.Conns.{ConnParts, without_replies}
+use Rattle.conn_core.specs.Turning.{Turn, Tells, conn_after_answer}
+use Rattle.session_script.specs.declared.event.Outcome.{Outcome}
+use Rattle.broker_model.specs.Steps.{Does, DoesTurn, replies_to}
 use Rattle.broker_core.specs.Carried.{IsCarried, Leads, Halts, GoesOn, IsMoved, shards_of, rose_by, ends_by}
 
 -- runs that are stored can be told
@@ -31,6 +40,17 @@ each_tellable (run ∷ runs) c s = (
 
 pub tellable : (runs : List Run) → AreStoredRuns runs → All IsTellable runs
 tellable runs stored = All-from_recursion IsTellable runs (each_tellable runs stored.0 stored.1)
+
+unless : (b : Bool) → (b ≡ true → ⊥) → b ≡ false
+unless true h = absurd (h refl)
+unless false h = refl
+
+-- neither disk is starved where the store isn't
+pub fed_both : (starves a b : Bool) → starves ≡ false → ((starves ≡ true) ↔ ((a ≡ true) ⊎ (b ≡ true))) → (a ≡ false) × (b ≡ false)
+fed_both starves a b not either = (unless a (λ e. clash (sym not ∙ either.1 (inl e))), unless b (λ e. clash (sym not ∙ either.1 (inr e))))
+  where
+    clash : false ≡ true → ⊥
+    clash e = cc
 
 module _ {D : Type 0} (content : D → Option (List ℕ)) (image : D → List ℕ → Type 0) (starved : D → Bool) (faults : D → ℕ)
     (losses : D → List (ℕ × List ℕ)) (arms : D → ℕ) (armed : D → Armed) where
@@ -136,13 +156,14 @@ module _ {D : Type 0} (content : D → Option (List ℕ)) (image : D → List �
 
   pub act_halts : (old new : StoreParts D) (op : ForeignOp) (answer : ForeignAnswer) (s : ForeignShardState) → C old s → Acts old new op answer
       → Runs old new → new.journal.idle ≡ old.journal.idle
-      → H s new (λ a call b. (told : ForeignAnswer) × (fault : Option StoreFault) × Called old new op told fault a call b)
+      → H s new (λ a call b. (told : ForeignAnswer) × (fault : Option StoreFault) × (call ≡ Some (CallForeign op told fault))
+      × StepsShards (rose_by faults old new) (ends_by old) a (CallForeign op told fault) b)
   act_halts old new op answer s k acts runs idle =
       let r = acts s k.carries in
       record {
         after = r.0;
         carries = r.2;
-        does = inr (Some (CallForeign op answer r.1), answer, r.1, refl, r.3);
+        does = inr (Some (CallForeign op answer r.1), (answer, r.1, refl, r.3));
         told = told_still old new runs k.told;
         second_told = ap (λ (d : D). is_some (content d)) idle ∙ k.second_told;
       }
@@ -156,3 +177,27 @@ module _ {D : Type 0} (content : D → Option (List ℕ)) (image : D → List �
     told = told_still old new runs k.told;
     second_told = ap (λ (d : D). is_some (content d)) idle ∙ k.second_told;
   }
+
+  -- the part that a connection asks is done
+  pub part_done : (old new : StoreParts D) (id : ℕ) (op : ForeignOp) (answer : ForeignAnswer) (fault : Option StoreFault) (part : Part)
+      (conn after : ConnParts) (outcomes : List Outcome) → part ≡ Foreign op
+      → outcomes ≡ replies_to id (conn_after_answer (AnswerForeign answer) conn) → after ≡ without_replies (conn_after_answer (AnswerForeign answer) conn)
+      → (a : Shards) (call : Option ShardCall) (b : Shards) → Called old new op answer fault a call b
+      → Does (rose_by faults old new) (ends_by old) id (Ask part) conn a b call outcomes after
+  part_done old new id op answer fault part conn after outcomes is told left a call b h =
+      subst (λ (p : Part). Does (rose_by faults old new) (ends_by old) id (Ask p) conn a b call outcomes after) (sym is)
+      (record { did = CallForeign op answer fault; is = h.0; does = refl; shard = h.1; tells = told; leaves = left })
+
+  -- what was told is done
+  pub does_turn : (old new : StoreParts D) (id : ℕ) (t : Turn) (next : Next) (conn after : ConnParts) (outcomes : List Outcome) → Tells t next conn
+      → (a : Shards) (call : Option ShardCall) (b : Shards) → Does (rose_by faults old new) (ends_by old) id next conn a b call outcomes after
+      → DoesTurn (rose_by faults old new) (ends_by old) id t a b call outcomes after
+  does_turn old new id t next conn after outcomes told a call b does =
+      subst (λ (n : Next). Does (rose_by faults old new) (ends_by old) id n t.conn a b call outcomes after) told.0
+      (subst (λ (c : ConnParts). Does (rose_by faults old new) (ends_by old) id next c a b call outcomes after) told.1 does)
+
+  pub asks_next : (old new : StoreParts D) (id : ℕ) (part : Part) (next : Next) (conn after : ConnParts) (outcomes : List Outcome) → next ≡ Ask part
+      → (a : Shards) (call : Option ShardCall) (b : Shards) → Does (rose_by faults old new) (ends_by old) id (Ask part) conn a b call outcomes after
+      → Does (rose_by faults old new) (ends_by old) id next conn a b call outcomes after
+  asks_next old new id part next conn after outcomes is a call b does =
+      subst (λ (n : Next). Does (rose_by faults old new) (ends_by old) id n conn a b call outcomes after) (sym is) does

@@ -5,3 +5,4 @@ pub mod Leading
 pub mod Opening
 pub mod Slots
 pub mod Events
+pub mod Bays

@@ -1,11 +1,12 @@
 -- Openings and restarts of the shard.
-use Rattle.std.proofs.Common.{◌≡◌, ◌≢◌, ◌≤◌, ◌⊎◌, ◌∷◌, ◌++◌, [], inl, inr, ⊎_elim, refl, sym, ap, ◌∙◌, subst, ℕ, List, Bool, true, false, Some, None, is_some}
+use Rattle.std.proofs.Common.{◌≡◌, ◌≢◌, ◌≤◌, ◌⊎◌, ◌∷◌, ◌++◌, [], inl, inr, ⊎_elim, refl, sym, ap, ◌∙◌, subst, ℕ, List, Bool, true, false, Some, None, is_some, Result, Ok, Err, IsErr, IfErr, MatchResult}
 use Rattle.std.specs.declared.option.Option.{Option}
 use Rattle.std.specs.Option.{option_map}
 use Rattle.edge_io.specs.declared.fault.Armed.{Armed}
 use Rattle.edge_io.specs.declared.fault.Armed.TheVariants.{Nothing}
 use Rattle.edge_io.specs.Armed.{RunsOn, Spends}
-use Rattle.edge_io.specs.Disk.{IsTold, Within, Synced}
+use Rattle.edge_io.specs.Disk.{IsTold, Within, Synced, LosesPower}
+use Rattle.edge_io.specs.Causes.{FailsBy}
 use Rattle.gate_journal.specs.Frames.{StandsFor, StandsAs}
 use Rattle.gate_journal.proofs.Once.{once}
 use Rattle.share_model.specs.ForeignRules.{ShareStates}
@@ -20,7 +21,7 @@ use Rattle.broker_model.specs.Machine.{StandForStates, StandWith, Lands}
 use Rattle.broker_model.specs.Disks.{facts_of}
 use Rattle.broker_core.specs.declared.fault.CoreOpen.{CoreOpen}
 use Rattle.broker_core.specs.declared.fault.CoreOpen.TheVariants as fault
-use Rattle.broker_core.specs.Carried.{IsCarried, shards_of}
+use Rattle.broker_core.specs.Carried.{IsCarried, GoesOn, shards_of}
 use Rattle.broker_core.specs.Restarts.{IsOpened, IsOpenedDisk, IsRestartedShard, IsNotRestarted, ImagesStand, ImagesStandAs}
 
 -- ---- pending writes
@@ -135,6 +136,40 @@ module _ {D : Type 0} (content : D → Option (List ℕ)) (image : D → List �
     pub disarmed : armed new ≡ Nothing
     pub quiet : faults new ≡ faults old
 
+  pub lost_of : (choice : ℕ) (live old new : D) → old ≡ live → IsTold (content live)
+      → LosesPower choice (image old) (losses old) (content new) (image new) (losses new) (armed new)
+      → is_some (content new) ≡ is_some (content old) → arms new ≡ arms old → (IsTold (content old) → faults new ≡ faults old)
+      → (c : List ℕ) × IsLost choice live new c
+  lost_of choice live old new same told l still same_arms quiet =
+      let old_told = ap (λ (d : D). is_some (content d)) same ∙ told in
+      let t = is_told (content new) (still ∙ old_told) in (
+        t.0,
+        subst (λ (d : D). IsLost choice d new t.0) same (record {
+          is = t.1;
+          was = (l.left t.0 t.1).0;
+          only = λ d now. same_some (content new) d t.0 (l.only d now) t.1;
+          lost = (l.left t.0 t.1).1;
+          same_arms = same_arms;
+          disarmed = l.disarmed;
+          quiet = quiet old_told;
+        }),
+      )
+
+  -- a loss is refused for want of memory alone
+  pub loss_refused : {T E : Type 0} (live old new : D) (result : Result T E) → old ≡ live → IsTold (content live) → IsErr result
+      → (IsTold (content old) → FailsBy ⊥ (starved old) (starved new) result) → starved new ≡ true
+  loss_refused live old new result same told err fails = go ((fails (ap (λ (d : D). is_some (content d)) same ∙ told)).only err)
+    where
+      go : ⊥ ⊎ (starved new ≡ true) → starved new ≡ true
+      go (inl never) = absurd never
+      go (inr is) = is
+
+  pub within_still : (live old new : D) → old ≡ live → Within (image old) (image new) → Within (image live) (image new)
+  within_still live old new same w = subst (λ (d : D). Within (image d) (image new)) same w
+
+  pub told_on : (live old new : D) → old ≡ live → is_some (content new) ≡ is_some (content old) → IsTold (content live) → IsTold (content new)
+  told_on live old new same still told = still ∙ ap (λ (d : D). is_some (content d)) same ∙ told
+
   restarted_disk : (choice : ℕ) (old mid new : D) (c : List ℕ) → IsLost choice old mid c
       → IsOpenedDisk (facts_of faults losses arms armed mid) (facts_of faults losses arms armed new)
       → (arms new ≡ arms old) × (armed new ≡ Nothing) × (faults new ≡ faults old)
@@ -218,3 +253,36 @@ module _ {D : Type 0} (content : D → Option (List ℕ)) (image : D → List �
       one_left fault.Device d f g = absurd (f refl)
       one_left fault.Bay d f g = absurd (g refl)
       one_left fault.NoMemory d f g = refl
+
+  -- behind two losses, the opening failed
+  pub stays_shut : {T : Type 0} (choice : ℕ) (store : StoreParts D) (shard : ForeignShardState) (mid_first mid_second : D) (r : Result T (D × D × CoreOpen))
+      → IsCarried content image starved store shard
+      → (a : List ℕ) × IsLost choice store.journal.live.disk mid_first a → (b : List ℕ) × IsLost choice store.journal.idle mid_second b
+      → IfErr r (λ e. ImagesStandAs image mid_first mid_second e.0 e.1)
+      → ((x y : List ℕ) (states : ShareStates) → content mid_first ≡ Some x → content mid_second ≡ Some y → StandForStates x y states
+      → IfErr r (λ e. (name : List ℕ) (place : ℕ) → e.2 ≢ fault.Damaged name place))
+      → (IsTold (content mid_first) → IsTold (content mid_second) → armed mid_first ≡ Nothing → armed mid_second ≡ Nothing → IfErr r (λ e. e.2 ≢ fault.Device))
+      → IfErr r (λ e. e.2 ≢ fault.Bay) → IfErr r (λ e. is_some (content e.0) ≡ is_some (content mid_first)) → IfErr r (λ e. is_some (content e.1) ≡ is_some (content mid_second))
+      → IfErr r (λ e. IsNotRestarted content image shard e.0 e.1 × (e.2 ≡ fault.NoMemory))
+  stays_shut choice store shard mid_first mid_second (Ok x) k l m images recovers sound no_bay told second_told = tt
+  stays_shut choice store shard mid_first mid_second (Err e) k l m images recovers sound no_bay told second_told = (
+    not_opened choice store shard mid_first mid_second e.0 e.1 l.0 m.0 k l.1 m.1 images (told ∙ told_of (content mid_first) l.0 l.1.is)
+        (second_told ∙ told_of (content mid_second) m.0 m.1.is),
+    only_memory choice store shard mid_first mid_second l.0 m.0 e.2 k l.1 m.1 recovers sound no_bay,
+  )
+
+  pub told_first : (mid : D) (r : Result (StoreParts D) (D × D × CoreOpen)) → MatchResult r (λ new. GoesOn content faults mid new.journal.live.disk) (λ e. GoesOn content faults mid e.0)
+      → IfErr r (λ e. is_some (content e.0) ≡ is_some (content mid))
+  told_first mid (Ok x) h = tt
+  told_first mid (Err e) h = h.told
+
+  pub told_second : (mid : D) (r : Result (StoreParts D) (D × D × CoreOpen)) → MatchResult r (λ new. GoesOn content faults mid new.journal.idle) (λ e. GoesOn content faults mid e.1)
+      → IfErr r (λ e. is_some (content e.1) ≡ is_some (content mid))
+  told_second mid (Ok x) h = tt
+  told_second mid (Err e) h = h.told
+
+-- what each shard gives is given for each
+pub flip : {T E A : Type 0} (K : A → Type 0) (P : E → A → Type 0) (r : Result T E) → ((s : A) → K s → IfErr r (λ e. P e s))
+    → IfErr r (λ e. (s : A) → K s → P e s)
+flip K P (Ok x) h = tt
+flip K P (Err e) h = h

@@ -7,6 +7,14 @@ use Rattle.edge_io.specs.declared.fault.FaultMode.{FaultMode}
 use Rattle.edge_io.specs.Armed.{ArmsAlone}
 use Rattle.edge_io.specs.Disk.{IsTold}
 use Rattle.session_script.specs.declared.event.Outcome.{Outcome}
+use Rattle.topic_conf.specs.Configs.{ConfigParts}
+use Rattle.conn_core.specs.Conns.{ConnParts}
+use Rattle.broker_model.specs.Machine.{conn_at}
+use Rattle.broker_model.specs.Steps.{Serves}
+use Rattle.broker_core.specs.declared.fault.CoreOpen.{CoreOpen}
+use Rattle.broker_core.specs.declared.fault.CoreOpen.TheVariants.{NoMemory}
+use Rattle.broker_core.specs.declared.fault.CoreFault.{CoreFault}
+use Rattle.broker_core.specs.declared.fault.CoreFault.TheVariants as core_fault
 use Rattle.share_coord.specs.Parts.{StoreParts}
 use Rattle.foreign_coord.specs.Shards.{ForeignShardState, Carries}
 use Rattle.broker_model.specs.Shards.{Shards, ShardCall, state_a, state_b, same_name, calls}
@@ -157,3 +165,67 @@ module _ {D : Type 0} (content : D → Option (List ℕ)) (image : D → List �
     lands = r.lands;
     still = record { stand = r.stand; told = r.told; second_told = r.second_told };
   }
+
+  -- ---- where the slot is known to be open
+
+  abbrev IsCarriedIn : StoreParts D → ForeignShardState → Type 0
+  IsCarriedIn store s = IsCarried content image starved store s
+
+  abbrev IsIn : ForeignSlot D → ForeignShardState → Type 0
+  IsIn slot s = IsSlot content image starved slot s
+
+  abbrev Serving : ConfigParts → ℕ → List (ℕ × ConnParts) → ForeignSlot D → ForeignSlot D → Option ShardCall → List Outcome → Shards → Machine → Type 0
+  Serving conf id es slot new call outcomes a m =
+      Serves conf (rose_in faults losses arms armed slot new) (ends_in slot) (record { connections = es; shards = a }) id (conn_at id es) call outcomes m
+
+  abbrev ServingBy : ConfigParts → ℕ → List (ℕ × ConnParts) → StoreParts D → StoreParts D → Option ShardCall → List Outcome → Shards → Machine → Type 0
+  ServingBy conf id es old new call outcomes a m =
+      Serves conf (rose_by faults old new) (ends_by old) (record { connections = es; shards = a }) id (conn_at id es) call outcomes m
+
+  pub serves_slot : (conf : ConfigParts) (id : ℕ) (es after : List (ℕ × ConnParts)) (outcomes : List Outcome) (slot : ForeignSlot D) (old new : StoreParts D)
+      → slot ≡ Open old
+      → ((s : ForeignShardState) → IsCarriedIn old s → Leads content image starved faults losses arms armed old s new
+      (λ a call b. ServingBy conf id es old new call outcomes a (record { connections = after; shards = b })))
+      → (s : ForeignShardState) → IsIn slot s → IsServed content image starved faults losses arms armed slot s (Open new)
+      (λ a call b. Serving conf id es slot (Open new) call outcomes a (record { connections = after; shards = b }))
+  serves_slot conf id es after outcomes slot old new is leads =
+      subst (λ (f : ForeignSlot D). (s : ForeignShardState) → IsIn f s → IsServed content image starved faults losses arms armed f s (Open new)
+      (λ a call b. Serving conf id es f (Open new) call outcomes a (record { connections = after; shards = b }))) (sym is)
+      (λ s k. served old new s _ (leads s k))
+
+  pub stops_slot : (conf : ConfigParts) (id : ℕ) (es : List (ℕ × ConnParts)) (slot : ForeignSlot D) (old new : StoreParts D) → slot ≡ Open old
+      → ((s : ForeignShardState) → IsCarriedIn old s → Halts content image s new
+      (λ a call b. (outcomes : List Outcome) × (after : Machine) × (after.shards ≡ b) × ServingBy conf id es old new call outcomes a after))
+      → (s : ForeignShardState) → IsIn slot s → (m : Machine) × StandStill content image m.shards (disks_in (Open new))
+      × Halted (shards_of s) m.shards (λ call outcomes. Serving conf id es slot (Open new) call outcomes (shards_of s) m)
+  stops_slot conf id es slot old new is halts =
+      subst (λ (f : ForeignSlot D). (s : ForeignShardState) → IsIn f s → (m : Machine) × StandStill content image m.shards (disks_in (Open new))
+      × Halted (shards_of s) m.shards (λ call outcomes. Serving conf id es f (Open new) call outcomes (shards_of s) m)) (sym is)
+      (λ s k. let h = halts s k in go s h h.does)
+    where
+      go : (s : ForeignShardState)
+          (h : Halts content image s new (λ a call b. (outcomes : List Outcome) × (after : Machine) × (after.shards ≡ b) × ServingBy conf id es old new call outcomes a after))
+          → (h.after ≡ s) ⊎ ((call : Option ShardCall) × ((outcomes : List Outcome) × (after : Machine) × (after.shards ≡ shards_of h.after) × ServingBy conf id es old new call outcomes (shards_of s) after))
+          → (m : Machine) × StandStill content image m.shards (disks_in (Open new))
+          × Halted (shards_of s) m.shards (λ call outcomes. Serving conf id es (Open old) (Open new) call outcomes (shards_of s) m)
+      go s h (inl same) = (record { connections = []; shards = shards_of h.after }, still new s _ h, inl (ap shards_of same))
+      go s h (inr r) = (
+        r.1.1,
+        subst (λ (b : Shards). StandStill content image b (disks_in (Open new))) (sym r.1.2) (still new s _ h),
+        inr (r.0, r.1.0, r.1.3),
+      )
+
+  pub reopened_slot : (choice : ℕ) (slot : ForeignSlot D) (old new : StoreParts D) → slot ≡ Open old
+      → ((s : ForeignShardState) → IsCarriedIn old s → IsRestartedShard content image starved faults losses arms armed choice old s new)
+      → (s : ForeignShardState) → IsIn slot s → IsReopened content image starved faults losses arms armed choice slot s (Open new)
+  reopened_slot choice slot old new is r =
+      subst (λ (f : ForeignSlot D). (s : ForeignShardState) → IsIn f s → IsReopened content image starved faults losses arms armed choice f s (Open new)) (sym is)
+      (λ s k. reopened choice old new s (r s k))
+
+  pub shut_slot : (slot : ForeignSlot D) (old : StoreParts D) (first second : D) (fault : CoreOpen) (told : CoreFault) → slot ≡ Open old
+      → ((s : ForeignShardState) → IsCarriedIn old s → IsNotRestarted content image s first second × (fault ≡ NoMemory))
+      → (fault ≡ NoMemory → told ≡ core_fault.NoMemory)
+      → (s : ForeignShardState) → IsIn slot s → IsShutSlot content image s (Shut first second) × (told ≡ core_fault.NoMemory)
+  shut_slot slot old first second fault told is r memory =
+      subst (λ (f : ForeignSlot D). (s : ForeignShardState) → IsIn f s → IsShutSlot content image s (Shut first second) × (told ≡ core_fault.NoMemory)) (sym is)
+      (λ s k. (shut s first second (r s k).0, memory (r s k).1))

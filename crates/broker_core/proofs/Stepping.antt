@@ -1,5 +1,5 @@
 -- What a client's step means to the broker.
-use Rattle.std.proofs.Common.{◌≡◌, ℕ, Bool, true, false, cond, List, [], ◌∷◌, Option, Some, None, Result, Ok, Err, OnOk, refl, sym, ap, subst, ◌∙◌}
+use Rattle.std.proofs.Common.{◌≡◌, ℕ, Bool, true, false, cond, List, [], ◌∷◌, Option, Some, None, Result, Ok, Err, OnOk, OnErr, IfOk, IfErr, refl, sym, ap, subst, ◌∙◌}
 use Rattle.std.specs.Map.{lookup, set_value, remove_entry}
 use Rattle.conn_core.specs.Conns.{ConnParts, is_gone, without_replies}
 use Rattle.broker_model.specs.Machine.{named, conn_at, at_connection, left}
@@ -7,6 +7,26 @@ use Rattle.broker_model.specs.Machine.{named, conn_at, at_connection, left}
 -- a connection without replies
 pub none_waiting : (conn : ConnParts) → conn.replies ≡ [] → conn ≡ without_replies conn
 none_waiting conn e = λ i. record { unread = conn.unread; work = conn.work; releases = conn.releases; replies = e i }
+
+pub on_err : {X Y P : Type 0} (result : Result X Y) → P → OnErr result P
+on_err (Ok x) p = tt
+on_err (Err y) p = p
+
+pub ok_both : {X Y Q : Type 0} (P R : X → Type 0) (result : Result X Y) → ((x : X) → P x → Q → R x) → IfOk result P → OnOk result Q → IfOk result R
+ok_both P R (Ok x) f p q = f x p q
+ok_both P R (Err y) f p q = tt
+
+pub ok_weaker : {X Y : Type 0} (P R : X → Type 0) (result : Result X Y) → ((x : X) → P x → R x) → IfOk result P → IfOk result R
+ok_weaker P R (Ok x) f p = f x p
+ok_weaker P R (Err y) f p = tt
+
+pub err_weaker : {X Y : Type 0} (P R : Y → Type 0) (result : Result X Y) → ((y : Y) → P y → R y) → IfErr result P → IfErr result R
+err_weaker P R (Ok x) f p = tt
+err_weaker P R (Err y) f p = f y p
+
+pub on_err_weaker : {X Y P Q : Type 0} (result : Result X Y) → (P → Q) → OnErr result P → OnErr result Q
+on_err_weaker (Ok x) f p = tt
+on_err_weaker (Err y) f p = f p
 
 pub on_ok : {X Y P Q : Type 0} (result : Result X Y) → (P → Q) → OnOk result P → OnOk result Q
 on_ok (Ok x) f p = f p

@@ -1,6 +1,6 @@
 -- The broker's disks in a bay, and what a start makes of them. This project's own.
 -- For example a fresh bay in memory tells two empty disks, which stand for no keys.
-use Rattle.std.specs.Prelude.{◌≡◌, ◌≤◌, ◌⊎◌, ℕ, List, Bool, Some, None, is_some}
+use Rattle.std.specs.Prelude.{◌≡◌, ◌≤◌, ◌<◌, ◌⊎◌, ℕ, List, Bool, true, Some, None, is_some}
 use Rattle.std.specs.declared.option.Option.{Option}
 use Rattle.edge_io.specs.declared.fault.Armed.{Armed}
 use Rattle.edge_io.specs.Causes.{Rose}
@@ -32,7 +32,17 @@ pub record IsFirst (contents : List ℕ → List ℕ) (was : Disks) (first : Sta
 abbrev pub AreOut : {B : Type 0} → (B → List ℕ → Bool) → Bool → B → Type 0
 AreOut out are bay = (out bay state_a ≡ are) × (out bay state_b ≡ are)
 
--- what a bay told before it tells still
+-- a disk of the broker that the bay told before it tells still
 pub record TellsStill {B D : Type 0} (disk : B → List ℕ → Option D) (old new : B) : Type 0 where
-  pub first : is_some (disk new state_a) ≡ is_some (disk old state_a)
-  pub second : is_some (disk new state_b) ≡ is_some (disk old state_b)
+  pub first : is_some (disk old state_a) ≡ true → is_some (disk new state_a) ≡ true
+  pub second : is_some (disk old state_b) ≡ true → is_some (disk new state_b) ≡ true
+
+-- the disks have at least the counts of faults with which they were taken
+abbrev pub CountFrom : {B D : Type 0} → (B → List ℕ → ℕ) → (D → ℕ) → B → Option (D × D) → Type 0
+CountFrom taken faults bay None = ⊥
+CountFrom taken faults bay (Some disks) = (taken bay state_a ≤ faults disks.0) × (taken bay state_b ≤ faults disks.1)
+
+-- one of the disks has a greater count than that with which it was taken
+abbrev pub HasRisen : {B D : Type 0} → (B → List ℕ → ℕ) → (D → ℕ) → B → Option (D × D) → Type 0
+HasRisen taken faults bay None = ⊥
+HasRisen taken faults bay (Some disks) = (taken bay state_a < faults disks.0) ⊎ (taken bay state_b < faults disks.1)

@@ -1,4 +1,4 @@
-ghost use Rattle.std.specs.Prelude.{◌≡◌, ◌≢◌, ◌⊎◌, ◌≤◌, [], List, ℕ, Bool, true, false, Some, None, is_some, IfOk, IfErr, OnOk, OnErr, Err};
+ghost use Rattle.std.specs.Prelude.{◌≡◌, ◌≢◌, ◌⊎◌, ◌≤◌, ◌-◌, ◌^◌, [], List, ℕ, Bool, true, false, Some, None, is_some, IfOk, IfErr, OnOk, OnErr, Err};
 ghost use Rattle.edge_io.specs.Bays.{IsSound};
 ghost use Rattle.edge_io.specs.Causes.{Rose};
 ghost use Rattle.session_script.specs.declared.event.Event.TheVariants.{Power};
@@ -10,7 +10,7 @@ ghost use Rattle.topic_conf.specs.Configs.{ConfigParts};
 ghost use Rattle.share_model.specs.ForeignRules.{ShareStates};
 ghost use Rattle.edge_io.specs.Bays.{Holds};
 ghost use Rattle.broker_core.specs.Restarts.{IsDamagedDisk};
-ghost use Rattle.broker_core.specs.Bays.{AreOut, IsFirst, TellsDisks, TellsStill};
+ghost use Rattle.broker_core.specs.Bays.{AreOut, CountFrom, HasRisen, IsFirst, TellsDisks, TellsStill};
 ghost use Rattle.broker_core.specs.Cores.{state_of, Advances, GoOn, IsCore, IsHeld, IsOpen, OneRose, StopsIn, disks_in};
 
 use crate::client::{connect, disconnect, one, send};
@@ -75,6 +75,7 @@ impl<D: Disk + Drop> Core<D> {
             × IsFirst contents was (state_of D.faults D.losses D.arms D.armed m core)) }
         ensures open { IfOk result (λ core. IsOpen core.foreign × (core.conf ≡ conf)) }
         ensures taken { OnOk result (AreOut B.out true bay.new) }
+        ensures counts { IfOk result (λ core. CountFrom B.taken D.faults bay.new (disks_in core.foreign)) }
         ensures back { OnErr result (AreOut B.out false bay.new) }
 
         // Each refusal has its cause. Contents that stand for states are never damaged.
@@ -84,6 +85,8 @@ impl<D: Disk + Drop> Core<D> {
             TellsDisks B.disk D.content D.faults D.losses D.arms D.armed bay.old contents was → StandForStates (contents state_a) (contents state_b) states →
             (disk : List ℕ) (place : ℕ) → result ≢ Err (CoreOpen.Damaged disk place) }
         ensures bay { result ≡ Err CoreOpen.Bay → Rose (B.faults bay.old) (B.faults bay.new) }
+        // The bay's count rose, or that of a disk stands at its last value.
+        ensures device { result ≡ Err CoreOpen.Device → Rose (B.faults bay.old) (B.faults bay.new) ⊎ ((disk : D) × (2 ^ 64 - 1 ≤ D.faults disk)) }
         ensures later { B.faults bay.old ≤ B.faults bay.new }
         ensures told { TellsStill B.disk bay.old bay.new }
         ensures sound { IsSound B.disk B.steady D.content D.armed D.arms D.starved D.faults bay.old → (result ≢ Err CoreOpen.Bay) × (result ≢ Err CoreOpen.Device) }
@@ -119,6 +122,7 @@ impl<D: Disk + Drop> Core<D> {
         ensures back { (first second : D) → disks_in self.foreign ≡ Some (first, second) →
             Holds (B.disk bay.old state_a) (B.disk bay.new state_a) first × Holds (B.disk bay.old state_b) (B.disk bay.new state_b) second }
         ensures in_again { AreOut B.out false bay.new }
+        ensures rises { HasRisen B.taken D.faults bay.old (disks_in self.foreign) → Rose (B.faults bay.old) (B.faults bay.new) }
         ensures later { B.faults bay.old ≤ B.faults bay.new }
     {
         let Core { foreign, .. } = self;

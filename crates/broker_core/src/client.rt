@@ -40,6 +40,34 @@ fn replies(alloc: Global, id: u32, conn: &mut Conn) -> Result<Vec<Outcome>, NoMe
     Ok(outcomes)
 }
 
+// The part that the connection asks is done.
+fn ask<D: Disk>(
+    alloc: Global,
+    conf: &Config,
+    id: u32,
+    part: Part,
+    conn: &mut Conn,
+    shard: &mut ForeignShard<D>,
+) -> Result<Vec<Outcome>, NoMemory>
+    requires { Awaits (Next.Ask part) conn.old }
+    ensures ok { IfOk result (λ outcomes. (s : ForeignShardState) → IsCarried D.content D.image D.starved shard.old s →
+        Leads D.content D.image D.starved D.faults D.losses D.arms D.armed shard.old s shard.new
+        (λ a call b. Does (rose_by D.faults shard.old shard.new) (ends_by shard.old) id (Next.Ask part) conn.old a b call outcomes.items conn.new)) }
+    ensures stopped { OnErr result ((s : ForeignShardState) → IsCarried D.content D.image D.starved shard.old s →
+        Halts D.content D.image s shard.new
+        (λ a call b. (outcomes : List Outcome) × (after : ConnParts) × Does (rose_by D.faults shard.old shard.new) (ends_by shard.old) id (Next.Ask part) conn.old a b call outcomes after)) }
+    ensures first { GoesOn D.content D.faults shard.old.journal.live.disk shard.new.journal.live.disk }
+    ensures second { shard.new.journal.idle ≡ shard.old.journal.idle }
+{
+    match part {
+        Part::Foreign(op) => {
+            let answer = act(&op, shard)?;
+            conn.give(conf, PartAnswer::Foreign(answer))?;
+            replies(alloc, id, conn)
+        }
+    }
+}
+
 // What the connection tells is done.
 fn done<D: Disk>(
     alloc: Global,
@@ -60,11 +88,7 @@ fn done<D: Disk>(
     ensures second { shard.new.journal.idle ≡ shard.old.journal.idle }
 {
     match next {
-        Next::Ask(Part::Foreign(op)) => {
-            let answer = act(&op, shard)?;
-            conn.give(conf, PartAnswer::Foreign(answer))?;
-            replies(alloc, id, conn)
-        }
+        Next::Ask(part) => ask(alloc, conf, id, part, conn, shard),
         Next::Ready => replies(alloc, id, conn),
         Next::Closed(cause) => one(alloc, Outcome::Closed { conn: id, cause }),
         Next::Idle | Next::Gone => Ok(Vec::new(alloc)),

@@ -45,6 +45,7 @@ pub fn act<D: Disk>(op: &ForeignOp, shard: &mut ForeignShard<D>) -> Result<Forei
 // Why a call of a disk failed.
 fn fault_of_call<D: Disk>(disk: &D) -> CoreOpen
     ensures device { result ≡ CoreOpen.Device → D.starved disk.now ≡ false }
+    ensures memory { D.starved disk.now ≡ true → result ≡ CoreOpen.NoMemory }
     ensures only { (result ≡ CoreOpen.Device) ⊎ (result ≡ CoreOpen.NoMemory) }
 {
     if disk.starved() {

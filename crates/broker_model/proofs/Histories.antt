@@ -1,6 +1,6 @@
 -- Foreign state is what the list of accepted calls gives.
-use Rattle.std.proofs.Common.{◌≡◌, ◌≢◌, ◌⊎◌, inl, inr, ◌↔◌, ℕ, ℤ, pos, int_eq, int_cmp, Bool, true, false, cond, List, [], ◌∷◌, ◌++◌, Option, Some, None, if◌then◌else◌, refl, sym, ap, ◌∙◌, subst, rules}
-use Rattle.std.proofs.lemmas.Bool.{cases_Bool, true≢false}
+use Rattle.std.proofs.Common.{◌≡◌, ◌≢◌, inl, inr, ℕ, ℤ, pos, int_eq, int_cmp, Bool, true, false, cond, List, [], ◌∷◌, ◌++◌, Option, Some, None, if◌then◌else◌, refl, sym, ap, ◌∙◌, subst}
+use Rattle.std.proofs.lemmas.Bool.{true≢false}
 use Rattle.std.proofs.lemmas.Map.Lookups.{CmpEqualImpliesEq, exact_signed, exact_bytes, exact_unsigned}
 use Rattle.std.specs.Cmp.{IsTotalOrder, then_total, on_total, nat_cmp_total}
 use Rattle.std.specs.Cmp.Lexicographic.{slice_cmp, nat_list_cmp_total}
@@ -8,16 +8,16 @@ use Rattle.std.specs.List.{AllByRecursion}
 use Rattle.std.specs.Map.{remove_entry}
 use Rattle.std.specs.BTreeMap.{insert_entry, is_at}
 use Rattle.std.specs.Option.{option_or}
-use Rattle.std.specs.Ordering.{nat_cmp, ordering_then, is_eq}
+use Rattle.std.specs.Ordering.{nat_cmp, ordering_then}
 use Rattle.std.specs.declared.cmp.Ordering.{Ordering}
 use Rattle.std.specs.declared.cmp.Ordering.TheVariants.{Less, Equal, Greater}
-use Rattle.share_model.specs.Foreign.{code_alone}
+use Rattle.share_model.specs.ForeignRules.{code_alone}
 use Rattle.share_model.specs.Keys.{KeyParts, key_cmp}
 use Rattle.share_model.specs.Runs.{IsCanonical, row_at}
-use Rattle.share_model.specs.ShareStates.{ShareState, start_after, is_below, last_row}
+use Rattle.share_model.specs.ShareStates.{ShareState, start_after, is_below}
 use Rattle.share_model.specs.ForeignRules.{ShareStates, Does, Initialises, Writes, WritesBatches, IsGranted, share_state_at, init_code, write_code, runs_of}
 use Rattle.share_model.specs.declared.fault.Code.{Code}
-use Rattle.share_model.specs.declared.fault.TheConstants.Code.{NONE, INVALID_REQUEST}
+use Rattle.share_model.specs.declared.fault.TheConstants.Code.{NONE}
 use Rattle.share_model.specs.declared.foreign.ForeignAnswer.{ForeignAnswer}
 use Rattle.share_model.specs.declared.foreign.ForeignOp.{ForeignOp}
 use Rattle.share_model.specs.declared.foreign.ForeignOp.TheVariants.{Init, Read, Write, Delete}
@@ -25,13 +25,13 @@ use Rattle.share_model.specs.declared.foreign.StateBatch.{StateBatch}
 use Rattle.share_model.specs.declared.row.Row.{Row}
 use Rattle.share_model.specs.declared.run.Run.{Run}
 use Rattle.foreign_coord.specs.Shards.{is_granted}
-use Rattle.broker_model.specs.History.{Call, AreDone, Accepted, is_of, with_call, history_of, state_epoch_of, leader_epoch_of, start_of, row_given, PassesOver, HasRow, IsStateOf, IsToldBy, StatesTellHistories}
-use Rattle.broker_model.specs.History.Accepted.{Initialised, Written}
-use Rattle.broker_model.proofs.Maps.{Rises, at_is, at_self, apart, set_found, set_other, removed_other, removed_gone, rises_set, rises_removed}
+use Rattle.broker_model.specs.History.{Call, AreDone, AcceptedCall, is_of, with_call, history_after, state_epoch_of, leader_epoch_of, start_of, row_given, PassesOver, HasRow, IsToldBy}
+use Rattle.broker_model.specs.History.AcceptedCall.{AcceptedInit, AcceptedWrite}
+use Rattle.broker_model.proofs.Maps.{Rises, equal_is, at_is, at_self, set_found, set_other, removed_other, removed_gone, rises_set, rises_removed}
 
 -- ---- keys
 
-keys_total : IsTotalOrder key_cmp
+pub keys_total : IsTotalOrder key_cmp
 keys_total = then_total (on_total (λ k. k.group) nat_list_cmp_total) (then_total (on_total (λ k. k.topic) nat_list_cmp_total) (on_total (λ k. k.part) nat_cmp_total))
 
 both_equal : (a b : Ordering) → ordering_then a b ≡ Equal → (a ≡ Equal) × (b ≡ Equal)
@@ -39,7 +39,7 @@ both_equal Less b e = absurd (cc)
 both_equal Equal b e = (refl, e)
 both_equal Greater b e = absurd (cc)
 
-keys_exact : CmpEqualImpliesEq key_cmp
+pub keys_exact : CmpEqualImpliesEq key_cmp
 keys_exact a b e =
     let front = both_equal (slice_cmp nat_cmp a.group b.group) (ordering_then (slice_cmp nat_cmp a.topic b.topic) (nat_cmp a.part b.part)) e in
     let rest = both_equal (slice_cmp nat_cmp a.topic b.topic) (nat_cmp a.part b.part) front.1 in
@@ -50,11 +50,11 @@ keys_exact a b e =
 
 -- ---- rows, from the newest write back
 
-abbrev row_in : List Accepted → ℕ → Option Row
+abbrev pub row_in : List AcceptedCall → ℕ → Option Row
 row_in [] offset = None
-row_in (Initialised state_epoch start ∷ earlier) offset = None
-row_in (Written state_epoch leader_epoch start batches ∷ earlier) offset =
-    if is_below offset (start_of (Written state_epoch leader_epoch start batches ∷ earlier)) then None
+row_in (AcceptedInit state_epoch start ∷ earlier) offset = None
+row_in (AcceptedWrite state_epoch leader_epoch start batches ∷ earlier) offset =
+    if is_below offset (start_of (AcceptedWrite state_epoch leader_epoch start batches ∷ earlier)) then None
     else option_or (row_given (runs_of batches) offset) (row_in earlier offset)
 
 none_some : {A : Type 0} (x : A) → None ≡ Some x → ⊥
@@ -69,10 +69,10 @@ tail_is x y xs ys e = cc
 module _ (offset : ℕ) (row : Row) where
   -- a row is that of such a write
 
-  module _ (state_epoch leader_epoch start : ℤ) (batches : List StateBatch) (earlier : List Accepted)
-      (kept : is_below offset (start_of (Written state_epoch leader_epoch start batches ∷ earlier)) ≡ false) where
-    abbrev write : Accepted
-    write = Written state_epoch leader_epoch start batches
+  module _ (state_epoch leader_epoch start : ℤ) (batches : List StateBatch) (earlier : List AcceptedCall)
+      (kept : is_below offset (start_of (AcceptedWrite state_epoch leader_epoch start batches ∷ earlier)) ≡ false) where
+    abbrev write : AcceptedCall
+    write = AcceptedWrite state_epoch leader_epoch start batches
 
     own_row : row_given (runs_of batches) offset ≡ Some row → HasRow (write ∷ earlier) offset row
     own_row gives = record {
@@ -87,8 +87,8 @@ module _ (offset : ℕ) (row : Row) where
       latest = tt;
       starts = λ newer since is. own_starts newer since is;
     } where
-      own_starts : (newer since : List Accepted) → [] ≡ newer ++ since → is_below offset (start_of (since ++ (write ∷ earlier))) ≡ false
-      own_starts [] since is = subst (λ (l : List Accepted). is_below offset (start_of (l ++ (write ∷ earlier))) ≡ false) is kept
+      own_starts : (newer since : List AcceptedCall) → [] ≡ newer ++ since → is_below offset (start_of (since ++ (write ∷ earlier))) ≡ false
+      own_starts [] since is = subst (λ (l : List AcceptedCall). is_below offset (start_of (l ++ (write ∷ earlier))) ≡ false) is kept
       own_starts (n ∷ newer) since is = absurd (cc)
 
     older_row : row_given (runs_of batches) offset ≡ None → HasRow earlier offset row → HasRow (write ∷ earlier) offset row
@@ -99,18 +99,18 @@ module _ (offset : ℕ) (row : Row) where
       start = h.start;
       batches = h.batches;
       earlier = h.earlier;
-      split = ap (λ (l : List Accepted). write ∷ l) h.split;
+      split = ap (λ (l : List AcceptedCall). write ∷ l) h.split;
       gives = h.gives;
       latest = (passes, h.latest);
       starts = λ newer since is. older_starts newer since is;
     } where
-      older : List Accepted
-      older = Written h.state_epoch h.leader_epoch h.start h.batches ∷ h.earlier
+      older : List AcceptedCall
+      older = AcceptedWrite h.state_epoch h.leader_epoch h.start h.batches ∷ h.earlier
 
-      older_starts : (newer since : List Accepted) → write ∷ h.later ≡ newer ++ since → is_below offset (start_of (since ++ older)) ≡ false
+      older_starts : (newer since : List AcceptedCall) → write ∷ h.later ≡ newer ++ since → is_below offset (start_of (since ++ older)) ≡ false
       older_starts [] since is =
-          subst (λ (l : List Accepted). is_below offset (start_of (l ++ older)) ≡ false) is
-          (subst (λ (l : List Accepted). is_below offset (start_of (write ∷ l)) ≡ false) h.split kept)
+          subst (λ (l : List AcceptedCall). is_below offset (start_of (l ++ older)) ≡ false) is
+          (subst (λ (l : List AcceptedCall). is_below offset (start_of (write ∷ l)) ≡ false) h.split kept)
       older_starts (n ∷ newer) since is = h.starts newer since (tail_is write n h.later (newer ++ since) is)
 
     from_parts : (given : Option Row) → row_given (runs_of batches) offset ≡ given → (row_in earlier offset ≡ Some row → HasRow earlier offset row)
@@ -118,59 +118,59 @@ module _ (offset : ℕ) (row : Row) where
     from_parts None is more e = older_row is (more e)
     from_parts (Some own) is more e = own_row (is ∙ e)
 
-  from_test : (below : Bool) (state_epoch leader_epoch start : ℤ) (batches : List StateBatch) (earlier : List Accepted)
-      → is_below offset (start_of (Written state_epoch leader_epoch start batches ∷ earlier)) ≡ below
+  from_test : (below : Bool) (state_epoch leader_epoch start : ℤ) (batches : List StateBatch) (earlier : List AcceptedCall)
+      → is_below offset (start_of (AcceptedWrite state_epoch leader_epoch start batches ∷ earlier)) ≡ below
       → (row_in earlier offset ≡ Some row → HasRow earlier offset row)
       → cond below None (option_or (row_given (runs_of batches) offset) (row_in earlier offset)) ≡ Some row
-      → HasRow (Written state_epoch leader_epoch start batches ∷ earlier) offset row
+      → HasRow (AcceptedWrite state_epoch leader_epoch start batches ∷ earlier) offset row
   from_test true s l start batches earlier is more e = absurd (none_some row e)
   from_test false s l start batches earlier is more e = from_parts s l start batches earlier is (row_given (runs_of batches) offset) refl more e
 
-  has_row : (history : List Accepted) → row_in history offset ≡ Some row → HasRow history offset row
+  has_row : (history : List AcceptedCall) → row_in history offset ≡ Some row → HasRow history offset row
   has_row [] e = absurd (none_some row e)
-  has_row (Initialised state_epoch start ∷ earlier) e = absurd (none_some row e)
-  has_row (Written s l start batches ∷ earlier) e =
-      from_test (is_below offset (start_of (Written s l start batches ∷ earlier))) s l start batches earlier refl (has_row earlier) e
+  has_row (AcceptedInit state_epoch start ∷ earlier) e = absurd (none_some row e)
+  has_row (AcceptedWrite s l start batches ∷ earlier) e =
+      from_test (is_below offset (start_of (AcceptedWrite s l start batches ∷ earlier))) s l start batches earlier refl (has_row earlier) e
 
   -- such a write's row is the row
 
-  module _ (state_epoch leader_epoch start : ℤ) (batches : List StateBatch) (earlier : List Accepted)
+  module _ (state_epoch leader_epoch start : ℤ) (batches : List StateBatch) (earlier : List AcceptedCall)
       (gives : row_given (runs_of batches) offset ≡ Some row) where
-    abbrev old : List Accepted
-    old = Written state_epoch leader_epoch start batches ∷ earlier
+    abbrev old : List AcceptedCall
+    old = AcceptedWrite state_epoch leader_epoch start batches ∷ earlier
 
-    row_behind : (later : List Accepted) → AllByRecursion (PassesOver offset) later
-        → ((newer since : List Accepted) → later ≡ newer ++ since → is_below offset (start_of (since ++ old)) ≡ false)
+    row_behind : (later : List AcceptedCall) → AllByRecursion (PassesOver offset) later
+        → ((newer since : List AcceptedCall) → later ≡ newer ++ since → is_below offset (start_of (since ++ old)) ≡ false)
         → row_in (later ++ old) offset ≡ Some row
     row_behind [] passes starts =
         ap (λ (b : Bool). cond b None (option_or (row_given (runs_of batches) offset) (row_in earlier offset))) (starts [] [] refl)
         ∙ ap (λ (r : Option Row). option_or r (row_in earlier offset)) gives
-    row_behind (Initialised s t ∷ later) passes starts = absurd passes.0
-    row_behind (Written s l t more ∷ later) passes starts =
+    row_behind (AcceptedInit s t ∷ later) passes starts = absurd passes.0
+    row_behind (AcceptedWrite s l t more ∷ later) passes starts =
         ap (λ (b : Bool). cond b None (option_or (row_given (runs_of more) offset) (row_in (later ++ old) offset)))
-        (starts [] (Written s l t more ∷ later) refl)
+        (starts [] (AcceptedWrite s l t more ∷ later) refl)
         ∙ ap (λ (r : Option Row). option_or r (row_in (later ++ old) offset)) passes.0
-        ∙ row_behind later passes.1 (λ newer since is. starts (Written s l t more ∷ newer) since (ap (λ (x : List Accepted). Written s l t more ∷ x) is))
+        ∙ row_behind later passes.1 (λ newer since is. starts (AcceptedWrite s l t more ∷ newer) since (ap (λ (x : List AcceptedCall). AcceptedWrite s l t more ∷ x) is))
 
-  is_row : (history : List Accepted) → HasRow history offset row → row_in history offset ≡ Some row
+  is_row : (history : List AcceptedCall) → HasRow history offset row → row_in history offset ≡ Some row
   is_row history h =
-      ap (λ (l : List Accepted). row_in l offset) h.split
+      ap (λ (l : List AcceptedCall). row_in l offset) h.split
       ∙ row_behind h.state_epoch h.leader_epoch h.start h.batches h.earlier h.gives h.later h.latest h.starts
 
 -- ---- what is known of a key
 
-record IsKnown (newest : Accepted) (earlier : List Accepted) (state : ShareState) : Type 0 where
-  state_epoch : state.state_epoch ≡ state_epoch_of newest
-  leader_epoch : state.leader_epoch ≡ leader_epoch_of newest
-  start : state.start ≡ start_of (newest ∷ earlier)
-  canonical : IsCanonical state.runs
-  rows : (offset : ℕ) → row_at state.runs offset ≡ row_in (newest ∷ earlier) offset
+pub record IsKnown (newest : AcceptedCall) (earlier : List AcceptedCall) (state : ShareState) : Type 0 where
+  pub state_epoch : state.state_epoch ≡ state_epoch_of newest
+  pub leader_epoch : state.leader_epoch ≡ leader_epoch_of newest
+  pub start : state.start ≡ start_of (newest ∷ earlier)
+  pub canonical : IsCanonical state.runs
+  pub rows : (offset : ℕ) → row_at state.runs offset ≡ row_in (newest ∷ earlier) offset
 
-abbrev Known : List Accepted → Option ShareState → Type 0
+abbrev pub Known : List AcceptedCall → Option ShareState → Type 0
 Known [] known = known ≡ None
 Known (newest ∷ earlier) known = (state : ShareState) × (known ≡ Some state) × IsKnown newest earlier state
 
-told_by : (history : List Accepted) (known : Option ShareState) → Known history known → IsToldBy history known
+pub told_by : (history : List AcceptedCall) (known : Option ShareState) → Known history known → IsToldBy history known
 told_by [] known k = k
 told_by (newest ∷ earlier) known k = (
   k.0,
@@ -191,11 +191,6 @@ told_by (newest ∷ earlier) known k = (
 
 granted_code : (code : Code) → is_granted (code_alone code) ≡ true → code ≡ NONE
 granted_code code e = let make : ℤ → Code = λ n. record { 0 = n } in ap make (int_same code.0 (pos 0) e) where
-  equal_is : (a : Ordering) → is_eq a ≡ true → a ≡ Equal
-  equal_is Less e = absurd (cc)
-  equal_is Equal e = refl
-  equal_is Greater e = absurd (cc)
-
   int_same : (x y : ℤ) → int_eq x y ≡ true → x ≡ y
   int_same x y e = exact_signed x y (equal_is (int_cmp x y) e)
 
@@ -206,12 +201,12 @@ refused_code code refused = go (is_granted (code_alone code)) refl where
   go false is = refl
 
 -- the histories of all keys, and what is known by them
-abbrev Histories : Type 0
-Histories = KeyParts → List Accepted
+abbrev pub Histories : Type 0
+Histories = KeyParts → List AcceptedCall
 
-record AreKnown (histories : Histories) (states : ShareStates) : Type 0 where
-  rises : Rises key_cmp keys_total keys_exact states
-  known : (key : KeyParts) → Known (histories key) (share_state_at states key)
+pub record AreKnown (histories : Histories) (states : ShareStates) : Type 0 where
+  pub rises : Rises key_cmp keys_total keys_exact states
+  pub known : (key : KeyParts) → Known (histories key) (share_state_at states key)
 
 abbrev then_histories : ForeignOp → ForeignAnswer → Histories → Histories
 then_histories op answer histories key = if is_granted answer then with_call key op (histories key) else histories key
@@ -231,7 +226,7 @@ module _ (histories : Histories) (old : ShareStates) (before : AreKnown historie
       true≢false (sym (at_self key_cmp keys_total keys_exact owner) ∙ ap (λ (k : KeyParts). is_of k owner) (sym same) ∙ away)
 
   -- a key whose state is set
-  module _ (owner : KeyParts) (state : ShareState) (newest : Accepted) (is_known : IsKnown newest (histories owner) state) where
+  module _ (owner : KeyParts) (state : ShareState) (newest : AcceptedCall) (is_known : IsKnown newest (histories owner) state) where
     set_known : (key : KeyParts) → Known (if is_of key owner then newest ∷ histories key else histories key)
         (share_state_at (insert_entry key_cmp old owner state) key)
     set_known key = go (is_of key owner) refl where
@@ -263,11 +258,11 @@ module _ (histories : Histories) (old : ShareStates) (before : AreKnown historie
       granted (Init owner state_epoch start) answer new (told ∙ ap code_alone made_now.0)
       (subst (λ (s : ShareStates). Rises key_cmp keys_total keys_exact s) (sym made_now.1) (rises_set key_cmp keys_total keys_exact owner made old before.rises))
       (λ key. subst (λ (s : ShareStates). Known (with_call key (Init owner state_epoch start) (histories key)) (share_state_at s key)) (sym made_now.1)
-      (set_known owner made (Initialised state_epoch start) made_known key)) where
+      (set_known owner made (AcceptedInit state_epoch start) made_known key)) where
         made : ShareState
         made = record { state_epoch = state_epoch; leader_epoch = pos 0; start = start; runs = [] }
 
-        made_known : IsKnown (Initialised state_epoch start) (histories owner) made
+        made_known : IsKnown (AcceptedInit state_epoch start) (histories owner) made
         made_known = record { state_epoch = refl; leader_epoch = refl; start = refl; canonical = tt; rows = λ offset. refl }
 
   reads : (owner : KeyParts) (leader_epoch : ℤ) (answer : ForeignAnswer) (new : ShareStates) → new ≡ old
@@ -275,9 +270,9 @@ module _ (histories : Histories) (old : ShareStates) (before : AreKnown historie
   reads owner leader_epoch answer new is = record {
     rises = subst (λ (s : ShareStates). Rises key_cmp keys_total keys_exact s) (sym is) before.rises;
     known = λ key. subst (λ (s : ShareStates). Known (then_histories (Read owner leader_epoch) answer histories key) (share_state_at s key)) (sym is)
-        (subst (λ (h : List Accepted). Known h (share_state_at old key)) (sym (either (is_granted answer) (histories key))) (before.known key));
+        (subst (λ (h : List AcceptedCall). Known h (share_state_at old key)) (sym (either (is_granted answer) (histories key))) (before.known key));
   } where
-    either : (b : Bool) (h : List Accepted) → cond b h h ≡ h
+    either : (b : Bool) (h : List AcceptedCall) → cond b h h ≡ h
     either true h = refl
     either false h = refl
 
@@ -310,7 +305,7 @@ module _ (histories : Histories) (old : ShareStates) (before : AreKnown historie
         abbrev laid_row : ℤ → Option Row → Option Row → ℕ → Option Row
         laid_row from over under offset = if is_below offset (start_after from start) then None else option_or over under
 
-        written_over : (history : List Accepted) → Known history (Some g.known) → IsKnown (Written state_epoch leader_epoch start batches) history written
+        written_over : (history : List AcceptedCall) → Known history (Some g.known) → IsKnown (AcceptedWrite state_epoch leader_epoch start batches) history written
         written_over [] none = absurd (none_some g.known (sym none))
         written_over (newest ∷ earlier) k =
             let same : g.known ≡ k.0 = some_same g.known k.0 k.1 in
@@ -333,7 +328,7 @@ module _ (histories : Histories) (old : ShareStates) (before : AreKnown historie
             granted asked answer new told
             (subst (λ (s : ShareStates). Rises key_cmp keys_total keys_exact s) (sym g.is) (rises_set key_cmp keys_total keys_exact owner written old before.rises))
             (λ key. subst (λ (s : ShareStates). Known (with_call key asked (histories key)) (share_state_at s key)) (sym g.is)
-            (set_known owner written (Written state_epoch leader_epoch start batches) known key))
+            (set_known owner written (AcceptedWrite state_epoch leader_epoch start batches) known key))
 
       writes_runs : Writes old owner state_epoch leader_epoch start runs answer new → AreKnown (then_histories asked answer histories) new
       writes_runs (inl kept) =
@@ -356,13 +351,8 @@ module _ (histories : Histories) (old : ShareStates) (before : AreKnown historie
 
 -- ---- all calls
 
-all_known : (calls : List Call) (states : ShareStates) → AreDone calls states → AreKnown (λ key. history_of key calls) states
-all_known [] states is = record {
-  rises = subst (λ (s : ShareStates). Rises key_cmp keys_total keys_exact s) (sym is) tt;
-  known = λ key. subst (λ (s : ShareStates). Known [] (share_state_at s key)) (sym is) refl;
-}
-all_known (call ∷ earlier) states p =
-    does_known (λ key. history_of key earlier) p.0 (all_known earlier p.0 p.1) call.op call.answer states p.2
-
-pub states_tell : StatesTellHistories
-states_tell calls states done key = told_by (history_of key calls) (share_state_at states key) ((all_known calls states done).known key)
+pub all_known : (calls : List Call) (histories : Histories) (first last : ShareStates) → AreDone first calls last → AreKnown histories first
+    → AreKnown (λ key. history_after key (histories key) calls) last
+all_known [] histories first last is known = subst (λ (s : ShareStates). AreKnown histories s) (sym is) known
+all_known (call ∷ calls) histories first last p known =
+    all_known calls (then_histories call.op call.answer histories) p.0 last p.2 (does_known histories first known call.op call.answer p.0 p.1)

@@ -7,16 +7,16 @@ use Rattle.edge_io.specs.Armed.{IsOneShot}
 use Rattle.edge_io.specs.Causes.{Rose}
 use Rattle.session_script.specs.declared.event.Event.{Event}
 use Rattle.session_script.specs.declared.event.Event.TheVariants.{Open, Bytes, Close, Step as StepOf, Arm, Power}
-use Rattle.session_script.specs.declared.event.Outcome.{Outcome}
 use Rattle.topic_conf.specs.Configs.{ConfigParts}
 use Rattle.broker_model.specs.Shards.{ShardCall, state_a, failures_in}
 use Rattle.broker_model.specs.Machine.{Machine}
-use Rattle.broker_model.specs.Disks.{Facts, Disks, IsTaken, OnDisk, Covers}
+use Rattle.broker_model.specs.Disks.{Disks, IsTaken, OnDisk, Covers}
 use Rattle.broker_model.specs.States.{State, IsStep, OnLosses, faults_of}
 use Rattle.broker_model.specs.Runs.{Step, IsRun, events_of, calls_of}
-use Rattle.broker_model.specs.Laws.{Loss, losses_on, TakesLoss, AreLosses, NoPower, NoArm, ArmsOne, arms_by, arms_after, HasArm, Rises, IsQuiet, RisesOnce, failures, HoldsOfDisk, HoldsOfRun}
+use Rattle.broker_model.specs.Laws.{Loss, losses_on, TakesLoss, AreLosses, NoPower, NoArm, ArmsOne, arms_by, arms_after, HasArm, Rises, IsQuiet, RisesOnce, failures, HoldsOfRun}
 use Rattle.broker_model.proofs.Uses.{Kind, IsCalm, kind_of, same_losses, arms_step, quiet_step, still_none, calm_step, shot, armed_one}
 use Rattle.broker_model.proofs.Chains.{run_parts}
+use Rattle.broker_model.proofs.Acts.{rose_in}
 use Rattle.broker_model.proofs.Fails.{step_counts}
 
 -- ---- losses
@@ -63,7 +63,7 @@ module _ (conf : ConfigParts) where
   counted : (s : Step) → IsStep conf s.before s.event s.call s.outcomes s.after
       → (failures_in s.call ≡ 0) ⊎ ((failures_in s.call ≡ 1) × Rose (faults_of s.before state_a) (faults_of s.after state_a))
   counted s step =
-      step_counts (λ name. Rose (faults_of s.before name) (faults_of s.after name)) s.before.ends conf s.before.machine s.event s.call s.outcomes
+      step_counts (rose_in s.before s.after) s.before.ends conf s.before.machine s.event s.call s.outcomes
       s.after.machine step.machine
 
   more_covered : (a b c n m : ℕ) → a ≤ b → (n ≡ 0) ⊎ ((n ≡ 1) × Rose a b) → b ≤ c → Covers b c m → Covers a c (n + m)

@@ -9,7 +9,7 @@ use Rattle.std.specs.Ordering.{match_ordering, ordering_reverse, is_eq}
 use Rattle.std.specs.declared.cmp.Ordering.{Ordering}
 use Rattle.std.specs.declared.cmp.Ordering.TheVariants.{Less, Equal, Greater}
 
-equal_is : (a : Ordering) → is_eq a ≡ true → a ≡ Equal
+pub equal_is : (a : Ordering) → is_eq a ≡ true → a ≡ Equal
 equal_is Less e = absurd (cc)
 equal_is Equal e = refl
 equal_is Greater e = absurd (cc)
@@ -71,6 +71,15 @@ module _ {K : Type 0} (cmp : K → K → Ordering) (order : IsTotalOrder cmp) (e
         let there : is_at (cmp other) e.0 ≡ false = ap (is_at (cmp other)) (sym (at_is key e.0 is)) ∙ apart other key differ in
         sym (ap (λ b. cond b (Some e.1) (found other es)) there)
     go ih false is = ap (cond (is_at (cmp other) e.0) (Some e.1)) ih
+
+  -- one that isn't there
+  pub removed_none : {X : Type 0} (key : K) (es : List (K × X)) → found key es ≡ None → remove_entry (is_at (cmp key)) es ≡ es
+  removed_none key [] none = refl
+  removed_none key (e ∷ es) none = go (is_at (cmp key) e.0) (removed_none key es) none where
+    go : (b : Bool) → (found key es ≡ None → remove_entry (is_at (cmp key)) es ≡ es) → cond b (Some e.1) (found key es) ≡ None
+        → cond b es (e ∷ remove_entry (is_at (cmp key)) es) ≡ e ∷ es
+    go true ih none = absurd (cc)
+    go false ih none = ap (λ l. e ∷ l) (ih none)
 
   -- ---- keys in order
 

@@ -1,12 +1,9 @@
 -- What a call on foreign state answers and leaves by the rules is one.
-use Rattle.std.proofs.Common.{◌≡◌, ◌≢◌, ◌⊎◌, ◌<◌, ◌≤◌, inl, inr, refl, sym, ap, ◌∙◌, subst, arith, ℕ, ℤ, List, length, max, Option, Some, None}
-use Rattle.share_model.specs.Foreign.{code_alone}
+use Rattle.std.proofs.Common.{◌≡◌, ◌<◌, ◌≤◌, inl, inr, sym, ◌∙◌, subst, arith, ℕ, ℤ, List, length, max, Option, Some, None}
 use Rattle.std.specs.BTreeMap.{insert_entry}
 use Rattle.share_model.specs.Keys.{KeyParts, key_cmp}
-use Rattle.share_model.specs.Runs.{row_at}
-use Rattle.share_model.specs.ShareStates.{ShareState, AreWritten, AreLaid, last_row, start_after}
-use Rattle.share_model.specs.ForeignRules.{ShareStates, Does, Initialises, Writes, WritesBatches, IsGranted, IsOverLimit, share_state_at, init_code, write_code, runs_of}
-use Rattle.share_model.specs.declared.fault.TheConstants.Code.{NONE}
+use Rattle.share_model.specs.ShareStates.{ShareState, AreWritten, AreLaid, start_after}
+use Rattle.share_model.specs.ForeignRules.{ShareStates, Does, Initialises, Writes, WritesBatches, IsGranted, IsOverLimit, share_state_at, runs_of}
 use Rattle.share_model.specs.declared.foreign.ForeignAnswer.{ForeignAnswer}
 use Rattle.share_model.specs.declared.foreign.ForeignOp.{ForeignOp}
 use Rattle.share_model.specs.declared.foreign.ForeignOp.TheVariants.{Init, Read, Write, Delete}

@@ -1,26 +1,22 @@
 -- What a step leaves alone: the other connections, the shards that it doesn't call, and their disks.
-use Rattle.std.proofs.Common.{◌≡◌, ◌≢◌, ◌⊎◌, inl, inr, ⊎_elim, refl, sym, ap, ◌∙◌, subst, rules, ℕ, List, Bool, true, false, cond, if◌then◌else◌, Option, Some, None}
+use Rattle.std.proofs.Common.{◌≡◌, ◌≢◌, ⊎_elim, refl, sym, ap, ◌∙◌, subst, ℕ, List, Bool, true, false, cond, if◌then◌else◌, Option, Some, None}
 use Rattle.std.proofs.lemmas.Map.Lookups.{exact_unsigned}
 use Rattle.std.specs.Ordering.{nat_cmp}
 use Rattle.std.specs.Cmp.{nat_cmp_total}
 use Rattle.std.specs.Map.{remove_entry}
-use Rattle.edge_io.specs.Causes.{Rose}
 use Rattle.session_script.specs.declared.event.Event.{Event}
 use Rattle.session_script.specs.declared.event.Event.TheVariants.{Open, Bytes, Close, Step, Arm, Power}
 use Rattle.session_script.specs.declared.event.Outcome.{Outcome}
 use Rattle.topic_conf.specs.Configs.{ConfigParts}
-use Rattle.conn_core.specs.declared.next.Next.{Next}
-use Rattle.conn_core.specs.declared.next.Next.TheVariants.{Idle, Ask, Ready, Closed as NextClosed, Gone}
 use Rattle.conn_core.specs.Conns.{ConnParts, new_conn, conn_after_bytes, conn_after_end, is_gone}
-use Rattle.conn_core.specs.Turning.{turn}
-use Rattle.broker_model.specs.Shards.{Shards, ShardCall, calls, same_name}
-use Rattle.broker_model.specs.Machine.{Machine, named, conn_at, opened_at, opened, at_connection, left, ended_in}
-use Rattle.broker_model.specs.Steps.{Does, Serves, StepsTo}
-use Rattle.broker_model.specs.Disks.{Facts, IsTaken, OnCalled, OnDisk, with_arm}
+use Rattle.broker_model.specs.Shards.{ShardCall, calls}
+use Rattle.broker_model.specs.Machine.{Machine, named, conn_at, opened_at, at_connection, left, ended_in}
+use Rattle.broker_model.specs.Steps.{Serves, StepsTo}
+use Rattle.broker_model.specs.Disks.{Facts, OnCalled, OnDisk, with_arm}
 use Rattle.broker_model.specs.Cutting.{Spares}
 use Rattle.broker_model.specs.Laws.{NoPower, NoArm}
-use Rattle.broker_model.specs.States.{State, IsStep, faults_of}
-use Rattle.broker_model.specs.Touching.{TouchesItsOwn, StepsTouchTheirOwn}
+use Rattle.broker_model.specs.Touching.{StepsTouchTheirOwn}
+use Rattle.broker_model.proofs.Acts.{rose_in, step_acts}
 use Rattle.broker_model.proofs.Maps.{set_other, removed_other}
 use Rattle.broker_model.proofs.Others.{conn_other}
 
@@ -69,25 +65,9 @@ module _ (conf : ConfigParts) (rose : List ℕ → Type 0) (ends : List ℕ → 
   some_none : (did : ShardCall) → call ≡ Some did → call ≡ None → ⊥
   some_none did is none = cc
 
-  turned_apart : (id : ℕ) (next : Next) (conn : ConnParts) (after : ConnParts) → call ≡ None
-      → Does rose ends id next conn old.shards new.shards call outcomes after → new.shards ≡ old.shards
-  turned_apart id Idle conn after none does = does.stays
-  turned_apart id (Ask part) conn after none does = absurd (some_none does.did does.is none)
-  turned_apart id Ready conn after none does = does.stays
-  turned_apart id (NextClosed cause) conn after none does = does.stays
-  turned_apart id Gone conn after none does = does.stays
-
-  shards_served : (id : ℕ) (c : Option ConnParts) → call ≡ None → Serves conf rose ends old id c call outcomes new → new.shards ≡ old.shards
-  shards_served id None none does = ap (λ (m : Machine). m.shards) does.same
-  shards_served id (Some c) none takes = turned_apart id (turn conf c).next (turn conf c).conn takes.after none takes.does
-
   shards_apart : (event : Event) → NoPower event → call ≡ None → StepsTo conf rose ends old event call outcomes new → new.shards ≡ old.shards
-  shards_apart (Open conn) free none does = ap (λ (m : Machine). m.shards) does.same
-  shards_apart (Bytes conn bytes) free none does = ap (λ (m : Machine). m.shards) does.same
-  shards_apart (Close conn) free none does = ap (λ (m : Machine). m.shards) does.same
-  shards_apart (Step conn now) free none does = shards_served conn (conn_at conn old.connections) none does
-  shards_apart (Arm disk after mode) free none does = ap (λ (m : Machine). m.shards) does.same
-  shards_apart (Power choice) free none does = absurd free
+  shards_apart event free none does = ⊎_elim
+      (λ quiet. quiet.same) (λ d. absurd (some_none d.did d.is none)) (step_acts rose ends conf old new call outcomes event free does)
 
 -- ---- disks
 
@@ -102,7 +82,7 @@ disk_apart name (Power choice) call old new free unarmed away d = absurd free
 
 pub touches : (conf : ConfigParts) → StepsTouchTheirOwn conf
 touches conf old new event call outcomes step = record {
-  connections = λ id spares. connections_apart conf (λ name. Rose (faults_of old name) (faults_of new name)) old.ends old.machine new.machine call outcomes id event spares step.machine;
-  shards = λ free none. shards_apart conf (λ name. Rose (faults_of old name) (faults_of new name)) old.ends old.machine new.machine call outcomes event free none step.machine;
+  connections = λ id spares. connections_apart conf (rose_in old new) old.ends old.machine new.machine call outcomes id event spares step.machine;
+  shards = λ free none. shards_apart conf (rose_in old new) old.ends old.machine new.machine call outcomes event free none step.machine;
   disks = λ name taken free unarmed away. disk_apart name event call (old.disks name) (new.disks name) free unarmed away (step.disks name taken);
 }

@@ -1,8 +1,7 @@
 -- Runs that are alike (this project's own).
 -- For example three sessions of the same two frames, on a line each, on one line, and in single bytes, have the same replies.
-use Rattle.std.specs.Prelude.{◌≡◌, ℕ, List, Option, None, Some}
+use Rattle.std.specs.Prelude.{◌≡◌, List, Option, None, Some}
 use Rattle.std.specs.List.{AllByRecursion}
-use Rattle.share_model.specs.declared.fault.StoreFault.{StoreFault}
 use Rattle.session_script.specs.declared.event.Event.{Event}
 use Rattle.topic_conf.specs.Configs.{ConfigParts}
 use Rattle.broker_model.specs.Shards.{ShardCall}

@@ -1,7 +1,7 @@
 -- What a run knows of each disk beside its content: numbers that say what has happened to it, and what each event does to them. This
 -- project's own.
 -- For example an arm of `foreign/state-a` raises its number of arms by one and arms its fault, and leaves those of `foreign/state-b`.
-use Rattle.std.specs.Prelude.{◌≡◌, ◌⊎◌, ◌≤◌, ◌+◌, ◌-◌, ◌^◌, min, ℕ, List, [], ◌∷◌, ◌++◌, Option, Some, None, Bool, true, false, if◌then◌else◌}
+use Rattle.std.specs.Prelude.{◌≡◌, ◌⊎◌, ◌≤◌, ◌+◌, ◌-◌, ◌^◌, min, ℕ, List, Option, Bool, true, false, if◌then◌else◌}
 use Rattle.edge_io.specs.declared.fault.FaultMode.{FaultMode}
 use Rattle.edge_io.specs.declared.fault.Armed.{Armed}
 use Rattle.edge_io.specs.declared.fault.Armed.TheVariants.{Nothing, After}

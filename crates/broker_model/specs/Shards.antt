@@ -1,7 +1,7 @@
 -- The shards of a broker as one state, and the calls on them. The shard of foreign state is all that there is; each shard's own crate
 -- has its states, calls and steps. This project's own.
 -- For example a read of foreign state leaves all shards as they are.
-use Rattle.std.specs.Prelude.{◌≡◌, ℕ, List, Option, Some, None, Bool, false, nat_eq, codes}
+use Rattle.std.specs.Prelude.{ℕ, List, Option, Some, None, Bool, false, nat_eq, codes}
 use Rattle.std.specs.Cmp.Lexicographic.{pointwise}
 use Rattle.share_model.specs.declared.fault.StoreFault.{StoreFault}
 use Rattle.share_model.specs.declared.fault.StoreFault.TheVariants.{Device, Full}

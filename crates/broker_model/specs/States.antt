@@ -10,7 +10,7 @@ use Rattle.topic_conf.specs.Configs.{ConfigParts}
 use Rattle.broker_model.specs.Shards.{ShardCall, calls}
 use Rattle.broker_model.specs.Machine.{Machine, Opening}
 use Rattle.broker_model.specs.Steps.{StepsTo}
-use Rattle.broker_model.specs.Disks.{Facts, Disks, IsTaken, OnDisk}
+use Rattle.broker_model.specs.Disks.{Disks, IsTaken, OnDisk}
 
 -- the machine, what is known of each disk, and where the journal on each ends
 pub record State : Type 0 where

@@ -1,8 +1,7 @@
 -- What a step leaves alone (this project's own).
 -- For example a step of connection 2 leaves connection 1 as it was.
-use Rattle.std.specs.Prelude.{◌≡◌, ◌≢◌, ℕ, List, Option, None, Some, false}
+use Rattle.std.specs.Prelude.{◌≡◌, ℕ, List, Option, None, false}
 use Rattle.session_script.specs.declared.event.Event.{Event}
-use Rattle.session_script.specs.declared.event.Event.TheVariants.{Open, Bytes, Close, Step, Arm, Power}
 use Rattle.session_script.specs.declared.event.Outcome.{Outcome}
 use Rattle.topic_conf.specs.Configs.{ConfigParts}
 use Rattle.broker_model.specs.Shards.{ShardCall, calls}

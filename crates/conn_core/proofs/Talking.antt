@@ -11,8 +11,10 @@ use Rattle.msgs_state.specs.ReadReply.{read_partition_result}
 use Rattle.state_calls.specs.StateCalls.{state_acts, state_stage}
 use Rattle.state_calls.specs.Initialize.{initialize_means}
 use Rattle.state_calls.specs.Read.{read_means}
+use Rattle.state_calls.specs.Write.{write_means}
+use Rattle.state_calls.specs.Delete.{delete_means}
 use Rattle.conn_core.specs.declared.hand.Hand.{Hand}
-use Rattle.conn_core.specs.declared.hand.Hand.TheVariants.{Initialize, Read}
+use Rattle.conn_core.specs.declared.hand.Hand.TheVariants.{Initialize, Read, Write, Delete}
 use Rattle.conn_core.specs.Hands.{hand_stage, hand_stage_after}
 use Rattle.conn_core.specs.Talking.{hand_talk_after, hand_talk, KeepsToItsTalk}
 
@@ -29,6 +31,12 @@ goes_alone (Initialize a) answer =
 goes_alone (Read a) answer =
     let acts = state_acts read_means read_partition_result in
     named (talk_of acts) (λ b. Read b) (stage_after acts a answer) (λ b. refl) ∙ (means_entries acts).goes_on a answer
+goes_alone (Write a) answer =
+    let acts = state_acts write_means partition_result in
+    named (talk_of acts) (λ b. Write b) (stage_after acts a answer) (λ b. refl) ∙ (means_entries acts).goes_on a answer
+goes_alone (Delete a) answer =
+    let acts = state_acts delete_means partition_result in
+    named (talk_of acts) (λ b. Delete b) (stage_after acts a answer) (λ b. refl) ∙ (means_entries acts).goes_on a answer
 
 pub keeps_to_talk : KeepsToItsTalk
 keeps_to_talk = record {
@@ -36,5 +44,9 @@ keeps_to_talk = record {
       (state_stage initialize_means partition_result conf.topics (record {}) m) (λ b. refl);
   read = λ conf m. named (talk_of (state_acts read_means read_partition_result)) (λ b. Read b)
       (state_stage read_means read_partition_result conf.topics (record {}) m) (λ b. refl);
+  write = λ conf m. named (talk_of (state_acts write_means partition_result)) (λ b. Write b)
+      (state_stage write_means partition_result conf.topics (record {}) m) (λ b. refl);
+  delete = λ conf m. named (talk_of (state_acts delete_means partition_result)) (λ b. Delete b)
+      (state_stage delete_means partition_result conf.topics (record {}) m) (λ b. refl);
   goes = λ hand answer. goes_alone hand answer;
 }

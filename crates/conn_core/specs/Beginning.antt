@@ -12,6 +12,8 @@ use Rattle.msgs_base.specs.FindCoordinatorReply.{find_coordinator_reply}
 use Rattle.msgs_state.specs.declared.state_message.StateRequest.{StateRequest}
 use Rattle.msgs_state.specs.declared.initialize_request.InitializePartition.{InitializePartition}
 use Rattle.msgs_state.specs.declared.read_request.ReadPartition.{ReadPartition}
+use Rattle.msgs_state.specs.declared.write_request.WritePartition.{WritePartition}
+use Rattle.msgs_state.specs.declared.delete_request.DeletePartition.{DeletePartition}
 use Rattle.msgs_state.specs.StateReply.{partition_result}
 use Rattle.msgs_state.specs.ReadReply.{read_partition_result}
 use Rattle.call_fold.specs.declared.call.Stage.{Stage}
@@ -19,8 +21,10 @@ use Rattle.call_fold.specs.declared.call.Stage.TheVariants.{Says}
 use Rattle.state_calls.specs.StateCalls.{state_stage}
 use Rattle.state_calls.specs.Initialize.{initialize_means}
 use Rattle.state_calls.specs.Read.{read_means}
+use Rattle.state_calls.specs.Write.{write_means}
+use Rattle.state_calls.specs.Delete.{delete_means}
 use Rattle.conn_core.specs.declared.hand.Hand.{Hand}
-use Rattle.conn_core.specs.declared.hand.Hand.TheVariants.{Initialize, Read}
+use Rattle.conn_core.specs.declared.hand.Hand.TheVariants.{Initialize, Read, Write, Delete}
 use Rattle.conn_core.specs.Versions.{versions_answer}
 use Rattle.conn_core.specs.Metadata.{metadata_answer}
 use Rattle.conn_core.specs.Coordinators.{coordinator_answer}
@@ -44,3 +48,9 @@ initialize_begins conf m = hand_stage (λ a. Initialize a) (state_stage initiali
 
 abbrev pub read_begins : Begins (StateRequest ReadPartition)
 read_begins conf m = hand_stage (λ a. Read a) (state_stage read_means read_partition_result conf.topics (record {}) m)
+
+abbrev pub write_begins : Begins (StateRequest WritePartition)
+write_begins conf m = hand_stage (λ a. Write a) (state_stage write_means partition_result conf.topics (record {}) m)
+
+abbrev pub delete_begins : Begins (StateRequest DeletePartition)
+delete_begins conf m = hand_stage (λ a. Delete a) (state_stage delete_means partition_result conf.topics (record {}) m)

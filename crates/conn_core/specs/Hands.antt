@@ -10,13 +10,17 @@ use Rattle.msgs_state.specs.ReadReply.{read_partition_result}
 use Rattle.state_calls.specs.StateCalls.{state_acts}
 use Rattle.state_calls.specs.Initialize.{initialize_means}
 use Rattle.state_calls.specs.Read.{read_means}
+use Rattle.state_calls.specs.Write.{write_means}
+use Rattle.state_calls.specs.Delete.{delete_means}
 use Rattle.conn_core.specs.declared.hand.Hand.{Hand}
-use Rattle.conn_core.specs.declared.hand.Hand.TheVariants.{Initialize, Read}
+use Rattle.conn_core.specs.declared.hand.Hand.TheVariants.{Initialize, Read, Write, Delete}
 
 -- the part that is asked
 abbrev pub hand_part : Hand → Part
 hand_part (Initialize a) = question_part (state_acts initialize_means partition_result) a
 hand_part (Read a) = question_part (state_acts read_means read_partition_result) a
+hand_part (Write a) = question_part (state_acts write_means partition_result) a
+hand_part (Delete a) = question_part (state_acts delete_means partition_result) a
 
 abbrev pub hand_stage : {A : Type 0} → (A → Hand) → Stage A → Stage Hand
 hand_stage hold (Asks a) = Asks (hold a)
@@ -26,3 +30,5 @@ hand_stage hold (Says body) = Says body
 abbrev pub hand_stage_after : Hand → PartAnswer → Stage Hand
 hand_stage_after (Initialize a) answer = hand_stage (λ b. Initialize b) (stage_after (state_acts initialize_means partition_result) a answer)
 hand_stage_after (Read a) answer = hand_stage (λ b. Read b) (stage_after (state_acts read_means read_partition_result) a answer)
+hand_stage_after (Write a) answer = hand_stage (λ b. Write b) (stage_after (state_acts write_means partition_result) a answer)
+hand_stage_after (Delete a) answer = hand_stage (λ b. Delete b) (stage_after (state_acts delete_means partition_result) a answer)

@@ -6,24 +6,32 @@ use Rattle.topic_conf.specs.Configs.{ConfigParts}
 use Rattle.msgs_state.specs.declared.state_message.StateRequest.{StateRequest}
 use Rattle.msgs_state.specs.declared.initialize_request.InitializePartition.{InitializePartition}
 use Rattle.msgs_state.specs.declared.read_request.ReadPartition.{ReadPartition}
+use Rattle.msgs_state.specs.declared.write_request.WritePartition.{WritePartition}
+use Rattle.msgs_state.specs.declared.delete_request.DeletePartition.{DeletePartition}
 use Rattle.msgs_state.specs.StateReply.{partition_result}
 use Rattle.msgs_state.specs.ReadReply.{read_partition_result}
 use Rattle.call_fold.specs.declared.part.PartAnswer.{PartAnswer}
 use Rattle.call_fold.specs.Talks.{Talk, asks, talk_after, stage_talk}
 use Rattle.state_calls.specs.declared.initialize.Initialize.{Initialize as InitializeCall}
 use Rattle.state_calls.specs.declared.read.Read.{Read as ReadCall}
+use Rattle.state_calls.specs.declared.write.Write.{Write as WriteCall}
+use Rattle.state_calls.specs.declared.delete.Delete.{Delete as DeleteCall}
 use Rattle.state_calls.specs.StateCalls.{state_acts}
 use Rattle.state_calls.specs.StateTalks.{state_talk}
 use Rattle.state_calls.specs.Initialize.{initialize_means}
 use Rattle.state_calls.specs.Read.{read_means}
+use Rattle.state_calls.specs.Write.{write_means}
+use Rattle.state_calls.specs.Delete.{delete_means}
 use Rattle.conn_core.specs.declared.hand.Hand.{Hand}
-use Rattle.conn_core.specs.declared.hand.Hand.TheVariants.{Initialize, Read}
+use Rattle.conn_core.specs.declared.hand.Hand.TheVariants.{Initialize, Read, Write, Delete}
 use Rattle.conn_core.specs.Hands.{hand_part, hand_stage_after}
-use Rattle.conn_core.specs.Beginning.{initialize_begins, read_begins}
+use Rattle.conn_core.specs.Beginning.{initialize_begins, read_begins, write_begins, delete_begins}
 
 abbrev pub hand_talk_after : Hand → PartAnswer → Talk
 hand_talk_after (Initialize a) answer = talk_after (state_acts initialize_means partition_result) a answer
 hand_talk_after (Read a) answer = talk_after (state_acts read_means read_partition_result) a answer
+hand_talk_after (Write a) answer = talk_after (state_acts write_means partition_result) a answer
+hand_talk_after (Delete a) answer = talk_after (state_acts delete_means partition_result) a answer
 
 abbrev pub hand_talk : Hand → Talk
 hand_talk hand = asks (hand_part hand) (hand_talk_after hand)
@@ -34,4 +42,8 @@ pub record KeepsToItsTalk : Type 0 where
       stage_talk hand_talk (initialize_begins conf m) ≡ state_talk {S = InitializeCall} initialize_means partition_result conf.topics (record {}) m
   pub read : (conf : ConfigParts) (m : StateRequest ReadPartition) →
       stage_talk hand_talk (read_begins conf m) ≡ state_talk {S = ReadCall} read_means read_partition_result conf.topics (record {}) m
+  pub write : (conf : ConfigParts) (m : StateRequest WritePartition) →
+      stage_talk hand_talk (write_begins conf m) ≡ state_talk {S = WriteCall} write_means partition_result conf.topics (record {}) m
+  pub delete : (conf : ConfigParts) (m : StateRequest DeletePartition) →
+      stage_talk hand_talk (delete_begins conf m) ≡ state_talk {S = DeleteCall} delete_means partition_result conf.topics (record {}) m
   pub goes : (hand : Hand) (answer : PartAnswer) → stage_talk hand_talk (hand_stage_after hand answer) ≡ hand_talk_after hand answer

@@ -6,7 +6,9 @@ ghost use Rattle.conn_core.specs.Hands.{hand_part, hand_stage_after};
 use call_fold::{Asking, Part, PartAnswer, Stage, part_of, take};
 use msgs_state::{PartitionResult, ReadPartitionResult};
 use share_model::NoMemory;
-use state_calls::{Beginning, Initialize, Read, Reading, StateHand, Wished};
+use state_calls::{
+    Beginning, Delete, Deleting, Initialize, Read, Reading, StateHand, Wished, Write, Writing,
+};
 use std::alloc::Global;
 
 /// A request in hand: a part of it is asked.
@@ -14,6 +16,8 @@ use std::alloc::Global;
 pub enum Hand {
     Initialize(Asking<StateHand<Initialize>, Wished<Beginning>, PartitionResult>),
     Read(Asking<StateHand<Read>, Wished<Reading>, ReadPartitionResult>),
+    Write(Asking<StateHand<Write>, Wished<Writing>, PartitionResult>),
+    Delete(Asking<StateHand<Delete>, Wished<Deleting>, PartitionResult>),
 }
 
 // A call's stage, under its name in hand.
@@ -36,6 +40,8 @@ impl Hand {
         match self {
             Hand::Initialize(asking) => part_of(alloc, asking),
             Hand::Read(asking) => part_of(alloc, asking),
+            Hand::Write(asking) => part_of(alloc, asking),
+            Hand::Delete(asking) => part_of(alloc, asking),
         }
     }
 
@@ -47,6 +53,8 @@ impl Hand {
         match self {
             Hand::Initialize(asking) => under_name!(Initialize, take(alloc, asking, answer)?),
             Hand::Read(asking) => under_name!(Read, take(alloc, asking, answer)?),
+            Hand::Write(asking) => under_name!(Write, take(alloc, asking, answer)?),
+            Hand::Delete(asking) => under_name!(Delete, take(alloc, asking, answer)?),
         }
     }
 }

@@ -1,25 +1,27 @@
 //! The requests that are served: with what each begins.
 ghost use Rattle.std.specs.Prelude.{◌≡◌, IfOk};
-ghost use Rattle.conn_core.specs.Beginning.{Begins, metadata_begins, coordinator_begins, versions_begins, initialize_begins, read_begins};
+ghost use Rattle.conn_core.specs.Beginning.{Begins, metadata_begins, coordinator_begins, versions_begins, initialize_begins, read_begins, write_begins, delete_begins};
 
 use crate::coordinators::coordinator_reply;
 use crate::hand::{Hand, under_name};
 use crate::metadata::metadata_reply;
 use crate::versions::versions_reply;
 use call_fold::Stage;
-use flex_fields::Wire;
 use msgs_base::{
     ApiVersionsRequest, FindCoordinatorRequest, MetadataRequest, write_api_versions_reply,
     write_find_coordinator_reply, write_metadata_reply,
 };
-use msgs_state::{InitializeShareGroupStateRequest, ReadShareGroupStateRequest};
+use msgs_state::{
+    DeleteShareGroupStateRequest, InitializeShareGroupStateRequest, ReadShareGroupStateRequest,
+    WriteShareGroupStateRequest,
+};
 use share_model::NoMemory;
-use state_calls::{Initialize, Read, state_call};
+use state_calls::{Delete, Initialize, Read, Write, state_call};
 use std::alloc::Global;
 use topic_conf::Config;
 
 /// A message that asks for a served call.
-pub trait Request: Wire {
+pub trait Request: Sized + Drop {
     /// With what the call begins: its first part, or its reply.
     ghost begins: { Begins Self };
 
@@ -70,5 +72,21 @@ impl Request for ReadShareGroupStateRequest {
 
     fn begin(self, alloc: Global, conf: &Config) -> Result<Stage<Hand>, NoMemory> {
         under_name!(Read, state_call(alloc, conf, Read, self)?)
+    }
+}
+
+impl Request for WriteShareGroupStateRequest {
+    ghost begins = { write_begins };
+
+    fn begin(self, alloc: Global, conf: &Config) -> Result<Stage<Hand>, NoMemory> {
+        under_name!(Write, state_call(alloc, conf, Write, self)?)
+    }
+}
+
+impl Request for DeleteShareGroupStateRequest {
+    ghost begins = { delete_begins };
+
+    fn begin(self, alloc: Global, conf: &Config) -> Result<Stage<Hand>, NoMemory> {
+        under_name!(Delete, state_call(alloc, conf, Delete, self)?)
     }
 }

@@ -11,7 +11,7 @@
 //! | `turn` | it is called once more |
 //! | `end` | the client closes |
 //! | `fronts HEX ..` | each proper front of these bytes leaves a new connection waiting, and gone without a reply at an end |
-//! | `asks PART` | a part that it asked, in order |
+//! | `asks PART` | a part that it asked, in order; the batches of a write are `FIRST LAST STATE COUNT`, each as it came |
 //! | `ready` | it answered a request without a part |
 //! | `closed CAUSE` | it closed |
 //! | `reply HEX ..` | a finished reply; all are taken at the end |

@@ -6,7 +6,7 @@ use crate::answer::{Answer, are_tellable, read_answer};
 use conn_core::{Conn, Next, Part, PartAnswer};
 use flex_fields::Items;
 use row_text::{Rows, Taken, bytes_of, compared, without_blanks};
-use share_model::{CloseCause, Code, ForeignAnswer, ForeignOp, Key};
+use share_model::{CloseCause, Code, ForeignAnswer, ForeignOp, Key, StateBatch};
 use std::alloc::Global;
 use std::collections::VecDeque;
 use std::io;
@@ -43,6 +43,21 @@ fn key_text(alloc: Global, key: &Key) -> io::Result<String> {
     Ok(format!(in alloc; "{group} {topic} {part}")?)
 }
 
+/// Adds the numbers of each batch.
+fn push_batches(alloc: Global, text: &mut String, batches: &[StateBatch]) -> io::Result<()> {
+    for batch in batches {
+        let StateBatch {
+            first,
+            last,
+            state,
+            count,
+        } = *batch;
+        let numbers = format!(in alloc; " {first} {last} {state} {count}")?;
+        text.push_str(numbers.as_str())?;
+    }
+    Ok(())
+}
+
 /// A part, in the words of the state calls.
 fn part_text(alloc: Global, op: &ForeignOp) -> io::Result<String> {
     match op {
@@ -58,7 +73,24 @@ fn part_text(alloc: Global, op: &ForeignOp) -> io::Result<String> {
             let key = key_text(alloc, key)?;
             Ok(format!(in alloc; "read {key} leader-epoch {leader_epoch}")?)
         }
-        _ => Ok(format!(in alloc; "{op:?}")?),
+        ForeignOp::Write {
+            key,
+            state_epoch,
+            leader_epoch,
+            start,
+            batches,
+        } => {
+            let key = key_text(alloc, key)?;
+            let mut text = format!(in alloc;
+                "write {key} state-epoch {state_epoch} leader-epoch {leader_epoch} start {start} batches"
+            )?;
+            push_batches(alloc, &mut text, batches.as_slice())?;
+            Ok(text)
+        }
+        ForeignOp::Delete { key } => {
+            let key = key_text(alloc, key)?;
+            Ok(format!(in alloc; "delete {key}")?)
+        }
     }
 }
 

@@ -110,7 +110,7 @@ module _ (name : List ℕ) (topic rest : Bor (List ℕ)) (cut : IsSplitOnceResul
         let p = split_parts 47 name (Some (topic, rest)) cut (lit< tt) in
         let q = split_parts 47 rest.now (Some (number, word)) next (lit< tt) in
         p.0 ∙ ap (λ (l : List ℕ). topic.now ++ 47 ∷ l)
-          (q.0 ∙ ap (λ (l : List ℕ). l ++ 47 ∷ word.now) e ∙ ap (λ (l : List ℕ). number_word n ++ 47 ∷ l) f)
+        (q.0 ∙ ap (λ (l : List ℕ). l ++ 47 ∷ word.now) e ∙ ap (λ (l : List ℕ). number_word n ++ 47 ∷ l) f)
 
     pub hosted_of : (n : ℕ) (place : DiskPlace) (r : Option (List ℕ)) → n < 64 → number.now ≡ number_word n → word.now ≡ disk_word place →
         IfSome r (λ x. x ≡ hosted_name topic.now n place) → (IsSome r ↔ (IsTopicName topic.now × (n < 64))) →

@@ -8,7 +8,7 @@ use Rattle.edge_io.specs.Causes.{Rose}
 use Rattle.edge_io.specs.Moments.{LeavesPairs}
 use Rattle.edge_io.specs.declared.fault.Armed.{Armed}
 use Rattle.flex_fields.specs.declared.fault.NoMemory.{NoMemory as want}
-use Rattle.share_model.specs.Foreign.{code_alone}
+use Rattle.share_model.specs.ForeignRules.{code_alone}
 use Rattle.share_model.specs.ForeignRules.{ShareStates, Does}
 use Rattle.share_model.specs.Pending.{WithPending}
 use Rattle.share_model.specs.declared.fault.TheConstants.Code.{NONE, INVALID_REQUEST, KAFKA_STORAGE_ERROR}

@@ -6,7 +6,7 @@ use Rattle.std.proofs.lemmas.Int.{to_z-of_z}
 use Rattle.std.proofs.lemmas.Result.{IfOk-weaker}
 use Rattle.edge_io.specs.declared.fault.Armed.{Armed}
 use Rattle.flex_fields.specs.declared.fault.NoMemory.{NoMemory as want}
-use Rattle.share_model.specs.Foreign.{code_alone}
+use Rattle.share_model.specs.ForeignRules.{code_alone}
 use Rattle.share_model.specs.ForeignRules.{ShareStates, runs_of, read_share_state, Does, WritesBatches, share_state_at}
 use Rattle.share_model.specs.Keys.{KeyParts}
 use Rattle.share_model.specs.ShareStates.{ShareState}

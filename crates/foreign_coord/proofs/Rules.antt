@@ -1,7 +1,7 @@
 -- What the store does is what the rules of the calls say.
 use Rattle.std.proofs.Common.{◌≡◌, ◌≢◌, inl, inr, ◌∙◌, refl, sym, ap, arith, ℕ, ℤ, pos, negsuc, List, Option, Some, None, Bool, true, false, int_lt, if◌then◌else◌}
 use Rattle.std.specs.Option.{option_map}
-use Rattle.share_model.specs.Foreign.{code_alone}
+use Rattle.share_model.specs.ForeignRules.{code_alone}
 use Rattle.share_model.specs.ForeignRules.{Initialises, Writes, read_known, read_share_state}
 use Rattle.share_model.specs.Keys.{KeyParts}
 use Rattle.share_model.specs.declared.fault.TheConstants.Code.{NONE, INVALID_REQUEST, FENCED_LEADER_EPOCH, KAFKA_STORAGE_ERROR}

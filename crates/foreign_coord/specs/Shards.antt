@@ -6,7 +6,7 @@
 use Rattle.std.specs.Prelude.{◌≡◌, ◌⊎◌, ◌<◌, ◌+◌, ◌^◌, ℕ, pos, List, length, Bool, true, false, Option, Some, None, is_some, if◌then◌else◌}
 use Rattle.std.specs.Option.{option_map}
 use Rattle.std.specs.Ordering.{int_eq}
-use Rattle.share_model.specs.Foreign.{code_alone}
+use Rattle.share_model.specs.ForeignRules.{code_alone}
 use Rattle.share_model.specs.ForeignRules.{ShareStates, Does, share_state_at}
 use Rattle.share_model.specs.Pending.{WithPending}
 use Rattle.share_model.specs.declared.fault.StoreFault.{StoreFault}

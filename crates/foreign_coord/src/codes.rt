@@ -1,6 +1,6 @@
 // The answers of the calls.
 ghost use Rattle.std.specs.Prelude.{◌≡◌, [], IfOk};
-ghost use Rattle.share_model.specs.Foreign.{code_alone};
+ghost use Rattle.share_model.specs.ForeignRules.{code_alone};
 ghost use Rattle.foreign_coord.specs.Codes.{Tells, TellsFault};
 
 use flex_fields::Items;

@@ -8,3 +8,5 @@ pub mod FindCoordinatorRequest
 pub mod MetadataReply
 pub mod MetadataRequest
 pub mod OldReply
+pub mod ProduceRequest
+pub mod ProduceReply

@@ -1,4 +1,4 @@
-//! The calls that a Kafka client makes first: ApiVersions, Metadata and FindCoordinator.
+//! The calls that a Kafka client makes first, ApiVersions, Metadata and FindCoordinator, and a producer's call, Produce.
 //!
 //! Each message is a struct, its schema in `specs/`, and two calls that read and write its body.
 #![tactic(auto)]
@@ -11,6 +11,8 @@ mod find_coordinator_reply;
 mod find_coordinator_request;
 mod metadata_reply;
 mod metadata_request;
+mod produce_reply;
+mod produce_request;
 
 pub use api_versions_old_reply::{
     ApiVersionsOldReply, OldApiVersion, read_api_versions_old_reply, write_api_versions_old_reply,
@@ -33,4 +35,11 @@ pub use metadata_reply::{
 };
 pub use metadata_request::{
     MetadataRequest, MetadataRequestTopic, read_metadata_request, write_metadata_request,
+};
+pub use produce_reply::{
+    ProducePartitionReply, ProduceRecordError, ProduceReply, ProduceTopicReply, read_produce_reply,
+    write_produce_reply,
+};
+pub use produce_request::{
+    ProducePartition, ProduceRequest, ProduceTopic, read_produce_request, write_produce_request,
 };

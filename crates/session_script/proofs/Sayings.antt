@@ -134,9 +134,11 @@ first_word (Bytes conn bytes) =
 first_word (Close conn) = (codes "close", decimal conn, record { parts = refl; whole = lacks_none 32 (codes "close") refl; one = inr (inr (inl refl)) })
 first_word (Step conn now) =
     (codes "step", decimal conn ++ 32 ∷ decimal now, record { parts = refl; whole = lacks_none 32 (codes "step") refl; one = inr (inr (inr (inl refl))) })
-first_word (Arm disk after mode) =
-    (codes "arm", disk ++ 32 ∷ (decimal after ++ 32 ∷ mode_word mode),
-      record { parts = refl; whole = lacks_none 32 (codes "arm") refl; one = inr (inr (inr (inr (inl refl)))) })
+first_word (Arm disk after mode) = (
+  codes "arm",
+  disk ++ 32 ∷ (decimal after ++ 32 ∷ mode_word mode),
+  record { parts = refl; whole = lacks_none 32 (codes "arm") refl; one = inr (inr (inr (inr (inl refl)))) },
+)
 first_word (Power choice) = (codes "power", decimal choice, record { parts = refl; whole = lacks_none 32 (codes "power") refl; one = inr (inr (inr (inr (inr refl)))) })
 
 abbrev all_small : List ℕ → Bool
@@ -171,7 +173,7 @@ ascii_words (Step conn now) is =
 ascii_words (Arm disk after mode) is =
     IsAscii-append (codes "arm" ++ 32 ∷ []) (disk ++ 32 ∷ (decimal after ++ 32 ∷ mode_word mode)) (small_ascii (codes "arm" ++ 32 ∷ []) refl)
     (IsAscii-append disk (32 ∷ (decimal after ++ 32 ∷ mode_word mode)) (name_is_ascii disk is.0)
-      (IsAscii-cons 32 (decimal after ++ 32 ∷ mode_word mode) (lit< tt) (numbered_ascii after (mode_word mode) is.1 (mode_ascii mode))))
+    (IsAscii-cons 32 (decimal after ++ 32 ∷ mode_word mode) (lit< tt) (numbered_ascii after (mode_word mode) is.1 (mode_ascii mode))))
 ascii_words (Power choice) is =
     IsAscii-append (codes "power" ++ 32 ∷ []) (decimal choice) (small_ascii (codes "power" ++ 32 ∷ []) refl) (IsAscii-decimal choice is)
 

@@ -5,13 +5,23 @@ use share_model::{Blob, CloseCause};
 #[derive(Debug, Drop)]
 pub enum Event {
     /// A client has connected. Connections are numbered by the script.
-    Open { conn: u32 },
+    Open {
+        conn: u32,
+    },
     /// These bytes have come from the client.
-    Bytes { conn: u32, bytes: Blob },
+    Bytes {
+        conn: u32,
+        bytes: Blob,
+    },
     /// The client has closed the connection.
-    Close { conn: u32 },
+    Close {
+        conn: u32,
+    },
     /// The broker does one step of the connection, at this moment in milliseconds.
-    Step { conn: u32, now: u64 },
+    Step {
+        conn: u32,
+        now: u64,
+    },
     /// The next `after` calls of this disk pass, and the one after them is broken.
     Arm {
         disk: DiskName,
@@ -19,7 +29,9 @@ pub enum Event {
         mode: FaultMode,
     },
     /// Each disk loses power, with this choice of what it leaves, and all is opened again.
-    Power { choice: u64 },
+    Power {
+        choice: u64,
+    },
 }
 
 /// What an event makes the broker do, as a client sees it.

@@ -2,11 +2,10 @@
 -- the share-group state calls; the limit of 1000000 runs is this project's own).
 -- For example a write with leader epoch 3 on a key that knows 4 is answered with code 74, and a later batch of one write wins over an
 -- earlier one: 0 to 2^62 acknowledged and then 5 available leave three runs.
-use Rattle.std.specs.Prelude.{◌≡◌, ◌≢◌, ◌⊎◌, ◌≤◌, ◌<◌, ◌^◌, ℕ, ℤ, pos, negsuc, Bool, true, false, List, [], ◌∷◌, length, max, Option, Some, None, int_le, int_lt, ◌&&◌, ◌||◌, not, if◌then◌else◌}
+use Rattle.std.specs.Prelude.{◌≡◌, ◌≢◌, ◌⊎◌, ◌≤◌, ◌<◌, ℕ, ℤ, pos, negsuc, List, [], ◌∷◌, length, max, Option, Some, None, int_le, int_lt, ◌&&◌, ◌||◌, not, if◌then◌else◌}
 use Rattle.std.specs.List.{list_all}
 use Rattle.std.specs.Map.{lookup, remove_entry}
 use Rattle.std.specs.BTreeMap.{insert_entry, is_at}
-use Rattle.share_model.specs.Foreign.{code_alone}
 use Rattle.share_model.specs.Keys.{KeyParts, key_cmp}
 use Rattle.share_model.specs.Rows.{state_of}
 use Rattle.share_model.specs.ShareStates.{ShareState, AreWritten, AreLaid, start_after, is_writable}
@@ -25,6 +24,10 @@ ShareStates = List (KeyParts × ShareState)
 
 abbrev pub share_state_at : ShareStates → KeyParts → Option ShareState
 share_state_at states key = lookup (is_at (key_cmp key)) states
+
+-- an answer that tells nothing but its code
+abbrev pub code_alone : Code → ForeignAnswer
+code_alone code = record { code = code; state_epoch = pos 0; start = negsuc 0; runs = [] }
 
 -- ---- batches
 

@@ -1,5 +1,4 @@
 pub mod Acks
-pub mod Foreign
 pub mod ForeignRules
 pub mod Held
 pub mod Keys

@@ -6,7 +6,7 @@ use Rattle.flex_fields.specs.Formats.{Format}
 use Rattle.share_model.specs.declared.fault.Code.{Code}
 use Rattle.share_model.specs.declared.fault.TheConstants.Code.{INVALID_GROUP_ID}
 use Rattle.share_model.specs.declared.foreign.ForeignAnswer.{ForeignAnswer}
-use Rattle.share_model.specs.Foreign.{code_alone}
+use Rattle.share_model.specs.ForeignRules.{code_alone}
 use Rattle.topic_conf.specs.declared.topic.Topic.{Topic}
 use Rattle.msgs_state.specs.declared.state_message.StateTopic.{StateTopic}
 use Rattle.msgs_state.specs.declared.state_message.StateRequest.{StateRequest}

@@ -5,7 +5,7 @@
 use Rattle.std.specs.Prelude.{ℕ, ℤ, pos, nat_abs, int_lt, nat_le, Bool, ◌&&◌, if◌then◌else◌, Option, Some, None, is_some}
 use Rattle.std.specs.Prelude.{List, map, length}
 use Rattle.share_model.specs.Keys.{KeyParts}
-use Rattle.share_model.specs.Foreign.{code_alone}
+use Rattle.share_model.specs.ForeignRules.{code_alone}
 use Rattle.share_model.specs.declared.foreign.ForeignOp.{ForeignOp}
 use Rattle.share_model.specs.declared.foreign.ForeignAnswer.{ForeignAnswer}
 use Rattle.share_model.specs.declared.fault.Code.{Code}

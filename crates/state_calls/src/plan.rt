@@ -1,6 +1,6 @@
 // The entries of a state call.
 ghost use Rattle.std.specs.Prelude.{◌≡◌, ◌≤ℤ◌, ◌++◌, pos, map, flat_map, IfOk, OnOk, IfNone};
-ghost use Rattle.share_model.specs.Foreign.{code_alone};
+ghost use Rattle.share_model.specs.ForeignRules.{code_alone};
 ghost use Rattle.state_calls.specs.States.{immediate_code, partition_entry, topic_entries, shape_of};
 
 use crate::place::{Place, Shape};

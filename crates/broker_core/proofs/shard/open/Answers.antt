@@ -1,0 +1,17 @@
+use Rattle.std.proofs.Common.{◌≡◌, false, ap, sym, ◌∙◌, rules}
+use Rattle.broker_core.proofs.Leading.{fed_both}
+use Rattle.broker_core.proofs.Opening.{opened}
+use Rattle.broker_core.proofs.shard.open.Goals as goal
+
+pub returns-else-starved-clause-opens : goal.returns-else-starved-clause-opens
+returns-else-starved-clause-opens g c = λ a b is is_second.
+    (let no : c.starved.result ≡ false = search rules in
+    let fed = fed_both c.starved.result _ _ no c.starved.ensures in
+    opened g.D.Disk.content g.D.Disk.image g.D.Disk.starved g.D.Disk.faults g.D.Disk.losses g.D.Disk.arms g.D.Disk.armed
+    c.args.first c.args.second a b c.in-Ok.shard is is_second c.in-Ok.ensures.opened.opens c.in-Ok.ensures.opened.only c.in-Ok.ensures.carries
+    c.in-Ok.ensures.both.runs c.in-Ok.ensures.both.second_runs fed.0 fed.1)
+
+pub returns-else-starved-3-clause-recovers : goal.returns-else-starved-3-clause-recovers
+returns-else-starved-3-clause-recovers g c = λ a b states is is_second stands name place damaged.
+    (let why = c.fault_of_open.ensures.damaged name place damaged in
+    c.in-Err.ensures.refused.sound a b stands.0 is is_second stands.1 why.0 place why.1)

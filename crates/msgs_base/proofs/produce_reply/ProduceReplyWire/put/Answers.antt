@@ -1,0 +1,9 @@
+use Rattle.flex_fields.proofs.Puts.{◌▸◌, structure_writes}
+use Rattle.msgs_base.specs.ProduceReply.{produce_reply_shape, produce_reply}
+use Rattle.msgs_base.proofs.produce_reply.ProduceReplyWire.put.Goals as goal
+
+pub returns-clause-ok : goal.returns-clause-ok
+unfolding produce_reply
+returns-clause-ok c =
+    structure_writes produce_reply_shape
+    (c.in_ok-put.ensures.ok ▸ c.in_ok-put-2.ensures.ok) c.in_ok-put_tags.ensures.ok
