@@ -24,7 +24,7 @@ always (Some x) P h = h x
 module _ (conf : ConfigParts) (input : InputChange) (output : OutputChange) (Session : List Event → (List Outcome → Type 0) → Ending → Type 0)
     (Untold Same : Type 0) (AtEntry : ((List ℕ → List ℕ) → Disks → Type 0) → Type 0) (Rises : Type 0) where
   abbrev Ends : Status → Type 0
-  Ends status = IsPlayed conf input output Session Untold status ⊎ (Same × IsNotOpened output AtEntry Rises status)
+  Ends status = IsPlayed conf input output Session Untold Rises status ⊎ (Same × IsNotOpened output AtEntry Rises status)
 
   abbrev IsWhole : ℕ → Type 0
   IsWhole number = IfSome input.left (λ text. (events : List Event) → IsScript text events → (number ≡ 0) ⊎ (number ≡ 8))
@@ -53,7 +53,7 @@ module _ (conf : ConfigParts) (input : InputChange) (output : OutputChange) (Ses
   pub not_device : (status : Status) → Ends status → (Untold → ⊥) → (Rises → ⊥) → status ≢ Device
   not_device status e told still is = device (subst Ends is e) where
     device : Ends Device → ⊥
-    device (inl untold) = told untold
+    device (inl stopped) = told stopped.1
     device (inr refusal) = still refusal.1.0
 
 -- the same over a bay; the members of the bay and of its disks come first
@@ -72,7 +72,7 @@ module _ {B D : Type 0} (disk : B → List ℕ → Option D) (content : D → Op
   AtEntry P = OfBay disk content faults losses arms armed old P
 
   abbrev Rises : Type 0
-  Rises = CountRose disk content faults losses arms armed bay_faults old new
+  Rises = CountRose disk faults bay_faults old new
 
   pub completes_on : (number : ℕ) (status : Status) → number ≡ status_number status → Replay status → status ≢ Damaged → status ≢ Device
       → (Rose input.faults input.faults_after → ⊥) → (Rose output.faults output.faults_after → ⊥)

@@ -52,10 +52,10 @@ within_ends conf = record {
 -- ---- a table of one kind of sessions gives that of another
 
 module _ (conf : ConfigParts) (input : InputChange) (output : OutputChange)
-    (S T : List Event → (List Outcome → Type 0) → Ending → Type 0) (Untold Never : Type 0)
+    (S T : List Event → (List Outcome → Type 0) → Ending → Type 0) (Untold Never Rises Rose_over : Type 0)
     (leaves : (events : List Event) (Tells : List Outcome → Type 0) → S events Tells Leaves → T events Tells Leaves)
     (within : (events : List Event) (Tells : List Outcome → Type 0) → S events Tells (LeavesWithin conf) → T events Tells (LeavesWithin conf))
-    (never : Untold → Never) where
+    (never : Untold → Never) (rises : Rises → Rose_over) where
   begun : IsBegun input (λ events. S events (WritesFront output) (LeavesWithin conf)) → IsBegun input (λ events. T events (WritesFront output) (LeavesWithin conf))
   begun b = record { events = b.events; begins = b.begins; session = within b.events (WritesFront output) b.session }
 
@@ -69,7 +69,7 @@ module _ (conf : ConfigParts) (input : InputChange) (output : OutputChange)
     session = leaves r.events (Tells r.fault) r.session;
   }
 
-  pub played : (status : Status) → IsPlayed conf input output S Untold status → IsPlayed conf input output T Never status
+  pub played : (status : Status) → IsPlayed conf input output S Untold Rises status → IsPlayed conf input output T Never Rose_over status
   played Done d = record {
     events = d.events;
     script = d.script;
@@ -97,7 +97,7 @@ module _ (conf : ConfigParts) (input : InputChange) (output : OutputChange)
     stopped (inl b) = inl (begun b)
     stopped (inr l) = inr (refused (λ fault. WritesPart (malformed_line fault) output) l)
   played Damaged u = never u
-  played Device u = never u
+  played Device u = (rises u.0, never u.1)
   played NoMemory b = begun b
 
 -- ---- over a bay; the members of the bay and of its disks come first
@@ -155,8 +155,8 @@ module _ {B D : Type 0} (disk : B → List ℕ → Option D) (content : D → Op
           record {
             first = p.0;
             second = p.1;
-            is_first = now.0 (still.first ∙ ap is_some t.is_first);
-            is_second = now.1 (still.second ∙ ap is_some t.is_second);
+            is_first = now.0 (still.first (ap is_some t.is_first));
+            is_second = now.1 (still.second (ap is_some t.is_second));
             content_first = a.1;
             content_second = b.1;
             are = refl;
@@ -180,27 +180,27 @@ module _ {B D : Type 0} (disk : B → List ℕ → Option D) (content : D → Op
     abbrev Session : List Event → (List Outcome → Type 0) → Ending → Type 0
     Session events Says Ends = OverBay disk content faults losses arms armed old new (IsSession conf events Says Ends)
 
-    pub played_over : (input : InputChange) (output : OutputChange) (status : Status)
-        → IsPlayed core.conf input output (FromCore content image starved faults losses arms armed core left)
-        (NeverFrom content image starved core) status → IsPlayed conf input output Session (OfBay disk content faults losses arms armed old (λ contents was. ⊥)) status
-    played_over input output status p =
+    pub played_over : (input : InputChange) (output : OutputChange) (Rises Rose_over : Type 0) → (Rises → Rose_over) → (status : Status)
+        → IsPlayed core.conf input output (FromCore content image starved faults losses arms armed core left) (NeverFrom content image starved core) Rises status
+        → IsPlayed conf input output Session (OfBay disk content faults losses arms armed old (λ contents was. ⊥)) Rose_over status
+    played_over input output Rises Rose_over rises status p =
         played conf input output (FromCore content image starved faults losses arms armed core left) Session
-        (NeverFrom content image starved core) (OfBay disk content faults losses arms armed old (λ contents was. ⊥))
+        (NeverFrom content image starved core) (OfBay disk content faults losses arms armed old (λ contents was. ⊥)) Rises Rose_over
         (λ events Says from. over Leaves leaves_ends events Says from)
         (λ events Says from. over (LeavesWithin conf) (within_ends conf) events Says from)
-        (λ never contents was t. let o = opens contents was t in never o.0 o.1)
+        (λ never contents was t. let o = opens contents was t in never o.0 o.1) rises
         status
         (subst (λ (c : ConfigParts). IsPlayed c input output (FromCore content image starved faults losses arms armed core left)
-        (NeverFrom content image starved core) status) same p)
+        (NeverFrom content image starved core) Rises status) same p)
 
   -- ---- a broker that was not opened
 
   module _ (old new : B) (bay_faults : B → ℕ) (output : OutputChange) (fault : CoreOpen)
       (damaged : (name : List ℕ) (place : ℕ) → fault ≡ open_fault.Damaged name place → (contents : List ℕ → List ℕ) (was : Disks) → Tells old contents was
       → IsDamagedDisk (contents state_a) (contents state_b) name place)
-      (rises : ((fault ≡ open_fault.Device) ⊎ (fault ≡ open_fault.Bay)) → CountRose disk content faults losses arms armed bay_faults old new) where
+      (rises : ((fault ≡ open_fault.Device) ⊎ (fault ≡ open_fault.Bay)) → CountRose disk faults bay_faults old new) where
     pub not_opened : (status : Status) → IsRefusal fault output status
-        → IsNotOpened output (OfBay disk content faults losses arms armed old) (CountRose disk content faults losses arms armed bay_faults old new) status
+        → IsNotOpened output (OfBay disk content faults losses arms armed old) (CountRose disk faults bay_faults old new) status
     not_opened Done r = r
     not_opened Usage r = r
     not_opened Malformed r = r
@@ -232,13 +232,13 @@ module _ {B D : Type 0} (disk : B → List ℕ → Option D) (content : D → Op
       )
 
   -- a replay over disks that tell their contents isn't stopped by a power loss
-  pub never_stopped : (core : CoreParts D) (left : Option (D × D)) (input : InputChange) (output : OutputChange) (status : Status)
-      → IsPlayed core.conf input output (FromCore content image starved faults losses arms armed core left) (NeverFrom content image starved core) status
+  pub never_stopped : (core : CoreParts D) (left : Option (D × D)) (input : InputChange) (output : OutputChange) (Rises : Type 0) (status : Status)
+      → IsPlayed core.conf input output (FromCore content image starved faults losses arms armed core left) (NeverFrom content image starved core) Rises status
       → (status ≡ Damaged) ⊎ (status ≡ Device) → NeverFrom content image starved core
-  never_stopped core left input output status p (inl is) = subst (λ (s : Status). IsPlayed core.conf input output
-      (FromCore content image starved faults losses arms armed core left) (NeverFrom content image starved core) s) is p
-  never_stopped core left input output status p (inr is) = subst (λ (s : Status). IsPlayed core.conf input output
-      (FromCore content image starved faults losses arms armed core left) (NeverFrom content image starved core) s) is p
+  never_stopped core left input output Rises status p (inl is) = subst (λ (s : Status). IsPlayed core.conf input output
+      (FromCore content image starved faults losses arms armed core left) (NeverFrom content image starved core) Rises s) is p
+  never_stopped core left input output Rises status p (inr is) = (subst (λ (s : Status). IsPlayed core.conf input output
+      (FromCore content image starved faults losses arms armed core left) (NeverFrom content image starved core) Rises s) is p).1
 
 pub refusal_damaged : (fault : CoreOpen) (output : OutputChange) (status : Status) → IsRefusal fault output status → status ≡ Damaged → IsRefusal fault output Damaged
 refusal_damaged fault output status r is = subst (λ (s : Status). IsRefusal fault output s) is r

@@ -11,7 +11,7 @@ use Rattle.session_script.specs.Unread.{Unread}
 use Rattle.session_script.specs.Reading.{Takes}
 use Rattle.broker_model.specs.Machine.{Machine}
 use Rattle.broker_model.specs.States.{State}
-use Rattle.broker_core.specs.Cores.{CoreParts, IsCore, IsOpen, disks_in, state_of}
+use Rattle.broker_core.specs.Cores.{CoreParts, IsCore, IsOpen, GoOn, OneRose, disks_in, state_of}
 use Rattle.share_top.specs.declared.status.Status.{Status}
 use Rattle.share_top.specs.declared.status.Status.TheVariants.{Done, Usage, Malformed, ReadFault, WriteFault, Damaged, Device, NoMemory}
 use Rattle.share_top.specs.Changes.{InputChange, OutputChange}
@@ -19,6 +19,7 @@ use Rattle.share_top.specs.Sessions.{Ending, Leaves, LeavesWithin, Writes, Write
 use Rattle.share_top.specs.Statuses.{IsPlayed, IsDone, IsRefusedScript, IsCut, IsBegun}
 use Rattle.share_top.specs.Going.{Going, FromCore, NeverFrom, Plays, PlaysPart, IsNotPlayed}
 use Rattle.share_top.proofs.ScriptReads as reads
+use Rattle.share_top.proofs.Counts.{go_on_same, go_on_then, rises}
 use Rattle.share_top.proofs.Goes.{begins, goes_on, retold, ran, ran_within, halted, text_behind, part_behind, kept_behind}
 
 module _ {D : Type 0} (content : D → Option (List ℕ)) (image : D → List ℕ → Type 0) (starved : D → Bool)
@@ -32,6 +33,7 @@ module _ {D : Type 0} (content : D → Option (List ℕ)) (image : D → List �
     read = reads.starts left;
     goes = λ m k. begins content image starved faults losses arms armed m first Tells k told;
     conf = refl;
+    disks = go_on_same content faults (disks_in first.foreign);
     is_open = opened;
   }
 
@@ -40,12 +42,14 @@ module _ {D : Type 0} (content : D → Option (List ℕ)) (image : D → List �
     -- an event was done, and its outcomes are told
     pub goes : (after : Option (List ℕ)) (U V : List Outcome → Type 0) → ((xs ys : List Outcome) → T xs → U ys → V (xs ++ ys)) → (e : Event) (next : CoreParts D)
         → Takes u v mid after (line_of e) → IsEvent e → v.place ≤ longest → Plays content image starved faults losses arms armed now e U next
-        → next.conf ≡ now.conf → IsOpen next.foreign → Going content image starved faults losses arms armed left after v V first next
-    goes after U V join e next t is le plays same opened = record {
+        → next.conf ≡ now.conf → GoOn content faults (disks_in now.foreign) (disks_in next.foreign) → IsOpen next.foreign
+        → Going content image starved faults losses arms armed left after v V first next
+    goes after U V join e next t is le plays same disks opened = record {
       read = reads.read_on left mid after u v e going.read t is le;
       goes = λ m k. goes_on content image starved faults losses arms armed first.conf (state_of faults losses arms armed m first) going.read.events e T U V join
           now next going.conf (going.goes m k) plays;
       conf = same ∙ going.conf;
+      disks = go_on_then content faults (disks_in first.foreign) (disks_in now.foreign) (disks_in next.foreign) going.disks disks;
       is_open = opened;
     }
 
@@ -102,15 +106,19 @@ module _ {D : Type 0} (content : D → Option (List ℕ)) (image : D → List �
     pub stopped : (output all : OutputChange) (e : Event) (next : CoreParts D)
         → ((xs ys : List Outcome) → T xs → WritesFront output ys → WritesFront all (xs ++ ys))
         → ((xs : List Outcome) → T xs → Keeps output.held output.held_after → WritesFront all xs)
-        → (Rose output.faults output.faults_after → Rose all.faults all.faults_after)
+        → (Rose output.faults output.faults_after → Rose all.faults all.faults_after) → IsOpen first.foreign
         → Took (line_of e) → IsEvent e → v.place ≤ longest → (status : Status)
         → IsNotPlayed content image starved faults losses arms armed now e next output status
-        → IsPlayed first.conf input all (From first next) (NeverFrom content image starved first) status
-    stopped output all e next join keep rose t is le Done p = absurd p
-    stopped output all e next join keep rose t is le Usage p = p
-    stopped output all e next join keep rose t is le Malformed p = absurd p
-    stopped output all e next join keep rose t is le ReadFault p = absurd p
-    stopped output all e next join keep rose t is le WriteFault p = (rose p.0, inl (part output (WritesFront all) e next join keep t is le p.1))
-    stopped output all e next join keep rose t is le Damaged p = never output (WritesFront all) e next join keep t is le p
-    stopped output all e next join keep rose t is le Device p = never output (WritesFront all) e next join keep t is le p
-    stopped output all e next join keep rose t is le NoMemory p = part output (WritesFront all) e next join keep t is le p
+        → IsPlayed first.conf input all (From first next) (NeverFrom content image starved first)
+        (OneRose faults (disks_in first.foreign) (disks_in next.foreign)) status
+    stopped output all e next join keep rose opened t is le Done p = absurd p
+    stopped output all e next join keep rose opened t is le Usage p = p
+    stopped output all e next join keep rose opened t is le Malformed p = absurd p
+    stopped output all e next join keep rose opened t is le ReadFault p = absurd p
+    stopped output all e next join keep rose opened t is le WriteFault p = (rose p.0, inl (part output (WritesFront all) e next join keep t is le p.1))
+    stopped output all e next join keep rose opened t is le Damaged p = never output (WritesFront all) e next join keep t is le p
+    stopped output all e next join keep rose opened t is le Device p = (
+      rises content faults first.foreign (disks_in now.foreign) (disks_in next.foreign) opened going.disks p.0,
+      never output (WritesFront all) e next join keep t is le p.1,
+    )
+    stopped output all e next join keep rose opened t is le NoMemory p = part output (WritesFront all) e next join keep t is le p

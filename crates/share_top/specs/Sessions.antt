@@ -20,7 +20,7 @@ use Rattle.broker_model.specs.Steps.{StepsTo}
 use Rattle.broker_model.specs.States.{State, faults_of}
 use Rattle.broker_model.specs.Runs.{Step, IsRun, events_of, outcomes_of}
 use Rattle.broker_model.specs.Laws.{HoldsOfRun}
-use Rattle.broker_core.specs.Bays.{TellsDisks, IsFirst, DiskRose}
+use Rattle.broker_core.specs.Bays.{TellsDisks, IsFirst, HasLastCount}
 use Rattle.broker_core.specs.Restarts.{IsDamagedDisk}
 use Rattle.share_top.specs.Changes.{OutputChange}
 
@@ -118,8 +118,6 @@ abbrev pub NamesDamage : (List ℕ → List ℕ) → (List ℕ → Type 0) → T
 NamesDamage contents Says =
     (disk : List ℕ) × (place : ℕ) × IsDamagedDisk (contents state_a) (contents state_b) disk place × Says (damaged_line disk place)
 
--- the bay's count of faults rose, or that of a disk that it tells
-abbrev pub CountRose : {B D : Type 0} → (B → List ℕ → Option D) → (D → Option (List ℕ)) → (D → ℕ) → (D → List (ℕ × List ℕ)) → (D → ℕ) → (D → Armed)
-    → (B → ℕ) → B → B → Type 0
-CountRose disk content faults losses arms armed bay_faults old new =
-    Rose (bay_faults old) (bay_faults new) ⊎ OfBay disk content faults losses arms armed old (λ contents was. DiskRose disk faults was new)
+-- the bay's count of faults rose, in which are those of its disks; or that of a disk stood at its last value
+abbrev pub CountRose : {B D : Type 0} → (B → List ℕ → Option D) → (D → ℕ) → (B → ℕ) → B → B → Type 0
+CountRose disk faults bay_faults old new = Rose (bay_faults old) (bay_faults new) ⊎ HasLastCount disk faults old

@@ -94,7 +94,7 @@ returns-in-Err-clause-played g c =
     (part_behind (g.O.Sink.held c.args.output.now) (g.O.Sink.held c.events.output) (g.O.Sink.held c.play_event.new.output))
     (kept_behind (g.O.Sink.held c.args.output.now) (g.O.Sink.held c.events.output) (g.O.Sink.held c.play_event.new.output))
     (subst (λ (n : ℕ). Rose n (g.O.Sink.faults c.play_event.new.output)) c.events.invariant.counted)
-    taken says.0 says.1 c.in-Err.status c.in-Err.ensures.stopped
+    c.requires taken says.0 says.1 c.in-Err.status c.in-Err.ensures.stopped
 
 pub events-preserved : goal.events-preserved
 events-preserved g c =
@@ -105,7 +105,7 @@ events-preserved g c =
       going = goes g.D.Disk.content g.D.Disk.image g.D.Disk.starved g.D.Disk.faults g.D.Disk.losses g.D.Disk.arms g.D.Disk.armed
           _ _ _ _ _ _ _ c.events.invariant.going _ _ _
           (text_behind (g.O.Sink.held c.args.output.now) (g.O.Sink.held c.events.output) (g.O.Sink.held c.play_event.new.output))
-          _ _ taken says.0 says.1 c.in-Ok-play_event.ensures.done c.play_event.ensures.conf c.in-Ok-play_event.ensures.open;
+          _ _ taken says.0 says.1 c.in-Ok-play_event.ensures.done c.play_event.ensures.conf c.play_event.ensures.disks c.in-Ok-play_event.ensures.open;
       read = omega (arith, c.events.invariant.read, c.take_event.ensures.later);
       counted = c.play_event.ensures.counted (λ e. absurd cc) ∙ c.events.invariant.counted;
     }
