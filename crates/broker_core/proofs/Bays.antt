@@ -79,18 +79,25 @@ greater before now rose = go (cases_Bool (nat_lt before (2 ^ 64 - 1))) where
   go (inr not) = inr (let l : (before < 2 ^ 64 - 1) → ⊥ = search rules in grind (arith, l))
 
 -- one of two disks that were taken has failed, and both are put back
-pub bay_rose : {D : Type 0} (faults : D → ℕ) (b0 b1 b2 b3 b4 t1 t2 : ℕ) (first second given given_second : D)
+pub bay_rose : {D : Type 0} (faults : D → ℕ) (L : Type 0) (b0 b1 b2 b3 b4 t1 t2 : ℕ) (first second given given_second : D)
     → Rose (faults first) (faults given) ⊎ Rose (faults second) (faults given_second) → b0 ≤ b1 → b1 ≤ b2 → b2 ≤ b3 → b3 ≤ b4
     → t1 ≡ faults first → t2 ≡ faults second → b3 ≡ min (b2 + (faults given - t1)) (2 ^ 64 - 1) → b4 ≡ min (b3 + (faults given_second - t2)) (2 ^ 64 - 1)
-    → Rose b0 b4 ⊎ ((disk : D) × (2 ^ 64 - 1 ≤ faults disk))
-bay_rose faults b0 b1 b2 b3 b4 t1 t2 first second given given_second (inl rose) l1 l2 l3 l4 e1 e2 p q = go (greater (faults first) (faults given) rose) where
-  go : (faults first < faults given) ⊎ (2 ^ 64 - 1 ≤ faults first) → Rose b0 b4 ⊎ ((disk : _) × (2 ^ 64 - 1 ≤ faults disk))
+    → (2 ^ 64 - 1 ≤ faults first → L) → (2 ^ 64 - 1 ≤ faults second → L) → Rose b0 b4 ⊎ L
+bay_rose faults L b0 b1 b2 b3 b4 t1 t2 first second given given_second (inl rose) l1 l2 l3 l4 e1 e2 p q on_first on_second =
+    go (greater (faults first) (faults given) rose) where
+  go : (faults first < faults given) ⊎ (2 ^ 64 - 1 ≤ faults first) → Rose b0 b4 ⊎ L
   go (inl less) = inl (omega (arith, less, l1, l2, l3, l4, e1, p))
-  go (inr last) = inr (first, last)
-bay_rose faults b0 b1 b2 b3 b4 t1 t2 first second given given_second (inr rose) l1 l2 l3 l4 e1 e2 p q = go (greater (faults second) (faults given_second) rose) where
-  go : (faults second < faults given_second) ⊎ (2 ^ 64 - 1 ≤ faults second) → Rose b0 b4 ⊎ ((disk : _) × (2 ^ 64 - 1 ≤ faults disk))
+  go (inr last) = inr (on_first last)
+bay_rose faults L b0 b1 b2 b3 b4 t1 t2 first second given given_second (inr rose) l1 l2 l3 l4 e1 e2 p q on_first on_second =
+    go (greater (faults second) (faults given_second) rose) where
+  go : (faults second < faults given_second) ⊎ (2 ^ 64 - 1 ≤ faults second) → Rose b0 b4 ⊎ L
   go (inl less) = inl (omega (arith, less, l1, l2, l3, l4, e2, q))
-  go (inr last) = inr (second, last)
+  go (inr last) = inr (on_second last)
+
+-- a disk that was handed out under the first name
+pub told_first : {B D : Type 0} (disk : B → List ℕ → Option D) (b : B) (name : List ℕ) (given : D) → name ≡ state_a → IsAsTold (disk b name) given
+    → IsAsTold (disk b state_a) given
+told_first disk b name given is told = λ d t. told d (ap (disk b) is ∙ t)
 
 -- ---- a start
 
