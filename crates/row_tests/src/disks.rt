@@ -30,9 +30,10 @@ fn fill(alloc: Global, bay: &mut MemBay, line: &DiskLine) -> io::Result<()>
     let Ok(disk) = MemDisk::new(alloc, line.bytes.as_slice().to_vec(alloc)?) else {
         return Ok(());
     };
-    if bay.take(&name).is_ok() {
-        bay.put_back(&name, disk);
-    }
+    let Ok(_) = bay.take(&name) else {
+        return Ok(());
+    };
+    bay.put_back(&name, disk);
     Ok(())
 }
 

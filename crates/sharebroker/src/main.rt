@@ -1,6 +1,9 @@
 //! The program: it hands the real streams and a bay of disks to the top call, and ends with its status.
 #![tactic(auto)]
 
+ghost use Rattle.std.specs.Prelude.{◌≡◌, List, ℕ, false};
+ghost use Rattle.edge_mem.specs.Bays.{out_at};
+
 mod ending;
 mod usage;
 
@@ -21,8 +24,10 @@ fn words(rt: &HostRuntime) -> Result<Vec<String>> {
     Ok(words)
 }
 
-// The bay over which these words are run.
-fn bay_for(rt: &HostRuntime, words: &[String]) -> MemBay {
+// The bay over which these words are run. No disk of it is out.
+fn bay_for(rt: &HostRuntime, words: &[String]) -> MemBay
+    ensures { (name : List ℕ) → out_at result name ≡ false }
+{
     match bay_choice(words) {
         BayChoice::Memory => MemBay::new(rt.alloc(), Vec::new(rt.alloc())),
     }
