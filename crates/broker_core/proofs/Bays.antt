@@ -1,22 +1,18 @@
 -- The broker's disks are taken from a bay and put back.
-use Rattle.std.proofs.Common.{◌≡◌, ◌≢◌, ◌≤◌, ◌<◌, ◌+◌, ◌-◌, ◌^◌, min, ◌⊎◌, [], nat_lt, arith, inl, inr, refl, sym, ap, ◌∙◌, subst, rules, ℕ, List, Bool, true, false, Some, None, is_some, Result, Ok, Err}
+use Rattle.std.proofs.Common.{◌≡◌, ◌≢◌, ◌≤◌, ◌<◌, ◌+◌, ◌-◌, ◌^◌, min, ◌⊎◌, [], nat_lt, arith, inl, inr, refl, sym, ap, ◌∙◌, subst, rules, ℕ, List, Bool, true, false, Some, is_some, Result, Ok, Err}
 use Rattle.std.proofs.lemmas.Bool.{cases_Bool}
 use Rattle.std.specs.declared.option.Option.{Option}
 use Rattle.edge_io.specs.declared.fault.Armed.{Armed}
-use Rattle.edge_io.specs.declared.fault.Armed.TheVariants.{Nothing}
 use Rattle.edge_io.specs.Causes.{Rose}
-use Rattle.edge_io.specs.Bays.{IsAsTold, Holds, SameSlot, IsSound}
-use Rattle.edge_io.specs.Disk.{IsTold}
+use Rattle.edge_io.specs.Bays.{IsAsTold, Holds, SameSlot}
 use Rattle.edge_io.specs.Names.{IsDiskName}
-use Rattle.conn_core.specs.Conns.{ConnParts}
 use Rattle.share_coord.specs.Parts.{StoreParts}
 use Rattle.broker_model.specs.Shards.{state_a, state_b, same_name}
 use Rattle.broker_model.specs.Machine.{Machine}
 use Rattle.broker_model.specs.Disks.{Facts, Disks, IsTaken, facts_of}
 use Rattle.broker_core.specs.declared.fault.CoreOpen.{CoreOpen}
-use Rattle.broker_core.specs.declared.slot.ForeignSlot.{ForeignSlot}
 use Rattle.broker_core.specs.declared.slot.ForeignSlot.TheVariants.{Open}
-use Rattle.broker_core.specs.Carried.{shards_of, facts_by}
+use Rattle.broker_core.specs.Carried.{shards_of}
 use Rattle.broker_core.specs.Restarts.{IsOpened, IsOpenedDisk}
 use Rattle.broker_core.specs.Cores.{CoreParts, IsCore, IsSlot, disks_in, facts_in, state_of}
 use Rattle.broker_core.specs.Bays.{TellsDisks, IsFirst, TellsStill}
@@ -83,18 +79,25 @@ greater before now rose = go (cases_Bool (nat_lt before (2 ^ 64 - 1))) where
   go (inr not) = inr (let l : (before < 2 ^ 64 - 1) → ⊥ = search rules in grind (arith, l))
 
 -- one of two disks that were taken has failed, and both are put back
-pub bay_rose : {D : Type 0} (faults : D → ℕ) (b0 b1 b2 b3 b4 t1 t2 : ℕ) (first second given given_second : D)
+pub bay_rose : {D : Type 0} (faults : D → ℕ) (L : Type 0) (b0 b1 b2 b3 b4 t1 t2 : ℕ) (first second given given_second : D)
     → Rose (faults first) (faults given) ⊎ Rose (faults second) (faults given_second) → b0 ≤ b1 → b1 ≤ b2 → b2 ≤ b3 → b3 ≤ b4
     → t1 ≡ faults first → t2 ≡ faults second → b3 ≡ min (b2 + (faults given - t1)) (2 ^ 64 - 1) → b4 ≡ min (b3 + (faults given_second - t2)) (2 ^ 64 - 1)
-    → Rose b0 b4 ⊎ ((disk : D) × (2 ^ 64 - 1 ≤ faults disk))
-bay_rose faults b0 b1 b2 b3 b4 t1 t2 first second given given_second (inl rose) l1 l2 l3 l4 e1 e2 p q = go (greater (faults first) (faults given) rose) where
-  go : (faults first < faults given) ⊎ (2 ^ 64 - 1 ≤ faults first) → Rose b0 b4 ⊎ ((disk : _) × (2 ^ 64 - 1 ≤ faults disk))
+    → (2 ^ 64 - 1 ≤ faults first → L) → (2 ^ 64 - 1 ≤ faults second → L) → Rose b0 b4 ⊎ L
+bay_rose faults L b0 b1 b2 b3 b4 t1 t2 first second given given_second (inl rose) l1 l2 l3 l4 e1 e2 p q on_first on_second =
+    go (greater (faults first) (faults given) rose) where
+  go : (faults first < faults given) ⊎ (2 ^ 64 - 1 ≤ faults first) → Rose b0 b4 ⊎ L
   go (inl less) = inl (omega (arith, less, l1, l2, l3, l4, e1, p))
-  go (inr last) = inr (first, last)
-bay_rose faults b0 b1 b2 b3 b4 t1 t2 first second given given_second (inr rose) l1 l2 l3 l4 e1 e2 p q = go (greater (faults second) (faults given_second) rose) where
-  go : (faults second < faults given_second) ⊎ (2 ^ 64 - 1 ≤ faults second) → Rose b0 b4 ⊎ ((disk : _) × (2 ^ 64 - 1 ≤ faults disk))
+  go (inr last) = inr (on_first last)
+bay_rose faults L b0 b1 b2 b3 b4 t1 t2 first second given given_second (inr rose) l1 l2 l3 l4 e1 e2 p q on_first on_second =
+    go (greater (faults second) (faults given_second) rose) where
+  go : (faults second < faults given_second) ⊎ (2 ^ 64 - 1 ≤ faults second) → Rose b0 b4 ⊎ L
   go (inl less) = inl (omega (arith, less, l1, l2, l3, l4, e2, q))
-  go (inr last) = inr (second, last)
+  go (inr last) = inr (on_second last)
+
+-- a disk that was handed out under the first name
+pub told_first : {B D : Type 0} (disk : B → List ℕ → Option D) (b : B) (name : List ℕ) (given : D) → name ≡ state_a → IsAsTold (disk b name) given
+    → IsAsTold (disk b state_a) given
+told_first disk b name given is told = λ d t. told d (ap (disk b) is ∙ t)
 
 -- ---- a start
 

@@ -1,8 +1,9 @@
 -- The broker's disks in a bay, and what a start makes of them. This project's own.
 -- For example a fresh bay in memory tells two empty disks, which stand for no keys.
-use Rattle.std.specs.Prelude.{◌≡◌, ◌≤◌, ◌<◌, ◌⊎◌, ℕ, List, Bool, true, Some, None, is_some}
+use Rattle.std.specs.Prelude.{◌≡◌, ◌≤◌, ◌<◌, ◌-◌, ◌^◌, ◌⊎◌, ℕ, List, Bool, true, Some, None, is_some}
 use Rattle.std.specs.declared.option.Option.{Option}
 use Rattle.edge_io.specs.declared.fault.Armed.{Armed}
+use Rattle.edge_io.specs.Bays.{IsAsTold}
 use Rattle.edge_io.specs.Causes.{Rose}
 use Rattle.share_model.specs.ForeignRules.{ShareStates}
 use Rattle.broker_model.specs.Shards.{state_a, state_b}
@@ -37,10 +38,23 @@ pub record TellsStill {B D : Type 0} (disk : B → List ℕ → Option D) (old n
   pub first : is_some (disk old state_a) ≡ true → is_some (disk new state_a) ≡ true
   pub second : is_some (disk old state_b) ≡ true → is_some (disk new state_b) ≡ true
 
--- the disks have at least the counts of faults with which they were taken
-abbrev pub CountFrom : {B D : Type 0} → (B → List ℕ → ℕ) → (D → ℕ) → B → Option (D × D) → Type 0
-CountFrom taken faults bay None = ⊥
-CountFrom taken faults bay (Some disks) = (taken bay state_a ≤ faults disks.0) × (taken bay state_b ≤ faults disks.1)
+-- The disk of this name was handed out with the count of faults that the bay notes of it, and has at least that count now. It was the one
+-- that the bay told, where it told one.
+pub record IsTakenFrom {B D : Type 0} (disk : B → List ℕ → Option D) (taken : B → List ℕ → ℕ) (faults : D → ℕ) (name : List ℕ) (old new : B) (now : D)
+    : Type 0 where
+  pub given : D
+  pub as_told : IsAsTold (disk old name) given
+  pub noted : taken new name ≡ faults given
+  pub later : faults given ≤ faults now
+
+abbrev pub AreTakenFrom : {B D : Type 0} → (B → List ℕ → Option D) → (B → List ℕ → ℕ) → (D → ℕ) → B → B → Option (D × D) → Type 0
+AreTakenFrom disk taken faults old new None = ⊥
+AreTakenFrom disk taken faults old new (Some disks) =
+    IsTakenFrom disk taken faults state_a old new disks.0 × IsTakenFrom disk taken faults state_b old new disks.1
+
+-- The count of a disk that the bay hands out stands at its last value. It is the one that the bay tells, where it tells one.
+abbrev pub HasLastCount : {B D : Type 0} → (B → List ℕ → Option D) → (D → ℕ) → B → Type 0
+HasLastCount disk faults bay = (name : List ℕ) × (d : _) × IsTaken name × IsAsTold (disk bay name) d × (2 ^ 64 - 1 ≤ faults d)
 
 -- one of the disks has a greater count than that with which it was taken
 abbrev pub HasRisen : {B D : Type 0} → (B → List ℕ → ℕ) → (D → ℕ) → B → Option (D × D) → Type 0

@@ -1,4 +1,4 @@
-ghost use Rattle.std.specs.Prelude.{◌≡◌, ◌≢◌, ◌⊎◌, ◌≤◌, ◌-◌, ◌^◌, [], List, ℕ, Bool, true, false, Some, None, is_some, IfOk, IfErr, OnOk, OnErr, Err};
+ghost use Rattle.std.specs.Prelude.{◌≡◌, ◌≢◌, ◌⊎◌, ◌≤◌, [], List, ℕ, Bool, true, false, Some, None, is_some, IfOk, IfErr, OnOk, OnErr, Err};
 ghost use Rattle.edge_io.specs.Bays.{IsSound};
 ghost use Rattle.edge_io.specs.Causes.{Rose};
 ghost use Rattle.session_script.specs.declared.event.Event.TheVariants.{Power};
@@ -10,7 +10,7 @@ ghost use Rattle.topic_conf.specs.Configs.{ConfigParts};
 ghost use Rattle.share_model.specs.ForeignRules.{ShareStates};
 ghost use Rattle.edge_io.specs.Bays.{Holds};
 ghost use Rattle.broker_core.specs.Restarts.{IsDamagedDisk};
-ghost use Rattle.broker_core.specs.Bays.{AreOut, CountFrom, HasRisen, IsFirst, TellsDisks, TellsStill};
+ghost use Rattle.broker_core.specs.Bays.{AreOut, AreTakenFrom, HasLastCount, HasRisen, IsFirst, TellsDisks, TellsStill};
 ghost use Rattle.broker_core.specs.Cores.{state_of, Advances, GoOn, IsCore, IsHeld, IsOpen, OneRose, StopsIn, disks_in};
 
 use crate::client::{connect, disconnect, one, send};
@@ -75,7 +75,7 @@ impl<D: Disk + Drop> Core<D> {
             × IsFirst contents was (state_of D.faults D.losses D.arms D.armed m core)) }
         ensures open { IfOk result (λ core. IsOpen core.foreign × (core.conf ≡ conf)) }
         ensures taken { OnOk result (AreOut B.out true bay.new) }
-        ensures counts { IfOk result (λ core. CountFrom B.taken D.faults bay.new (disks_in core.foreign)) }
+        ensures counts { IfOk result (λ core. AreTakenFrom B.disk B.taken D.faults bay.old bay.new (disks_in core.foreign)) }
         ensures back { OnErr result (AreOut B.out false bay.new) }
 
         // Each refusal has its cause. Contents that stand for states are never damaged.
@@ -85,8 +85,8 @@ impl<D: Disk + Drop> Core<D> {
             TellsDisks B.disk D.content D.faults D.losses D.arms D.armed bay.old contents was → StandForStates (contents state_a) (contents state_b) states →
             (disk : List ℕ) (place : ℕ) → result ≢ Err (CoreOpen.Damaged disk place) }
         ensures bay { result ≡ Err CoreOpen.Bay → Rose (B.faults bay.old) (B.faults bay.new) }
-        // The bay's count rose, or that of a disk stands at its last value.
-        ensures device { result ≡ Err CoreOpen.Device → Rose (B.faults bay.old) (B.faults bay.new) ⊎ ((disk : D) × (2 ^ 64 - 1 ≤ D.faults disk)) }
+        // The bay's count rose, or that of a disk stood at its last value.
+        ensures device { result ≡ Err CoreOpen.Device → Rose (B.faults bay.old) (B.faults bay.new) ⊎ HasLastCount B.disk D.faults bay.old }
         ensures later { B.faults bay.old ≤ B.faults bay.new }
         ensures told { TellsStill B.disk bay.old bay.new }
         ensures sound { IsSound B.disk B.steady D.content D.armed D.arms D.starved D.faults bay.old → (result ≢ Err CoreOpen.Bay) × (result ≢ Err CoreOpen.Device) }

@@ -1,6 +1,6 @@
 // A case as far as it was read.
 use crate::judge::{judge_again, judge_run, judge_settings};
-use row_text::{Rows, Taken, without_blanks};
+use row_text::{Rows, Taken, bytes_of, without_blanks};
 use std::alloc::Global;
 use std::io;
 
@@ -11,6 +11,16 @@ pub struct Case {
     pub wanted: String,
     pub read_faults: Vec<u64>,
     pub write_faults: Vec<u64>,
+    pub bay_faults: Vec<u64>,
+    pub disks: Vec<DiskLine>,
+    pub left: Vec<DiskLine>,
+}
+
+/// A disk, and a content of it.
+#[derive(Drop)]
+pub struct DiskLine {
+    pub second: bool,
+    pub bytes: Vec<u8>,
 }
 
 /// Adds a line.
@@ -39,6 +49,16 @@ fn push_bytewise(alloc: Global, out: &mut String, text: &str) -> io::Result<()> 
     Ok(())
 }
 
+/// A line of a disk's name and bytes.
+fn disk_line(alloc: Global, text: &str) -> io::Result<DiskLine> {
+    let (name, digits) = text.split_once(' ').unwrap_or((text, ""));
+    let bytes = bytes_of(alloc, digits)?;
+    Ok(DiskLine {
+        second: name == "foreign/state-b",
+        bytes: bytes.unwrap_or(Vec::new(alloc)),
+    })
+}
+
 /// The words that stand between blanks.
 fn words_of(alloc: Global, text: &str) -> io::Result<Vec<String>> {
     let mut words = Vec::new(alloc);
@@ -56,6 +76,9 @@ impl Case {
             wanted: String::new(alloc),
             read_faults: Vec::new(alloc),
             write_faults: Vec::new(alloc),
+            bay_faults: Vec::new(alloc),
+            disks: Vec::new(alloc),
+            left: Vec::new(alloc),
         }
     }
 
@@ -65,6 +88,9 @@ impl Case {
             "words" => self.words = words_of(alloc, text)?,
             "read-fault" => self.read_faults.push(text.parse().unwrap_or(0))?,
             "write-fault" => self.write_faults.push(text.parse().unwrap_or(0))?,
+            "bay-fault" => self.bay_faults.push(text.parse().unwrap_or(0))?,
+            "disk" => self.disks.push(disk_line(alloc, text)?)?,
+            "left" => self.left.push(disk_line(alloc, text)?)?,
             ">" => push_line(&mut self.script, text)?,
             "send" => push_bytes(alloc, &mut self.script, "bytes", text)?,
             "bytewise" => push_bytewise(alloc, &mut self.script, text)?,
@@ -84,6 +110,9 @@ impl Rows for Case {
         self.wanted = String::new(alloc);
         self.read_faults = Vec::new(alloc);
         self.write_faults = Vec::new(alloc);
+        self.bay_faults = Vec::new(alloc);
+        self.disks = Vec::new(alloc);
+        self.left = Vec::new(alloc);
         Ok(())
     }
 

@@ -1,5 +1,6 @@
 // What differs between that which a case gives and that which is wanted.
 use crate::case::Case;
+use crate::disks::{bay_of, compared_disks};
 use edge_mem::{MemSink, MemSource};
 use row_text::compared;
 use session_script::{ScriptReader, Taken, write_event};
@@ -15,14 +16,18 @@ pub fn judge_run(rt: &HostRuntime, case: &Case, status: &str) -> io::Result<Opti
     let script = case.script.as_bytes().to_vec(alloc)?;
     let mut input = MemSource::new(script, case.read_faults.as_slice().to_vec(alloc)?);
     let mut output = MemSink::new(alloc, case.write_faults.as_slice().to_vec(alloc)?);
-    let ended = run(rt, alloc, &case.words, &mut input, &mut output);
+    let mut bay = bay_of(alloc, case)?;
+    let ended = run(rt, alloc, &case.words, &mut input, &mut output, &mut bay);
     let ended = format!(in alloc; "{ended}")?;
     if ended.as_str() != status {
         let why = format!(in alloc; "the status is {ended}, and {status} is wanted")?;
         return Ok(Some(why));
     }
     let wrote = str::from_utf8(output.bytes()).unwrap_or("no UTF-8");
-    compared(alloc, wrote, case.wanted.as_str())
+    if let Some(why) = compared(alloc, wrote, case.wanted.as_str())? {
+        return Ok(Some(why));
+    }
+    compared_disks(alloc, &mut bay, case)
 }
 
 /// Reads the events of a case's script, and writes them.

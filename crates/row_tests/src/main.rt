@@ -10,6 +10,9 @@
 //! | `bytewise C HEX ..` | such a line for each byte |
 //! | `cut TEXT` | text without a line feed |
 //! | `read-fault N`, `write-fault N` | the call of the input or output that fails, counted from 0 |
+//! | `bay-fault N` | the call for a disk that fails, counted from 0; the first disk is `foreign/state-a`, and the second `foreign/state-b` |
+//! | `disk NAME HEX ..` | the content of a disk before the run; one that has no such line is empty |
+//! | `left NAME HEX ..` | the content that a disk is wanted to have behind the run |
 //! | `< LINE` | a line that is wanted |
 //! | `reply C HEX ..` | the line `reply C HEX` is wanted |
 //! | `status N` | the session is run, and has to write those lines and to end with N |
@@ -18,6 +21,7 @@
 #![tactic(auto)]
 
 mod case;
+mod disks;
 mod judge;
 
 use case::Case;

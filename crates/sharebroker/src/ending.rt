@@ -14,6 +14,12 @@ const READ_FAULT: u8 = 4;
 /// The status where the output failed.
 const WRITE_FAULT: u8 = 5;
 
+/// The status where the content of a disk isn't store text.
+const DAMAGED: u8 = 6;
+
+/// The status where a disk or the bay failed.
+const DEVICE: u8 = 7;
+
 /// The status where no memory is found.
 pub const NO_MEMORY: u8 = 8;
 
@@ -52,6 +58,11 @@ pub fn tell_status(rt: &HostRuntime, status: u8, faults: StreamFaults) {
         ),
         READ_FAULT => tell_fault(rt, "standard input", faults.input),
         WRITE_FAULT => tell_fault(rt, "standard output", faults.output),
+        DAMAGED => tell(
+            rt,
+            "a disk has a content that no broker wrote; the last line of the output names it, and the place of its first fault",
+        ),
+        DEVICE => tell(rt, "a disk failed"),
         NO_MEMORY => tell(rt, "out of memory"),
         _ => {}
     }

@@ -1,12 +1,13 @@
-//! The program: it hands the real streams to the top call and ends with its status.
+//! The program: it hands the real streams and a bay of disks to the top call, and ends with its status.
 #![tactic(auto)]
 
 mod ending;
 mod usage;
 
+use edge_mem::MemBay;
 use edge_real::{ReaderSource, WriterSink};
 use ending::{NO_MEMORY, StreamFaults, USAGE, tell_status};
-use share_top::run;
+use share_top::{BayChoice, bay_choice, run};
 use std::env;
 use std::io::{ErrorKind, Result};
 use std::process::ExitCode;
@@ -20,11 +21,21 @@ fn words(rt: &HostRuntime) -> Result<Vec<String>> {
     Ok(words)
 }
 
+// The bay over which these words are run.
+fn bay_for(rt: &HostRuntime, words: &[String]) -> MemBay {
+    match bay_choice(words) {
+        BayChoice::Memory => MemBay::new(rt.alloc(), Vec::new(rt.alloc())),
+    }
+}
+
 fn main(rt: HostRuntime) -> ExitCode {
     let mut input = ReaderSource::new(rt.stdin());
     let mut output = WriterSink::new(rt.stdout());
     let status = match words(&rt) {
-        Ok(words) => run(&rt, rt.alloc(), &words, &mut input, &mut output),
+        Ok(words) => {
+            let mut bay = bay_for(&rt, &words);
+            run(&rt, rt.alloc(), &words, &mut input, &mut output, &mut bay)
+        }
         Err(error) if error.kind() == ErrorKind::OutOfMemory => NO_MEMORY,
         Err(_) => USAGE,
     };

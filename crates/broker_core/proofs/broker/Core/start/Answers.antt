@@ -1,7 +1,8 @@
-use Rattle.std.proofs.Common.{◌≡◌, ◌≢◌, ◌∙◌, refl, sym, ap, rules, Err, is_some}
+use Rattle.std.proofs.Common.{◌≡◌, ◌≢◌, ◌∙◌, inl, inr, refl, sym, ap, rules, Err, is_some}
 use Rattle.broker_model.specs.Shards.{state_a, state_b}
 use Rattle.broker_core.specs.declared.fault.CoreOpen.TheVariants.{Damaged, Device, Bay}
-use Rattle.broker_core.proofs.Bays.{first_is, second_is, one_told, both_told, first_content, second_content, started, a_is_name, b_is_name, err_is, bay_rose, apart as apart_names}
+use Rattle.broker_core.specs.Bays.{HasLastCount}
+use Rattle.broker_core.proofs.Bays.{told_first, first_is, second_is, one_told, both_told, first_content, second_content, started, a_is_name, b_is_name, err_is, bay_rose, apart as apart_names}
 use Rattle.broker_core.proofs.broker.Core.start.Goals as goal
 
 pub returns-in_default-take-clause-told : goal.returns-in_default-take-clause-told
@@ -51,10 +52,48 @@ pub returns-in-Err-clause-device : goal.returns-in-Err-clause-device
 returns-in-Err-clause-device g c = λ err.
     let apart : c.foreign_state_b-second_name.result ≢ c.foreign_state_a-first_name.result =
         λ e. apart_names (sym c.foreign_state_a-first_name.ensures ∙ sym e ∙ c.foreign_state_b-second_name.ensures) in
-    bay_rose g.D.Disk.faults (g.B.Bay.faults c.args.bay.now) (g.B.Bay.faults c.take.new.self) (g.B.Bay.faults c.take-2.new.self) (g.B.Bay.faults c.put_back-in-Err.new.self)
+    bay_rose g.D.Disk.faults (HasLastCount g.B.Bay.disk g.D.Disk.faults c.args.bay.now)
+    (g.B.Bay.faults c.args.bay.now) (g.B.Bay.faults c.take.new.self) (g.B.Bay.faults c.take-2.new.self) (g.B.Bay.faults c.put_back-in-Err.new.self)
     (g.B.Bay.faults c.put_back-in-Err-2.new.self) (g.B.Bay.taken c.take-2.new.self c.foreign_state_a-first_name.result)
     (g.B.Bay.taken c.put_back-in-Err.new.self c.foreign_state_b-second_name.result) c.in-Ok.first c.in-Ok-take.second c.in-Err.first c.in-Err.second
     (c.in-Err.ensures.device (err_is c.in-Err.fault Device err)) c.take.ensures.cause.later c.take-2.ensures.cause.later c.put_back-in-Err.ensures.later c.put_back-in-Err-2.ensures.later
     ((c.take-2.ensures.others c.foreign_state_a-first_name.result (λ e. apart (sym e))).same_taken ∙ c.in-Ok.ensures.is_out.1)
     ((c.put_back-in-Err.ensures.others c.foreign_state_b-second_name.result apart).same_taken ∙ c.in-Ok-take.ensures.is_out.1)
     c.put_back-in-Err.ensures.counts c.put_back-in-Err-2.ensures.counts
+    (λ last. (
+      state_a,
+      c.in-Ok.first,
+      inl refl,
+      told_first g.B.Bay.disk c.args.bay.now c.foreign_state_a-first_name.result c.in-Ok.first c.foreign_state_a-first_name.ensures c.in-Ok.ensures.given,
+      last,
+    ))
+    (λ last. (
+      state_b,
+      c.in-Ok-take.second,
+      inr refl,
+      (λ d told. second_is g.B.Bay.disk g.B.Bay.out g.B.Bay.taken c.args.bay.now c.take.new.self c.foreign_state_a-first_name.result
+          c.foreign_state_b-second_name.result c.in-Ok-take.second d
+          c.foreign_state_a-first_name.ensures c.foreign_state_b-second_name.ensures c.take.ensures.others c.in-Ok-take.ensures.given told),
+      last,
+    ))
+
+pub returns-in-Ok-open-clause-counts : goal.returns-in-Ok-open-clause-counts
+returns-in-Ok-open-clause-counts g c =
+    let apart : c.foreign_state_a-first_name.result ≢ c.foreign_state_b-second_name.result =
+        λ e. apart_names (sym c.foreign_state_a-first_name.ensures ∙ e ∙ c.foreign_state_b-second_name.ensures) in (
+      record {
+        given = c.in-Ok.first;
+        as_told = told_first g.B.Bay.disk c.args.bay.now c.foreign_state_a-first_name.result c.in-Ok.first c.foreign_state_a-first_name.ensures c.in-Ok.ensures.given;
+        noted = ap (g.B.Bay.taken c.take-2.new.self) (sym c.foreign_state_a-first_name.ensures)
+            ∙ (c.take-2.ensures.others c.foreign_state_a-first_name.result apart).same_taken ∙ c.in-Ok.ensures.is_out.1;
+        later = c.in-Ok-open.ensures.first.later;
+      },
+      record {
+        given = c.in-Ok-take.second;
+        as_told = λ d told. second_is g.B.Bay.disk g.B.Bay.out g.B.Bay.taken c.args.bay.now c.take.new.self c.foreign_state_a-first_name.result
+            c.foreign_state_b-second_name.result c.in-Ok-take.second d
+            c.foreign_state_a-first_name.ensures c.foreign_state_b-second_name.ensures c.take.ensures.others c.in-Ok-take.ensures.given told;
+        noted = ap (g.B.Bay.taken c.take-2.new.self) (sym c.foreign_state_b-second_name.ensures) ∙ c.in-Ok-take.ensures.is_out.1;
+        later = c.in-Ok-open.ensures.second.later;
+      },
+    )

@@ -1,0 +1,79 @@
+// The disks of a case: what they have before it, and what they are left with.
+ghost use Rattle.std.specs.Prelude.{◌≡◌, ◌⊎◌, false, IfOk};
+ghost use Rattle.edge_mem.specs.Bays.{out_at};
+ghost use Rattle.broker_model.specs.Shards.{state_a, state_b};
+ghost use Rattle.broker_core.specs.Bays.{AreOut};
+
+use crate::case::{Case, DiskLine};
+use edge_io::{Bay, DiskName};
+use edge_mem::{MemBay, MemDisk};
+use row_text::compared;
+use std::alloc::Global;
+use std::io;
+
+fn name_of(line: &DiskLine) -> DiskName
+    ensures { (result ≡ state_a) ⊎ (result ≡ state_b) }
+{
+    if line.second {
+        DiskName::foreign_state_b()
+    } else {
+        DiskName::foreign_state_a()
+    }
+}
+
+/// Gives a disk this content.
+fn fill(alloc: Global, bay: &mut MemBay, line: &DiskLine) -> io::Result<()>
+    requires { AreOut out_at false bay.old }
+    ensures { AreOut out_at false bay.new }
+{
+    let name = name_of(line);
+    let Ok(disk) = MemDisk::new(alloc, line.bytes.as_slice().to_vec(alloc)?) else {
+        return Ok(());
+    };
+    if bay.take(&name).is_ok() {
+        bay.put_back(&name, disk);
+    }
+    Ok(())
+}
+
+/// The bay of a case.
+pub fn bay_of(alloc: Global, case: &Case) -> io::Result<MemBay>
+    ensures { IfOk result (λ bay. AreOut out_at false bay) }
+{
+    let mut failing = Vec::new(alloc);
+    for call in &case.bay_faults {
+        failing.push(call.saturating_add(case.disks.len() as u64))?;
+    }
+    let mut bay = MemBay::new(alloc, failing);
+    for line in &case.disks {
+        fill(alloc, &mut bay, line)?;
+    }
+    Ok(bay)
+}
+
+/// What differs between the content of a disk and the one that is wanted.
+fn compared_disk(alloc: Global, bay: &mut MemBay, line: &DiskLine) -> io::Result<Option<String>>
+    requires { AreOut out_at false bay.old }
+    ensures { AreOut out_at false bay.new }
+{
+    let name = name_of(line);
+    let Ok(disk) = bay.take(&name) else {
+        return Ok(Some(String::from_str(alloc, "the disk isn't there")?));
+    };
+    let got = hex::encode(alloc, disk.bytes());
+    bay.put_back(&name, disk);
+    let wanted = hex::encode(alloc, line.bytes.as_slice())?;
+    compared(alloc, got?.as_str(), wanted.as_str())
+}
+
+/// What differs between the disks of a case behind it, and what they are to be left with.
+pub fn compared_disks(alloc: Global, bay: &mut MemBay, case: &Case) -> io::Result<Option<String>>
+    requires { AreOut out_at false bay.old }
+{
+    for line in &case.left {
+        if let Some(why) = compared_disk(alloc, bay, line)? {
+            return Ok(Some(why));
+        }
+    }
+    Ok(None)
+}
