@@ -85,14 +85,14 @@ pub bay_rose : {D : Type 0} (faults : D → ℕ) (L : Type 0) (b0 b1 b2 b3 b4 t1
     → (2 ^ 64 - 1 ≤ faults first → L) → (2 ^ 64 - 1 ≤ faults second → L) → Rose b0 b4 ⊎ L
 bay_rose faults L b0 b1 b2 b3 b4 t1 t2 first second given given_second (inl rose) l1 l2 l3 l4 e1 e2 p q on_first on_second =
     go (greater (faults first) (faults given) rose) where
-  go : (faults first < faults given) ⊎ (2 ^ 64 - 1 ≤ faults first) → Rose b0 b4 ⊎ L
-  go (inl less) = inl (omega (arith, less, l1, l2, l3, l4, e1, p))
-  go (inr last) = inr (on_first last)
+      go : (faults first < faults given) ⊎ (2 ^ 64 - 1 ≤ faults first) → Rose b0 b4 ⊎ L
+      go (inl less) = inl (omega (arith, less, l1, l2, l3, l4, e1, p))
+      go (inr last) = inr (on_first last)
 bay_rose faults L b0 b1 b2 b3 b4 t1 t2 first second given given_second (inr rose) l1 l2 l3 l4 e1 e2 p q on_first on_second =
     go (greater (faults second) (faults given_second) rose) where
-  go : (faults second < faults given_second) ⊎ (2 ^ 64 - 1 ≤ faults second) → Rose b0 b4 ⊎ L
-  go (inl less) = inl (omega (arith, less, l1, l2, l3, l4, e2, q))
-  go (inr last) = inr (on_second last)
+      go : (faults second < faults given_second) ⊎ (2 ^ 64 - 1 ≤ faults second) → Rose b0 b4 ⊎ L
+      go (inl less) = inl (omega (arith, less, l1, l2, l3, l4, e2, q))
+      go (inr last) = inr (on_second last)
 
 -- a disk that was handed out under the first name
 pub told_first : {B D : Type 0} (disk : B → List ℕ → Option D) (b : B) (name : List ℕ) (given : D) → name ≡ state_a → IsAsTold (disk b name) given

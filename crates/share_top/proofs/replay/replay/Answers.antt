@@ -45,15 +45,15 @@ returns-in-Err-Write-clause-played g c =
       subst (λ (n : ℕ). Rose n (g.O.Sink.faults c.write_malformed.new.output)) c.events.invariant.counted
           (c.in-Err-Write.ensures.cause (ap (λ (e : LineFault). Err e) c.in-Err-Write.field-0-is)),
       inr (malformed g.D.Disk.content g.D.Disk.image g.D.Disk.starved g.D.Disk.faults g.D.Disk.losses g.D.Disk.arms g.D.Disk.armed
-      _ _ _ _ _ _ _ c.events.invariant.going
-      (λ (fault : ℕ). WritesPart (malformed_line fault) (output_change g.O.Sink.held g.O.Sink.faults c.args.output.now c.write_malformed.new.output)) _
-      (λ (xs : List Outcome) told. (
-        f.1.front,
-        f.0,
-        f.1.parts,
-        line_behind (g.O.Sink.held c.args.output.now) (g.O.Sink.held c.events.output) (g.O.Sink.held c.write_malformed.new.output)
-            xs f.1.front told f.1.grown,
-      )) c.in-Err-Malformed.ensures.taken says),
+          _ _ _ _ _ _ _ c.events.invariant.going
+          (λ (fault : ℕ). WritesPart (malformed_line fault) (output_change g.O.Sink.held g.O.Sink.faults c.args.output.now c.write_malformed.new.output)) _
+          (λ (xs : List Outcome) told. (
+            f.1.front,
+            f.0,
+            f.1.parts,
+            line_behind (g.O.Sink.held c.args.output.now) (g.O.Sink.held c.events.output) (g.O.Sink.held c.write_malformed.new.output)
+                xs f.1.front told f.1.grown,
+          )) c.in-Err-Malformed.ensures.taken says),
     )
 
 pub returns-in-Err-NoMemory-write_malformed-clause-played : goal.returns-in-Err-NoMemory-write_malformed-clause-played

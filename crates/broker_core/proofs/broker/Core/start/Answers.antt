@@ -51,7 +51,7 @@ returns-in-Err-clause-sound g c = λ sound.
 pub returns-in-Err-clause-device : goal.returns-in-Err-clause-device
 returns-in-Err-clause-device g c = λ err.
     let apart : c.foreign_state_b-second_name.result ≢ c.foreign_state_a-first_name.result =
-        λ e. apart_names (sym c.foreign_state_a-first_name.ensures ∙ sym e ∙ c.foreign_state_b-second_name.ensures) in
+    λ e. apart_names (sym c.foreign_state_a-first_name.ensures ∙ sym e ∙ c.foreign_state_b-second_name.ensures) in
     bay_rose g.D.Disk.faults (HasLastCount g.B.Bay.disk g.D.Disk.faults c.args.bay.now)
     (g.B.Bay.faults c.args.bay.now) (g.B.Bay.faults c.take.new.self) (g.B.Bay.faults c.take-2.new.self) (g.B.Bay.faults c.put_back-in-Err.new.self)
     (g.B.Bay.faults c.put_back-in-Err-2.new.self) (g.B.Bay.taken c.take-2.new.self c.foreign_state_a-first_name.result)
@@ -80,7 +80,7 @@ returns-in-Err-clause-device g c = λ err.
 pub returns-in-Ok-open-clause-counts : goal.returns-in-Ok-open-clause-counts
 returns-in-Ok-open-clause-counts g c =
     let apart : c.foreign_state_a-first_name.result ≢ c.foreign_state_b-second_name.result =
-        λ e. apart_names (sym c.foreign_state_a-first_name.ensures ∙ e ∙ c.foreign_state_b-second_name.ensures) in (
+    λ e. apart_names (sym c.foreign_state_a-first_name.ensures ∙ e ∙ c.foreign_state_b-second_name.ensures) in (
       record {
         given = c.in-Ok.first;
         as_told = told_first g.B.Bay.disk c.args.bay.now c.foreign_state_a-first_name.result c.in-Ok.first c.foreign_state_a-first_name.ensures c.in-Ok.ensures.given;
