@@ -1,22 +1,18 @@
 -- The broker's disks are taken from a bay and put back.
-use Rattle.std.proofs.Common.{◌≡◌, ◌≢◌, ◌≤◌, ◌<◌, ◌+◌, ◌-◌, ◌^◌, min, ◌⊎◌, [], nat_lt, arith, inl, inr, refl, sym, ap, ◌∙◌, subst, rules, ℕ, List, Bool, true, false, Some, None, is_some, Result, Ok, Err}
+use Rattle.std.proofs.Common.{◌≡◌, ◌≢◌, ◌≤◌, ◌<◌, ◌+◌, ◌-◌, ◌^◌, min, ◌⊎◌, [], nat_lt, arith, inl, inr, refl, sym, ap, ◌∙◌, subst, rules, ℕ, List, Bool, true, false, Some, is_some, Result, Ok, Err}
 use Rattle.std.proofs.lemmas.Bool.{cases_Bool}
 use Rattle.std.specs.declared.option.Option.{Option}
 use Rattle.edge_io.specs.declared.fault.Armed.{Armed}
-use Rattle.edge_io.specs.declared.fault.Armed.TheVariants.{Nothing}
 use Rattle.edge_io.specs.Causes.{Rose}
-use Rattle.edge_io.specs.Bays.{IsAsTold, Holds, SameSlot, IsSound}
-use Rattle.edge_io.specs.Disk.{IsTold}
+use Rattle.edge_io.specs.Bays.{IsAsTold, Holds, SameSlot}
 use Rattle.edge_io.specs.Names.{IsDiskName}
-use Rattle.conn_core.specs.Conns.{ConnParts}
 use Rattle.share_coord.specs.Parts.{StoreParts}
 use Rattle.broker_model.specs.Shards.{state_a, state_b, same_name}
 use Rattle.broker_model.specs.Machine.{Machine}
 use Rattle.broker_model.specs.Disks.{Facts, Disks, IsTaken, facts_of}
 use Rattle.broker_core.specs.declared.fault.CoreOpen.{CoreOpen}
-use Rattle.broker_core.specs.declared.slot.ForeignSlot.{ForeignSlot}
 use Rattle.broker_core.specs.declared.slot.ForeignSlot.TheVariants.{Open}
-use Rattle.broker_core.specs.Carried.{shards_of, facts_by}
+use Rattle.broker_core.specs.Carried.{shards_of}
 use Rattle.broker_core.specs.Restarts.{IsOpened, IsOpenedDisk}
 use Rattle.broker_core.specs.Cores.{CoreParts, IsCore, IsSlot, disks_in, facts_in, state_of}
 use Rattle.broker_core.specs.Bays.{TellsDisks, IsFirst, TellsStill}

@@ -1,21 +1,19 @@
 -- What each event makes of the machine.
-use Rattle.std.proofs.Common.{◌≡◌, ◌≤◌, ◌⊎◌, ◌∷◌, ◌++◌, [], inl, inr, refl, sym, ap, ◌∙◌, subst, arith, ℕ, List, Bool, Some, None, Result, Ok, Err, IfErr}
+use Rattle.std.proofs.Common.{◌≡◌, ◌≤◌, ◌⊎◌, ◌∷◌, [], inl, inr, refl, sym, ap, ◌∙◌, subst, arith, ℕ, List, Bool, Some, None, Result, Err, IfErr}
 use Rattle.std.specs.declared.option.Option.{Option}
 use Rattle.edge_io.specs.declared.fault.Armed.{Armed}
 use Rattle.edge_io.specs.declared.fault.FaultMode.{FaultMode}
-use Rattle.edge_io.specs.Causes.{Rose}
 use Rattle.session_script.specs.declared.event.Event.{Event}
 use Rattle.session_script.specs.declared.event.Event.TheVariants.{Open, Bytes, Close, Step, Arm, Power}
 use Rattle.session_script.specs.declared.event.Outcome.{Outcome}
 use Rattle.session_script.specs.declared.event.Outcome.TheVariants.{Restarted}
-use Rattle.topic_conf.specs.Configs.{ConfigParts}
 use Rattle.conn_core.specs.Conns.{ConnParts, conn_after_bytes}
 use Rattle.foreign_coord.specs.Shards.{ForeignShardState}
-use Rattle.broker_model.specs.Shards.{Shards, ShardCall, state_a, state_b}
+use Rattle.broker_model.specs.Shards.{Shards, ShardCall}
 use Rattle.broker_model.specs.Machine.{Machine, Lands, conn_at, opened, at_connection, ended_in}
 use Rattle.broker_model.specs.Disks.{IsTaken}
 use Rattle.broker_model.specs.Steps.{StepsTo, Serves, DoesNothing}
-use Rattle.broker_model.specs.States.{State, IsStep, faults_of, OnEnd, OnLosses}
+use Rattle.broker_model.specs.States.{State}
 use Rattle.broker_core.specs.declared.fault.CoreFault.{CoreFault}
 use Rattle.broker_core.specs.declared.fault.CoreFault.TheVariants.{NoMemory}
 use Rattle.broker_core.specs.declared.slot.ForeignSlot.{ForeignSlot}

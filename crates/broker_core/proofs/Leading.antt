@@ -6,7 +6,7 @@ use Rattle.share_model.specs.declared.run.Run.{Run}
 use Rattle.share_model.specs.Runs.{IsCanonical}
 use Rattle.state_records.specs.States.{AreStoredRuns, IsStoredRun}
 use Rattle.call_fold.specs.Parts.{IsTellable}
-use Rattle.std.proofs.Common.{◌≡◌, ◌≤◌, ◌<◌, ◌^◌, ◌⊎◌, ◌↔◌, [], ◌∷◌, arith, inl, inr, refl, sym, ap, ◌∙◌, subst, ℕ, List, Bool, true, false, Some, None, is_some}
+use Rattle.std.proofs.Common.{◌≡◌, ◌⊎◌, ◌↔◌, [], ◌∷◌, arith, inl, inr, refl, sym, ap, ◌∙◌, subst, ℕ, List, Bool, true, false, Some, None, is_some}
 use Rattle.std.specs.declared.option.Option.{Option}
 use Rattle.edge_io.specs.declared.fault.Armed.{Armed}
 use Rattle.edge_io.specs.Armed.{RunsOn}
@@ -28,7 +28,7 @@ use Rattle.conn_core.specs.Conns.{ConnParts, without_replies}
 use Rattle.conn_core.specs.Turning.{Turn, Tells, conn_after_answer}
 use Rattle.session_script.specs.declared.event.Outcome.{Outcome}
 use Rattle.broker_model.specs.Steps.{Does, DoesTurn, replies_to}
-use Rattle.broker_core.specs.Carried.{IsCarried, Leads, Halts, GoesOn, IsMoved, shards_of, rose_by, ends_by}
+use Rattle.broker_core.specs.Carried.{IsCarried, Leads, Halts, shards_of, rose_by, ends_by}
 
 -- runs that are stored can be told
 each_tellable : (runs : List Run) → IsCanonical runs → AllByRecursion IsStoredRun runs → AllByRecursion IsTellable runs

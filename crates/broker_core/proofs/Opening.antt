@@ -1,27 +1,25 @@
 -- Openings and restarts of the shard.
-use Rattle.std.proofs.Common.{◌≡◌, ◌≢◌, ◌≤◌, ◌⊎◌, ◌∷◌, ◌++◌, [], inl, inr, ⊎_elim, refl, sym, ap, ◌∙◌, subst, ℕ, List, Bool, true, false, Some, None, is_some, Result, Ok, Err, IsErr, IfErr, MatchResult}
+use Rattle.std.proofs.Common.{◌≡◌, ◌≢◌, ◌⊎◌, ◌∷◌, ◌++◌, [], inl, inr, refl, sym, ap, ◌∙◌, subst, ℕ, List, Bool, true, false, Some, None, is_some, Result, Ok, Err, IsErr, IfErr, MatchResult}
 use Rattle.std.specs.declared.option.Option.{Option}
 use Rattle.std.specs.Option.{option_map}
 use Rattle.edge_io.specs.declared.fault.Armed.{Armed}
 use Rattle.edge_io.specs.declared.fault.Armed.TheVariants.{Nothing}
-use Rattle.edge_io.specs.Armed.{RunsOn, Spends}
-use Rattle.edge_io.specs.Disk.{IsTold, Within, Synced, LosesPower}
+use Rattle.edge_io.specs.Armed.{RunsOn}
+use Rattle.edge_io.specs.Disk.{IsTold, Within, LosesPower}
 use Rattle.edge_io.specs.Causes.{FailsBy}
-use Rattle.gate_journal.specs.Frames.{StandsFor, StandsAs}
+use Rattle.gate_journal.specs.Frames.{StandsFor}
 use Rattle.gate_journal.proofs.Once.{once}
 use Rattle.share_model.specs.ForeignRules.{ShareStates}
 use Rattle.share_model.specs.Pending.{WithPending}
-use Rattle.share_coord.specs.Holding.{Holds}
 use Rattle.share_coord.specs.Parts.{StoreParts}
 use Rattle.share_coord.specs.Stored.{Entries, AreStored}
-use Rattle.coord_checkpoint.specs.Lists.{IsListed}
 use Rattle.foreign_coord.specs.Acts.{states_of}
 use Rattle.foreign_coord.specs.Shards.{ForeignShardState, Carries}
-use Rattle.broker_model.specs.Machine.{StandForStates, StandWith, Lands}
+use Rattle.broker_model.specs.Machine.{StandForStates, Lands}
 use Rattle.broker_model.specs.Disks.{facts_of}
 use Rattle.broker_core.specs.declared.fault.CoreOpen.{CoreOpen}
 use Rattle.broker_core.specs.declared.fault.CoreOpen.TheVariants as fault
-use Rattle.broker_core.specs.Carried.{IsCarried, GoesOn, shards_of}
+use Rattle.broker_core.specs.Carried.{IsCarried, GoesOn}
 use Rattle.broker_core.specs.Restarts.{IsOpened, IsOpenedDisk, IsRestartedShard, IsNotRestarted, ImagesStand, ImagesStandAs}
 
 -- ---- pending writes

@@ -1,8 +1,7 @@
 -- The shard as a broker holds it: a call, an arm and a restart seen by the names of the disks.
-use Rattle.std.proofs.Common.{◌≡◌, ◌≤◌, ◌⊎◌, ◌∷◌, ◌++◌, [], inl, inr, refl, sym, ap, ◌∙◌, subst, ℕ, List, Bool, true, false, Some, None, is_some, if◌then◌else◌, arith}
+use Rattle.std.proofs.Common.{◌≡◌, ◌≤◌, ◌⊎◌, ◌∷◌, ◌++◌, [], inl, inr, refl, sym, ap, ◌∙◌, subst, ℕ, List, Bool, false, Some, None, is_some, if◌then◌else◌, arith}
 use Rattle.std.specs.declared.option.Option.{Option}
 use Rattle.edge_io.specs.declared.fault.Armed.{Armed}
-use Rattle.edge_io.specs.declared.fault.Armed.TheVariants.{After}
 use Rattle.edge_io.specs.declared.fault.FaultMode.{FaultMode}
 use Rattle.edge_io.specs.Armed.{ArmsAlone}
 use Rattle.edge_io.specs.Disk.{IsTold}
@@ -19,13 +18,13 @@ use Rattle.share_coord.specs.Parts.{StoreParts}
 use Rattle.foreign_coord.specs.Shards.{ForeignShardState, Carries}
 use Rattle.broker_model.specs.Shards.{Shards, ShardCall, state_a, state_b, same_name, calls}
 use Rattle.broker_model.specs.Shards.ShardCall.{CallForeign}
-use Rattle.broker_model.specs.Machine.{Machine, StandWith, Lands}
+use Rattle.broker_model.specs.Machine.{Machine}
 use Rattle.broker_model.specs.Disks.{Facts, IsTaken, OnCalled, IsRestarted, facts_of, with_arm}
 use Rattle.broker_core.specs.declared.slot.ForeignSlot.{ForeignSlot}
-use Rattle.broker_core.specs.declared.slot.ForeignSlot.TheVariants.{Open, Shut, Gone}
-use Rattle.broker_core.specs.Carried.{IsCarried, Leads, Halts, IsMoved, GoesOn, shards_of, rose_by, ends_by}
+use Rattle.broker_core.specs.declared.slot.ForeignSlot.TheVariants.{Open, Shut}
+use Rattle.broker_core.specs.Carried.{IsCarried, Leads, Halts, GoesOn, shards_of, rose_by, ends_by}
 use Rattle.broker_core.specs.Restarts.{IsRestartedShard, IsNotRestarted}
-use Rattle.broker_core.specs.Cores.{IsSlot, IsServed, IsArmed, IsReopened, IsShutSlot, StandStill, StandAlone, Halted, GoOn, disks_in, ends_in, facts_in, rose_in}
+use Rattle.broker_core.specs.Cores.{IsSlot, IsServed, IsArmed, IsReopened, IsShutSlot, StandStill, Halted, GoOn, disks_in, ends_in, facts_in, rose_in}
 use Rattle.broker_core.proofs.Opening.{carried_stands}
 
 -- what holds at both names holds at each name that is taken

@@ -1,6 +1,6 @@
 -- What a client's step means to the broker.
-use Rattle.std.proofs.Common.{◌≡◌, ℕ, Bool, true, false, cond, List, [], ◌∷◌, Option, Some, None, Result, Ok, Err, OnOk, OnErr, IfOk, IfErr, refl, sym, ap, subst, ◌∙◌}
-use Rattle.std.specs.Map.{lookup, set_value, remove_entry}
+use Rattle.std.proofs.Common.{◌≡◌, ℕ, Bool, true, false, cond, List, [], ◌∷◌, Some, None, Result, Ok, Err, OnOk, OnErr, IfOk, IfErr, refl, sym, ap, ◌∙◌}
+use Rattle.std.specs.Map.{set_value, remove_entry}
 use Rattle.conn_core.specs.Conns.{ConnParts, is_gone, without_replies}
 use Rattle.broker_model.specs.Machine.{named, conn_at, at_connection, left}
 

@@ -1,6 +1,6 @@
 -- How the shard of foreign state in memory and on its disks stands for the machine's, and what a call makes of both. This project's own.
 -- For example a store of no keys whose write of `g1` failed at its last sync stands for a shard of no keys with the state of `g1` pending.
-use Rattle.std.specs.Prelude.{◌≡◌, ◌≤◌, ◌⊎◌, ℕ, List, Bool, true, false, is_some, if◌then◌else◌}
+use Rattle.std.specs.Prelude.{◌≡◌, ◌≤◌, ◌⊎◌, ℕ, List, Bool, false, is_some, if◌then◌else◌}
 use Rattle.std.specs.declared.option.Option.{Option}
 use Rattle.edge_io.specs.declared.fault.Armed.{Armed}
 use Rattle.edge_io.specs.Causes.{Rose}
@@ -8,7 +8,7 @@ use Rattle.edge_io.specs.Disk.{IsTold}
 use Rattle.share_coord.specs.Parts.{StoreParts}
 use Rattle.foreign_coord.specs.Shards.{ForeignShardState, Carries}
 use Rattle.broker_model.specs.Shards.{Shards, ShardCall, state_a, same_name, calls}
-use Rattle.broker_model.specs.Disks.{Facts, Disks, OnCalled, facts_of}
+use Rattle.broker_model.specs.Disks.{Disks, OnCalled, facts_of}
 
 -- A store on disks that tell their contents and have found memory at each call stands for this shard. The members of the disk come
 -- first.

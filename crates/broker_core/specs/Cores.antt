@@ -1,6 +1,6 @@
 -- How a broker in memory and on its disks stands for the machine. This project's own.
 -- For example one that was just started stands for the opening of its disks' contents, to which nobody has connected.
-use Rattle.std.specs.Prelude.{◌≡◌, ◌≤◌, ◌⊎◌, ◌∷◌, ◌++◌, ℕ, List, [], Bool, true, false, Some, None, if◌then◌else◌}
+use Rattle.std.specs.Prelude.{◌≡◌, ◌⊎◌, ◌∷◌, ◌++◌, ℕ, List, [], Bool, false, Some, None, if◌then◌else◌}
 use Rattle.edge_io.specs.declared.fault.FaultMode.{FaultMode}
 use Rattle.std.specs.declared.option.Option.{Option}
 use Rattle.edge_io.specs.declared.fault.Armed.{Armed}
@@ -11,7 +11,6 @@ use Rattle.session_script.specs.declared.event.Event.{Event}
 use Rattle.session_script.specs.declared.event.Outcome.{Outcome}
 use Rattle.topic_conf.specs.Configs.{ConfigParts}
 use Rattle.conn_core.specs.Conns.{ConnParts}
-use Rattle.share_coord.specs.Parts.{StoreParts}
 use Rattle.foreign_coord.specs.Shards.{ForeignShardState}
 use Rattle.broker_model.specs.Shards.{Shards, ShardCall, state_a, state_b, same_name, calls}
 use Rattle.broker_model.specs.Machine.{Machine, StandWith, StandForStates, Lands}

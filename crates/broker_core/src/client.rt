@@ -65,6 +65,8 @@ fn ask<D: Disk>(
             conn.give(conf, PartAnswer::Foreign(answer))?;
             replies(alloc, id, conn)
         }
+        // No call that is served asks a log.
+        Part::Produce { .. } => unreachable!(),
     }
 }
 

@@ -77,7 +77,11 @@ fn fault_of_open(fault: CoordOpen) -> CoreOpen
 }
 
 /// Opens the shard on its two disks, which come back at an `Err`.
-pub fn open<D: Disk>(alloc: Global, first: D, second: D) -> Result<ForeignShard<D>, (D, D, CoreOpen)>
+pub fn open<D: Disk>(
+    alloc: Global,
+    first: D,
+    second: D,
+) -> Result<ForeignShard<D>, (D, D, CoreOpen)>
     ensures opens { IfOk result (λ shard. (a b : List ℕ) → D.content first ≡ Some a → D.content second ≡ Some b →
         IsOpened D.content D.image D.starved D.faults D.losses D.arms D.armed first second a b shard) }
     // Contents that stand for states are opened, where memory is found and nothing is armed; and these states come.

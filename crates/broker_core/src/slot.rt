@@ -91,7 +91,11 @@ fn told(fault: CoreOpen) -> CoreFault
 }
 
 /// Loses the power of both disks, and opens the shard again.
-pub fn lose_power<D: Disk + Drop>(alloc: Global, choice: u64, slot: &mut ForeignSlot<D>) -> Result<(), CoreFault>
+pub fn lose_power<D: Disk + Drop>(
+    alloc: Global,
+    choice: u64,
+    slot: &mut ForeignSlot<D>,
+) -> Result<(), CoreFault>
     requires { IsOpen slot.old }
     ensures ok { OnOk result ((s : ForeignShardState) → IsSlot D.content D.image D.starved slot.old s →
         IsReopened D.content D.image D.starved D.faults D.losses D.arms D.armed choice slot.old s slot.new) }

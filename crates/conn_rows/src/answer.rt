@@ -1,14 +1,22 @@
 // The answer to a part, as a line gives it.
 ghost use Rattle.std.specs.Prelude.{All, IsTrue};
-ghost use Rattle.call_fold.specs.Parts.{IsTellable};
+ghost use Rattle.call_fold.specs.Parts.{IsTellable, HasTellableBase};
 
-use share_model::{RowState, Run};
+use call_fold::Produced;
+use share_model::{BatchFault, RowState, Run, StoreFault};
 use std::alloc::Global;
 use std::io;
 
+/// What a shard answers: to a call on a state, or to a batch.
+#[derive(Drop)]
+pub enum Answer {
+    State(StateAnswer),
+    Log(Produced),
+}
+
 /// A code, and what a granted read tells.
 #[derive(Drop)]
-pub struct Answer {
+pub struct StateAnswer {
     pub code: i16,
     pub state_epoch: i32,
     pub start: i64,
@@ -57,12 +65,44 @@ pub fn read_answer(alloc: Global, text: &str) -> io::Result<Answer> {
             runs.push(run)?;
         }
     }
-    Ok(Answer {
+    Ok(Answer::State(StateAnswer {
         code: code.parse().unwrap_or(-1),
         state_epoch: state_epoch.parse().unwrap_or(-1),
         start: start.parse().unwrap_or(-1),
         runs,
-    })
+    }))
+}
+
+/// The fault of this name, by which a batch is refused.
+fn fault_of(name: &str) -> Option<BatchFault> {
+    match name {
+        "TooLarge" => Some(BatchFault::TooLarge),
+        "Short" => Some(BatchFault::Short),
+        "BadMagic" => Some(BatchFault::BadMagic),
+        "BadCrc" => Some(BatchFault::BadCrc),
+        "Compressed" => Some(BatchFault::Compressed),
+        "Transactional" => Some(BatchFault::Transactional),
+        "Control" => Some(BatchFault::Control),
+        "HasProducer" => Some(BatchFault::HasProducer),
+        "BadRecord" => Some(BatchFault::BadRecord { index: 0 }),
+        "BadDeltas" => Some(BatchFault::BadDeltas),
+        _ => None,
+    }
+}
+
+/// Reads what a log says: an offset, the name of a fault of a batch, `Full`, or any other word for a device's fault.
+pub fn read_log(text: &str) -> Answer {
+    let produced = match text.parse() {
+        Ok(base) => Produced::Base(base),
+        Err(_) => match fault_of(text) {
+            Some(fault) => Produced::Batch(fault),
+            None => match text {
+                "Full" => Produced::Store(StoreFault::Full { end: 0 }),
+                _ => Produced::Store(StoreFault::Device),
+            },
+        },
+    };
+    Answer::Log(produced)
 }
 
 /// Whether a batch of a reply can tell each run.
@@ -70,4 +110,14 @@ pub fn are_tellable(runs: &[Run]) -> bool
     ensures { IsTrue result → All IsTellable runs.now }
 {
     runs.iter().all(|run| run.first < 1 << 63 && run.last < 1 << 63 && run.count < 1 << 15)
+}
+
+/// Whether a reply can tell its offset.
+pub fn has_tellable_base(produced: Produced) -> bool
+    ensures { IsTrue result → HasTellableBase produced }
+{
+    match produced {
+        Produced::Base(base) => base < 1 << 63,
+        Produced::Batch(_) | Produced::Store(_) => true,
+    }
 }

@@ -5,13 +5,14 @@
 //!
 //! | Line | Means |
 //! |---|---|
-//! | `answer CODE EPOCH START RUN ..` | the next part that is asked is answered so; a RUN is `FIRST LAST STATE COUNT` |
+//! | `answer CODE EPOCH START RUN ..` | the next part that is asked, a call on a state, is answered so; a RUN is `FIRST LAST STATE COUNT` |
+//! | `log BASE`, `log FAULT` | the next part that is asked, a batch for a log, is answered so: by its offset, or by the name of a fault |
 //! | `send HEX ..` | these bytes come from the client, and the connection goes on until it waits or is gone |
 //! | `pieces N HEX ..` | these bytes come in pieces of N bytes, and it goes on after each |
 //! | `turn` | it is called once more |
 //! | `end` | the client closes |
 //! | `fronts HEX ..` | each proper front of these bytes leaves a new connection waiting, and gone without a reply at an end |
-//! | `asks PART` | a part that it asked, in order; the batches of a write are `FIRST LAST STATE COUNT`, each as it came |
+//! | `asks PART` | a part that it asked, in order: a state call, or `produce SHARD HEX`. The batches of a write are `FIRST LAST STATE COUNT` |
 //! | `ready` | it answered a request without a part |
 //! | `closed CAUSE` | it closed |
 //! | `reply HEX ..` | a finished reply; all are taken at the end |

@@ -1,8 +1,10 @@
 // One connection, and what it is called with.
-ghost use Rattle.std.specs.Prelude.{◌<◌, All, IsTrue, length};
-ghost use Rattle.call_fold.specs.Parts.{IsTellable};
+ghost use Rattle.std.specs.Prelude.{◌≡◌, All, IfSome, Some};
+ghost use Rattle.call_fold.specs.Parts.{IsTellable, HasTellableBase, IsAnswerTo};
+ghost use Rattle.conn_core.specs.Turning.{awaited_part};
 
-use crate::answer::{Answer, are_tellable, read_answer};
+use crate::answer::{Answer, StateAnswer, are_tellable, has_tellable_base, read_answer, read_log};
+use call_fold::Produced;
 use conn_core::{Conn, Next, Part, PartAnswer};
 use flex_fields::Items;
 use row_text::{Rows, Taken, bytes_of, compared, without_blanks};
@@ -58,8 +60,8 @@ fn push_batches(alloc: Global, text: &mut String, batches: &[StateBatch]) -> io:
     Ok(())
 }
 
-/// A part, in the words of the state calls.
-fn part_text(alloc: Global, op: &ForeignOp) -> io::Result<String> {
+/// A call on a state, in the words of the state calls.
+fn op_text(alloc: Global, op: &ForeignOp) -> io::Result<String> {
     match op {
         ForeignOp::Init {
             key,
@@ -94,6 +96,17 @@ fn part_text(alloc: Global, op: &ForeignOp) -> io::Result<String> {
     }
 }
 
+/// A part: a call on a state, or a batch for the log of a shard.
+fn part_text(alloc: Global, part: &Part) -> io::Result<String> {
+    match part {
+        Part::Foreign(op) => op_text(alloc, op),
+        Part::Produce { shard, batch } => {
+            let digits = hex::encode(alloc, batch.as_slice())?;
+            Ok(format!(in alloc; "produce {shard} {digits}")?)
+        }
+    }
+}
+
 fn cause_text(alloc: Global, cause: CloseCause) -> io::Result<String> {
     match cause {
         CloseCause::TooLong { size } => Ok(format!(in alloc; "too-long {size}")?),
@@ -106,11 +119,46 @@ fn cause_text(alloc: Global, cause: CloseCause) -> io::Result<String> {
     }
 }
 
-/// What stands in place of an answer that no shard gives.
-fn is_answer(answer: &Answer) -> bool
-    ensures { IsTrue result → (All IsTellable answer.now.runs.items × (length answer.now.runs.items < 1000)) }
+/// What the foreign shard answers. `None` where a reply can't tell it.
+fn state_answer(answer: StateAnswer) -> Option<ForeignAnswer>
+    ensures { IfSome result (λ told. All IsTellable told.runs) }
 {
-    answer.runs.len() < 1000 && are_tellable(answer.runs.as_slice())
+    if answer.runs.len() >= 1000 || !are_tellable(answer.runs.as_slice()) {
+        return None;
+    }
+    Some(ForeignAnswer {
+        code: Code(answer.code),
+        state_epoch: answer.state_epoch,
+        start: answer.start,
+        runs: Items::new(answer.runs),
+    })
+}
+
+/// What a log answers. `None` where a reply can't tell it.
+fn log_answer(produced: Produced) -> Option<Produced>
+    ensures { IfSome result HasTellableBase }
+{
+    if has_tellable_base(produced) {
+        Some(produced)
+    } else {
+        None
+    }
+}
+
+/// What a shard answers to this part. `None` where the answer is of another kind, or a reply can't tell it.
+fn shard_answer(part: &Part, answer: Answer) -> Option<PartAnswer>
+    ensures { IfSome result (IsAnswerTo part.now) }
+{
+    match part {
+        Part::Foreign(_) => match answer {
+            Answer::State(answer) => state_answer(answer).map(PartAnswer::Foreign),
+            Answer::Log(_) => None,
+        },
+        Part::Produce { .. } => match answer {
+            Answer::State(_) => None,
+            Answer::Log(produced) => log_answer(produced).map(PartAnswer::Produce),
+        },
+    }
 }
 
 /// Tells that no memory was found.
@@ -123,22 +171,19 @@ fn no_memory(told: &mut String) -> io::Result<Turn> {
 fn give_next(
     conf: &Config,
     conn: &mut Conn,
+    part: &Part,
     answers: &mut VecDeque<Answer>,
     told: &mut String,
-) -> io::Result<Turn> {
+) -> io::Result<Turn>
+    requires { awaited_part conn.old ≡ Some part.now }
+{
     let Some(answer) = answers.pop_front() else {
         return Ok(Turn::Stops);
     };
-    if !is_answer(&answer) {
+    let Some(answer) = shard_answer(part, answer) else {
         return Ok(Turn::Stops);
-    }
-    let answer = ForeignAnswer {
-        code: Code(answer.code),
-        state_epoch: answer.state_epoch,
-        start: answer.start,
-        runs: Items::new(answer.runs),
     };
-    match conn.give(conf, PartAnswer::Foreign(answer)) {
+    match conn.give(conf, answer) {
         Ok(()) => Ok(Turn::GoesOn),
         Err(_) => no_memory(told),
     }
@@ -153,10 +198,10 @@ fn take_turn(
     told: &mut String,
 ) -> io::Result<Turn> {
     match conn.next_part(conf) {
-        Ok(Next::Ask(Part::Foreign(op))) => {
-            let text = part_text(alloc, &op)?;
+        Ok(Next::Ask(part)) => {
+            let text = part_text(alloc, &part)?;
             push_line(told, "asks", text.as_str())?;
-            give_next(conf, conn, answers, told)
+            give_next(conf, conn, &part, answers, told)
         }
         Ok(Next::Ready) => {
             told.push_str("ready\n")?;
@@ -282,6 +327,7 @@ impl Session {
     fn act(&mut self, alloc: Global, kind: &str, text: &str) -> io::Result<Taken> {
         match kind {
             "answer" => self.answers.push_back(read_answer(alloc, text)?)?,
+            "log" => self.answers.push_back(read_log(text))?,
             "send" => return self.send(alloc, usize::MAX, text),
             "pieces" => {
                 let (length, digits) = text.split_once(' ').unwrap_or((text, ""));

@@ -4,8 +4,6 @@
 mod bare;
 mod fault;
 mod journal;
-#[cfg(test)]
-mod tests;
 
 pub use fault::CoordOpen;
 pub use journal::{StateJournal, open};

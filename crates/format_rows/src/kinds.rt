@@ -1,13 +1,23 @@
 // Kafka's fields, headers and messages.
 use crate::plain::plain;
-use flex_fields::{Cursor, Items, Out, Text, Wire, WireFault, read_whole, write_whole};
+use flex_fields::{
+    Bytes, Cursor, Items, NoMemory, Out, Text, Wire, WireFault, read_whole, write_whole,
+};
 use msgs_base::{
-    ApiVersionsOldReply, ApiVersionsReply, ApiVersionsRequest, FindCoordinatorReply,
-    FindCoordinatorRequest, MetadataReply, MetadataRequest,
+    read_api_versions_old_reply, read_api_versions_reply, read_api_versions_request,
+    read_find_coordinator_reply, read_find_coordinator_request, read_metadata_reply,
+    read_metadata_request, read_produce_reply, read_produce_request, write_api_versions_old_reply,
+    write_api_versions_reply, write_api_versions_request, write_find_coordinator_reply,
+    write_find_coordinator_request, write_metadata_reply, write_metadata_request,
+    write_produce_reply, write_produce_request,
 };
 use msgs_state::{
-    DeleteShareGroupStateRequest, InitializeShareGroupStateRequest, ReadShareGroupStateReply,
-    ReadShareGroupStateRequest, ShareGroupStateReply, WriteShareGroupStateRequest,
+    read_delete_share_group_state_request, read_initialize_share_group_state_request,
+    read_read_share_group_state_reply, read_read_share_group_state_request,
+    read_share_group_state_reply, read_write_share_group_state_request,
+    write_delete_share_group_state_request, write_initialize_share_group_state_request,
+    write_read_share_group_state_reply, write_read_share_group_state_request,
+    write_share_group_state_reply, write_write_share_group_state_request,
 };
 use req_head::{RequestHead, read_head, read_reply_head, write_head, write_reply_head};
 use std::alloc::Global;
@@ -49,15 +59,16 @@ fn read_front<M: Wire>(alloc: Global, bytes: &[u8]) -> Option<usize> {
     None
 }
 
-/// What a message is read as, and written.
-fn told<M: Wire + Debug>(alloc: Global, bytes: &[u8]) -> io::Result<String> {
-    let message: M = match read_whole(alloc, bytes) {
-        Ok(message) => message,
-        Err(fault) => return fault_text(alloc, fault),
-    };
+/// What a value that was read is, and how it is written, where that isn't how it was read.
+fn read_told<M: Wire + Debug>(
+    alloc: Global,
+    bytes: &[u8],
+    message: &M,
+    written: Result<Bytes, NoMemory>,
+) -> io::Result<String> {
     let debug = format!(in alloc; "{message:?}")?;
     let mut text = plain(alloc, debug.as_str())?;
-    match write_whole(alloc, &message) {
+    match written {
         Ok(written) => push_written(alloc, &mut text, bytes, written.as_slice())?,
         Err(_) => text.push_str(", and not written")?,
     }
@@ -65,6 +76,29 @@ fn told<M: Wire + Debug>(alloc: Global, bytes: &[u8]) -> io::Result<String> {
         text.push_str(", and a front of it is read")?;
     }
     Ok(text)
+}
+
+/// What a field is read as, and written.
+fn told<M: Wire + Debug>(alloc: Global, bytes: &[u8]) -> io::Result<String> {
+    let value: M = match read_whole(alloc, bytes) {
+        Ok(value) => value,
+        Err(fault) => return fault_text(alloc, fault),
+    };
+    let written = write_whole(alloc, &value);
+    read_told(alloc, bytes, &value, written)
+}
+
+// What a message is read as, and written, by its own two calls.
+macro_rules! message_told {
+    ($read:ident, $write:ident, $alloc:expr, $bytes:expr) => {
+        match $read($alloc, $bytes) {
+            Ok(message) => {
+                let written = $write($alloc, &message);
+                read_told($alloc, $bytes, &message, written)?
+            }
+            Err(fault) => fault_text($alloc, fault)?,
+        }
+    };
 }
 
 /// What a number of variable length is read as, and written.
@@ -190,13 +224,63 @@ fn message(alloc: Global, kind: &str, bytes: &[u8]) -> io::Result<Option<String>
         "ResponseHeader" => reply_head_told(alloc, bytes)?,
         "ResponseHeader-1-bytes" => reply_head_of(alloc, bytes, true)?,
         "ResponseHeader-0-bytes" => reply_head_of(alloc, bytes, false)?,
-        "ApiVersionsRequest" => told::<ApiVersionsRequest>(alloc, bytes)?,
-        "ApiVersionsResponse" => told::<ApiVersionsReply>(alloc, bytes)?,
-        "ApiVersionsResponse-0" => told::<ApiVersionsOldReply>(alloc, bytes)?,
-        "MetadataRequest" => told::<MetadataRequest>(alloc, bytes)?,
-        "MetadataResponse" => told::<MetadataReply>(alloc, bytes)?,
-        "FindCoordinatorRequest" => told::<FindCoordinatorRequest>(alloc, bytes)?,
-        "FindCoordinatorResponse" => told::<FindCoordinatorReply>(alloc, bytes)?,
+        _ => return client_message(alloc, kind, bytes),
+    };
+    Ok(Some(text))
+}
+
+/// What bytes are as a message of a client's first calls, or of a producer.
+fn client_message(alloc: Global, kind: &str, bytes: &[u8]) -> io::Result<Option<String>> {
+    let text = match kind {
+        "ApiVersionsRequest" => message_told!(
+            read_api_versions_request,
+            write_api_versions_request,
+            alloc,
+            bytes
+        ),
+        "ApiVersionsResponse" => message_told!(
+            read_api_versions_reply,
+            write_api_versions_reply,
+            alloc,
+            bytes
+        ),
+        "ApiVersionsResponse-0" => message_told!(
+            read_api_versions_old_reply,
+            write_api_versions_old_reply,
+            alloc,
+            bytes
+        ),
+        "MetadataRequest" => message_told!(
+            read_metadata_request,
+            write_metadata_request,
+            alloc,
+            bytes
+        ),
+        "MetadataResponse" => message_told!(
+            read_metadata_reply,
+            write_metadata_reply,
+            alloc,
+            bytes
+        ),
+        "FindCoordinatorRequest" => message_told!(
+            read_find_coordinator_request,
+            write_find_coordinator_request,
+            alloc,
+            bytes
+        ),
+        "FindCoordinatorResponse" => message_told!(
+            read_find_coordinator_reply,
+            write_find_coordinator_reply,
+            alloc,
+            bytes
+        ),
+        "ProduceRequest" => message_told!(
+            read_produce_request,
+            write_produce_request,
+            alloc,
+            bytes
+        ),
+        "ProduceResponse" => message_told!(read_produce_reply, write_produce_reply, alloc, bytes),
         _ => return state_message(alloc, kind, bytes),
     };
     Ok(Some(text))
@@ -205,14 +289,42 @@ fn message(alloc: Global, kind: &str, bytes: &[u8]) -> io::Result<Option<String>
 /// What bytes are as a message of a state call.
 fn state_message(alloc: Global, kind: &str, bytes: &[u8]) -> io::Result<Option<String>> {
     let text = match kind {
-        "InitializeShareGroupStateRequest" => {
-            told::<InitializeShareGroupStateRequest>(alloc, bytes)?
-        }
-        "InitializeShareGroupStateResponse" => told::<ShareGroupStateReply>(alloc, bytes)?,
-        "ReadShareGroupStateRequest" => told::<ReadShareGroupStateRequest>(alloc, bytes)?,
-        "ReadShareGroupStateResponse" => told::<ReadShareGroupStateReply>(alloc, bytes)?,
-        "WriteShareGroupStateRequest" => told::<WriteShareGroupStateRequest>(alloc, bytes)?,
-        "DeleteShareGroupStateRequest" => told::<DeleteShareGroupStateRequest>(alloc, bytes)?,
+        "InitializeShareGroupStateRequest" => message_told!(
+            read_initialize_share_group_state_request,
+            write_initialize_share_group_state_request,
+            alloc,
+            bytes
+        ),
+        "InitializeShareGroupStateResponse" => message_told!(
+            read_share_group_state_reply,
+            write_share_group_state_reply,
+            alloc,
+            bytes
+        ),
+        "ReadShareGroupStateRequest" => message_told!(
+            read_read_share_group_state_request,
+            write_read_share_group_state_request,
+            alloc,
+            bytes
+        ),
+        "ReadShareGroupStateResponse" => message_told!(
+            read_read_share_group_state_reply,
+            write_read_share_group_state_reply,
+            alloc,
+            bytes
+        ),
+        "WriteShareGroupStateRequest" => message_told!(
+            read_write_share_group_state_request,
+            write_write_share_group_state_request,
+            alloc,
+            bytes
+        ),
+        "DeleteShareGroupStateRequest" => message_told!(
+            read_delete_share_group_state_request,
+            write_delete_share_group_state_request,
+            alloc,
+            bytes
+        ),
         _ => return Ok(None),
     };
     Ok(Some(text))

@@ -33,6 +33,7 @@ pub fn plain(alloc: Global, text: &str) -> io::Result<String> {
     let text = without_names(alloc, text.as_str())?;
     let text = text.as_str().replace(alloc, "[ {", "[{")?;
     let text = text.as_str().replace(alloc, "{ list: [", "[")?;
+    let text = text.as_str().replace(alloc, "{ bytes: [", "[")?;
     let text = text.as_str().replace(alloc, "] }", "]")?;
     let text = text.as_str().replace(alloc, "{ string: ", "")?;
     Ok(text.as_str().replace(alloc, "\" }", "\"")?)

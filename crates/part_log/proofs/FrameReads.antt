@@ -3,8 +3,8 @@ use Rattle.std.proofs.Common.{◌≡◌, ◌+◌, ◌<◌, ◌≤◌, ℕ, List,
 use Rattle.std.specs.Prelude.{map, Result, Err}
 use Rattle.part_log.specs.declared.fault.OpenFault.{OpenFault}
 use Rattle.part_log.specs.declared.fault.OpenFault.TheVariants.{Damaged}
-use Rattle.std.proofs.lemmas.List.{map-append}
-use Rattle.gate_journal.specs.Frames.{blocks}
+use Rattle.std.proofs.lemmas.List.{append-nil, map-append}
+use Rattle.gate_journal.specs.Frames.{StandsFor, blocks}
 use Rattle.gate_journal.proofs.Texts.{more_at}
 use Rattle.std.specs.List.{AllByRecursion}
 use Rattle.share_model.specs.Logs.{Batch, RisesFrom, end_of}
@@ -14,8 +14,9 @@ use Rattle.part_log.specs.Entries.{bytes_of, seen}
 use Rattle.std.proofs.Common.{inl, inr, ⊎_elim}
 use Rattle.std.proofs.lemmas.Bool.{cases_lt}
 use Rattle.gate_journal.proofs.Once.{not_both, once, place_once}
+use Rattle.gate_journal.proofs.Total.{text_or_damaged}
 use Rattle.part_log.specs.Logs.{IsBadFrames, IsLogText, IsNoLogText, IsStoredLog, MayFollow, frames_of}
-use Rattle.part_log.proofs.Rising.{end_more, frames_more, same_log, sound_more}
+use Rattle.part_log.proofs.Rising.{end_more, frames_more, same_log, sound_more, sound_none}
 
 -- so many frames were read, and so many are left
 pub record Reads (frames yielded rest : List (List ℕ)) (entries : List Entry) (end place : ℕ) : Type 0 where
@@ -142,3 +143,27 @@ module _ (c : List ℕ) where
   place_once_more p q (inl d) (inr b) = absurd (not_both c b.0 p b.1 d)
   place_once_more p q (inr b) (inl d) = absurd (not_both c b.0 q b.1 d)
   place_once_more p q (inr b) (inr d) = one_place d.0 p q (subst (λ fs. IsBadFrames fs p) (once c b.0 d.0 b.1 d.1) b.2) d.2
+
+-- ---- and there is no third case
+
+module _ (frames : List (List ℕ)) (none : (log : List Batch) → IsStoredLog log → frames ≡ frames_of log → ⊥) (bad : (place : ℕ) → IsBadFrames frames place → ⊥) where
+  some_read : (rest : List (List ℕ)) (before : List Batch) → IsStoredLog before → frames ≡ frames_of before ++ rest → ⊥
+  some_read [] before sound is = none before sound (is ∙ append-nil (frames_of before))
+  some_read (f ∷ rest) before sound is = bad (length (blocks (frames_of before))) (record {
+    before = before;
+    frame = f;
+    after = rest;
+    is = is;
+    sound = sound;
+    at = refl;
+    none = λ b e s. ⊎_elim (λ lt. lt)
+        (λ le. absurd (some_read rest (before ++ b ∷ []) (sound_more before b sound (record { stored = s; behind = le }))
+        (is ∙ ap (λ x. frames_of before ++ (x ∷ rest)) (sym e) ∙ sym (append_assoc (frames_of before) (b.bytes ∷ []) rest) ∙ ap (λ l. l ++ rest) (sym (frames_more before b)))))
+        (cases_lt b.base (end_of before));
+  })
+
+pub no_third : (c : List ℕ) → ((log : List Batch) → IsLogText c log → ⊥) → ((place : ℕ) → IsNoLogText c place → ⊥) → ⊥
+no_third c none bad = ⊎_elim
+    (λ t. some_read t.0 (λ log sound e. none log (record { frames = subst (StandsFor c) e t.1; sound = sound })) (λ place b. bad place (inr (t.0, t.1, b)))
+    t.0 [] sound_none refl)
+    (λ d. bad d.0 (inl d.1)) (text_or_damaged c)

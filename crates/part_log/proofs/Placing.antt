@@ -14,12 +14,12 @@ use Rattle.rec_batch.specs.declared.form.BatchView.{BatchView}
 use Rattle.rec_batch.specs.Batches.{Accepts, at_least_zero}
 use Rattle.rec_batch.specs.Fields.{base_offset, last_offset_delta}
 use Rattle.rec_batch.specs.Placing.{placed}
-use Rattle.rec_batch.proofs.Placed.{placed_batch}
+use Rattle.rec_batch.proofs.Placed.{length-placed, placed_batch}
 use Rattle.part_log.specs.Batches.{batch_in}
 use Rattle.part_log.specs.Logs.{MayFollow}
 use Rattle.part_log.proofs.Frames.{stored_by, view_last}
 
-base_placed : (base : ℕ) (bytes : List ℕ) → base < 2 ^ 62 → base_offset (placed base bytes) ≡ pos base
+base_placed : (base : ℕ) (bytes : List ℕ) → base < 2 ^ 63 → base_offset (placed base bytes) ≡ pos base
 unfolding placed
 base_placed base bytes h =
     ap (λ l. cast_signed w64 (from_be_bytes w64 l)) (take_at (to_be_bytes w64 base) (take 4 (drop 8 bytes) ++ (replicate 4 0 ++ drop 16 bytes)) 8 refl)
@@ -73,7 +73,7 @@ module _ (bytes : List ℕ) (view : BatchView) (a : Accepts Produced bytes view)
       let below : base < 2 ^ 62 = omega (arith, l, lt) in
       let long : 16 ≤ length bytes = omega (arith, a.1.1.header) in
       let sum : (pos base +ℤ last_offset_delta bytes) ≡ pos last = ap (λ z. pos base +ℤ z) (sym a.0.last_delta) ∙ ap pos (sym l) in
-      let there = base_placed base bytes below in
+      let there = base_placed base bytes (omega (arith, below)) in
       let end : (pos base +ℤ last_offset_delta bytes) <ℤ pos (2 ^ 62) = omega (arith, ints, sum, lt) in
       let base_is : base ≡ at_least_zero (base_offset (placed base bytes)) = sym (ap at_least_zero there) in
       record {
@@ -81,6 +81,18 @@ module _ (bytes : List ℕ) (view : BatchView) (a : Accepts Produced bytes view)
         base_is = base_is;
         last_is = sym (ap at_least_zero ((λ i. there i +ℤ last_placed base bytes long i) ∙ sum));
       }
+
+  -- it would end past the greatest offset
+  pub past_there : (base : ℕ) → base ≤ 2 ^ 62 → 2 ^ 62 ≤ base + view.last_delta → 2 ^ 62 ≤ (batch_in (placed base bytes)).last
+  past_there base few past =
+      let long : 16 ≤ length bytes = omega (arith, a.1.1.header) in
+      let there = base_placed base bytes (omega (arith, few)) in
+      let sum : (pos base +ℤ last_offset_delta bytes) ≡ pos (base + view.last_delta) = ap (λ z. pos base +ℤ z) (sym a.0.last_delta) in
+      let is : (batch_in (placed base bytes)).last ≡ base + view.last_delta = ap at_least_zero ((λ i. there i +ℤ last_placed base bytes long i) ∙ sum) in
+      omega (arith, is, past)
+
+  pub same_size : (base : ℕ) → length (placed base bytes) ≡ length bytes
+  same_size base = length-placed base bytes (omega (arith, a.1.1.header))
 
 -- a stored batch that begins at the end of a log or behind it
 pub stored_there : (bytes : List ℕ) (view : BatchView) → Accepts Stored bytes view → (log : List Batch) (last : ℕ) → end_of log ≤ view.base → last ≡ view.base + view.last_delta

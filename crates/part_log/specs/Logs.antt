@@ -3,15 +3,22 @@
 -- project's own.
 -- For example two batches of 85 bytes stand in frames behind the gates at 0 and 90; with a byte of the second one changed, the
 -- content is no log text, by the place 90.
-use Rattle.std.specs.Prelude.{◌≡◌, ◌⊎◌, ◌+◌, ◌<◌, ◌≤◌, ◌^◌, ℕ, List, [], ◌∷◌, ◌++◌, length, map, Some, None, IfSome}
+use Rattle.std.specs.Prelude.{◌≡◌, ◌≢◌, ◌⊎◌, ◌+◌, ◌<◌, ◌≤◌, ◌^◌, ℕ, Bool, List, [], ◌∷◌, ◌++◌, length, map, Some, None, IfSome, Result, Err, IfOk}
 use Rattle.std.specs.declared.option.Option.{Option}
 use Rattle.std.specs.Option.{option_map}
 use Rattle.std.specs.List.{AllByRecursion}
+use Rattle.edge_io.specs.Armed.{StarvesUnarmed}
+use Rattle.edge_io.specs.Causes.{Rose}
+use Rattle.edge_io.specs.Moments.{LeavesOnly}
+use Rattle.edge_io.specs.declared.fault.Armed.{Armed}
 use Rattle.gate_journal.specs.Frames.{StandsFor, IsDamaged, blocks}
 use Rattle.gate_journal.specs.Journals.{Stands}
 use Rattle.gate_journal.specs.declared.writer.Writer.{Writer}
 use Rattle.share_model.specs.Logs.{Batch, Covers, IsAt, IsLog, end_of}
 use Rattle.share_model.specs.Pending.{WithPending, WithinWrite}
+use Rattle.share_model.specs.declared.fault.LogFault.{LogFault}
+use Rattle.share_model.specs.declared.fault.LogFault.TheVariants.{Store}
+use Rattle.share_model.specs.declared.fault.StoreFault.TheVariants.{Device, Full}
 use Rattle.part_log.specs.declared.place.BatchPlace.{BatchPlace}
 use Rattle.part_log.specs.Batches.{IsStored}
 
@@ -66,11 +73,11 @@ pub record Keeps {D : Type 0} (image : D → List ℕ → Type 0) (log : LogPart
   pub follows : IfSome pending (MayFollow log.batches)
   pub images : (c : List ℕ) → image log.journal.disk c → WithPending (IsLogText c) log.batches (and_pending log.batches pending)
 
--- The batch of these bytes at this base has no room: its last offset would be 2^62 or more, and `end` is the log's end; or the
--- journal, whose last gate ends at `end`, would end past 2^62 bytes.
-abbrev pub IsFull : {D : Type 0} → LogParts D → (last size end : ℕ) → Type 0
-IsFull log last size end = ((2 ^ 62 ≤ last) × (end ≡ end_of log.batches))
-    ⊎ ((last < 2 ^ 62) × (2 ^ 62 < log.journal.end + (size + 5)) × (end ≡ log.journal.end))
+-- The batch has no room: its last offset is 2^62 or more, and `end` is the log's end; or the journal, whose last gate ends at `end`,
+-- would end past 2^62 bytes.
+abbrev pub IsFull : {D : Type 0} → LogParts D → Batch → (end : ℕ) → Type 0
+IsFull log b end = ((2 ^ 62 ≤ b.last) × (end ≡ end_of log.batches))
+    ⊎ ((b.last < 2 ^ 62) × (2 ^ 62 < log.journal.end + (length b.bytes + 5)) × (end ≡ log.journal.end))
 
 -- the batch of these numbers covers the offset
 pub record IsPlaceOf (log : List Batch) (offset : ℕ) (place : BatchPlace) : Type 0 where
@@ -86,10 +93,10 @@ pub record IsPlaceOf (log : List Batch) (offset : ℕ) (place : BatchPlace) : Ty
 abbrev pub IsWithin : List Batch → Option Batch → Batch → List ℕ → Type 0
 IsWithin log pending b content = WithinWrite (IsLogText content) log (and_pending log pending) (log ++ b ∷ [])
 
--- there is room for a batch of so many bytes with this last offset
-pub record HasRoomFor {D : Type 0} (log : LogParts D) (last size : ℕ) : Type 0 where
-  pub offsets : last < 2 ^ 62
-  pub journal : log.journal.end + (size + 5) ≤ 2 ^ 62
+-- there is room for the batch
+pub record HasRoomFor {D : Type 0} (log : LogParts D) (b : Batch) : Type 0 where
+  pub offsets : b.last < 2 ^ 62
+  pub journal : log.journal.end + (length b.bytes + 5) ≤ 2 ^ 62
 
 -- The batch stands behind the others, and nothing else has changed in the log; no write is pending any more.
 pub record IsAdded {D : Type 0} (image : D → List ℕ → Type 0) (old new : LogParts D) (b : Batch) : Type 0 where
@@ -102,3 +109,19 @@ pub record IsUnwritten {D : Type 0} (image : D → List ℕ → Type 0) (old new
   pub batches : new.batches ≡ old.batches
   pub follows : MayFollow old.batches b
   pub kept : (pending : Option Batch) → Keeps image old pending → Keeps image new pending ⊎ Keeps image new (Some b)
+
+-- A call that adds this batch, and what it leaves. The members of the disk come first.
+pub record AddsOnce {D : Type 0} (content : D → Option (List ℕ)) (image : D → List ℕ → Type 0) (moment : D → ℕ) (since : D → ℕ → List ℕ → Type 0)
+    (armed : D → Armed) (starved : D → Bool) (faults : D → ℕ) (old new : LogParts D) (b : Batch) (result : Result ℕ LogFault) : Type 0 where
+  -- where it answers with the base, the batch is added, and there was room for it
+  pub ok : IfOk result (λ base. (base ≡ b.base) × IsAdded image old new b × HasRoomFor old b)
+  -- where the device fails, the batch isn't written or is pending, and there was room for it; the count of faults rose, and a disk with
+  -- nothing armed found no memory
+  pub device : result ≡ Err (Store Device) → IsUnwritten image old new b × HasRoomFor old b
+      × Rose (faults old.journal.disk) (faults new.journal.disk) × StarvesUnarmed content armed starved old.journal.disk new.journal.disk
+  -- it is full only where there is no room, and each other refusal changes nothing
+  pub full : (end : ℕ) → result ≡ Err (Store (Full end)) → IsFull old b end
+  pub unchanged : (fault : LogFault) → result ≡ Err fault → fault ≢ Store Device → new ≡ old
+  -- at each moment since it began a crash leaves the log at entry, with or without the pending batch, or with this one
+  pub any_moment : (pending : Option Batch) → Keeps image old pending →
+      LeavesOnly moment since old.journal.disk new.journal.disk (IsWithin old.batches pending b)

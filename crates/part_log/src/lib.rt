@@ -13,6 +13,3 @@ pub use fault::{BatchRead, OpenFault};
 pub use laws::{a_frame_is_one_batch, log_text_is_read_one_way};
 pub use log::PartLog;
 pub use place::BatchPlace;
-
-#[cfg(test)]
-mod tests;

@@ -8,8 +8,7 @@ ghost use Rattle.edge_io.specs.Causes.{Rose};
 ghost use Rattle.edge_io.specs.Disk.{SameContent};
 ghost use Rattle.edge_io.specs.Moments.{Elapses, LeavesOnly};
 ghost use Rattle.gate_journal.specs.Frames.{StandsAs, frame_in};
-ghost use Rattle.rec_batch.specs.Batches.{IsFirstFault, at_least_zero};
-ghost use Rattle.rec_batch.specs.Fields.{last_offset_delta};
+ghost use Rattle.rec_batch.specs.Batches.{IsFirstFault};
 ghost use Rattle.rec_batch.specs.Placing.{placed};
 ghost use Rattle.share_model.specs.Logs.{Batch, IsAt, IsNextSlot, IsSlot, end_of};
 ghost use Rattle.share_model.specs.Rooms.{Appends};
@@ -75,7 +74,7 @@ fn last_offset(base: u64, last_delta: u32) -> Option<u64>
 }
 
 impl<D: Disk> PartLog<D> {
-    ghost use Rattle.part_log.specs.Logs.{HasRoomFor, IsAdded, IsFull, IsPlaceOf, IsUnwritten, IsWithin, MayFollow, LogParts};
+    ghost use Rattle.part_log.specs.Logs.{AddsOnce, IsAdded, IsPlaceOf, IsUnwritten, IsWithin, MayFollow, LogParts};
 
     /// Opens the log of a disk: reads the batches that its content stands for, in time linear in the content.
     ///
@@ -156,26 +155,14 @@ impl<D: Disk> PartLog<D> {
     /// or the one that was pending still is; at each other refusal nothing is changed. It makes one copy of the batch, which is
     /// then kept, and one device write for it.
     pub fn append(&mut self, batch: &[u8]) -> Result<u64, LogFault>
-        // At Ok the batch stands at the log's end, and no write is pending.
-        ensures ok { IfOk result (λ base. (base ≡ end_of self.old.batches) × IsAdded D.image self.old self.new (batch_in (placed base batch.now))) }
-        ensures room { OnOk result (HasRoomFor self.old (end_of self.old.batches + at_least_zero (last_offset_delta batch.now)) (length batch.now)) }
-
-        // Each refusal has its cause. The pending write is the one from before, or at a failed device this one.
+        // What isn't a batch is refused with its first fault.
         ensures batch { (fault : BatchFault) → (result ≡ Err (LogFault.Batch fault)) ↔ IsFirstFault Form.Produced batch.now fault }
         ensures behind { (end : ℕ) → result ≢ Err (LogFault.Behind end) }
-        ensures full { (end : ℕ) → result ≡ Err (LogFault.Store (StoreFault.Full end)) →
-            IsFull self.old (end_of self.old.batches + at_least_zero (last_offset_delta batch.now)) (length batch.now) end }
-        ensures device { result ≡ Err (LogFault.Store StoreFault.Device) →
-            IsUnwritten D.image self.old self.new (batch_in (placed (end_of self.old.batches) batch.now))
-            × HasRoomFor self.old (end_of self.old.batches + at_least_zero (last_offset_delta batch.now)) (length batch.now)
-            × Rose (D.faults self.old.journal.disk) (D.faults self.new.journal.disk)
-            × StarvesUnarmed D.content D.armed D.starved self.old.journal.disk self.new.journal.disk }
-        ensures unchanged { (fault : LogFault) → result ≡ Err fault → fault ≢ LogFault.Store StoreFault.Device → self.new ≡ self.old }
 
-        // At each moment since the call began a crash leaves the log at entry, with or without the pending batch, or with this one.
-        ensures any_moment { (pending : Option Batch) → Keeps D.image self.old pending →
-            LeavesOnly D.moment D.since self.old.journal.disk self.new.journal.disk
-            (IsWithin self.old.batches pending (batch_in (placed (end_of self.old.batches) batch.now))) }
+        // Any other is added at the log's end, or refused with its cause.
+        ensures base { IfOk result (λ base. base ≡ end_of self.old.batches) }
+        ensures once { AddsOnce D.content D.image D.moment D.since D.armed D.starved D.faults self.old self.new
+            (batch_in (placed (end_of self.old.batches) batch.now)) result }
         ensures runs { RunsOn D.content D.losses D.arms D.armed D.starved D.faults self.old.journal.disk self.new.journal.disk }
     {
         let view = match read_batch(batch, Form::Produced) {
@@ -197,26 +184,13 @@ impl<D: Disk> PartLog<D> {
     /// What isn't a batch in the stored form is refused with its first fault, and one whose base is below the log's end with that
     /// end. The other refusals, and what stands after each, are those of `append`.
     pub fn load(&mut self, batch: &[u8]) -> Result<u64, LogFault>
-        // At Ok the batch stands behind the others as it is, and no write is pending.
-        ensures ok { IfOk result (λ base. (base ≡ (batch_in batch.now).base) × IsAdded D.image self.old self.new (batch_in batch.now)) }
-        ensures room { OnOk result (HasRoomFor self.old (batch_in batch.now).last (length batch.now)) }
-
-        // Each refusal has its cause. The pending write is the one from before, or at a failed device this one.
+        // What isn't a batch is refused with its first fault, and what begins below the log's end with that end.
         ensures batch { (fault : BatchFault) → (result ≡ Err (LogFault.Batch fault)) ↔ IsFirstFault Form.Stored batch.now fault }
         ensures behind { (end : ℕ) → (result ≡ Err (LogFault.Behind end)) ↔ ((end ≡ end_of self.old.batches)
             × IsStored (batch_in batch.now) × ((batch_in batch.now).base < end_of self.old.batches)) }
-        ensures full { (end : ℕ) → result ≡ Err (LogFault.Store (StoreFault.Full end)) →
-            IsFull self.old (batch_in batch.now).last (length batch.now) end }
-        ensures device { result ≡ Err (LogFault.Store StoreFault.Device) →
-            IsUnwritten D.image self.old self.new (batch_in batch.now)
-            × HasRoomFor self.old (batch_in batch.now).last (length batch.now)
-            × Rose (D.faults self.old.journal.disk) (D.faults self.new.journal.disk)
-            × StarvesUnarmed D.content D.armed D.starved self.old.journal.disk self.new.journal.disk }
-        ensures unchanged { (fault : LogFault) → result ≡ Err fault → fault ≢ LogFault.Store StoreFault.Device → self.new ≡ self.old }
 
-        // At each moment since the call began a crash leaves the log at entry, with or without the pending batch, or with this one.
-        ensures any_moment { (pending : Option Batch) → Keeps D.image self.old pending →
-            LeavesOnly D.moment D.since self.old.journal.disk self.new.journal.disk (IsWithin self.old.batches pending (batch_in batch.now)) }
+        // Any other is added as it is, or refused with its cause.
+        ensures once { AddsOnce D.content D.image D.moment D.since D.armed D.starved D.faults self.old self.new (batch_in batch.now) result }
         ensures runs { RunsOn D.content D.losses D.arms D.armed D.starved D.faults self.old.journal.disk self.new.journal.disk }
     {
         let view = match read_batch(batch, Form::Stored) {
@@ -245,6 +219,13 @@ impl<D: Disk> PartLog<D> {
         ensures { MatchOption result (IsSlot self.now.batches offset → ⊥) (IsPlaceOf self.now.batches offset) }
     {
         place_of(&self.entries, offset)
+    }
+
+    /// The number of batches.
+    pub fn len(&self) -> u64
+        ensures { result ≡ length self.now.batches }
+    {
+        self.entries.len() as u64
     }
 
     /// The offset behind the last slot, or 0.

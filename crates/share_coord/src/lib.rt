@@ -9,8 +9,6 @@ mod refusals;
 mod replay;
 mod rows;
 mod store;
-#[cfg(test)]
-mod tests;
 mod view;
 
 pub use coord::Coord;

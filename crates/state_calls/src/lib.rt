@@ -10,8 +10,6 @@ mod plan;
 mod read;
 mod reply;
 mod state;
-#[cfg(test)]
-mod tests;
 mod told;
 mod write;
 

@@ -1,34 +1,14 @@
 // The reply of a state call, which has the form of its request.
-ghost use Rattle.std.specs.Prelude.{◌≡◌, ◌+◌, ◌<◌, ◌^◌, take, drop, IfOk, OnOk};
+ghost use Rattle.std.specs.Prelude.{◌≡◌, IfOk};
 ghost use Rattle.state_calls.specs.StateCalls.{rows_by_topic, state_body};
 
 use crate::place::Shape;
+use call_fold::next_rows;
 use flex_fields::{Bytes, Items, Wire, write_whole};
 use msgs_state::{StateReply, StateTopic};
 use share_model::NoMemory;
 use std::alloc::Global;
 use std::collections::VecDeque;
-
-// The first rows, so many of them, or all where there are fewer.
-#[tactic(auto, using(crate::proofs::Steps::took, crate::proofs::Steps::dropped, crate::proofs::Steps::take_none, crate::proofs::Steps::drop_none))]
-fn next_rows<R: Drop>(
-    alloc: Global,
-    count: u32,
-    rows: &mut VecDeque<R>,
-) -> Result<Items<R>, NoMemory>
-    requires { count + 1 < 2 ^ 32 }
-    ensures taken { IfOk result (λ first. first ≡ take count rows.old.items) }
-    ensures left { OnOk result (rows.new.items ≡ drop count rows.old.items) }
-{
-    let mut first = Vec::new(alloc);
-    for _ in 0..count {
-        let Some(row) = rows.pop_front() else {
-            return Ok(Items::new(first));
-        };
-        first.push(row)?;
-    }
-    Ok(Items::new(first))
-}
 
 // The rows under their topics.
 fn group_rows<R: Drop>(

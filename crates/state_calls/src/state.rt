@@ -70,8 +70,10 @@ impl<S: StateCall> Call for StateHand<S> {
         question: Wished<S::Wish>,
         answer: PartAnswer,
     ) -> Result<S::Row, NoMemory> {
-        let PartAnswer::Foreign(answer) = answer;
-        S::row(alloc, question.place.partition(), answer)
+        match answer {
+            PartAnswer::Foreign(answer) => S::row(alloc, question.place.partition(), answer),
+            PartAnswer::Produce(_) => unreachable!(),
+        }
     }
 
     fn body(self, alloc: Global, rows: VecDeque<S::Row>) -> Result<Option<Bytes>, NoMemory>

@@ -1,7 +1,9 @@
 // What a case's lines are about.
 use crate::bay::{bay_told, name_read, name_told};
+use crate::broken::broken_told;
 use crate::disks::Store;
 use crate::rows::Rows as StoredRows;
+use crate::states::States;
 use crate::streams::Streams;
 use crate::sweep::sweep_told;
 use row_text::{Rows, Taken, compared, shortened};
@@ -11,6 +13,7 @@ use std::io;
 #[derive(Drop)]
 pub struct Case {
     store: Store,
+    states: States,
     streams: Streams,
     rows: StoredRows,
 }
@@ -19,6 +22,7 @@ impl Case {
     pub fn new(alloc: Global) -> Case {
         Case {
             store: Store::None,
+            states: States::None,
             streams: Streams::new(alloc),
             rows: StoredRows::new(alloc),
         }
@@ -26,7 +30,16 @@ impl Case {
 
     /// What a line gives. `None` where there is no such line.
     fn told(&mut self, alloc: Global, kind: &str, text: &str) -> io::Result<Option<String>> {
+        if let Some(told) = self.store.on_log(alloc, kind, text)? {
+            return Ok(Some(told));
+        }
         if let Some(told) = self.store.told(alloc, kind, text)? {
+            return Ok(Some(told));
+        }
+        if let Some(told) = self.states.told(alloc, kind, text)? {
+            return Ok(Some(told));
+        }
+        if let Some(told) = broken_told(alloc, kind, text)? {
             return Ok(Some(told));
         }
         if let Some(told) = self.streams.told(alloc, kind, text)? {
@@ -48,6 +61,7 @@ impl Case {
 impl Rows for Case {
     fn begin(&mut self, alloc: Global) -> io::Result<()> {
         self.store = Store::None;
+        self.states = States::None;
         self.streams = Streams::new(alloc);
         self.rows = StoredRows::new(alloc);
         Ok(())

@@ -16,36 +16,41 @@ ghost use Rattle.std.specs.Prelude.{◌≤◌, ◌+◌, ◌^◌, length};
 use edge_io::{Disk, FaultMode};
 use edge_mem::MemDisk;
 use gate_journal::{Journal, StartFault, start};
+use part_log::PartLog;
 use row_text::bytes_of;
 use share_model::StoreFault;
 use std::alloc::Global;
 use std::{io, mem};
 
-/// What is there. A journal gives its disk back where a line is about the disk.
+/// What is there. A journal and a log give their disk back where a line is about the disk.
 #[derive(Drop)]
 pub enum Store {
     None,
     Disk(MemDisk),
     Journal(Journal<MemDisk>),
+    Log(PartLog<MemDisk>),
 }
 
-fn word(alloc: Global, text: &str) -> io::Result<String> {
+/// A text of its own.
+pub fn word(alloc: Global, text: &str) -> io::Result<String> {
     Ok(String::from_str(alloc, text)?)
 }
 
-fn done(alloc: Global, is_ok: bool) -> io::Result<String> {
+/// `ok` or `fails`.
+pub fn done(alloc: Global, is_ok: bool) -> io::Result<String> {
     word(alloc, if is_ok { "ok" } else { "fails" })
 }
 
 /// Bytes in hexadecimal, and `nothing` for none.
-fn bytes_text(alloc: Global, bytes: &[u8]) -> io::Result<String> {
+pub fn bytes_text(alloc: Global, bytes: &[u8]) -> io::Result<String> {
     if bytes.is_empty() {
         return word(alloc, "nothing");
     }
     Ok(hex::encode(alloc, bytes)?)
 }
 
-fn mode_of(name: &str) -> FaultMode {
+/// The mode of a fault that is armed.
+pub fn mode_of(name: &str) -> FaultMode {
     match name {
         "torn" => FaultMode::Torn,
         "dead" => FaultMode::Dead,
@@ -206,12 +211,13 @@ pub fn new_disk(alloc: Global, content: Vec<u8>) -> io::Result<MemDisk> {
 }
 
 impl Store {
-    /// The disk, without its journal.
-    fn into_disk(self) -> Option<MemDisk> {
+    /// The disk, without its journal or log.
+    pub fn into_disk(self) -> Option<MemDisk> {
         match self {
             Store::None => None,
             Store::Disk(disk) => Some(disk),
             Store::Journal(journal) => Some(journal.into_disk()),
+            Store::Log(log) => Some(log.into_disk()),
         }
     }
 
@@ -220,6 +226,7 @@ impl Store {
             Store::None => {}
             Store::Disk(disk) => disk.arm(after, mode),
             Store::Journal(journal) => journal.arm(after, mode),
+            Store::Log(log) => log.arm(after, mode),
         }
     }
 

@@ -89,7 +89,8 @@ fn run_text(alloc: Global, run: &Run) -> io::Result<String> {
     Ok(format!(in alloc; "{first}..{last} {state} {count}")?)
 }
 
-fn runs_text(alloc: Global, runs: &[Run]) -> io::Result<String> {
+/// The runs, with a comma between them.
+pub fn runs_text(alloc: Global, runs: &[Run]) -> io::Result<String> {
     let mut text = String::new(alloc);
     for run in runs {
         if !text.is_empty() {

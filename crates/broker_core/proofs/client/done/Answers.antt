@@ -19,7 +19,7 @@ returns-in-Ask-clause-stopped g c = on_err_weaker c.ask.result
       does.0,
       does.1,
       asks_next g.D.Disk.content g.D.Disk.image g.D.Disk.starved g.D.Disk.faults g.D.Disk.losses g.D.Disk.arms g.D.Disk.armed
-      c.args.shard.now c.ask.new.shard c.args.id c.in-Ask.part c.args.next c.args.conn.now does.1 does.0 c.in-Ask.is a call b does.2,
+          c.args.shard.now c.ask.new.shard c.args.id c.in-Ask.part c.args.next c.args.conn.now does.1 does.0 c.in-Ask.is a call b does.2,
     ))
     (h s k))
     c.ask.ensures.stopped

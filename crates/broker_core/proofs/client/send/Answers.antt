@@ -1,4 +1,4 @@
-use Rattle.std.proofs.Common.{◌≡◌, Some, None, sym, ap, ◌∙◌, rules}
+use Rattle.std.proofs.Common.{◌≡◌, Some, None, ap, ◌∙◌, rules}
 use Rattle.std.specs.Map.{set_value}
 use Rattle.conn_core.specs.Conns.{conn_after_bytes}
 use Rattle.broker_model.specs.Machine.{named, conn_at}

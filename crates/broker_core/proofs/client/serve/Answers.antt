@@ -20,8 +20,8 @@ returns-in_err-outcomes-clause-stopped g c =
       record { connections = left c.args.id h.1 es; shards = b },
       refl,
       subst (λ o. Serves c.args.conf.now (rose_by g.D.Disk.faults c.args.shard.now c.step.new.shard) (ends_by c.args.shard.now)
-      (record { connections = es; shards = a }) c.args.id o call h.0 (record { connections = left c.args.id h.1 es; shards = b })) (sym found)
-      (record { after = h.1; does = h.2; leaves = refl }),
+          (record { connections = es; shards = a }) c.args.id o call h.0 (record { connections = left c.args.id h.1 es; shards = b })) (sym found)
+          (record { after = h.1; does = h.2; leaves = refl }),
     ))
     (c.in_err-outcomes.ensures.stopped s k))
 
@@ -38,7 +38,7 @@ returns-clause-ok g c =
     λ s k. leads_to g.D.Disk.content g.D.Disk.image g.D.Disk.starved g.D.Disk.faults g.D.Disk.losses g.D.Disk.arms g.D.Disk.armed
     c.args.shard.now c.step.new.shard s _ _
     (λ a call b h.
-        subst (λ o. Serves c.args.conf.now (rose_by g.D.Disk.faults c.args.shard.now c.step.new.shard) (ends_by c.args.shard.now)
-        (record { connections = es; shards = a }) c.args.id o call c.in_ok-outcomes.outcomes.items (record { connections = c.let_go.new.clients.entries; shards = b }))
-        (sym found) (record { after = after; does = h; leaves = leaves }))
+    subst (λ o. Serves c.args.conf.now (rose_by g.D.Disk.faults c.args.shard.now c.step.new.shard) (ends_by c.args.shard.now)
+    (record { connections = es; shards = a }) c.args.id o call c.in_ok-outcomes.outcomes.items (record { connections = c.let_go.new.clients.entries; shards = b }))
+    (sym found) (record { after = after; does = h; leaves = leaves }))
     (c.in_ok-outcomes.ensures.ok s k)

@@ -1,4 +1,3 @@
-use Rattle.std.proofs.Common.{◌≡◌, refl}
 use Rattle.conn_core.specs.Turning.{turn}
 use Rattle.broker_core.proofs.Stepping.{on_err}
 use Rattle.broker_core.proofs.Leading.{halts_so, leads_to, does_turn}
@@ -12,8 +11,8 @@ returns-in_err-outcomes-clause-stopped g c = on_err c.from_residual-in_err-outco
       h.0,
       h.1,
       does_turn g.D.Disk.content g.D.Disk.image g.D.Disk.starved g.D.Disk.faults g.D.Disk.losses g.D.Disk.arms g.D.Disk.armed
-      c.args.shard.now c.done.new.shard c.args.id (turn c.args.conf.now c.args.conn.now) c.in_ok-next.next c.next_part.new.self h.1 h.0
-      c.in_ok-next.ensures.next a call b h.2,
+          c.args.shard.now c.done.new.shard c.args.id (turn c.args.conf.now c.args.conn.now) c.in_ok-next.next c.next_part.new.self h.1 h.0
+          c.in_ok-next.ensures.next a call b h.2,
     ))
     (c.in_err-outcomes.ensures.stopped s k))
 

@@ -1,4 +1,4 @@
-use Rattle.std.proofs.Common.{◌≡◌, false, ap, sym, ◌∙◌, rules}
+use Rattle.std.proofs.Common.{◌≡◌, false, rules}
 use Rattle.broker_core.proofs.Leading.{fed_both}
 use Rattle.broker_core.proofs.Opening.{opened}
 use Rattle.broker_core.proofs.shard.open.Goals as goal

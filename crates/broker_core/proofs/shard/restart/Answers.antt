@@ -1,5 +1,5 @@
-use Rattle.std.proofs.Common.{◌≡◌, ◌≤◌, ◌∙◌, sym, ap, subst, is_some, refl, List, ℕ, IsErr, IfErr, rules}
-use Rattle.broker_core.proofs.Stepping.{ok_weaker, err_weaker}
+use Rattle.std.proofs.Common.{◌≡◌, ◌∙◌, ap, is_some, IsErr, rules}
+use Rattle.broker_core.proofs.Stepping.{ok_weaker}
 use Rattle.broker_core.proofs.Opening.{lost_of, loss_refused, within_still, told_on, not_lost, stays_shut, restarted, flip, told_first, told_second}
 use Rattle.broker_core.specs.declared.fault.CoreOpen.TheVariants.{NoMemory}
 use Rattle.broker_core.specs.Carried.{IsCarried}
@@ -12,17 +12,17 @@ returns-in-Err-clause-err g c = λ s k.
     let same_second = c.into_disks-first.ensures.1 in
     let failed : IsErr c.power_loss.result = search rules in (
       not_lost g.D.Disk.content g.D.Disk.image g.D.Disk.starved g.D.Disk.faults g.D.Disk.losses g.D.Disk.arms g.D.Disk.armed
-      c.args.shard s c.power_loss.new.self c.into_disks-first.result.1 k
-      (within_still g.D.Disk.content g.D.Disk.image g.D.Disk.starved g.D.Disk.faults g.D.Disk.losses g.D.Disk.arms g.D.Disk.armed
-      c.args.shard.journal.live.disk c.into_disks-first.result.0 c.power_loss.new.self same c.power_loss.ensures.images)
-      (within_still g.D.Disk.content g.D.Disk.image g.D.Disk.starved g.D.Disk.faults g.D.Disk.losses g.D.Disk.arms g.D.Disk.armed
-      c.args.shard.journal.idle c.into_disks-first.result.1 c.into_disks-first.result.1 same_second (λ x now. now))
-      (told_on g.D.Disk.content g.D.Disk.image g.D.Disk.starved g.D.Disk.faults g.D.Disk.losses g.D.Disk.arms g.D.Disk.armed
-      c.args.shard.journal.live.disk c.into_disks-first.result.0 c.power_loss.new.self same c.power_loss.ensures.told k.told)
-      (ap (λ d. is_some (g.D.Disk.content d)) same_second ∙ k.second_told),
+          c.args.shard s c.power_loss.new.self c.into_disks-first.result.1 k
+          (within_still g.D.Disk.content g.D.Disk.image g.D.Disk.starved g.D.Disk.faults g.D.Disk.losses g.D.Disk.arms g.D.Disk.armed
+          c.args.shard.journal.live.disk c.into_disks-first.result.0 c.power_loss.new.self same c.power_loss.ensures.images)
+          (within_still g.D.Disk.content g.D.Disk.image g.D.Disk.starved g.D.Disk.faults g.D.Disk.losses g.D.Disk.arms g.D.Disk.armed
+          c.args.shard.journal.idle c.into_disks-first.result.1 c.into_disks-first.result.1 same_second (λ x now. now))
+          (told_on g.D.Disk.content g.D.Disk.image g.D.Disk.starved g.D.Disk.faults g.D.Disk.losses g.D.Disk.arms g.D.Disk.armed
+          c.args.shard.journal.live.disk c.into_disks-first.result.0 c.power_loss.new.self same c.power_loss.ensures.told k.told)
+          (ap (λ d. is_some (g.D.Disk.content d)) same_second ∙ k.second_told),
       c.fault_of_call-fault.ensures.memory
-      (loss_refused g.D.Disk.content g.D.Disk.image g.D.Disk.starved g.D.Disk.faults g.D.Disk.losses g.D.Disk.arms g.D.Disk.armed
-      c.args.shard.journal.live.disk c.into_disks-first.result.0 c.power_loss.new.self c.power_loss.result same k.told failed c.power_loss.ensures.fails),
+          (loss_refused g.D.Disk.content g.D.Disk.image g.D.Disk.starved g.D.Disk.faults g.D.Disk.losses g.D.Disk.arms g.D.Disk.armed
+          c.args.shard.journal.live.disk c.into_disks-first.result.0 c.power_loss.new.self c.power_loss.result same k.told failed c.power_loss.ensures.fails),
     ))
 
 pub returns-in-Err-power_loss-clause-err : goal.returns-in-Err-power_loss-clause-err
@@ -31,47 +31,47 @@ returns-in-Err-power_loss-clause-err g c = λ s k.
     let same_second = c.into_disks-first.ensures.1 in
     let failed : IsErr c.power_loss-2.result = search rules in (
       not_lost g.D.Disk.content g.D.Disk.image g.D.Disk.starved g.D.Disk.faults g.D.Disk.losses g.D.Disk.arms g.D.Disk.armed
-      c.args.shard s c.power_loss.new.self c.power_loss-2.new.self k
-      (within_still g.D.Disk.content g.D.Disk.image g.D.Disk.starved g.D.Disk.faults g.D.Disk.losses g.D.Disk.arms g.D.Disk.armed
-      c.args.shard.journal.live.disk c.into_disks-first.result.0 c.power_loss.new.self same c.power_loss.ensures.images)
-      (within_still g.D.Disk.content g.D.Disk.image g.D.Disk.starved g.D.Disk.faults g.D.Disk.losses g.D.Disk.arms g.D.Disk.armed
-      c.args.shard.journal.idle c.into_disks-first.result.1 c.power_loss-2.new.self same_second c.power_loss-2.ensures.images)
-      (told_on g.D.Disk.content g.D.Disk.image g.D.Disk.starved g.D.Disk.faults g.D.Disk.losses g.D.Disk.arms g.D.Disk.armed
-      c.args.shard.journal.live.disk c.into_disks-first.result.0 c.power_loss.new.self same c.power_loss.ensures.told k.told)
-      (told_on g.D.Disk.content g.D.Disk.image g.D.Disk.starved g.D.Disk.faults g.D.Disk.losses g.D.Disk.arms g.D.Disk.armed
-      c.args.shard.journal.idle c.into_disks-first.result.1 c.power_loss-2.new.self same_second c.power_loss-2.ensures.told k.second_told),
+          c.args.shard s c.power_loss.new.self c.power_loss-2.new.self k
+          (within_still g.D.Disk.content g.D.Disk.image g.D.Disk.starved g.D.Disk.faults g.D.Disk.losses g.D.Disk.arms g.D.Disk.armed
+          c.args.shard.journal.live.disk c.into_disks-first.result.0 c.power_loss.new.self same c.power_loss.ensures.images)
+          (within_still g.D.Disk.content g.D.Disk.image g.D.Disk.starved g.D.Disk.faults g.D.Disk.losses g.D.Disk.arms g.D.Disk.armed
+          c.args.shard.journal.idle c.into_disks-first.result.1 c.power_loss-2.new.self same_second c.power_loss-2.ensures.images)
+          (told_on g.D.Disk.content g.D.Disk.image g.D.Disk.starved g.D.Disk.faults g.D.Disk.losses g.D.Disk.arms g.D.Disk.armed
+          c.args.shard.journal.live.disk c.into_disks-first.result.0 c.power_loss.new.self same c.power_loss.ensures.told k.told)
+          (told_on g.D.Disk.content g.D.Disk.image g.D.Disk.starved g.D.Disk.faults g.D.Disk.losses g.D.Disk.arms g.D.Disk.armed
+          c.args.shard.journal.idle c.into_disks-first.result.1 c.power_loss-2.new.self same_second c.power_loss-2.ensures.told k.second_told),
       c.fault_of_call-fault-in-Err-power_loss.ensures.memory
-      (loss_refused g.D.Disk.content g.D.Disk.image g.D.Disk.starved g.D.Disk.faults g.D.Disk.losses g.D.Disk.arms g.D.Disk.armed
-      c.args.shard.journal.idle c.into_disks-first.result.1 c.power_loss-2.new.self c.power_loss-2.result same_second k.second_told failed
-      c.power_loss-2.ensures.fails),
+          (loss_refused g.D.Disk.content g.D.Disk.image g.D.Disk.starved g.D.Disk.faults g.D.Disk.losses g.D.Disk.arms g.D.Disk.armed
+          c.args.shard.journal.idle c.into_disks-first.result.1 c.power_loss-2.new.self c.power_loss-2.result same_second k.second_told failed
+          c.power_loss-2.ensures.fails),
     ))
 
 pub returns-clause-ok : goal.returns-clause-ok
 returns-clause-ok g c = ok_weaker _ _ c.open.result
     (λ new opens s k.
-        let first = lost_of g.D.Disk.content g.D.Disk.image g.D.Disk.starved g.D.Disk.faults g.D.Disk.losses g.D.Disk.arms g.D.Disk.armed
-        c.args.choice c.args.shard.journal.live.disk c.into_disks-first.result.0 c.power_loss.new.self c.into_disks-first.ensures.0 k.told
-        c.in_default.ensures.loses c.power_loss.ensures.told c.power_loss.ensures.arms c.in_default.ensures.quiet in
-        let second = lost_of g.D.Disk.content g.D.Disk.image g.D.Disk.starved g.D.Disk.faults g.D.Disk.losses g.D.Disk.arms g.D.Disk.armed
-        c.args.choice c.args.shard.journal.idle c.into_disks-first.result.1 c.power_loss-2.new.self c.into_disks-first.ensures.1 k.second_told
-        c.in_default-power_loss.ensures.loses c.power_loss-2.ensures.told c.power_loss-2.ensures.arms c.in_default-power_loss.ensures.quiet in
-        restarted g.D.Disk.content g.D.Disk.image g.D.Disk.starved g.D.Disk.faults g.D.Disk.losses g.D.Disk.arms g.D.Disk.armed
-        c.args.choice c.args.shard s c.power_loss.new.self c.power_loss-2.new.self first.0 second.0 new k first.1 second.1
-        (opens first.0 second.0 first.1.is second.1.is))
+    let first = lost_of g.D.Disk.content g.D.Disk.image g.D.Disk.starved g.D.Disk.faults g.D.Disk.losses g.D.Disk.arms g.D.Disk.armed
+    c.args.choice c.args.shard.journal.live.disk c.into_disks-first.result.0 c.power_loss.new.self c.into_disks-first.ensures.0 k.told
+    c.in_default.ensures.loses c.power_loss.ensures.told c.power_loss.ensures.arms c.in_default.ensures.quiet in
+    let second = lost_of g.D.Disk.content g.D.Disk.image g.D.Disk.starved g.D.Disk.faults g.D.Disk.losses g.D.Disk.arms g.D.Disk.armed
+    c.args.choice c.args.shard.journal.idle c.into_disks-first.result.1 c.power_loss-2.new.self c.into_disks-first.ensures.1 k.second_told
+    c.in_default-power_loss.ensures.loses c.power_loss-2.ensures.told c.power_loss-2.ensures.arms c.in_default-power_loss.ensures.quiet in
+    restarted g.D.Disk.content g.D.Disk.image g.D.Disk.starved g.D.Disk.faults g.D.Disk.losses g.D.Disk.arms g.D.Disk.armed
+    c.args.choice c.args.shard s c.power_loss.new.self c.power_loss-2.new.self first.0 second.0 new k first.1 second.1
+    (opens first.0 second.0 first.1.is second.1.is))
     c.open.ensures.opens
 
 pub returns-clause-err : goal.returns-clause-err
 returns-clause-err g c = flip (IsCarried g.D.Disk.content g.D.Disk.image g.D.Disk.starved c.args.shard)
     (λ e s. IsNotRestarted g.D.Disk.content g.D.Disk.image s e.0 e.1 × (e.2 ≡ NoMemory)) c.open.result
     (λ s k.
-        let first = lost_of g.D.Disk.content g.D.Disk.image g.D.Disk.starved g.D.Disk.faults g.D.Disk.losses g.D.Disk.arms g.D.Disk.armed
-        c.args.choice c.args.shard.journal.live.disk c.into_disks-first.result.0 c.power_loss.new.self c.into_disks-first.ensures.0 k.told
-        c.in_default.ensures.loses c.power_loss.ensures.told c.power_loss.ensures.arms c.in_default.ensures.quiet in
-        let second = lost_of g.D.Disk.content g.D.Disk.image g.D.Disk.starved g.D.Disk.faults g.D.Disk.losses g.D.Disk.arms g.D.Disk.armed
-        c.args.choice c.args.shard.journal.idle c.into_disks-first.result.1 c.power_loss-2.new.self c.into_disks-first.ensures.1 k.second_told
-        c.in_default-power_loss.ensures.loses c.power_loss-2.ensures.told c.power_loss-2.ensures.arms c.in_default-power_loss.ensures.quiet in
-        stays_shut g.D.Disk.content g.D.Disk.image g.D.Disk.starved g.D.Disk.faults g.D.Disk.losses g.D.Disk.arms g.D.Disk.armed
-        c.args.choice c.args.shard s c.power_loss.new.self c.power_loss-2.new.self c.open.result k (first.0, first.1) (second.0, second.1)
-        c.open.ensures.images c.open.ensures.recovers c.open.ensures.sound c.open.ensures.no_bay
-        (told_first g.D.Disk.content g.D.Disk.image g.D.Disk.starved g.D.Disk.faults g.D.Disk.losses g.D.Disk.arms g.D.Disk.armed c.power_loss.new.self c.open.result c.open.ensures.first)
-        (told_second g.D.Disk.content g.D.Disk.image g.D.Disk.starved g.D.Disk.faults g.D.Disk.losses g.D.Disk.arms g.D.Disk.armed c.power_loss-2.new.self c.open.result c.open.ensures.second))
+    let first = lost_of g.D.Disk.content g.D.Disk.image g.D.Disk.starved g.D.Disk.faults g.D.Disk.losses g.D.Disk.arms g.D.Disk.armed
+    c.args.choice c.args.shard.journal.live.disk c.into_disks-first.result.0 c.power_loss.new.self c.into_disks-first.ensures.0 k.told
+    c.in_default.ensures.loses c.power_loss.ensures.told c.power_loss.ensures.arms c.in_default.ensures.quiet in
+    let second = lost_of g.D.Disk.content g.D.Disk.image g.D.Disk.starved g.D.Disk.faults g.D.Disk.losses g.D.Disk.arms g.D.Disk.armed
+    c.args.choice c.args.shard.journal.idle c.into_disks-first.result.1 c.power_loss-2.new.self c.into_disks-first.ensures.1 k.second_told
+    c.in_default-power_loss.ensures.loses c.power_loss-2.ensures.told c.power_loss-2.ensures.arms c.in_default-power_loss.ensures.quiet in
+    stays_shut g.D.Disk.content g.D.Disk.image g.D.Disk.starved g.D.Disk.faults g.D.Disk.losses g.D.Disk.arms g.D.Disk.armed
+    c.args.choice c.args.shard s c.power_loss.new.self c.power_loss-2.new.self c.open.result k (first.0, first.1) (second.0, second.1)
+    c.open.ensures.images c.open.ensures.recovers c.open.ensures.sound c.open.ensures.no_bay
+    (told_first g.D.Disk.content g.D.Disk.image g.D.Disk.starved g.D.Disk.faults g.D.Disk.losses g.D.Disk.arms g.D.Disk.armed c.power_loss.new.self c.open.result c.open.ensures.first)
+    (told_second g.D.Disk.content g.D.Disk.image g.D.Disk.starved g.D.Disk.faults g.D.Disk.losses g.D.Disk.arms g.D.Disk.armed c.power_loss-2.new.self c.open.result c.open.ensures.second))

@@ -1,6 +1,5 @@
-use Rattle.std.proofs.Common.{◌≡◌, [], ◌∷◌, refl, sym, ap, ◌∙◌, Err, rules}
+use Rattle.std.proofs.Common.{◌≡◌, [], refl, ap, ◌∙◌, Err, rules}
 use Rattle.session_script.specs.declared.event.Event.TheVariants.{Open, Bytes, Close, Step, Arm, Power}
-use Rattle.session_script.specs.declared.event.Outcome.TheVariants.{Restarted}
 use Rattle.conn_core.specs.Conns.{conn_after_bytes}
 use Rattle.broker_model.specs.Machine.{at_connection}
 use Rattle.broker_core.specs.Causes.{no_memory}
@@ -29,9 +28,9 @@ returns-in_err-outcomes-in-Step-clause-stopped g c =
     memory_stops g.D.Disk.content g.D.Disk.image g.D.Disk.starved g.D.Disk.faults g.D.Disk.losses g.D.Disk.arms g.D.Disk.armed
     c.from_residual-in_err-outcomes-in-Step.result (record { conf = c.self.inside.conf; connections = c.self.inside.clients.entries; foreign = c.self.inside.foreign }) c.args.self.now (Step c.in-Step.conn c.in-Step.now) c.args.event.now _ err c.self.view_is c.in-Step.is
     (λ m k.
-        let h = c.in_err-outcomes-in-Step.ensures.stopped m.shards.foreign k.foreign in
-        stops_step g.D.Disk.content g.D.Disk.image g.D.Disk.starved g.D.Disk.faults g.D.Disk.losses g.D.Disk.arms g.D.Disk.armed
-        (record { conf = c.self.inside.conf; connections = c.self.inside.clients.entries; foreign = c.self.inside.foreign }) _ m h.0 c.in-Step.conn c.in-Step.now k h.1 h.2)
+    let h = c.in_err-outcomes-in-Step.ensures.stopped m.shards.foreign k.foreign in
+    stops_step g.D.Disk.content g.D.Disk.image g.D.Disk.starved g.D.Disk.faults g.D.Disk.losses g.D.Disk.arms g.D.Disk.armed
+    (record { conf = c.self.inside.conf; connections = c.self.inside.clients.entries; foreign = c.self.inside.foreign }) _ m h.0 c.in-Step.conn c.in-Step.now k h.1 h.2)
 
 pub returns-in_err-outcomes-in-Power-clause-stopped : goal.returns-in_err-outcomes-in-Power-clause-stopped
 returns-in_err-outcomes-in-Power-clause-stopped g c =

@@ -1,0 +1,4 @@
+pub mod Codes
+pub mod Shapes
+pub mod Produce
+pub mod ProduceTalks
