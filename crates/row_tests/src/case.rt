@@ -1,5 +1,6 @@
 // A case as far as it was read.
 use crate::judge::{judge_again, judge_run, judge_settings};
+use edge_io::FaultMode;
 use row_text::{Rows, Taken, bytes_of, without_blanks};
 use std::alloc::Global;
 use std::io;
@@ -13,6 +14,7 @@ pub struct Case {
     pub write_faults: Vec<u64>,
     pub bay_faults: Vec<u64>,
     pub disks: Vec<DiskLine>,
+    pub arms: Vec<ArmLine>,
     pub left: Vec<DiskLine>,
 }
 
@@ -21,6 +23,14 @@ pub struct Case {
 pub struct DiskLine {
     pub second: bool,
     pub bytes: Vec<u8>,
+}
+
+/// A fault that is armed on a disk.
+#[derive(Clone, Copy)]
+pub struct ArmLine {
+    pub second: bool,
+    pub after: u64,
+    pub mode: FaultMode,
 }
 
 /// Adds a line.
@@ -59,6 +69,21 @@ fn disk_line(alloc: Global, text: &str) -> io::Result<DiskLine> {
     })
 }
 
+/// A line of a disk's name, a number of calls and a mode.
+fn arm_line(text: &str) -> ArmLine {
+    let (name, fault) = text.split_once(' ').unwrap_or((text, ""));
+    let (after, mode) = fault.split_once(' ').unwrap_or((fault, ""));
+    ArmLine {
+        second: name == "foreign/state-b",
+        after: after.parse().unwrap_or(0),
+        mode: match mode {
+            "torn" => FaultMode::Torn,
+            "dead" => FaultMode::Dead,
+            _ => FaultMode::Once,
+        },
+    }
+}
+
 /// The words that stand between blanks.
 fn words_of(alloc: Global, text: &str) -> io::Result<Vec<String>> {
     let mut words = Vec::new(alloc);
@@ -78,6 +103,7 @@ impl Case {
             write_faults: Vec::new(alloc),
             bay_faults: Vec::new(alloc),
             disks: Vec::new(alloc),
+            arms: Vec::new(alloc),
             left: Vec::new(alloc),
         }
     }
@@ -90,6 +116,7 @@ impl Case {
             "write-fault" => self.write_faults.push(text.parse().unwrap_or(0))?,
             "bay-fault" => self.bay_faults.push(text.parse().unwrap_or(0))?,
             "disk" => self.disks.push(disk_line(alloc, text)?)?,
+            "armed" => self.arms.push(arm_line(text))?,
             "left" => self.left.push(disk_line(alloc, text)?)?,
             ">" => push_line(&mut self.script, text)?,
             "send" => push_bytes(alloc, &mut self.script, "bytes", text)?,
@@ -112,6 +139,7 @@ impl Rows for Case {
         self.write_faults = Vec::new(alloc);
         self.bay_faults = Vec::new(alloc);
         self.disks = Vec::new(alloc);
+        self.arms = Vec::new(alloc);
         self.left = Vec::new(alloc);
         Ok(())
     }

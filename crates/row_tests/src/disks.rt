@@ -4,17 +4,17 @@ ghost use Rattle.edge_mem.specs.Bays.{out_at};
 ghost use Rattle.broker_model.specs.Shards.{state_a, state_b};
 ghost use Rattle.broker_core.specs.Bays.{AreOut};
 
-use crate::case::{Case, DiskLine};
-use edge_io::{Bay, DiskName};
+use crate::case::{ArmLine, Case, DiskLine};
+use edge_io::{Bay, Disk, DiskName};
 use edge_mem::{MemBay, MemDisk};
 use row_text::compared;
 use std::alloc::Global;
 use std::io;
 
-fn name_of(line: &DiskLine) -> DiskName
+fn name_of(second: bool) -> DiskName
     ensures { (result ≡ state_a) ⊎ (result ≡ state_b) }
 {
-    if line.second {
+    if second {
         DiskName::foreign_state_b()
     } else {
         DiskName::foreign_state_a()
@@ -26,7 +26,7 @@ fn fill(alloc: Global, bay: &mut MemBay, line: &DiskLine) -> io::Result<()>
     requires { AreOut out_at false bay.old }
     ensures { AreOut out_at false bay.new }
 {
-    let name = name_of(line);
+    let name = name_of(line.second);
     let Ok(disk) = MemDisk::new(alloc, line.bytes.as_slice().to_vec(alloc)?) else {
         return Ok(());
     };
@@ -37,17 +37,34 @@ fn fill(alloc: Global, bay: &mut MemBay, line: &DiskLine) -> io::Result<()>
     Ok(())
 }
 
+/// Arms a fault of a disk.
+fn arm(bay: &mut MemBay, line: ArmLine)
+    requires { AreOut out_at false bay.old }
+    ensures { AreOut out_at false bay.new }
+{
+    let name = name_of(line.second);
+    let Ok(mut disk) = bay.take(&name) else {
+        return;
+    };
+    disk.arm(line.after, line.mode);
+    bay.put_back(&name, disk);
+}
+
 /// The bay of a case.
 pub fn bay_of(alloc: Global, case: &Case) -> io::Result<MemBay>
     ensures { IfOk result (λ bay. AreOut out_at false bay) }
 {
+    let taken = (case.disks.len() as u64).saturating_add(case.arms.len() as u64);
     let mut failing = Vec::new(alloc);
     for call in &case.bay_faults {
-        failing.push(call.saturating_add(case.disks.len() as u64))?;
+        failing.push(call.saturating_add(taken))?;
     }
     let mut bay = MemBay::new(alloc, failing);
-    for line in &case.disks {
-        fill(alloc, &mut bay, line)?;
+    for disk in &case.disks {
+        fill(alloc, &mut bay, disk)?;
+    }
+    for fault in &case.arms {
+        arm(&mut bay, *fault);
     }
     Ok(bay)
 }
@@ -57,7 +74,7 @@ fn compared_disk(alloc: Global, bay: &mut MemBay, line: &DiskLine) -> io::Result
     requires { AreOut out_at false bay.old }
     ensures { AreOut out_at false bay.new }
 {
-    let name = name_of(line);
+    let name = name_of(line.second);
     let Ok(disk) = bay.take(&name) else {
         return Ok(Some(String::from_str(alloc, "the disk isn't there")?));
     };

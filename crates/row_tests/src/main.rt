@@ -12,6 +12,7 @@
 //! | `read-fault N`, `write-fault N` | the call of the input or output that fails, counted from 0 |
 //! | `bay-fault N` | the call for a disk that fails, counted from 0; the first disk is `foreign/state-a`, and the second `foreign/state-b` |
 //! | `disk NAME HEX ..` | the content of a disk before the run; one that has no such line is empty |
+//! | `armed NAME N MODE` | a fault of a disk that is armed before the run |
 //! | `left NAME HEX ..` | the content that a disk is wanted to have behind the run |
 //! | `< LINE` | a line that is wanted |
 //! | `reply C HEX ..` | the line `reply C HEX` is wanted |
