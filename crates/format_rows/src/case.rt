@@ -2,6 +2,7 @@
 use crate::batches::{Records, batch_told, seal};
 use crate::kinds::wire_told;
 use crate::records::record_told;
+use crate::share::share_told;
 use crate::values::value_told;
 use row_text::{Rows, Taken, bytes_of, compared};
 use std::alloc::Global;
@@ -61,6 +62,9 @@ impl Case {
     fn told(&self, alloc: Global, kind: &str, text: &str) -> io::Result<Option<String>> {
         let bytes = self.bytes.as_slice();
         if let Some(told) = wire_told(alloc, kind, bytes)? {
+            return Ok(Some(told));
+        }
+        if let Some(told) = share_told(alloc, kind, bytes)? {
             return Ok(Some(told));
         }
         if let Some(told) = batch_told(alloc, kind, bytes, &self.records)? {

@@ -26,7 +26,7 @@ use std::io;
 use uuid::Uuid;
 
 /// A fault and its place.
-fn fault_text(alloc: Global, fault: WireFault) -> io::Result<String> {
+pub fn fault_text(alloc: Global, fault: WireFault) -> io::Result<String> {
     let (name, place) = match fault {
         WireFault::Short { place } => ("Short", place),
         WireFault::BadVarint { place } => ("BadVarint", place),
@@ -39,7 +39,12 @@ fn fault_text(alloc: Global, fault: WireFault) -> io::Result<String> {
 }
 
 /// Adds how a value is written, where that isn't how it was read.
-fn push_written(alloc: Global, text: &mut String, bytes: &[u8], written: &[u8]) -> io::Result<()> {
+pub fn push_written(
+    alloc: Global,
+    text: &mut String,
+    bytes: &[u8],
+    written: &[u8],
+) -> io::Result<()> {
     if written != bytes {
         text.push_str(", written ")?;
         text.push_str(hex::encode(alloc, written)?.as_str())?;
@@ -48,7 +53,7 @@ fn push_written(alloc: Global, text: &mut String, bytes: &[u8], written: &[u8]) 
 }
 
 /// The length of the longest proper front that is read.
-fn read_front<M: Wire>(alloc: Global, bytes: &[u8]) -> Option<usize> {
+pub fn read_front<M: Wire>(alloc: Global, bytes: &[u8]) -> Option<usize> {
     for length in 0..bytes.len().min(200) {
         let (front, _) = bytes.split_at(length);
         let read: Result<M, WireFault> = read_whole(alloc, front);
