@@ -5,6 +5,8 @@ use Rattle.std.proofs.Common.{rules}
 use Rattle.edge_io.specs.Causes.{CountsFault}
 
 pub record FileState : Type 0 where
+  -- the name of the disk, which is the path of its file under the folder
+  pub name : List ℕ
   pub size : ℕ
   -- a sync has failed: what was written since the one before may be lost, so every later call fails
   pub broken : Bool
@@ -12,12 +14,14 @@ pub record FileState : Type 0 where
 
 -- A read, a write or a cut: it fails where a sync has failed before, and a fault is counted where it failed, and not else.
 pub record Calls {T E : Type 0} (old new : FileState) (result : Result T E) : Type 0 where
+  pub same_name : new.name ≡ old.name
   pub refused : old.broken ≡ true → IsErr result
   pub same_broken : new.broken ≡ old.broken
   pub counts : CountsFault old.faults new.faults result
 
 -- A sync: the same, and where it failed every later call fails.
 pub record Syncs {T E : Type 0} (old new : FileState) (result : Result T E) : Type 0 where
+  pub same_name : new.name ≡ old.name
   pub refused : old.broken ≡ true → IsErr result
   pub breaks : MatchResult result (λ _. new.broken ≡ old.broken) (λ _. new.broken ≡ true)
   pub counts : CountsFault old.faults new.faults result

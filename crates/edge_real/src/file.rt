@@ -5,14 +5,12 @@ ghost use Rattle.edge_io.specs.Disk.{GrowsTo, ShrinksTo};
 ghost use Rattle.edge_real.specs.Files.{no_content, Calls, Syncs};
 
 use crate::fault::{SystemCall, SystemFault};
-use crate::system::{Folders, OpenedFile, SystemFolders};
+use crate::opening::open_below;
+use crate::system::{Folders, OpenedFile};
 use edge_io::{Disk, DiskName, Failed, FaultMode};
 use std::alloc::Global;
-use std::fs::File;
 use std::io;
-use std::io::ErrorKind;
 use std::marker::Model;
-use std::rt::Files;
 
 /// A disk over a file, by positioned reads and writes. It tells no content, and ignores `arm` and `power_loss`.
 ///
@@ -33,73 +31,43 @@ impl<F> Model for FileDisk<F> {
 
     ghost Value = { FileState };
 
-    ghost view = { λ d. record { size = d.size; broken = d.broken; faults = d.faults } };
-}
-
-// Syncs the folders of a name, from its own up to the given one, so that the names in them last.
-fn sync_folders<S: Folders>(
-    alloc: Global,
-    system: &mut S,
-    folder: &str,
-    name: &str,
-) -> io::Result<()> {
-    let mut rest = name;
-    while let Some((parent, _)) = rest.rsplit_once('/') {
-        let above = format!(in alloc; "{folder}/{parent}")?;
-        system.sync_folder(&above)?;
-        rest = parent;
-    }
-    system.sync_folder(folder)
-}
-
-impl FileDisk<File> {
-    /// Opens the file of that name under a folder. A file that is missing is made, empty, with the folders above it.
-    ///
-    /// It syncs the file's folder and those above it up to the given one, so that the file's name lasts: three syncs, or
-    /// two for a foreign disk. An error is the system's, or of the kind `OutOfMemory`; the file may be there then.
-    pub fn open<R: Files<File = File> + AllocGlobal>(
-        rt: &R,
-        folder: &str,
-        name: &DiskName,
-    ) -> io::Result<FileDisk<File>>
-        ensures { IfOk result (λ d. (d.broken ≡ false) × (d.faults ≡ 0)) }
-    {
-        FileDisk::open_by(rt.alloc(), &mut SystemFolders { rt }, folder, name)
-    }
+    ghost view = { λ d. record { name = d.name; size = d.size; broken = d.broken; faults = d.faults } };
 }
 
 impl<F: OpenedFile> FileDisk<F> {
-    /// Opens a file as `open` does, by these calls.
-    pub fn open_by<S: Folders<File = F>>(
+    /// Opens the file of that name under a folder that is there. A file that is missing is made, empty, with the folders between.
+    ///
+    /// It syncs the given folder and those from there to the file, so that the file's name lasts: three syncs, or two for a
+    /// foreign disk. After an error the file may be there.
+    pub fn open<S: Folders<File = F>>(
         alloc: Global,
         system: &mut S,
         folder: &str,
         name: &DiskName,
-    ) -> io::Result<FileDisk<F>>
-        ensures { IfOk result (λ d. (d.broken ≡ false) × (d.faults ≡ 0)) }
+    ) -> Result<FileDisk<F>, SystemFault>
+        ensures { IfOk result (λ d. d ≡ record { name = name.now; size = d.size; broken = false; faults = 0 }) }
     {
-        let Ok(text) = str::from_utf8(name.as_bytes()) else {
-            return Err(io::Error::from(ErrorKind::InvalidInput));
-        };
-        let path = format!(in alloc; "{folder}/{text}")?;
-        if let Some((parent, _)) = path.rsplit_once('/') {
-            system.make_folders(parent)?;
+        let mut file = open_below(alloc, system, folder, name.as_str())?;
+        match file.size() {
+            Ok(size) => Ok(FileDisk {
+                file,
+                name: name.duplicate(),
+                size,
+                broken: false,
+                faults: 0,
+                last: None,
+            }),
+            Err(error) => Err(SystemFault {
+                call: SystemCall::Size,
+                error,
+            }),
         }
-        let mut file = system.open_file(&path)?;
-        sync_folders(alloc, system, folder, text)?;
-        let size = file.size()?;
-        Ok(FileDisk {
-            file,
-            name: name.duplicate(),
-            size,
-            broken: false,
-            faults: 0,
-            last: None,
-        })
     }
 
     /// The name of the disk.
-    pub fn name(&self) -> &DiskName {
+    pub fn name(&self) -> &DiskName
+        ensures { result.now ≡ self.now.name }
+    {
         &self.name
     }
 
@@ -111,6 +79,7 @@ impl<F: OpenedFile> FileDisk<F> {
 
     // Counts a fault.
     fn fail(&mut self) -> Failed
+        ensures name { self.new.name ≡ self.old.name }
         ensures size { self.new.size ≡ self.old.size }
         ensures broken { self.new.broken ≡ self.old.broken }
         ensures later { self.old.faults ≤ self.new.faults }
@@ -122,6 +91,7 @@ impl<F: OpenedFile> FileDisk<F> {
 
     // Counts a fault, and keeps what the system said.
     fn refuse(&mut self, call: SystemCall, error: io::Error) -> Failed
+        ensures name { self.new.name ≡ self.old.name }
         ensures size { self.new.size ≡ self.old.size }
         ensures broken { self.new.broken ≡ self.old.broken }
         ensures later { self.old.faults ≤ self.new.faults }

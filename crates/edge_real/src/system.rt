@@ -4,7 +4,7 @@ use std::os::unix::fs::FileExt;
 use std::rt::Files;
 use std::{fs, io};
 
-/// The calls that a disk makes of its file, as POSIX `fstat`, `pread`, `pwrite`, `ftruncate` and `fdatasync`.
+/// The calls that a disk makes of its file, as POSIX `fstat`, `pread`, `pwrite`, `ftruncate` and `fdatasync`, and `flock`.
 ///
 /// A fake of it shows which calls a disk makes, as no file can.
 pub trait OpenedFile: Drop {
@@ -22,6 +22,10 @@ pub trait OpenedFile: Drop {
 
     /// Brings what was written, and the length, to the device.
     fn sync_data(&mut self) -> io::Result<()>;
+
+    /// Takes the file's exclusive lock, until the file is closed. Where another opening of the file has it, it is of the
+    /// kind `WouldBlock`, and doesn't wait.
+    fn lock(&mut self) -> io::Result<()>;
 }
 
 impl OpenedFile for File {
@@ -44,14 +48,21 @@ impl OpenedFile for File {
     fn sync_data(&mut self) -> io::Result<()> {
         File::sync_data(self)
     }
+
+    fn lock(&mut self) -> io::Result<()> {
+        match self.try_lock() {
+            Ok(()) => Ok(()),
+            Err(error) => Err(io::Error::from(error)),
+        }
+    }
 }
 
 /// The calls by which a disk opens its file, by paths.
-pub trait Folders {
+pub trait Folders: Drop {
     type File: OpenedFile;
 
-    /// Makes a folder and those above it, where they are missing.
-    fn make_folders(&mut self, path: &str) -> io::Result<()>;
+    /// Makes a folder, whose parent is there. `false` where the folder was there already.
+    fn make_folder(&mut self, path: &str) -> io::Result<bool>;
 
     /// Opens a file to read and write it, and makes it where it is missing.
     fn open_file(&mut self, path: &str) -> io::Result<Self::File>;
@@ -60,7 +71,7 @@ pub trait Folders {
     fn sync_folder(&mut self, path: &str) -> io::Result<()>;
 }
 
-// The folders of the operating system.
+/// The folders of the operating system.
 #[derive(Drop)]
 pub struct SystemFolders<'a, R> {
     pub rt: &'a R,
@@ -69,8 +80,15 @@ pub struct SystemFolders<'a, R> {
 impl<R: Files<File = File>> Folders for SystemFolders<'_, R> {
     type File = File;
 
-    fn make_folders(&mut self, path: &str) -> io::Result<()> {
-        fs::create_dir_all(self.rt, path)
+    fn make_folder(&mut self, path: &str) -> io::Result<bool> {
+        let error = match fs::create_dir(self.rt, path) {
+            Ok(()) => return Ok(true),
+            Err(error) => error,
+        };
+        match fs::metadata(self.rt, path) {
+            Ok(found) if found.is_dir() => Ok(false),
+            _ => Err(error),
+        }
     }
 
     fn open_file(&mut self, path: &str) -> io::Result<File> {

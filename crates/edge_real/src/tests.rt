@@ -1,12 +1,95 @@
-// What only a real file shows, and which calls the adapters make, which only fakes of these calls show.
-use crate::{FileDisk, Folders, OpenedFile, ReaderSource, SystemCall, WriterSink};
-use edge_io::{Disk, DiskName, DiskPlace, Failed, Sink, Source};
+// What only real files show, and which calls the adapters make, which only fakes of these calls show.
+ghost use Rattle.std.specs.Prelude.{◌≡◌, ℕ, List, false, IfOk};
+ghost use Rattle.edge_real.specs.Folders.{out_at};
+
+use crate::{
+    FileDisk, FolderBay, Folders, OpenedFile, ReaderSource, SystemCall, SystemFolders, WriterSink,
+};
+use edge_io::{Bay, Disk, DiskName, DiskPlace, Failed, Sink, Source};
 use std::alloc::Global;
-use std::fs::File;
+use std::fs::OpenOptions;
 use std::io::{ErrorKind, Read, Write};
 use std::{env, fs, io, process};
 
-// ---- a real file
+// ---- disks of a folder
+
+// What is done with a disk between its taking and its putting back.
+#[derive(Clone, Copy)]
+enum Act {
+    // One call of a kind, at the front.
+    Call(SystemCall),
+    // Writes `queue, logs` to an empty disk in odd pieces, and syncs.
+    Fill,
+    // Reads `queue` and ` logs` from a disk of 11 bytes.
+    Check,
+}
+
+fn call<F: OpenedFile>(disk: &mut FileDisk<F>, call: SystemCall) -> Result<(), Failed> {
+    match call {
+        SystemCall::Read => disk.read_at(0, &mut []),
+        SystemCall::Write => disk.write_at(0, b"x"),
+        SystemCall::Cut => disk.cut(0),
+        _ => disk.sync(),
+    }
+}
+
+fn fill<F: OpenedFile>(disk: &mut FileDisk<F>) -> Result<(), Failed> {
+    disk.write_at(0, b"q-e")?;
+    disk.write_at(3, b"ue, l")?;
+    disk.write_at(8, b"ogs")?;
+    disk.write_at(1, b"u")?;
+    disk.sync()
+}
+
+fn check<F: OpenedFile>(disk: &mut FileDisk<F>) -> Result<(), Failed> {
+    if disk.len() != 11 {
+        return Err(Failed);
+    }
+    let mut front = [0; 5];
+    let mut end = [0; 5];
+    disk.read_at(0, &mut front)?;
+    disk.read_at(6, &mut end)?;
+    if &front == b"queue" && &end == b" logs" {
+        Ok(())
+    } else {
+        Err(Failed)
+    }
+}
+
+// Takes a disk, does this, and puts it back.
+fn visit<S: Folders>(bay: &mut FolderBay<S>, name: &DiskName, act: Act) -> Result<(), Failed>
+    requires { (m : List ℕ) → out_at bay.old m ≡ false }
+    ensures { (m : List ℕ) → out_at bay.new m ≡ false }
+{
+    let mut disk = bay.take(name)?;
+    let done = match act {
+        Act::Call(kind) => call(&mut disk, kind),
+        Act::Fill => fill(&mut disk),
+        Act::Check => check(&mut disk),
+    };
+    bay.put_back(name, disk);
+    done
+}
+
+// Visits a disk. Whether the answer is wanted, and these are the words of the bay's last fault.
+fn shows<S: Folders>(
+    alloc: Global,
+    bay: &mut FolderBay<S>,
+    visited: (&DiskName, Act),
+    wanted: Result<(), Failed>,
+    last: &str,
+) -> io::Result<bool>
+    requires { (m : List ℕ) → out_at bay.old m ≡ false }
+    ensures { (m : List ℕ) → out_at bay.new m ≡ false }
+{
+    let (name, act) = visited;
+    let answer = visit(bay, name, act);
+    let words = match bay.last_fault() {
+        None => String::new(alloc),
+        Some(fault) => format!(in alloc; "{fault}")?,
+    };
+    Ok(answer == wanted && words.as_str() == last)
+}
 
 // A folder of these tests' own.
 fn own_folder(rt: &HostRuntime) -> io::Result<String> {
@@ -16,96 +99,110 @@ fn own_folder(rt: &HostRuntime) -> io::Result<String> {
     Ok(folder)
 }
 
-// Writes `queue, logs` to an empty disk in odd pieces, and syncs.
-fn fill(disk: &mut FileDisk<File>) -> Result<(), Failed> {
-    disk.write_at(0, b"q-e")?;
-    disk.write_at(3, b"ue, l")?;
-    disk.write_at(8, b"ogs")?;
-    disk.write_at(1, b"u")?;
-    disk.sync()
-}
-
-// Whether five bytes at a place are these.
-fn reads(disk: &mut FileDisk<File>, place: u64, want: &[u8]) -> bool {
-    let len = disk.len();
-    if len < 5 || place > len - 5 {
-        return false;
-    }
-    let mut bytes = [0; 5];
-    disk.read_at(place, &mut bytes).is_ok() && bytes.as_slice() == want
-}
-
-fn cut(disk: &mut FileDisk<File>, to: u64) -> bool {
-    to <= disk.len() && disk.cut(to).is_ok()
-}
-
 #[test]
-fn what_was_synced_is_in_the_file_of_its_name(rt: HostRuntime) -> io::Result<()> {
-    let folder = own_folder(&rt)?;
+fn a_folder_has_what_was_synced_and_is_open_once(rt: HostRuntime) -> io::Result<()> {
+    let own = own_folder(&rt)?;
+    let data = format!(in rt.alloc(); "{own}/new/data")?;
+    let log = format!(in rt.alloc(); "{data}/orders/7/log")?;
     let name = DiskName::hosted(b"orders", 7, DiskPlace::Log).expect(&rt, "it is a name");
-    let mut disk = FileDisk::open(&rt, &folder, &name)?;
-    assert_eq!(rt; fill(&mut disk), Ok(()));
-    let path = format!(in rt.alloc(); "{folder}/orders/7/log")?;
-    let bytes = fs::read(&rt, path.as_str())?;
-    assert_eq!(rt; bytes.as_slice(), b"queue, logs".as_slice());
-    let mut again = FileDisk::open(&rt, &folder, &name)?;
-    assert_eq!(rt; again.len(), 11);
-    assert!(rt; reads(&mut again, 0, b"queue"));
-    assert!(rt; reads(&mut again, 6, b" logs"));
-    assert!(rt; cut(&mut again, 7));
-    assert!(rt;
-        !reads(&mut disk, 6, b" logs"),
-        "the file has become shorter"
+    let held = format!(in rt.alloc();
+        "{data}/lock~: lock: operation would block (another program has this folder open)"
+    )?;
+    let mut second = FolderBay::over(rt.alloc(), SystemFolders { rt: &rt }, data.clone()?);
+    {
+        let mut first = FolderBay::over(rt.alloc(), SystemFolders { rt: &rt }, data.clone()?);
+        assert!(rt; shows(rt.alloc(), &mut first, (&name, Act::Fill), Ok(()), "")?);
+        assert!(rt;
+            shows(
+                rt.alloc(),
+                &mut second,
+                (&name, Act::Check),
+                Err(Failed),
+                &held
+            )?
+        );
+    }
+    assert_eq!(rt;
+        fs::read(&rt, log.as_str())?.as_slice(),
+        b"queue, logs".as_slice()
     );
-    assert_eq!(rt; disk.faults(), 1);
-    fs::remove_dir_all(&rt, folder.as_str())
+    assert!(rt; shows(rt.alloc(), &mut second, (&name, Act::Check), Ok(()), &held)?);
+    OpenOptions::new()
+        .write(true)
+        .open(&rt, log.as_str())?
+        .set_len(7)?;
+    let short = format!(in rt.alloc(); "{log}: read: failed to fill whole buffer")?;
+    assert!(rt;
+        shows(
+            rt.alloc(),
+            &mut second,
+            (&name, Act::Check),
+            Err(Failed),
+            &short
+        )?
+    );
+    let below = format!(in rt.alloc(); "{log}/below")?;
+    let none = format!(in rt.alloc(); "{below}: make folder: Not a directory (os error 20)")?;
+    let mut third = FolderBay::over(rt.alloc(), SystemFolders { rt: &rt }, below);
+    assert!(rt;
+        shows(
+            rt.alloc(),
+            &mut third,
+            (&name, Act::Check),
+            Err(Failed),
+            &none
+        )?
+    );
+    fs::remove_dir_all(&rt, own.as_str())
 }
 
-// ---- the calls of a disk
+// Calls that are all done, but for the first of one kind. They are noted with their paths; those of a file are not.
+#[derive(Drop)]
+struct FakeFolders {
+    failing: Option<SystemCall>,
+    missing: bool,
+    notes: String,
+}
 
-// A file that does everything, but for the first call of one kind.
 #[derive(Drop)]
 struct FakeFile {
     failing: Option<SystemCall>,
 }
 
-impl FakeFile {
-    fn call(&mut self, call: SystemCall) -> io::Result<()> {
-        if self.failing == Some(call) {
-            self.failing = None;
-            return Err(io::Error::from(ErrorKind::StorageFull));
-        }
-        Ok(())
+// Fails where this kind of call is to fail, once.
+fn done(failing: &mut Option<SystemCall>, call: SystemCall) -> io::Result<()> {
+    if *failing != Some(call) {
+        return Ok(());
     }
+    *failing = None;
+    Err(io::Error::from(ErrorKind::StorageFull))
 }
 
 impl OpenedFile for FakeFile {
     fn size(&mut self) -> io::Result<u64> {
+        done(&mut self.failing, SystemCall::Size)?;
         Ok(3)
     }
 
     fn read_exact_at(&mut self, _into: &mut [u8], _place: u64) -> io::Result<()> {
-        self.call(SystemCall::Read)
+        done(&mut self.failing, SystemCall::Read)
     }
 
     fn write_all_at(&mut self, _bytes: &[u8], _place: u64) -> io::Result<()> {
-        self.call(SystemCall::Write)
+        done(&mut self.failing, SystemCall::Write)
     }
 
     fn set_size(&mut self, _size: u64) -> io::Result<()> {
-        self.call(SystemCall::Cut)
+        done(&mut self.failing, SystemCall::Cut)
     }
 
     fn sync_data(&mut self) -> io::Result<()> {
-        self.call(SystemCall::Sync)
+        done(&mut self.failing, SystemCall::Sync)
     }
-}
 
-// Folders that note what is asked of them.
-#[derive(Drop)]
-struct FakeFolders {
-    failing: SystemCall,
-    notes: String,
+    fn lock(&mut self) -> io::Result<()> {
+        done(&mut self.failing, SystemCall::Lock)
+    }
 }
 
 impl FakeFolders {
@@ -119,70 +216,106 @@ impl FakeFolders {
 impl Folders for FakeFolders {
     type File = FakeFile;
 
-    fn make_folders(&mut self, path: &str) -> io::Result<()> {
-        self.note(" make ", path)
+    fn make_folder(&mut self, path: &str) -> io::Result<bool> {
+        self.note(" make ", path)?;
+        if self.missing {
+            self.missing = false;
+            return Err(io::Error::from(ErrorKind::NotFound));
+        }
+        done(&mut self.failing, SystemCall::MakeFolder)?;
+        Ok(true)
     }
 
     fn open_file(&mut self, path: &str) -> io::Result<FakeFile> {
         self.note(" open ", path)?;
-        Ok(FakeFile {
-            failing: Some(self.failing),
-        })
+        done(&mut self.failing, SystemCall::Open)?;
+        let mut failing = None;
+        if path.ends_with("lock~") == (self.failing == Some(SystemCall::Lock)) {
+            failing = self.failing.take();
+        }
+        Ok(FakeFile { failing })
     }
 
     fn sync_folder(&mut self, path: &str) -> io::Result<()> {
-        self.note(" sync ", path)
+        self.note(" sync ", path)?;
+        done(&mut self.failing, SystemCall::SyncFolder)
     }
 }
 
-#[test]
-fn opening_syncs_each_folder_of_the_name(rt: HostRuntime) -> io::Result<()> {
-    let mut folders = FakeFolders {
-        failing: SystemCall::Read,
-        notes: String::new(rt.alloc()),
+// A bay over such calls. Where its folder's parent is missing, the first call that makes a folder says so.
+fn fake_bay(
+    alloc: Global,
+    failing: Option<SystemCall>,
+    missing: bool,
+) -> io::Result<FolderBay<FakeFolders>>
+    ensures { IfOk result (λ b. (m : List ℕ) → out_at b m ≡ false) }
+{
+    let folders = FakeFolders {
+        failing,
+        missing,
+        notes: String::new(alloc),
     };
-    let name = DiskName::hosted(b"orders", 0, DiskPlace::StateA).expect(&rt, "it is a name");
-    let disk = FileDisk::open_by(rt.alloc(), &mut folders, "data", &name)?;
-    assert_eq!(rt; disk.len(), 3);
+    Ok(FolderBay::over(alloc, folders, format!(in alloc; "new/data")?))
+}
+
+#[test]
+fn each_name_has_a_file_of_its_own_and_lasts(rt: HostRuntime) -> io::Result<()> {
+    let state = DiskName::hosted(b"orders", 0, DiskPlace::StateA).expect(&rt, "it is a name");
+    let log = DiskName::hosted(b"orders", 1, DiskPlace::Log).expect(&rt, "it is a name");
+    let mut bay = fake_bay(rt.alloc(), None, true)?;
     assert_eq!(rt;
-        folders.notes.as_str(),
-        " make data/orders/0 open data/orders/0/state-a sync data/orders/0 sync data/orders sync data"
+        visit(&mut bay, &state, Act::Call(SystemCall::Sync)),
+        Ok(())
+    );
+    assert_eq!(rt; visit(&mut bay, &log, Act::Call(SystemCall::Sync)), Ok(()));
+    assert_eq!(rt;
+        visit(&mut bay, &state, Act::Call(SystemCall::Sync)),
+        Ok(())
+    );
+    assert_eq!(rt;
+        bay.system().notes.as_str(),
+        " make new/data make new sync . make new/data sync new open new/data/lock~ \
+        make new/data/orders sync new/data make new/data/orders/0 sync new/data/orders \
+        open new/data/orders/0/state-a sync new/data/orders/0 \
+        make new/data/orders sync new/data make new/data/orders/1 sync new/data/orders \
+        open new/data/orders/1/log sync new/data/orders/1"
     );
     Ok(())
 }
 
-fn fake_disk(alloc: Global, failing: SystemCall) -> io::Result<FileDisk<FakeFile>> {
-    let mut folders = FakeFolders {
-        failing,
-        notes: String::new(alloc),
-    };
-    FileDisk::open_by(alloc, &mut folders, "data", &DiskName::foreign_state_a())
-}
-
-fn call(disk: &mut FileDisk<FakeFile>, call: SystemCall) -> Result<(), Failed> {
-    match call {
-        SystemCall::Read => disk.read_at(0, &mut []),
-        SystemCall::Write | SystemCall::Flush => disk.write_at(0, b"x"),
-        SystemCall::Cut => disk.cut(0),
-        SystemCall::Sync => disk.sync(),
-    }
-}
-
 #[test]
-fn a_call_that_the_system_refuses_is_one_fault(rt: HostRuntime) -> io::Result<()> {
-    for (kind, again, faults) in [
-        (SystemCall::Read, Ok(()), 1),
-        (SystemCall::Write, Ok(()), 1),
-        (SystemCall::Cut, Ok(()), 1),
-        (SystemCall::Sync, Err(Failed), 2),
+fn a_call_that_the_system_refuses_is_a_fault_of_its_file(rt: HostRuntime) -> io::Result<()> {
+    let name = DiskName::foreign_state_a();
+    for (kind, again, file) in [
+        (SystemCall::MakeFolder, Ok(()), "new/data"),
+        (SystemCall::SyncFolder, Ok(()), "new/data"),
+        (SystemCall::Open, Ok(()), "new/data/lock~"),
+        (SystemCall::Lock, Ok(()), "new/data/lock~"),
+        (SystemCall::Size, Ok(()), "new/data/foreign/state-a"),
+        (SystemCall::Read, Ok(()), "new/data/foreign/state-a"),
+        (SystemCall::Write, Ok(()), "new/data/foreign/state-a"),
+        (SystemCall::Cut, Ok(()), "new/data/foreign/state-a"),
+        (SystemCall::Sync, Err(Failed), "new/data/foreign/state-a"),
     ] {
-        let mut disk = fake_disk(rt.alloc(), kind)?;
-        assert_eq!(rt; call(&mut disk, kind), Err(Failed), "{kind}");
-        assert_eq!(rt; call(&mut disk, kind), again, "{kind}");
-        assert_eq!(rt; disk.faults(), faults, "{kind}");
+        let words = format!(in rt.alloc(); "{file}: {kind}: no storage space")?;
+        let mut bay = fake_bay(rt.alloc(), Some(kind), false)?;
         assert!(rt;
-            matches!(disk.last_fault(), Some(fault) if fault.call == kind),
-            "{kind}"
+            shows(
+                rt.alloc(),
+                &mut bay,
+                (&name, Act::Call(kind)),
+                Err(Failed),
+                &words
+            )?
+        );
+        assert!(rt;
+            shows(
+                rt.alloc(),
+                &mut bay,
+                (&name, Act::Call(kind)),
+                again,
+                &words
+            )?
         );
     }
     Ok(())

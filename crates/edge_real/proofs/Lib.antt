@@ -1,0 +1,2 @@
+-- Places: the slots of a bay over a folder.
+pub mod Places
