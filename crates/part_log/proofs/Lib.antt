@@ -10,3 +10,4 @@ pub mod FrameReads
 pub mod Placing
 pub mod Refusing
 pub mod Adding
+pub mod Stepping

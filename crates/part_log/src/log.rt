@@ -14,6 +14,7 @@ ghost use Rattle.share_model.specs.Logs.{Batch, IsAt, IsNextSlot, IsSlot, end_of
 ghost use Rattle.share_model.specs.Rooms.{Appends};
 ghost use Rattle.part_log.specs.Batches.{IsStored, batch_in};
 ghost use Rattle.part_log.specs.Logs.{IsLogText, IsNoLogText, Keeps};
+ghost use Rattle.part_log.specs.Shards.{CarriesLog, LogShardState, StepsLog};
 
 use crate::entry::{Entry, Kept, bytes_of, framed_copy, placed_copy};
 use crate::fault::{BatchRead, OpenFault};
@@ -148,19 +149,15 @@ impl<D: Disk> PartLog<D> {
         }
     }
 
-    /// Adds a batch as a producer sends it, at the log's end and with leader epoch 0, and answers its base.
-    ///
-    /// What isn't a batch in the produced form is refused with its first fault. Where its last offset would be 2^62 or more, it is
-    /// refused as full with the log's end, and where the journal has no room with the journal's. At `Device` the batch is pending,
-    /// or the one that was pending still is; at each other refusal nothing is changed. It makes one copy of the batch, which is
-    /// then kept, and one device write for it.
-    pub fn append(&mut self, batch: &[u8]) -> Result<u64, LogFault>
+    // Adds a batch as a producer sends it, at the log's end and with leader epoch 0.
+    fn add(&mut self, batch: &[u8]) -> Result<u64, LogFault>
         // What isn't a batch is refused with its first fault.
         ensures batch { (fault : BatchFault) → (result ≡ Err (LogFault.Batch fault)) ↔ IsFirstFault Form.Produced batch.now fault }
         ensures behind { (end : ℕ) → result ≢ Err (LogFault.Behind end) }
 
         // Any other is added at the log's end, or refused with its cause.
         ensures base { IfOk result (λ base. base ≡ end_of self.old.batches) }
+        ensures below { IfOk result (λ base. base ≤ 2 ^ 62) }
         ensures once { AddsOnce D.content D.image D.moment D.since D.armed D.starved D.faults self.old self.new
             (batch_in (placed (end_of self.old.batches) batch.now)) result }
         ensures runs { RunsOn D.content D.losses D.arms D.armed D.starved D.faults self.old.journal.disk self.new.journal.disk }
@@ -179,6 +176,32 @@ impl<D: Disk> PartLog<D> {
         self.store(base, last, buffer)
     }
 
+    /// Adds a batch as a producer sends it, at the log's end and with leader epoch 0, and answers its base.
+    ///
+    /// What isn't a batch in the produced form is refused with its first fault. Where its last offset would be 2^62 or more, it is
+    /// refused as full with the log's end, and where the journal has no room with the journal's. At `Device` the batch is pending,
+    /// or the one that was pending still is; at each other refusal nothing is changed. It makes one copy of the batch, which is
+    /// then kept, and one device write for it.
+    pub fn append(&mut self, batch: &[u8]) -> Result<u64, LogFault>
+        // What isn't a batch is refused with its first fault.
+        ensures batch { (fault : BatchFault) → (result ≡ Err (LogFault.Batch fault)) ↔ IsFirstFault Form.Produced batch.now fault }
+        ensures behind { (end : ℕ) → result ≢ Err (LogFault.Behind end) }
+
+        // Any other is added at the log's end, or refused with its cause.
+        ensures base { IfOk result (λ base. base ≡ end_of self.old.batches) }
+        ensures below { IfOk result (λ base. base ≤ 2 ^ 62) }
+        ensures once { AddsOnce D.content D.image D.moment D.since D.armed D.starved D.faults self.old self.new
+            (batch_in (placed (end_of self.old.batches) batch.now)) result }
+        ensures runs { RunsOn D.content D.losses D.arms D.armed D.starved D.faults self.old.journal.disk self.new.journal.disk }
+
+        // It is a step of the log's shard, where memory is found.
+        ensures steps { result ≢ Err LogFault.NoMemory → (shard : LogShardState) → CarriesLog D.image self.old shard → (after : LogShardState)
+            × CarriesLog D.image self.new after
+            × StepsLog (Rose (D.faults self.old.journal.disk) (D.faults self.new.journal.disk)) self.old.journal.end shard batch.now result after }
+    {
+        self.add(batch)
+    }
+
     /// Adds a batch as a log keeps it, with the base that it has and all its bytes, and answers its base.
     ///
     /// What isn't a batch in the stored form is refused with its first fault, and one whose base is below the log's end with that
@@ -191,6 +214,7 @@ impl<D: Disk> PartLog<D> {
 
         // Any other is added as it is, or refused with its cause.
         ensures once { AddsOnce D.content D.image D.moment D.since D.armed D.starved D.faults self.old self.new (batch_in batch.now) result }
+        ensures fits { (end : ℕ) → result ≡ Err (LogFault.Store (StoreFault.Full end)) → MayFollow self.old.batches (batch_in batch.now) }
         ensures runs { RunsOn D.content D.losses D.arms D.armed D.starved D.faults self.old.journal.disk self.new.journal.disk }
     {
         let view = match read_batch(batch, Form::Stored) {

@@ -38,6 +38,11 @@ store-requires-clause-follows g c =
     let there = stored_there c.args.batch.now c.in-Ok.view c.in-Ok.ensures.accepted c.args.self.now.batches _ from refl in
     subst (λ f. MayFollow c.args.self.now.batches (batch_in f)) (sym c.in-Ok-framed_copy.ensures.0) there.follows
 
+pub returns-clause-fits : goal.returns-clause-fits
+returns-clause-fits g c = λ end e.
+    let from : end_of c.args.self.now.batches ≤ c.in-Ok.view.base = omega (arith, c.if-view-end.false, c.end-end.ensures.end) in
+    (stored_there c.args.batch.now c.in-Ok.view c.in-Ok.ensures.accepted c.args.self.now.batches _ from refl).follows
+
 pub returns-clause-batch : goal.returns-clause-batch
 returns-clause-batch g c = not_refused Stored c.args.batch.now c.in-Ok.view c.in-Ok.ensures.accepted c.store.result c.store.ensures.no_batch
 
