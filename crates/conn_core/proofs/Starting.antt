@@ -1,6 +1,5 @@
 -- What becomes of a frame by its first eight bytes.
-use Rattle.std.proofs.Common.{◌≡◌, ℤ, List, ℕ, Result, Ok, Err, IfOk, sym, subst}
-use Rattle.flex_fields.specs.declared.fault.WireFault.{WireFault}
+use Rattle.std.proofs.Common.{◌≡◌, ℤ, List, ℕ, Result, Ok, IfOk, sym, subst}
 use Rattle.flex_fields.specs.declared.fault.NoMemory.{NoMemory}
 use Rattle.flex_fields.specs.Reading.{At}
 use Rattle.topic_conf.specs.Configs.{ConfigParts}

@@ -8,13 +8,14 @@ use Rattle.call_fold.specs.Talks.{Talk, talk_of, stage_talk}
 use Rattle.call_fold.proofs.Talked.{means_entries}
 use Rattle.msgs_state.specs.StateReply.{partition_result}
 use Rattle.msgs_state.specs.ReadReply.{read_partition_result}
+use Rattle.log_calls.specs.Produce.{produce_acts, produce_stage}
 use Rattle.state_calls.specs.StateCalls.{state_acts, state_stage}
 use Rattle.state_calls.specs.Initialize.{initialize_means}
 use Rattle.state_calls.specs.Read.{read_means}
 use Rattle.state_calls.specs.Write.{write_means}
 use Rattle.state_calls.specs.Delete.{delete_means}
 use Rattle.conn_core.specs.declared.hand.Hand.{Hand}
-use Rattle.conn_core.specs.declared.hand.Hand.TheVariants.{Initialize, Read, Write, Delete}
+use Rattle.conn_core.specs.declared.hand.Hand.TheVariants.{Produce, Initialize, Read, Write, Delete}
 use Rattle.conn_core.specs.Hands.{hand_stage, hand_stage_after}
 use Rattle.conn_core.specs.Talking.{hand_talk_after, hand_talk, KeepsToItsTalk}
 
@@ -25,6 +26,8 @@ named f hold (Asks a) same = same a
 named f hold (Says body) same = refl
 
 goes_alone : (hand : Hand) (answer : PartAnswer) → stage_talk hand_talk (hand_stage_after hand answer) ≡ hand_talk_after hand answer
+goes_alone (Produce a) answer =
+    named (talk_of produce_acts) (λ b. Produce b) (stage_after produce_acts a answer) (λ b. refl) ∙ (means_entries produce_acts).goes_on a answer
 goes_alone (Initialize a) answer =
     let acts = state_acts initialize_means partition_result in
     named (talk_of acts) (λ b. Initialize b) (stage_after acts a answer) (λ b. refl) ∙ (means_entries acts).goes_on a answer
@@ -40,6 +43,7 @@ goes_alone (Delete a) answer =
 
 pub keeps_to_talk : KeepsToItsTalk
 keeps_to_talk = record {
+  produce = λ conf m. named (talk_of produce_acts) (λ b. Produce b) (produce_stage conf.topics m) (λ b. refl);
   initialize = λ conf m. named (talk_of (state_acts initialize_means partition_result)) (λ b. Initialize b)
       (state_stage initialize_means partition_result conf.topics (record {}) m) (λ b. refl);
   read = λ conf m. named (talk_of (state_acts read_means read_partition_result)) (λ b. Read b)

@@ -1,11 +1,12 @@
 -- With what a request begins: its first part, or its reply (KIP-932 and the Kafka protocol guide; see each call's own definition).
--- For example ApiVersions has its reply at once, and a Read of a partition that isn't hosted a part (conn_rows,
--- `a state is initialized and read`).
+-- For example ApiVersions has its reply at once, a Read of a partition that isn't hosted a part (conn_rows, `a state is initialized
+-- and read`), and so has a Produce of a batch for one that is (`a batch is stored`).
 use Rattle.std.specs.Prelude.{Some}
 use Rattle.topic_conf.specs.Configs.{ConfigParts}
 use Rattle.msgs_base.specs.declared.metadata_request.MetadataRequest.{MetadataRequest}
 use Rattle.msgs_base.specs.declared.find_coordinator_request.FindCoordinatorRequest.{FindCoordinatorRequest}
 use Rattle.msgs_base.specs.declared.api_versions_request.ApiVersionsRequest.{ApiVersionsRequest}
+use Rattle.msgs_base.specs.declared.produce_request.ProduceRequest.{ProduceRequest}
 use Rattle.msgs_base.specs.ApiVersionsReply.{api_versions_reply}
 use Rattle.msgs_base.specs.MetadataReply.{metadata_reply}
 use Rattle.msgs_base.specs.FindCoordinatorReply.{find_coordinator_reply}
@@ -23,8 +24,9 @@ use Rattle.state_calls.specs.Initialize.{initialize_means}
 use Rattle.state_calls.specs.Read.{read_means}
 use Rattle.state_calls.specs.Write.{write_means}
 use Rattle.state_calls.specs.Delete.{delete_means}
+use Rattle.log_calls.specs.Produce.{produce_stage}
 use Rattle.conn_core.specs.declared.hand.Hand.{Hand}
-use Rattle.conn_core.specs.declared.hand.Hand.TheVariants.{Initialize, Read, Write, Delete}
+use Rattle.conn_core.specs.declared.hand.Hand.TheVariants.{Produce, Initialize, Read, Write, Delete}
 use Rattle.conn_core.specs.Versions.{versions_answer}
 use Rattle.conn_core.specs.Metadata.{metadata_answer}
 use Rattle.conn_core.specs.Coordinators.{coordinator_answer}
@@ -42,6 +44,9 @@ coordinator_begins conf m = Says (Some (find_coordinator_reply.bytes (coordinato
 
 abbrev pub versions_begins : Begins ApiVersionsRequest
 versions_begins conf m = Says (Some (api_versions_reply.bytes versions_answer))
+
+abbrev pub produce_begins : Begins ProduceRequest
+produce_begins conf m = hand_stage (λ a. Produce a) (produce_stage conf.topics m)
 
 abbrev pub initialize_begins : Begins (StateRequest InitializePartition)
 initialize_begins conf m = hand_stage (λ a. Initialize a) (state_stage initialize_means partition_result conf.topics (record {}) m)

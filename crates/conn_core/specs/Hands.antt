@@ -3,7 +3,7 @@ use Rattle.call_fold.specs.declared.part.Part.{Part}
 use Rattle.call_fold.specs.declared.part.PartAnswer.{PartAnswer}
 use Rattle.call_fold.specs.declared.call.Stage.{Stage}
 use Rattle.call_fold.specs.declared.call.Stage.TheVariants.{Asks, Says}
-use Rattle.call_fold.specs.Calls.{Acts, AskingParts, question_part}
+use Rattle.call_fold.specs.Calls.{question_part}
 use Rattle.call_fold.specs.Going.{stage_after}
 use Rattle.msgs_state.specs.StateReply.{partition_result}
 use Rattle.msgs_state.specs.ReadReply.{read_partition_result}
@@ -12,11 +12,13 @@ use Rattle.state_calls.specs.Initialize.{initialize_means}
 use Rattle.state_calls.specs.Read.{read_means}
 use Rattle.state_calls.specs.Write.{write_means}
 use Rattle.state_calls.specs.Delete.{delete_means}
+use Rattle.log_calls.specs.Produce.{produce_acts}
 use Rattle.conn_core.specs.declared.hand.Hand.{Hand}
-use Rattle.conn_core.specs.declared.hand.Hand.TheVariants.{Initialize, Read, Write, Delete}
+use Rattle.conn_core.specs.declared.hand.Hand.TheVariants.{Produce, Initialize, Read, Write, Delete}
 
 -- the part that is asked
 abbrev pub hand_part : Hand → Part
+hand_part (Produce a) = question_part produce_acts a
 hand_part (Initialize a) = question_part (state_acts initialize_means partition_result) a
 hand_part (Read a) = question_part (state_acts read_means read_partition_result) a
 hand_part (Write a) = question_part (state_acts write_means partition_result) a
@@ -28,6 +30,7 @@ hand_stage hold (Says body) = Says body
 
 -- it has this answer
 abbrev pub hand_stage_after : Hand → PartAnswer → Stage Hand
+hand_stage_after (Produce a) answer = hand_stage (λ b. Produce b) (stage_after produce_acts a answer)
 hand_stage_after (Initialize a) answer = hand_stage (λ b. Initialize b) (stage_after (state_acts initialize_means partition_result) a answer)
 hand_stage_after (Read a) answer = hand_stage (λ b. Read b) (stage_after (state_acts read_means read_partition_result) a answer)
 hand_stage_after (Write a) answer = hand_stage (λ b. Write b) (stage_after (state_acts write_means partition_result) a answer)

@@ -1,8 +1,9 @@
 -- What the calls in hand mean: the talk of each, under its name.
 -- For example a Read in hand asks the part of its question and goes on by the answer (conn_rows, `a state is initialized
--- and read`).
+-- and read`), and so does a Produce (`a batch is stored`).
 use Rattle.std.specs.Prelude.{◌≡◌}
 use Rattle.topic_conf.specs.Configs.{ConfigParts}
+use Rattle.msgs_base.specs.declared.produce_request.ProduceRequest.{ProduceRequest}
 use Rattle.msgs_state.specs.declared.state_message.StateRequest.{StateRequest}
 use Rattle.msgs_state.specs.declared.initialize_request.InitializePartition.{InitializePartition}
 use Rattle.msgs_state.specs.declared.read_request.ReadPartition.{ReadPartition}
@@ -22,12 +23,15 @@ use Rattle.state_calls.specs.Initialize.{initialize_means}
 use Rattle.state_calls.specs.Read.{read_means}
 use Rattle.state_calls.specs.Write.{write_means}
 use Rattle.state_calls.specs.Delete.{delete_means}
+use Rattle.log_calls.specs.Produce.{produce_acts}
+use Rattle.log_calls.specs.ProduceTalks.{produce_talk}
 use Rattle.conn_core.specs.declared.hand.Hand.{Hand}
-use Rattle.conn_core.specs.declared.hand.Hand.TheVariants.{Initialize, Read, Write, Delete}
+use Rattle.conn_core.specs.declared.hand.Hand.TheVariants.{Produce, Initialize, Read, Write, Delete}
 use Rattle.conn_core.specs.Hands.{hand_part, hand_stage_after}
-use Rattle.conn_core.specs.Beginning.{initialize_begins, read_begins, write_begins, delete_begins}
+use Rattle.conn_core.specs.Beginning.{produce_begins, initialize_begins, read_begins, write_begins, delete_begins}
 
 abbrev pub hand_talk_after : Hand → PartAnswer → Talk
+hand_talk_after (Produce a) answer = talk_after produce_acts a answer
 hand_talk_after (Initialize a) answer = talk_after (state_acts initialize_means partition_result) a answer
 hand_talk_after (Read a) answer = talk_after (state_acts read_means read_partition_result) a answer
 hand_talk_after (Write a) answer = talk_after (state_acts write_means partition_result) a answer
@@ -38,6 +42,7 @@ hand_talk hand = asks (hand_part hand) (hand_talk_after hand)
 
 -- Under its name each call begins with the talk of its request, and keeps to it by each answer.
 pub record KeepsToItsTalk : Type 0 where
+  pub produce : (conf : ConfigParts) (m : ProduceRequest) → stage_talk hand_talk (produce_begins conf m) ≡ produce_talk conf.topics m
   pub initialize : (conf : ConfigParts) (m : StateRequest InitializePartition) →
       stage_talk hand_talk (initialize_begins conf m) ≡ state_talk {S = InitializeCall} initialize_means partition_result conf.topics (record {}) m
   pub read : (conf : ConfigParts) (m : StateRequest ReadPartition) →

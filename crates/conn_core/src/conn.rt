@@ -20,8 +20,9 @@ use topic_conf::Config;
 
 /// One connection: what a client has sent, the request that is being answered, and the replies that are finished.
 ///
-/// Requests are answered in order, and the next frame is begun when the one before is answered. Bytes may come in any
-/// pieces. The calls of one connection that take a configuration are given the same one.
+/// Requests are answered in order, and the next frame is begun when the one before is answered. A request that wants no reply,
+/// a Produce with acks 0, has none. Bytes may come in any pieces. The calls of one connection that take a configuration are given
+/// the same one.
 #[derive(Drop)]
 pub struct Conn {
     alloc: Global,
@@ -256,8 +257,8 @@ impl Conn {
     }
 
     /// The answer to the part that `next_part` asked: of its kind, each offset at most 2^63 - 1 and each count at most 32767.
-    /// With the last answer the reply is finished, unless it is too long: then `next_part` closes the connection. Where no part
-    /// is asked nothing changes. Want of memory ends the connection as `end` does.
+    /// With the last answer the reply, if there is one, is finished, unless it is too long: then `next_part` closes the connection.
+    /// Where no part is asked nothing changes. Want of memory ends the connection as `end` does.
     pub fn give(&mut self, _conf: &Config, answer: PartAnswer) -> Result<(), NoMemory>
         requires fits { FitsIn (awaited_part self.old) answer }
         ensures answer { OnOk result (self.new ≡ conn_after_answer answer self.old) }

@@ -4,6 +4,8 @@ ghost use Rattle.call_fold.specs.Parts.{IsAnswerTo};
 ghost use Rattle.conn_core.specs.Hands.{hand_part, hand_stage_after};
 
 use call_fold::{Asking, Part, PartAnswer, Stage, part_of, take};
+use log_calls::{Offer, ProduceHand};
+use msgs_base::ProducePartitionReply;
 use msgs_state::{PartitionResult, ReadPartitionResult};
 use share_model::NoMemory;
 use state_calls::{
@@ -14,6 +16,7 @@ use std::alloc::Global;
 /// A request in hand: a part of it is asked.
 #[derive(Drop)]
 pub enum Hand {
+    Produce(Asking<ProduceHand, Offer, ProducePartitionReply>),
     Initialize(Asking<StateHand<Initialize>, Wished<Beginning>, PartitionResult>),
     Read(Asking<StateHand<Read>, Wished<Reading>, ReadPartitionResult>),
     Write(Asking<StateHand<Write>, Wished<Writing>, PartitionResult>),
@@ -38,6 +41,7 @@ impl Hand {
         ensures { IfOk result (λ part. part ≡ hand_part self.now) }
     {
         match self {
+            Hand::Produce(asking) => part_of(alloc, asking),
             Hand::Initialize(asking) => part_of(alloc, asking),
             Hand::Read(asking) => part_of(alloc, asking),
             Hand::Write(asking) => part_of(alloc, asking),
@@ -51,6 +55,7 @@ impl Hand {
         ensures { IfOk result (λ stage. stage ≡ hand_stage_after self answer) }
     {
         match self {
+            Hand::Produce(asking) => under_name!(Produce, take(alloc, asking, answer)?),
             Hand::Initialize(asking) => under_name!(Initialize, take(alloc, asking, answer)?),
             Hand::Read(asking) => under_name!(Read, take(alloc, asking, answer)?),
             Hand::Write(asking) => under_name!(Write, take(alloc, asking, answer)?),

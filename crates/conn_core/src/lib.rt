@@ -16,7 +16,7 @@ mod stream;
 mod versions;
 mod work;
 
-pub use call_fold::{Part, PartAnswer};
+pub use call_fold::{Part, PartAnswer, Produced};
 pub use conn::Conn;
 pub use law::{
     connections_depend_on_the_stream, each_request_is_taken_for_what_it_says,

@@ -1,15 +1,16 @@
 //! The requests that are served: with what each begins.
 ghost use Rattle.std.specs.Prelude.{◌≡◌, IfOk};
-ghost use Rattle.conn_core.specs.Beginning.{Begins, metadata_begins, coordinator_begins, versions_begins, initialize_begins, read_begins, write_begins, delete_begins};
+ghost use Rattle.conn_core.specs.Beginning.{Begins, metadata_begins, coordinator_begins, versions_begins, produce_begins, initialize_begins, read_begins, write_begins, delete_begins};
 
 use crate::coordinators::coordinator_reply;
 use crate::hand::{Hand, under_name};
 use crate::metadata::metadata_reply;
 use crate::versions::versions_reply;
 use call_fold::Stage;
+use log_calls::produce_call;
 use msgs_base::{
-    ApiVersionsRequest, FindCoordinatorRequest, MetadataRequest, write_api_versions_reply,
-    write_find_coordinator_reply, write_metadata_reply,
+    ApiVersionsRequest, FindCoordinatorRequest, MetadataRequest, ProduceRequest,
+    write_api_versions_reply, write_find_coordinator_reply, write_metadata_reply,
 };
 use msgs_state::{
     DeleteShareGroupStateRequest, InitializeShareGroupStateRequest, ReadShareGroupStateRequest,
@@ -56,6 +57,14 @@ impl Request for ApiVersionsRequest {
         let reply = versions_reply(alloc)?;
         let body = write_api_versions_reply(alloc, &reply)?;
         Ok(Stage::Says(Some(body)))
+    }
+}
+
+impl Request for ProduceRequest {
+    ghost begins = { produce_begins };
+
+    fn begin(self, alloc: Global, conf: &Config) -> Result<Stage<Hand>, NoMemory> {
+        under_name!(Produce, produce_call(alloc, conf, self)?)
     }
 }
 

@@ -1,5 +1,5 @@
 -- Each partition is told by its own log.
-use Rattle.std.proofs.Common.{◌≡◌, ◌∙◌, ℕ, ℤ, suc, List, [], ◌∷◌, ◌++◌, Option, Some, None, length, take, drop, map, refl, ap}
+use Rattle.std.proofs.Common.{◌≡◌, ◌∙◌, ℕ, ℤ, suc, List, [], ◌∷◌, ◌++◌, Option, Some, length, drop, map, refl, ap}
 use Rattle.std.specs.List.{flat_map}
 use Rattle.share_model.specs.declared.fault.Code.{Code}
 use Rattle.topic_conf.specs.declared.topic.Topic.{Topic}
@@ -17,7 +17,7 @@ use Rattle.log_calls.specs.declared.plan.Offer.{Offer}
 use Rattle.log_calls.specs.declared.produce.ProduceHand.{ProduceHand}
 use Rattle.log_calls.specs.Codes.{wants_reply, request_refusal}
 use Rattle.log_calls.specs.Produce.{Fate, refuses, offers, fate_of, entry_of, topic_entries, shape_of, rows_by_topic, reply_of, produce_acts, hand_of}
-use Rattle.log_calls.specs.ProduceTalks.{parts_by, parts_in, TopicBeside, request_topic, answers_by, answers_in, own_row, own_topic, request_of, produce_talk, TellsByItsLog}
+use Rattle.log_calls.specs.ProduceTalks.{parts_by, TopicBeside, request_topic, answers_by, answers_in, own_row, own_topic, request_of, produce_talk, TellsByItsLog}
 
 module _ (topics : List Topic) (refusal : Option Code) (hand : ProduceHand) where
   abbrev entry : List ℕ → ProducePartition → Entry Offer ProducePartitionReply
