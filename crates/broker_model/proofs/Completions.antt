@@ -17,8 +17,10 @@ use Rattle.share_model.specs.declared.run.Run.{Run}
 use Rattle.share_model.specs.Keys.{KeyParts, key_cmp}
 use Rattle.foreign_coord.specs.Shards.{ForeignShardState, IsDone, StepsForeign, is_granted, writes}
 use Rattle.topic_conf.specs.Configs.{ConfigParts}
-use Rattle.broker_model.specs.Shards.{Shards, ShardCall, StepsShards, state_a}
-use Rattle.broker_model.specs.Shards.ShardCall.{CallForeign}
+use Rattle.broker_model.specs.Hosted.{state_a}
+use Rattle.broker_model.specs.Shards.{Shards, ShardCall, StepsShards}
+use Rattle.broker_model.specs.Shards.ShardCall.{CallForeign, CallLog}
+use Rattle.call_fold.specs.declared.part.Produced.{Produced}
 use Rattle.broker_model.specs.Machine.{Lands}
 use Rattle.broker_model.specs.Steps.{IsRestart, StepsTo}
 use Rattle.broker_model.specs.States.{State, IsStep}
@@ -118,6 +120,16 @@ module _ (unfinished : Option ForeignOp) (old new : ForeignShardState) (tied : I
     tied = subst (IsTied unfinished) (sym p.2) tied;
   }
 
+  log_completes : (shard : ℕ) (disk batch : List ℕ) (produced : Produced) → new ≡ old
+      → IsCompleted (CompletesCall old.states unfinished (Some (CallLog shard disk batch produced))) old new
+  log_completes shard disk batch produced is = record {
+    calls = [];
+    unfinished = unfinished;
+    by = (refl, refl);
+    done = ap (λ (s : ForeignShardState). s.states) is;
+    tied = subst (IsTied unfinished) (sym is) tied;
+  }
+
   same_completes : new ≡ old → IsCompleted (CompletesCall old.states unfinished None) old new
   same_completes is = record {
     calls = [];
@@ -166,7 +178,8 @@ module _ (rose : List ℕ → Type 0) (ends : List ℕ → ℕ) (unfinished : Op
   shard_completes : (did : ShardCall) → StepsShards rose ends old did new
       → IsCompleted (CompletesCall old.foreign.states unfinished (Some did)) old.foreign new.foreign
   shard_completes (CallForeign op answer fault) p =
-      did_completes unfinished old.foreign new.foreign tied (rose state_a) (ends state_a) op answer fault p
+      did_completes unfinished old.foreign new.foreign tied (rose state_a) (ends state_a) op answer fault p.0
+  shard_completes (CallLog shard disk batch produced) p = log_completes unfinished old.foreign new.foreign tied shard disk batch produced p.1
 
   acts_complete : (call : Option ShardCall) → Acts rose ends old new call
       → IsCompleted (CompletesCall old.foreign.states unfinished call) old.foreign new.foreign
@@ -188,7 +201,7 @@ module _ (conf : ConfigParts) where
       let restart : IsRestart s.before.machine s.call s.outcomes s.after.machine =
       subst (λ (e : Event). StepsTo conf (rose_in s.before s.after) s.before.ends s.before.machine e s.call s.outcomes s.after.machine) p.1 step.machine in
       subst (λ (e : Event). Stepped unfinished e s.call (foreign_of s.before) (foreign_of s.after)) (sym p.1)
-      (loss_completes unfinished (foreign_of s.before) (foreign_of s.after) tied restart.lands))
+      (loss_completes unfinished (foreign_of s.before) (foreign_of s.after) tied restart.lands.foreign))
       (power_or_not s.event)
 
   -- ---- a run

@@ -8,9 +8,10 @@ use Rattle.edge_io.specs.Causes.{Rose}
 use Rattle.session_script.specs.declared.event.Event.{Event}
 use Rattle.session_script.specs.declared.event.Event.TheVariants.{Open, Bytes, Close, Step as StepOf, Arm, Power}
 use Rattle.topic_conf.specs.Configs.{ConfigParts}
-use Rattle.broker_model.specs.Shards.{ShardCall, state_a, failures_in}
+use Rattle.broker_model.specs.Hosted.{IsTaken}
+use Rattle.broker_model.specs.Shards.{ShardCall, failures_in}
 use Rattle.broker_model.specs.Machine.{Machine}
-use Rattle.broker_model.specs.Disks.{Disks, IsTaken, OnDisk, Covers}
+use Rattle.broker_model.specs.Disks.{Disks, OnDisk, Covers}
 use Rattle.broker_model.specs.States.{State, IsStep, OnLosses, faults_of}
 use Rattle.broker_model.specs.Runs.{Step, IsRun, events_of, calls_of}
 use Rattle.broker_model.specs.Laws.{Loss, losses_on, TakesLoss, AreLosses, NoPower, NoArm, ArmsOne, arms_by, arms_after, HasArm, Rises, IsQuiet, RisesOnce, failures, HoldsOfRun}
@@ -21,21 +22,21 @@ use Rattle.broker_model.proofs.Fails.{step_counts}
 
 -- ---- losses
 
-abbrev Lengthens : Disks → Disks → List Loss → Type 0
-Lengthens old new lost = (name : List ℕ) → IsTaken name → (new name).losses ≡ (old name).losses ++ losses_on name lost
+abbrev Lengthens : ConfigParts → Disks → Disks → List Loss → Type 0
+Lengthens conf old new lost = (name : List ℕ) → IsTaken conf name → (new name).losses ≡ (old name).losses ++ losses_on name lost
 
-abbrev OnDisks : Event → Option ShardCall → Disks → Disks → Type 0
-OnDisks event call old new = (name : List ℕ) → IsTaken name → OnDisk name event call (old name) (new name)
+abbrev OnDisks : ConfigParts → Event → Option ShardCall → Disks → Disks → Type 0
+OnDisks conf event call old new = (name : List ℕ) → IsTaken conf name → OnDisk name event call (old name) (new name)
 
-module _ (call : Option ShardCall) (machine : Machine) (old new last : Disks) (rest : List Loss) (Rest : List Loss → Type 0) (more : Lengthens new last rest) where
-  kept : (event : Event) → NoPower event → OnDisks event call old new → Lengthens old last rest
+module _ (conf : ConfigParts) (call : Option ShardCall) (machine : Machine) (old new last : Disks) (rest : List Loss) (Rest : List Loss → Type 0) (more : Lengthens conf new last rest) where
+  kept : (event : Event) → NoPower event → OnDisks conf event call old new → Lengthens conf old last rest
   kept event free disks name taken =
       more name taken
       ∙ ap (λ (l : List _). l ++ losses_on name rest)
       (same_losses name event (old name) (new name) (kind_of name call (old name) (new name) event (disks name taken)) free)
 
-  take_loss : (event : Event) → OnDisks event call old new → OnLosses event old new machine → Rest rest
-      → (lost : List Loss) × Lengthens old last lost × TakesLoss event machine lost Rest
+  take_loss : (event : Event) → OnDisks conf event call old new → OnLosses conf event old new machine → Rest rest
+      → (lost : List Loss) × Lengthens conf old last lost × TakesLoss conf event machine lost Rest
   take_loss (Open conn) disks lost r = (rest, kept (Open conn) tt disks, r)
   take_loss (Bytes conn bytes) disks lost r = (rest, kept (Bytes conn bytes) tt disks, r)
   take_loss (Close conn) disks lost r = (rest, kept (Close conn) tt disks, r)
@@ -50,42 +51,42 @@ module _ (call : Option ShardCall) (machine : Machine) (old new last : Disks) (r
 
 module _ (conf : ConfigParts) where
   losses : (first last : State) (steps : List Step) → IsRun conf first steps last
-      → (lost : List Loss) × Lengthens first.disks last.disks lost × AreLosses steps lost
+      → (lost : List Loss) × Lengthens conf first.disks last.disks lost × AreLosses conf steps lost
   losses first last [] run = ([], λ name taken. ap (λ (s : State). (s.disks name).losses) run ∙ sym (append-nil (first.disks name).losses), refl)
   losses first last (s ∷ steps) run =
       let more = losses s.after last steps run.2 in
-      let p = take_loss s.call s.after.machine s.before.disks s.after.disks last.disks more.0 (λ rest. AreLosses steps rest) more.1
+      let p = take_loss conf s.call s.after.machine s.before.disks s.after.disks last.disks more.0 (λ rest. AreLosses conf steps rest) more.1
       s.event run.1.disks run.1.losses more.2 in
       (p.0, λ name taken. p.1 name taken ∙ ap (λ (x : State). (x.disks name).losses ++ losses_on name p.0) run.0, p.2)
 
   -- ---- failed writes
 
-  counted : (s : Step) → IsStep conf s.before s.event s.call s.outcomes s.after
-      → (failures_in s.call ≡ 0) ⊎ ((failures_in s.call ≡ 1) × Rose (faults_of s.before state_a) (faults_of s.after state_a))
-  counted s step =
-      step_counts (rose_in s.before s.after) s.before.ends conf s.before.machine s.event s.call s.outcomes
+  counted : (name : List ℕ) (s : Step) → IsStep conf s.before s.event s.call s.outcomes s.after
+      → (failures_in name s.call ≡ 0) ⊎ ((failures_in name s.call ≡ 1) × Rose (faults_of s.before name) (faults_of s.after name))
+  counted name s step =
+      step_counts (rose_in s.before s.after) s.before.ends name conf s.before.machine s.event s.call s.outcomes
       s.after.machine step.machine
 
   more_covered : (a b c n m : ℕ) → a ≤ b → (n ≡ 0) ⊎ ((n ≡ 1) × Rose a b) → b ≤ c → Covers b c m → Covers a c (n + m)
   more_covered a b c n m le (inl none) later covers = omega arith
   more_covered a b c n m le (inr one) later covers = let rose = one.1 in let is = one.0 in omega arith
 
-  covered : (first last : State) (steps : List Step) → IsRun conf first steps last
-      → (faults_of first state_a ≤ faults_of last state_a) × Covers (faults_of first state_a) (faults_of last state_a) (failures (calls_of steps))
-  covered first last [] run = let same : faults_of last state_a ≡ faults_of first state_a = ap (λ (s : State). faults_of s state_a) run in (omega (arith, same), omega (arith, same))
-  covered first last (s ∷ steps) run =
-      let more = covered s.after last steps run.2 in
-      let later = run.1.later state_a (inl refl) in
-      subst (λ (x : State). (faults_of x state_a ≤ faults_of last state_a)
-      × Covers (faults_of x state_a) (faults_of last state_a) (failures_in s.call + failures (calls_of steps))) run.0 (
+  covered : (name : List ℕ) → IsTaken conf name → (first last : State) (steps : List Step) → IsRun conf first steps last
+      → (faults_of first name ≤ faults_of last name) × Covers (faults_of first name) (faults_of last name) (failures name (calls_of steps))
+  covered name taken first last [] run = let same : faults_of last name ≡ faults_of first name = ap (λ (s : State). faults_of s name) run in (omega (arith, same), omega (arith, same))
+  covered name taken first last (s ∷ steps) run =
+      let more = covered name taken s.after last steps run.2 in
+      let later = run.1.later name taken in
+      subst (λ (x : State). (faults_of x name ≤ faults_of last name)
+      × Covers (faults_of x name) (faults_of last name) (failures_in name s.call + failures name (calls_of steps))) run.0 (
         (let a = more.0 in omega (arith, later, a)),
-        more_covered (faults_of s.before state_a) (faults_of s.after state_a) (faults_of last state_a) (failures_in s.call) (failures (calls_of steps))
-            later (counted s run.1) more.0 more.1,
+        more_covered (faults_of s.before name) (faults_of s.after name) (faults_of last name) (failures_in name s.call) (failures name (calls_of steps))
+            later (counted name s run.1) more.0 more.1,
       )
 
 -- ---- one disk
 
-module _ (conf : ConfigParts) (name : List ℕ) (taken : IsTaken name) where
+module _ (conf : ConfigParts) (name : List ℕ) (taken : IsTaken conf name) where
   abbrev armed_in : State → Armed
   armed_in s = (s.disks name).armed
 
@@ -145,21 +146,20 @@ module _ (conf : ConfigParts) (name : List ℕ) (taken : IsTaken name) where
 -- ---- all together
 
 module _ (conf : ConfigParts) (first last : State) (steps : List Step) (run : IsRun conf first steps last) where
-  fails : (first.disks state_a).armed ≡ Nothing → (before after : List Step) (s : Step) → steps ≡ before ++ (s ∷ after)
-      → failures_in s.call ≢ 0 → faults_of s.before state_a < 2 ^ 64 - 1 → HasArm state_a (events_of before)
-  fails none before after s split some room =
+  fails : (name : List ℕ) → IsTaken conf name → (first.disks name).armed ≡ Nothing → (before after : List Step) (s : Step) → steps ≡ before ++ (s ∷ after)
+      → failures_in name s.call ≢ 0 → faults_of s.before name < 2 ^ 64 - 1 → HasArm name (events_of before)
+  fails name taken none before after s split some room =
       let parted = subst (λ (l : List Step). IsRun conf first l last) split run in
       let p = run_parts conf first last before (s ∷ after) parted in
-      rises conf state_a (inl refl) first last before after s parted none
-      (⊎_elim (λ zero. absurd (some zero)) (λ one. let rose = one.1 in omega (arith, rose, room)) (counted conf s p.2.1))
+      rises conf name taken first last before after s parted none
+      (⊎_elim (λ zero. absurd (some zero)) (λ one. let rose = one.1 in omega (arith, rose, room)) (counted conf name s p.2.1))
 
-  pub holds : HoldsOfRun first steps last
+  pub holds : HoldsOfRun conf first steps last
   holds =
       let l = losses conf first last steps run in
       record {
         lost = l.0;
         are_losses = l.2;
-        covered = (covered conf first last steps run).1;
         disks = λ name taken. record {
           losses = l.1 name taken;
           arms = arms conf name taken first last steps run;
@@ -167,6 +167,7 @@ module _ (conf : ConfigParts) (first last : State) (steps : List Step) (run : Is
               rises conf name taken first last before after s (subst (λ (l : List Step). IsRun conf first l last) split run) none rise;
           once = λ before between after s split one free.
               once conf name taken first last before between after s (subst (λ (l : List Step). IsRun conf first l last) split run) one free;
+          covered = (covered conf name taken first last steps run).1;
+          fails = fails name taken;
         };
-        fails = fails;
       }

@@ -9,13 +9,15 @@ use Rattle.session_script.specs.declared.event.Event.TheVariants.{Open, Bytes, C
 use Rattle.session_script.specs.declared.event.Outcome.{Outcome}
 use Rattle.topic_conf.specs.Configs.{ConfigParts}
 use Rattle.conn_core.specs.Conns.{ConnParts, new_conn, conn_after_bytes, conn_after_end, is_gone}
-use Rattle.broker_model.specs.Shards.{ShardCall, calls}
+use Rattle.broker_model.specs.Shards.{Shards, ShardCall, NamedLog, StepsNamed, StepsShards, calls}
+use Rattle.broker_model.specs.Shards.ShardCall.{CallForeign, CallLog}
 use Rattle.broker_model.specs.Machine.{Machine, named, conn_at, opened_at, at_connection, left, ended_in}
 use Rattle.broker_model.specs.Steps.{Serves, StepsTo}
 use Rattle.broker_model.specs.Disks.{Facts, OnCalled, OnDisk, with_arm}
 use Rattle.broker_model.specs.Cutting.{Spares}
 use Rattle.broker_model.specs.Laws.{NoPower, NoArm}
-use Rattle.broker_model.specs.Touching.{StepsTouchTheirOwn}
+use Rattle.broker_model.specs.Touching.{KeepsOthers, StepsTouchTheirOwn}
+use Rattle.broker_model.proofs.Lists.{changes_so}
 use Rattle.broker_model.proofs.Acts.{rose_in, step_acts}
 use Rattle.broker_model.proofs.Maps.{set_other, removed_other}
 use Rattle.broker_model.proofs.Others.{conn_other}
@@ -69,6 +71,24 @@ module _ (conf : ConfigParts) (rose : List ℕ → Type 0) (ends : List ℕ → 
   shards_apart event free none does = ⊎_elim
       (λ quiet. quiet.same) (λ d. absurd (some_none d.did d.is none)) (step_acts rose ends conf old new call outcomes event free does)
 
+  same_did : (did done : ShardCall) → call ≡ Some did → call ≡ Some done → did ≡ done
+  same_did did done is also_is = let e : Some did ≡ Some done = sym is ∙ also_is in cc
+
+  did_apart : (did : ShardCall) → StepsShards rose ends old.shards did new.shards → KeepsOthers did old.shards new.shards
+  did_apart (CallForeign op answer fault) step = step.1
+  did_apart (CallLog shard disk batch produced) step = (
+    changes_so shard (StepsNamed rose ends disk batch produced) (λ (log also : NamedLog). also.0 ≡ log.0) (λ log also s. s.is ∙ sym s.was)
+        old.shards.logs new.shards.logs step.0,
+    step.1,
+  )
+
+  others_apart : (event : Event) → NoPower event → (did : ShardCall) → call ≡ Some did → StepsTo conf rose ends old event call outcomes new
+      → KeepsOthers did old.shards new.shards
+  others_apart event free did is does = ⊎_elim
+      (λ quiet. absurd (some_none did is quiet.none))
+      (λ d. subst (λ (c : ShardCall). KeepsOthers c old.shards new.shards) (same_did d.did did d.is is) (did_apart d.did d.step))
+      (step_acts rose ends conf old new call outcomes event free does)
+
 -- ---- disks
 
 disk_apart : (name : List ℕ) (event : Event) (call : Option ShardCall) (old new : Facts) → NoPower event → NoArm name event → calls call name ≡ false
@@ -84,5 +104,6 @@ pub touches : (conf : ConfigParts) → StepsTouchTheirOwn conf
 touches conf old new event call outcomes step = record {
   connections = λ id spares. connections_apart conf (rose_in old new) old.ends old.machine new.machine call outcomes id event spares step.machine;
   shards = λ free none. shards_apart conf (rose_in old new) old.ends old.machine new.machine call outcomes event free none step.machine;
+  others = λ free did is. others_apart conf (rose_in old new) old.ends old.machine new.machine call outcomes event free did is step.machine;
   disks = λ name taken free unarmed away. disk_apart name event call (old.disks name) (new.disks name) free unarmed away (step.disks name taken);
 }

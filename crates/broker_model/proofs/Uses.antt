@@ -9,7 +9,8 @@ use Rattle.edge_io.specs.Armed.{IsOneShot}
 use Rattle.edge_io.specs.Causes.{raised}
 use Rattle.session_script.specs.declared.event.Event.{Event}
 use Rattle.session_script.specs.declared.event.Event.TheVariants.{Open, Bytes, Close, Step as StepOf, Arm, Power}
-use Rattle.broker_model.specs.Shards.{ShardCall, calls, same_name}
+use Rattle.broker_model.specs.Hosted.{same_name}
+use Rattle.broker_model.specs.Shards.{ShardCall, calls}
 use Rattle.broker_model.specs.Disks.{Facts, IsUsed, IsRestarted, OnCalled, OnDisk, with_arm}
 use Rattle.broker_model.specs.Laws.{NoPower, NoArm, ArmsOne, arms_by, HasArm}
 

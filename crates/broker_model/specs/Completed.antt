@@ -12,7 +12,7 @@ use Rattle.share_model.specs.declared.fault.TheConstants.Code.{NONE}
 use Rattle.share_model.specs.declared.foreign.ForeignOp.{ForeignOp}
 use Rattle.foreign_coord.specs.Shards.{ForeignShardState, Grants, writes}
 use Rattle.broker_model.specs.Shards.{ShardCall}
-use Rattle.broker_model.specs.Shards.ShardCall.{CallForeign}
+use Rattle.broker_model.specs.Shards.ShardCall.{CallForeign, CallLog}
 use Rattle.broker_model.specs.States.{State}
 use Rattle.broker_model.specs.Runs.{Step}
 use Rattle.broker_model.specs.History.{Call, AreDone}
@@ -20,10 +20,11 @@ use Rattle.broker_model.specs.History.{Call, AreDone}
 abbrev pub foreign_of : State → ForeignShardState
 foreign_of state = state.machine.shards.foreign
 
--- the call, if it met no store fault
+-- the call, if it is one on foreign state and met no store fault
 abbrev pub without_fault : ShardCall → List Call
 without_fault (CallForeign op answer None) = record { op = op; answer = answer } ∷ []
 without_fault (CallForeign op answer (Some fault)) = []
+without_fault (CallLog shard disk batch produced) = []
 
 -- Which write is unfinished behind a call on these states: none where the call wrote; where it failed on a device, the one from before
 -- or its own.
@@ -31,6 +32,7 @@ abbrev pub Leaves : ShareStates → Option ForeignOp → ShardCall → Option Fo
 Leaves states old (CallForeign op answer None) new = new ≡ (if writes states op answer then None else old)
 Leaves states old (CallForeign op answer (Some Device)) new = (new ≡ old) ⊎ (new ≡ Some op)
 Leaves states old (CallForeign op answer (Some (Full end))) new = new ≡ old
+Leaves states old (CallLog shard disk batch produced) new = new ≡ old
 
 abbrev pub CompletesCall : ShareStates → Option ForeignOp → Option ShardCall → List Call → Option ForeignOp → Type 0
 CompletesCall states old None calls new = (calls ≡ []) × (new ≡ old)

@@ -1,7 +1,7 @@
 -- What a run knows of each disk beside its content: numbers that say what has happened to it, and what each event does to them. This
 -- project's own.
--- For example an arm of `foreign/state-a` raises its number of arms by one and arms its fault, and leaves those of `foreign/state-b`.
-use Rattle.std.specs.Prelude.{◌≡◌, ◌⊎◌, ◌≤◌, ◌+◌, ◌-◌, ◌^◌, min, ℕ, List, Option, Bool, true, false, if◌then◌else◌}
+-- For example an arm of `orders/0/log` raises its number of arms by one and arms its fault, and leaves those of `foreign/state-a`.
+use Rattle.std.specs.Prelude.{◌≡◌, ◌≤◌, ◌+◌, ◌-◌, ◌^◌, min, ℕ, List, Option, Bool, true, false, if◌then◌else◌}
 use Rattle.edge_io.specs.declared.fault.FaultMode.{FaultMode}
 use Rattle.edge_io.specs.declared.fault.Armed.{Armed}
 use Rattle.edge_io.specs.declared.fault.Armed.TheVariants.{Nothing, After}
@@ -9,11 +9,8 @@ use Rattle.edge_io.specs.Armed.{Spends}
 use Rattle.edge_io.specs.Causes.{raised}
 use Rattle.session_script.specs.declared.event.Event.{Event}
 use Rattle.session_script.specs.declared.event.Event.TheVariants.{Open, Bytes, Close, Step, Arm, Power}
-use Rattle.broker_model.specs.Shards.{ShardCall, calls, same_name, state_a, state_b}
-
--- the broker takes the disk of this name
-abbrev pub IsTaken : List ℕ → Type 0
-IsTaken name = (name ≡ state_a) ⊎ (name ≡ state_b)
+use Rattle.broker_model.specs.Hosted.{same_name}
+use Rattle.broker_model.specs.Shards.{ShardCall, calls}
 
 -- ---- what is known of a disk
 

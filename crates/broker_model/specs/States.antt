@@ -7,10 +7,11 @@ use Rattle.session_script.specs.declared.event.Event.{Event}
 use Rattle.session_script.specs.declared.event.Event.TheVariants.{Open, Bytes, Close, Step, Arm, Power}
 use Rattle.session_script.specs.declared.event.Outcome.{Outcome}
 use Rattle.topic_conf.specs.Configs.{ConfigParts}
-use Rattle.broker_model.specs.Shards.{ShardCall, calls}
+use Rattle.broker_model.specs.Hosted.{IsTaken, log_names}
+use Rattle.broker_model.specs.Shards.{ShardCall, calls, names_of}
 use Rattle.broker_model.specs.Machine.{Machine, Opening}
 use Rattle.broker_model.specs.Steps.{StepsTo}
-use Rattle.broker_model.specs.Disks.{Disks, IsTaken, OnDisk}
+use Rattle.broker_model.specs.Disks.{Disks, OnDisk}
 
 -- the machine, what is known of each disk, and where the journal on each ends
 pub record State : Type 0 where
@@ -22,18 +23,18 @@ abbrev pub faults_of : State → List ℕ → ℕ
 faults_of state name = (state.disks name).faults
 
 -- at a power loss each disk has one loss more, with its choice, and the machine is the opening of these contents
-pub record LosesAll (choice : ℕ) (old new : Disks) (machine : Machine) : Type 0 where
+pub record LosesAll (conf : ConfigParts) (choice : ℕ) (old new : Disks) (machine : Machine) : Type 0 where
   pub contents : List ℕ → List ℕ
-  pub losses : (name : List ℕ) → IsTaken name → (new name).losses ≡ (old name).losses ++ (choice, contents name) ∷ []
-  pub opens : Opening contents machine
+  pub losses : (name : List ℕ) → IsTaken conf name → (new name).losses ≡ (old name).losses ++ (choice, contents name) ∷ []
+  pub opens : Opening conf contents machine
 
-abbrev pub OnLosses : Event → Disks → Disks → Machine → Type 0
-OnLosses (Open conn) old new machine = Unit {0}
-OnLosses (Bytes conn bytes) old new machine = Unit {0}
-OnLosses (Close conn) old new machine = Unit {0}
-OnLosses (Step conn now) old new machine = Unit {0}
-OnLosses (Arm disk after mode) old new machine = Unit {0}
-OnLosses (Power choice) old new machine = LosesAll choice old new machine
+abbrev pub OnLosses : ConfigParts → Event → Disks → Disks → Machine → Type 0
+OnLosses conf (Open conn) old new machine = Unit {0}
+OnLosses conf (Bytes conn bytes) old new machine = Unit {0}
+OnLosses conf (Close conn) old new machine = Unit {0}
+OnLosses conf (Step conn now) old new machine = Unit {0}
+OnLosses conf (Arm disk after mode) old new machine = Unit {0}
+OnLosses conf (Power choice) old new machine = LosesAll conf choice old new machine
 
 -- a journal moves its end only where its shard was called, or was opened again
 abbrev pub OnEnd : List ℕ → Event → Option ShardCall → ℕ → ℕ → Type 0
@@ -44,10 +45,11 @@ OnEnd name (Step conn now) call old new = calls call name ≡ false → new ≡ 
 OnEnd name (Arm disk after mode) call old new = new ≡ old
 OnEnd name (Power choice) call old new = Unit {0}
 
--- A step of the broker and its disks. `Rose` says of a disk that its count of faults rose in the step, or stands at its last value.
+-- A step of the broker and its disks. It has the logs of its configuration. `Rose` says of a disk that its count of faults rose in the step, or stands at its last value.
 pub record IsStep (conf : ConfigParts) (old : State) (event : Event) (call : Option ShardCall) (outcomes : List Outcome) (new : State) : Type 0 where
-  pub later : (name : List ℕ) → IsTaken name → faults_of old name ≤ faults_of new name
+  pub hosts : names_of old.machine.shards.logs ≡ log_names conf.topics
+  pub later : (name : List ℕ) → IsTaken conf name → faults_of old name ≤ faults_of new name
   pub machine : StepsTo conf (λ name. Rose (faults_of old name) (faults_of new name)) old.ends old.machine event call outcomes new.machine
-  pub disks : (name : List ℕ) → IsTaken name → OnDisk name event call (old.disks name) (new.disks name)
-  pub losses : OnLosses event old.disks new.disks new.machine
-  pub ends : (name : List ℕ) → IsTaken name → OnEnd name event call (old.ends name) (new.ends name)
+  pub disks : (name : List ℕ) → IsTaken conf name → OnDisk name event call (old.disks name) (new.disks name)
+  pub losses : OnLosses conf event old.disks new.disks new.machine
+  pub ends : (name : List ℕ) → IsTaken conf name → OnEnd name event call (old.ends name) (new.ends name)
