@@ -1,10 +1,15 @@
--- Stepping: what a step of a client means to the map of all clients. Asking: what a connection asks. Leading: calls on the shard, and
--- what they lead to. Opening: openings and restarts of the shard. Slots: the shard as a broker holds it. Events: what each event makes
--- of the machine. Bays: the disks are taken from a bay and put back.
+-- Stepping: what a step of a client means to the map of all clients. Places: lists of which one entry changes, and look-ups by name.
+-- Opening: openings and restarts of foreign state. Logs: calls on a log, its openings and restarts. Leading: parts that shards do, and
+-- what they lead to.
 pub mod Stepping
-pub mod Asking
-pub mod Leading
+pub mod Places
 pub mod Opening
-pub mod Slots
+pub mod Logs
+pub mod Leading
 pub mod Events
-pub mod Bays
+pub mod Arming
+pub mod Losing
+pub mod Naming
+pub mod Taking
+pub mod Pairs
+pub mod Starting

@@ -55,6 +55,19 @@ chosen P shard states (Some w) e p (inr h) = (
   record { states = subst (λ q. WithPending (λ s. w ≡ s) shard.states q) (sym p) (inr refl); nothing = refl },
 )
 
+-- one of what a content stands for
+pub chosen_of : {S : Type 0} (P : S → Type 0) (state : S) (pending : Option S) → WithPending P state pending → (s : S) × P s
+chosen_of P state None h = (state, h)
+chosen_of P state (Some w) (inl h) = (state, h)
+chosen_of P state (Some w) (inr h) = (w, h)
+
+-- the one reason that is left
+pub one_fault_left : (e : CoreOpen) → ((name : List ℕ) (place : ℕ) → e ≢ fault.Damaged name place) → e ≢ fault.Device → e ≢ fault.Bay → e ≡ fault.NoMemory
+one_fault_left (fault.Damaged name place) d f g = absurd (d name place refl)
+one_fault_left fault.Device d f g = absurd (f refl)
+one_fault_left fault.Bay d f g = absurd (g refl)
+one_fault_left fault.NoMemory d f g = refl
+
 -- ---- contents
 
 pub is_told : (o : Option (List ℕ)) → is_some o ≡ true → (c : List ℕ) × (o ≡ Some c)
@@ -95,7 +108,7 @@ module _ {D : Type 0} (content : D → Option (List ℕ)) (image : D → List �
   abbrev Runs : D → D → Type 0
   Runs old new = RunsOn content losses arms armed starved faults old new
 
-  opened_disk : (old new : D) → Runs old new → IsTold (content old) → starved new ≡ false
+  pub opened_disk : (old new : D) → Runs old new → IsTold (content old) → starved new ≡ false
       → IsOpenedDisk (facts_of faults losses arms armed old) (facts_of faults losses arms armed new)
   opened_disk old new runs told fed =
       record { losses = runs.same_losses; arms = runs.same_arms; later = runs.later; spends = runs.spends told fed }
@@ -168,7 +181,7 @@ module _ {D : Type 0} (content : D → Option (List ℕ)) (image : D → List �
   pub told_on : (live old new : D) → old ≡ live → is_some (content new) ≡ is_some (content old) → IsTold (content live) → IsTold (content new)
   told_on live old new same still told = still ∙ ap (λ (d : D). is_some (content d)) same ∙ told
 
-  restarted_disk : (choice : ℕ) (old mid new : D) (c : List ℕ) → IsLost choice old mid c
+  pub restarted_disk : (choice : ℕ) (old mid new : D) (c : List ℕ) → IsLost choice old mid c
       → IsOpenedDisk (facts_of faults losses arms armed mid) (facts_of faults losses arms armed new)
       → (arms new ≡ arms old) × (armed new ≡ Nothing) × (faults new ≡ faults old)
   restarted_disk choice old mid new c l o =
@@ -243,14 +256,8 @@ module _ {D : Type 0} (content : D → Option (List ℕ)) (image : D → List �
       → e ≢ fault.Bay → e ≡ fault.NoMemory
   only_memory choice store shard mid_first mid_second a b e k l m recovers sound no_bay =
       let c = chosen (StandForStates a b) shard shard.states shard.pending refl refl (carried_stands store shard k.carries a b l.was m.was) in
-      one_left e (recovers a b c.0.states l.is m.is c.1)
+      one_fault_left e (recovers a b c.0.states l.is m.is c.1)
       (sound (told_of (content mid_first) a l.is) (told_of (content mid_second) b m.is) l.disarmed m.disarmed) no_bay
-    where
-      one_left : (e : CoreOpen) → ((name : List ℕ) (place : ℕ) → e ≢ fault.Damaged name place) → e ≢ fault.Device → e ≢ fault.Bay → e ≡ fault.NoMemory
-      one_left (fault.Damaged name place) d f g = absurd (d name place refl)
-      one_left fault.Device d f g = absurd (f refl)
-      one_left fault.Bay d f g = absurd (g refl)
-      one_left fault.NoMemory d f g = refl
 
   -- behind two losses, the opening failed
   pub stays_shut : {T : Type 0} (choice : ℕ) (store : StoreParts D) (shard : ForeignShardState) (mid_first mid_second : D) (r : Result T (D × D × CoreOpen))

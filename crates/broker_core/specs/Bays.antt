@@ -1,42 +1,50 @@
 -- The broker's disks in a bay, and what a start makes of them. This project's own.
--- For example a fresh bay in memory tells two empty disks, which stand for no keys.
-use Rattle.std.specs.Prelude.{◌≡◌, ◌≤◌, ◌<◌, ◌-◌, ◌^◌, ◌⊎◌, ℕ, List, Bool, true, Some, None, is_some}
+-- For example a fresh bay in memory tells empty disks, which stand for logs of no batches and no keys.
+use Rattle.std.specs.Prelude.{◌≡◌, ◌≤◌, ◌<◌, ◌-◌, ◌^◌, ◌⊎◌, ℕ, List, [], ◌∷◌, Bool, true, false, Some, None, is_some}
+use Rattle.std.specs.List.{AllByRecursion}
 use Rattle.std.specs.declared.option.Option.{Option}
 use Rattle.edge_io.specs.declared.fault.Armed.{Armed}
-use Rattle.edge_io.specs.Bays.{IsAsTold}
-use Rattle.edge_io.specs.Causes.{Rose}
+use Rattle.edge_io.specs.Bays.{IsAsTold, Holds}
 use Rattle.share_model.specs.ForeignRules.{ShareStates}
-use Rattle.broker_model.specs.Shards.{state_a, state_b}
+use Rattle.share_model.specs.Logs.{Batch}
+use Rattle.part_log.specs.Logs.{IsLogText}
+use Rattle.topic_conf.specs.Configs.{ConfigParts}
+use Rattle.broker_model.specs.Hosted.{IsOneOf, IsTaken, log_names, state_a, state_b}
 use Rattle.broker_model.specs.Machine.{Opening, StandForStates}
-use Rattle.broker_model.specs.Disks.{Facts, Disks, IsTaken}
+use Rattle.broker_model.specs.Disks.{Disks, facts_of}
 use Rattle.broker_model.specs.States.{State}
-use Rattle.broker_core.specs.Carried.{facts_by}
+use Rattle.broker_core.specs.Hosts.{LeftDisks, NotIn}
 use Rattle.broker_core.specs.Restarts.{IsOpenedDisk}
 
+-- ---- what a bay tells
+
 -- The bay tells the broker's disks, with these contents, of which this is known. The members of the bay and of its disks come first.
-pub record TellsDisks {B D : Type 0} (disk : B → List ℕ → Option D) (content : D → Option (List ℕ)) (faults : D → ℕ)
-    (losses : D → List (ℕ × List ℕ)) (arms : D → ℕ) (armed : D → Armed) (bay : B) (contents : List ℕ → List ℕ) (facts : Disks) : Type 0 where
-  pub first : D
-  pub second : D
-  pub is_first : disk bay state_a ≡ Some first
-  pub is_second : disk bay state_b ≡ Some second
-  pub content_first : content first ≡ Some (contents state_a)
-  pub content_second : content second ≡ Some (contents state_b)
-  pub are : facts ≡ facts_by faults losses arms armed first second
+abbrev pub TellsDisks : {B D : Type 0} → (B → List ℕ → Option D) → (D → Option (List ℕ)) → (D → ℕ) → (D → List (ℕ × List ℕ)) → (D → ℕ) → (D → Armed)
+    → ConfigParts → B → (List ℕ → List ℕ) → Disks → Type 0
+TellsDisks disk content faults losses arms armed conf bay contents facts = (name : List ℕ) → IsTaken conf name → (d : _) × (disk bay name ≡ Some d)
+    × (content d ≡ Some (contents name)) × (facts name ≡ facts_of faults losses arms armed d)
 
 -- the state with which a run begins, on disks that had these contents and of which this was known
-pub record IsFirst (contents : List ℕ → List ℕ) (was : Disks) (first : State) : Type 0 where
-  pub opens : Opening contents first.machine
-  pub disks : (name : List ℕ) → IsTaken name → IsOpenedDisk (was name) (first.disks name)
+pub record IsFirst (conf : ConfigParts) (contents : List ℕ → List ℕ) (was : Disks) (first : State) : Type 0 where
+  pub opens : Opening conf contents first.machine
+  pub disks : (name : List ℕ) → IsTaken conf name → IsOpenedDisk (was name) (first.disks name)
 
--- both disks are out, or in
-abbrev pub AreOut : {B : Type 0} → (B → List ℕ → Bool) → Bool → B → Type 0
-AreOut out are bay = (out bay state_a ≡ are) × (out bay state_b ≡ are)
+-- contents that stand for logs and states
+pub record StandForAll (conf : ConfigParts) (contents : List ℕ → List ℕ) : Type 0 where
+  pub logs : (name : List ℕ) → IsOneOf (log_names conf.topics) name → (batches : List Batch) × IsLogText (contents name) batches
+  pub states : ShareStates
+  pub stand : StandForStates (contents state_a) (contents state_b) states
 
--- a disk of the broker that the bay told before it tells still
-pub record TellsStill {B D : Type 0} (disk : B → List ℕ → Option D) (old new : B) : Type 0 where
-  pub first : is_some (disk old state_a) ≡ true → is_some (disk new state_a) ≡ true
-  pub second : is_some (disk old state_b) ≡ true → is_some (disk new state_b) ≡ true
+-- the disks of these names are out, and no others are
+pub record AreOut {B : Type 0} (out : B → List ℕ → Bool) (names : List (List ℕ)) (bay : B) : Type 0 where
+  pub those : (name : List ℕ) → IsOneOf names name → out bay name ≡ true
+  pub others : (name : List ℕ) → NotIn names name → out bay name ≡ false
+
+-- a disk that the bay told before it tells still
+abbrev pub TellsStill : {B D : Type 0} → (B → List ℕ → Option D) → B → B → Type 0
+TellsStill disk old new = (name : List ℕ) → is_some (disk old name) ≡ true → is_some (disk new name) ≡ true
+
+-- ---- counts
 
 -- The disk of this name was handed out with the count of faults that the bay notes of it, and has at least that count now. It was the one
 -- that the bay told, where it told one.
@@ -47,16 +55,56 @@ pub record IsTakenFrom {B D : Type 0} (disk : B → List ℕ → Option D) (take
   pub noted : taken new name ≡ faults given
   pub later : faults given ≤ faults now
 
-abbrev pub AreTakenFrom : {B D : Type 0} → (B → List ℕ → Option D) → (B → List ℕ → ℕ) → (D → ℕ) → B → B → Option (D × D) → Type 0
-AreTakenFrom disk taken faults old new None = ⊥
-AreTakenFrom disk taken faults old new (Some disks) =
+abbrev pub TakenIf : {B D : Type 0} → (B → List ℕ → Option D) → (B → List ℕ → ℕ) → (D → ℕ) → B → B → List ℕ × Option D → Type 0
+TakenIf disk taken faults old new (name, None) = ⊥
+TakenIf disk taken faults old new (name, Some d) = IsTakenFrom disk taken faults name old new d
+
+abbrev pub BothTaken : {B D : Type 0} → (B → List ℕ → Option D) → (B → List ℕ → ℕ) → (D → ℕ) → B → B → Option (D × D) → Type 0
+BothTaken disk taken faults old new None = ⊥
+BothTaken disk taken faults old new (Some disks) =
     IsTakenFrom disk taken faults state_a old new disks.0 × IsTakenFrom disk taken faults state_b old new disks.1
 
+-- one of these disks has this name
+abbrev pub HasName : {D : Type 0} → List (List ℕ × Option D) → List ℕ → Type 0
+HasName [] name = ⊥
+HasName (e ∷ es) name = (name ≡ e.0) ⊎ HasName es name
+
+pub record AreTakenFrom {B D : Type 0} (disk : B → List ℕ → Option D) (taken : B → List ℕ → ℕ) (faults : D → ℕ) (conf : ConfigParts) (old new : B)
+    (left : LeftDisks D) : Type 0 where
+  pub logs : AllByRecursion (TakenIf disk taken faults old new) left.logs
+  pub names : (name : List ℕ) → HasName left.logs name → IsTaken conf name
+  pub foreign : BothTaken disk taken faults old new left.foreign
+
 -- The count of a disk that the bay hands out stands at its last value. It is the one that the bay tells, where it tells one.
-abbrev pub HasLastCount : {B D : Type 0} → (B → List ℕ → Option D) → (D → ℕ) → B → Type 0
-HasLastCount disk faults bay = (name : List ℕ) × (d : _) × IsTaken name × IsAsTold (disk bay name) d × (2 ^ 64 - 1 ≤ faults d)
+abbrev pub HasLastCount : {B D : Type 0} → (B → List ℕ → Option D) → (D → ℕ) → ConfigParts → B → Type 0
+HasLastCount disk faults conf bay = (name : List ℕ) × (d : _) × IsTaken conf name × IsAsTold (disk bay name) d × (2 ^ 64 - 1 ≤ faults d)
+
+abbrev pub RisenIf : {B D : Type 0} → (B → List ℕ → ℕ) → (D → ℕ) → B → List ℕ × Option D → Type 0
+RisenIf taken faults bay (name, None) = ⊥
+RisenIf taken faults bay (name, Some d) = taken bay name < faults d
+
+abbrev pub LogRisen : {B D : Type 0} → (B → List ℕ → ℕ) → (D → ℕ) → B → List (List ℕ × Option D) → Type 0
+LogRisen taken faults bay [] = ⊥
+LogRisen taken faults bay (e ∷ es) = RisenIf taken faults bay e ⊎ LogRisen taken faults bay es
+
+abbrev pub BothRisen : {B D : Type 0} → (B → List ℕ → ℕ) → (D → ℕ) → B → Option (D × D) → Type 0
+BothRisen taken faults bay None = ⊥
+BothRisen taken faults bay (Some disks) = (taken bay state_a < faults disks.0) ⊎ (taken bay state_b < faults disks.1)
 
 -- one of the disks has a greater count than that with which it was taken
-abbrev pub HasRisen : {B D : Type 0} → (B → List ℕ → ℕ) → (D → ℕ) → B → Option (D × D) → Type 0
-HasRisen taken faults bay None = ⊥
-HasRisen taken faults bay (Some disks) = (taken bay state_a < faults disks.0) ⊎ (taken bay state_b < faults disks.1)
+abbrev pub HasRisen : {B D : Type 0} → (B → List ℕ → ℕ) → (D → ℕ) → B → LeftDisks D → Type 0
+HasRisen taken faults bay left = LogRisen taken faults bay left.logs ⊎ BothRisen taken faults bay left.foreign
+
+-- ---- disks that were put back
+
+abbrev pub HoldsIf : {B D : Type 0} → (B → List ℕ → Option D) → B → B → List ℕ × Option D → Type 0
+HoldsIf disk old new (name, None) = ⊥
+HoldsIf disk old new (name, Some d) = Holds (disk old name) (disk new name) d
+
+abbrev pub BothHold : {B D : Type 0} → (B → List ℕ → Option D) → B → B → Option (D × D) → Type 0
+BothHold disk old new None = ⊥
+BothHold disk old new (Some disks) = Holds (disk old state_a) (disk new state_a) disks.0 × Holds (disk old state_b) (disk new state_b) disks.1
+
+pub record ArePutBack {B D : Type 0} (disk : B → List ℕ → Option D) (old new : B) (left : LeftDisks D) : Type 0 where
+  pub logs : AllByRecursion (HoldsIf disk old new) left.logs
+  pub foreign : BothHold disk old new left.foreign

@@ -1,24 +1,22 @@
-ghost use Rattle.std.specs.Prelude.{◌≡◌, ◌≢◌, ◌⊎◌, ◌≤◌, [], List, ℕ, Bool, true, false, Some, None, is_some, IfOk, IfErr, OnOk, OnErr, Err};
+ghost use Rattle.std.specs.Prelude.{◌≡◌, ◌≢◌, ◌⊎◌, ◌≤◌, [], List, ℕ, IfOk, IfErr, OnOk, OnErr, Err};
 ghost use Rattle.edge_io.specs.Bays.{IsSound};
 ghost use Rattle.edge_io.specs.Causes.{Rose};
 ghost use Rattle.session_script.specs.declared.event.Event.TheVariants.{Power};
+ghost use Rattle.topic_conf.specs.Topics.{IsTopicList};
 ghost use Rattle.broker_model.specs.Machine.{Machine};
-ghost use Rattle.broker_model.specs.Machine.{StandForStates};
-ghost use Rattle.broker_model.specs.Shards.{state_a, state_b};
 ghost use Rattle.broker_model.specs.Disks.{Disks};
-ghost use Rattle.topic_conf.specs.Configs.{ConfigParts};
-ghost use Rattle.share_model.specs.ForeignRules.{ShareStates};
-ghost use Rattle.edge_io.specs.Bays.{Holds};
+ghost use Rattle.broker_core.specs.Hosts.{AreApart, AreHeld, AreOpen, GoOn, OneRose, all_names, disks_in, parts_of, slot_names};
 ghost use Rattle.broker_core.specs.Restarts.{IsDamagedDisk};
-ghost use Rattle.broker_core.specs.Bays.{AreOut, AreTakenFrom, HasLastCount, HasRisen, IsFirst, TellsDisks, TellsStill};
-ghost use Rattle.broker_core.specs.Cores.{state_of, Advances, GoOn, IsCore, IsHeld, IsOpen, OneRose, StopsIn, disks_in};
+ghost use Rattle.broker_core.specs.Bays.{AreOut, ArePutBack, AreTakenFrom, HasLastCount, HasRisen, IsFirst, StandForAll, TellsDisks, TellsStill};
+ghost use Rattle.broker_core.specs.Taking.{RefusesAll, TakesAll, PutsAllBack};
+ghost use Rattle.broker_core.specs.Cores.{Advances, IsCore, IsWhole, StopsIn, core_of, state_of};
 
-use crate::client::{connect, disconnect, one, send};
+use crate::bay::{names_of_logs, put_foreign_back, put_logs_back, take_foreign, take_logs};
+use crate::client::{connect, disconnect, one, send, serve};
 use crate::fault::{CoreFault, CoreOpen};
-use crate::shard::open;
-use crate::slot::{ForeignSlot, arm, into_disks, lose_power, serve};
+use crate::hosts::{Hosts, arm, lose_power};
 use conn_core::Conn;
-use edge_io::{Bay, Disk, DiskName};
+use edge_io::{Bay, Disk};
 use session_script::{Event, Outcome};
 use std::alloc::Global;
 use std::collections::BTreeMap;
@@ -28,40 +26,120 @@ use topic_conf::Config;
 /// The broker over its disks: who is connected, and the shards.
 ///
 /// It is opened by [`Core::start`], does one event at a time, and gives its disks back by [`Core::finish`]. A contract sees its
-/// configuration, the connections in the order of their numbers, and the shard of foreign state.
+/// configuration, the connections in the order of their numbers, the logs of the hosted partitions in the order of their shards, and
+/// foreign state.
 #[derive(Drop)]
 pub struct Core<D: Disk> {
     conf: Config,
     clients: BTreeMap<u32, Conn>,
-    foreign: ForeignSlot<D>,
+    hosts: Hosts<D>,
     alloc: Global,
 }
 
 impl<D: Disk> Model for Core<D> {
-    ghost use Rattle.broker_core.specs.Cores.{CoreParts, IsHeld};
+    ghost use Rattle.broker_core.specs.Hosts.{parts_of};
+    ghost use Rattle.broker_core.specs.Cores.{CoreParts, IsWhole};
 
     ghost Value = { CoreParts D };
 
-    ghost view = { λ c. record { conf = c.conf; connections = c.clients.entries; foreign = c.foreign } };
+    ghost view = { λ c. record { conf = c.conf; connections = c.clients.entries; hosts = parts_of c.hosts } };
 
-    ghost invariant = { λ c. IsHeld c.foreign };
+    ghost invariant = { λ c. IsWhole (record { conf = c.conf; connections = c.clients.entries; hosts = parts_of c.hosts }) };
 }
 
-// Why a bay gave no disk.
-fn no_disk<B: Bay>(bay: &B) -> CoreOpen
-    ensures bay { result ≡ CoreOpen.Bay → B.starved bay.now ≡ false }
-    ensures only { (result ≡ CoreOpen.Bay) ⊎ (result ≡ CoreOpen.NoMemory) }
+// Takes and opens all shards.
+fn take_hosts<D: Disk + Drop, B: Bay<D = D>>(
+    alloc: Global,
+    bay: &mut B,
+    conf: &Config,
+) -> Result<Hosts<D>, CoreOpen>
+    requires { AreOut B.out [] bay.old }
+    ensures ok { IfOk result (λ hosts. TakesAll B.disk B.out B.taken B.steady B.faults D.content D.image D.starved D.faults D.losses D.arms D.armed
+        conf.now bay.old (parts_of hosts) bay.new) }
+    ensures err { IfErr result (λ e. RefusesAll B.disk B.out B.taken B.steady B.faults D.content D.image D.starved D.faults D.losses D.arms D.armed
+        conf.now e bay.old bay.new) }
+    ensures list { IsTopicList conf.now.topics }
 {
-    if bay.starved() {
-        CoreOpen::NoMemory
-    } else {
-        CoreOpen::Bay
+    let Ok(names) = names_of_logs(alloc, conf.topics()) else {
+        return Err(CoreOpen::NoMemory);
+    };
+    let logs = take_logs(alloc, bay, names)?;
+    match take_foreign(alloc, bay) {
+        Ok(foreign) => Ok(Hosts { logs, foreign }),
+        Err(fault) => {
+            put_logs_back(logs, bay);
+            Err(fault)
+        }
+    }
+}
+
+// Puts the disks of all shards back.
+fn put_hosts_back<D: Disk + Drop, B: Bay<D = D>>(hosts: Hosts<D>, bay: &mut B)
+    requires held { AreHeld (parts_of hosts) }
+    requires apart { AreApart (parts_of hosts) }
+    requires out { AreOut B.out (all_names (slot_names (parts_of hosts).logs)) bay.old }
+    ensures { PutsAllBack B.disk B.out B.taken B.steady B.faults D.faults (parts_of hosts) bay.old bay.new }
+{
+    let Hosts { logs, foreign } = hosts;
+    put_logs_back(logs, bay);
+    put_foreign_back(foreign, bay);
+}
+
+// Does one event.
+#[tactic(auto, using(crate::proofs::Events::open_held))]
+fn advance<D: Disk + Drop>(
+    alloc: Global,
+    conf: &Config,
+    event: &Event,
+    clients: &mut BTreeMap<u32, Conn>,
+    hosts: &mut Hosts<D>,
+) -> Result<Vec<Outcome>, CoreFault>
+    requires open { AreOpen (parts_of hosts.old) }
+    requires whole { IsWhole (core_of conf.now clients.old.entries (parts_of hosts.old)) }
+    requires apart { AreApart (parts_of hosts.old) }
+    ensures ok { IfOk result (λ outcomes. Advances D.content D.image D.starved D.faults D.losses D.arms D.armed
+        (core_of conf.now clients.old.entries (parts_of hosts.old)) event.now outcomes.items (core_of conf.now clients.new.entries (parts_of hosts.new))) }
+    ensures open { OnOk result (AreOpen (parts_of hosts.new)) }
+    ensures held { AreHeld (parts_of hosts.new) }
+    ensures stopped { IfErr result (λ e. (m : Machine) → IsCore D.content D.image D.starved (core_of conf.now clients.old.entries (parts_of hosts.old)) m →
+        StopsIn D.content D.image D.faults D.losses D.arms D.armed (core_of conf.now clients.old.entries (parts_of hosts.old)) m event.now (core_of conf.now clients.new.entries (parts_of hosts.new)) × (e ≡ CoreFault.NoMemory)) }
+    ensures reopen { (f : CoreOpen) → result ≡ Err (CoreFault.Reopen f) → ((choice : ℕ) × (event.now ≡ Power choice)) × (f ≢ CoreOpen.Bay) × (f ≢ CoreOpen.NoMemory) }
+    ensures device { result ≡ Err (CoreFault.Reopen CoreOpen.Device) → OneRose D.faults (disks_in (parts_of hosts.old)) (disks_in (parts_of hosts.new)) }
+    ensures disks { GoOn D.content D.faults (disks_in (parts_of hosts.old)) (disks_in (parts_of hosts.new)) }
+{
+    match event {
+        Event::Open { conn } => {
+            connect(alloc, *conn, clients)?;
+            Ok(Vec::new(alloc))
+        }
+        Event::Bytes { conn, bytes } => {
+            send(*conn, bytes.as_slice(), clients)?;
+            Ok(Vec::new(alloc))
+        }
+        Event::Close { conn } => {
+            disconnect(*conn, clients);
+            Ok(Vec::new(alloc))
+        }
+        Event::Step { conn, .. } => {
+            let outcomes = serve(alloc, conf, *conn, clients, hosts)?;
+            Ok(outcomes)
+        }
+        Event::Arm { disk, after, mode } => {
+            arm(disk, *after, *mode, hosts);
+            Ok(Vec::new(alloc))
+        }
+        Event::Power { choice } => {
+            let outcomes = one(alloc, Outcome::Restarted)?;
+            lose_power(alloc, *choice, hosts)?;
+            *clients = BTreeMap::new(alloc);
+            Ok(outcomes)
+        }
     }
 }
 
 impl<D: Disk + Drop> Core<D> {
-    /// Takes the broker's disks from the bay, and opens its shards: those of the states that the disks stand for, with nothing pending,
-    /// to which nobody is connected.
+    /// Takes the broker's disks from the bay, and opens its shards: those that the disks stand for, with nothing pending, to which nobody
+    /// is connected. The logs of the hosted partitions come first, in the order of the configuration, and foreign state last.
     ///
     /// After a refusal each disk is back in the bay.
     pub fn start<B: Bay<D = D>>(
@@ -69,66 +147,48 @@ impl<D: Disk + Drop> Core<D> {
         bay: &mut B,
         conf: Config,
     ) -> Result<Core<D>, CoreOpen>
-        requires { AreOut B.out false bay.old }
+        requires { AreOut B.out [] bay.old }
         ensures opens { IfOk result (λ core. (contents : List ℕ → List ℕ) (was : Disks) →
-            TellsDisks B.disk D.content D.faults D.losses D.arms D.armed bay.old contents was → (m : Machine) × IsCore D.content D.image D.starved core m
-            × IsFirst contents was (state_of D.faults D.losses D.arms D.armed m core)) }
-        ensures open { IfOk result (λ core. IsOpen core.foreign × (core.conf ≡ conf)) }
-        ensures taken { OnOk result (AreOut B.out true bay.new) }
-        ensures counts { IfOk result (λ core. AreTakenFrom B.disk B.taken D.faults bay.old bay.new (disks_in core.foreign)) }
-        ensures back { OnErr result (AreOut B.out false bay.new) }
+            TellsDisks B.disk D.content D.faults D.losses D.arms D.armed conf bay.old contents was → (m : Machine) × IsCore D.content D.image D.starved core m
+            × IsFirst conf contents was (state_of D.faults D.losses D.arms D.armed m core)) }
+        ensures open { IfOk result (λ core. AreOpen core.hosts × (core.conf ≡ conf)) }
+        ensures taken { IfOk result (λ core. AreOut B.out (all_names (slot_names core.hosts.logs)) bay.new) }
+        ensures counts { IfOk result (λ core. AreTakenFrom B.disk B.taken D.faults conf bay.old bay.new (disks_in core.hosts)) }
+        ensures back { OnErr result (AreOut B.out [] bay.new) }
 
-        // Each refusal has its cause. Contents that stand for states are never damaged.
+        // Each refusal has its cause. Contents that stand for logs and states are never damaged.
         ensures damaged { (disk : List ℕ) (place : ℕ) → result ≡ Err (CoreOpen.Damaged disk place) → (contents : List ℕ → List ℕ) (was : Disks) →
-            TellsDisks B.disk D.content D.faults D.losses D.arms D.armed bay.old contents was → IsDamagedDisk (contents state_a) (contents state_b) disk place }
-        ensures recovers { (contents : List ℕ → List ℕ) (was : Disks) (states : ShareStates) →
-            TellsDisks B.disk D.content D.faults D.losses D.arms D.armed bay.old contents was → StandForStates (contents state_a) (contents state_b) states →
+            TellsDisks B.disk D.content D.faults D.losses D.arms D.armed conf bay.old contents was → IsDamagedDisk conf contents disk place }
+        ensures recovers { (contents : List ℕ → List ℕ) (was : Disks) →
+            TellsDisks B.disk D.content D.faults D.losses D.arms D.armed conf bay.old contents was → StandForAll conf contents →
             (disk : List ℕ) (place : ℕ) → result ≢ Err (CoreOpen.Damaged disk place) }
         ensures bay { result ≡ Err CoreOpen.Bay → Rose (B.faults bay.old) (B.faults bay.new) }
         // The bay's count rose, or that of a disk stood at its last value.
-        ensures device { result ≡ Err CoreOpen.Device → Rose (B.faults bay.old) (B.faults bay.new) ⊎ HasLastCount B.disk D.faults bay.old }
+        ensures device { result ≡ Err CoreOpen.Device → Rose (B.faults bay.old) (B.faults bay.new) ⊎ HasLastCount B.disk D.faults conf bay.old }
         ensures later { B.faults bay.old ≤ B.faults bay.new }
         ensures told { TellsStill B.disk bay.old bay.new }
         ensures sound { IsSound B.disk B.steady D.content D.armed D.arms D.starved D.faults bay.old → (result ≢ Err CoreOpen.Bay) × (result ≢ Err CoreOpen.Device) }
     {
-        let first_name = DiskName::foreign_state_a();
-        let second_name = DiskName::foreign_state_b();
-        let Ok(first) = bay.take(&first_name) else {
-            return Err(no_disk(bay));
-        };
-        let Ok(second) = bay.take(&second_name) else {
-            let fault = no_disk(bay);
-            bay.put_back(&first_name, first);
-            return Err(fault);
-        };
-        match open(alloc, first, second) {
-            Ok(shard) => Ok(Core {
-                conf,
-                clients: BTreeMap::new(alloc),
-                foreign: ForeignSlot::Open(shard),
-                alloc,
-            }),
-            Err((first, second, fault)) => {
-                bay.put_back(&first_name, first);
-                bay.put_back(&second_name, second);
-                Err(fault)
-            }
-        }
+        let hosts = take_hosts(alloc, bay, &conf)?;
+        Ok(Core {
+            conf,
+            clients: BTreeMap::new(alloc),
+            hosts,
+            alloc,
+        })
     }
 
     /// Puts the disks back into the bay from which they were taken.
     pub fn finish<B: Bay<D = D>>(self, bay: &mut B)
-        requires { AreOut B.out true bay.old }
-        ensures back { (first second : D) → disks_in self.foreign ≡ Some (first, second) →
-            Holds (B.disk bay.old state_a) (B.disk bay.new state_a) first × Holds (B.disk bay.old state_b) (B.disk bay.new state_b) second }
-        ensures in_again { AreOut B.out false bay.new }
-        ensures rises { HasRisen B.taken D.faults bay.old (disks_in self.foreign) → Rose (B.faults bay.old) (B.faults bay.new) }
+        requires { AreOut B.out (all_names (slot_names self.hosts.logs)) bay.old }
+        ensures back { ArePutBack B.disk bay.old bay.new (disks_in self.hosts) }
+        ensures in_again { AreOut B.out [] bay.new }
+        ensures rises { HasRisen B.taken D.faults bay.old (disks_in self.hosts) → Rose (B.faults bay.old) (B.faults bay.new) }
         ensures later { B.faults bay.old ≤ B.faults bay.new }
+        ensures told { TellsStill B.disk bay.old bay.new }
     {
-        let Core { foreign, .. } = self;
-        let (first, second) = into_disks(foreign);
-        bay.put_back(&DiskName::foreign_state_a(), first);
-        bay.put_back(&DiskName::foreign_state_b(), second);
+        let Core { hosts, .. } = self;
+        put_hosts_back(hosts, bay);
     }
 
     /// Does one event, and gives what comes of it, in order.
@@ -136,11 +196,11 @@ impl<D: Disk + Drop> Core<D> {
     /// An event on a connection or a disk that isn't there, and an open of a connection that is, change nothing and give nothing. At an
     /// `Err` the part in hand was done whole or not at all; no event may follow, and `finish` puts the disks back.
     pub fn event(&mut self, event: &Event) -> Result<Vec<Outcome>, CoreFault>
-        requires { IsOpen self.old.foreign }
+        requires { AreOpen self.old.hosts }
 
         // It is a step of the machine that the broker stands for, where its disks tell their contents.
         ensures ok { IfOk result (λ outcomes. Advances D.content D.image D.starved D.faults D.losses D.arms D.armed self.old event.now outcomes.items self.new) }
-        ensures open { OnOk result (IsOpen self.new.foreign) }
+        ensures open { OnOk result (AreOpen self.new.hosts) }
 
         // On such disks it fails for want of memory alone, and the disks stand for the machine before the event or behind it.
         ensures stopped { IfErr result (λ e. (m : Machine) → IsCore D.content D.image D.starved self.old m →
@@ -148,43 +208,16 @@ impl<D: Disk + Drop> Core<D> {
 
         // On any disks: why it was not opened again, which comes of a power loss alone.
         ensures reopen { (f : CoreOpen) → result ≡ Err (CoreFault.Reopen f) → ((choice : ℕ) × (event.now ≡ Power choice)) × (f ≢ CoreOpen.Bay) × (f ≢ CoreOpen.NoMemory) }
-        ensures device { result ≡ Err (CoreFault.Reopen CoreOpen.Device) → OneRose D.faults (disks_in self.old.foreign) (disks_in self.new.foreign) }
-        ensures disks { GoOn D.content D.faults (disks_in self.old.foreign) (disks_in self.new.foreign) }
+        ensures device { result ≡ Err (CoreFault.Reopen CoreOpen.Device) → OneRose D.faults (disks_in self.old.hosts) (disks_in self.new.hosts) }
+        ensures disks { GoOn D.content D.faults (disks_in self.old.hosts) (disks_in self.new.hosts) }
         ensures conf { self.new.conf ≡ self.old.conf }
     {
-        match event {
-            Event::Open { conn } => {
-                connect(self.alloc, *conn, &mut self.clients)?;
-                Ok(Vec::new(self.alloc))
-            }
-            Event::Bytes { conn, bytes } => {
-                send(*conn, bytes.as_slice(), &mut self.clients)?;
-                Ok(Vec::new(self.alloc))
-            }
-            Event::Close { conn } => {
-                disconnect(*conn, &mut self.clients);
-                Ok(Vec::new(self.alloc))
-            }
-            Event::Step { conn, .. } => {
-                let outcomes = serve(
-                    self.alloc,
-                    &self.conf,
-                    *conn,
-                    &mut self.clients,
-                    &mut self.foreign,
-                )?;
-                Ok(outcomes)
-            }
-            Event::Arm { disk, after, mode } => {
-                arm(disk, *after, *mode, &mut self.foreign);
-                Ok(Vec::new(self.alloc))
-            }
-            Event::Power { choice } => {
-                let outcomes = one(self.alloc, Outcome::Restarted)?;
-                lose_power(self.alloc, *choice, &mut self.foreign)?;
-                self.clients = BTreeMap::new(self.alloc);
-                Ok(outcomes)
-            }
-        }
+        advance(
+            self.alloc,
+            &self.conf,
+            event,
+            &mut self.clients,
+            &mut self.hosts,
+        )
     }
 }

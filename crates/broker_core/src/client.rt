@@ -4,15 +4,14 @@ ghost use Rattle.std.specs.Map.{remove_entry};
 ghost use Rattle.session_script.specs.declared.event.Outcome.{Outcome};
 ghost use Rattle.conn_core.specs.Conns.{ConnParts, conn_after_bytes, without_replies, is_gone};
 ghost use Rattle.conn_core.specs.Turning.{Awaits, turn};
-ghost use Rattle.foreign_coord.specs.Shards.{ForeignShardState};
+ghost use Rattle.broker_model.specs.Shards.{Shards};
 ghost use Rattle.broker_model.specs.Machine.{Machine, named, opened, at_connection, conn_at, ended_in};
 ghost use Rattle.broker_model.specs.Steps.{Does, DoesTurn, Serves, replies_to};
-ghost use Rattle.broker_core.specs.Carried.{IsCarried, Leads, Halts, GoesOn, rose_by, ends_by};
+ghost use Rattle.broker_core.specs.Hosts.{AreApart, AreCarried, AreOpen, GoOn, Halts, Leads, disks_in, ends_in, parts_of, rose_in};
 
-use crate::shard::act;
-use conn_core::{Conn, Next, Part, PartAnswer};
+use crate::hosts::{Hosts, act};
+use conn_core::{Conn, Next, Part};
 use edge_io::Disk;
-use foreign_coord::ForeignShard;
 use session_script::Outcome;
 use share_model::NoMemory;
 use std::alloc::Global;
@@ -47,27 +46,24 @@ fn ask<D: Disk>(
     id: u32,
     part: Part,
     conn: &mut Conn,
-    shard: &mut ForeignShard<D>,
+    hosts: &mut Hosts<D>,
 ) -> Result<Vec<Outcome>, NoMemory>
-    requires { Awaits (Next.Ask part) conn.old }
-    ensures ok { IfOk result (λ outcomes. (s : ForeignShardState) → IsCarried D.content D.image D.starved shard.old s →
-        Leads D.content D.image D.starved D.faults D.losses D.arms D.armed shard.old s shard.new
-        (λ a call b. Does (rose_by D.faults shard.old shard.new) (ends_by shard.old) id (Next.Ask part) conn.old a b call outcomes.items conn.new)) }
-    ensures stopped { OnErr result ((s : ForeignShardState) → IsCarried D.content D.image D.starved shard.old s →
-        Halts D.content D.image s shard.new
-        (λ a call b. (outcomes : List Outcome) × (after : ConnParts) × Does (rose_by D.faults shard.old shard.new) (ends_by shard.old) id (Next.Ask part) conn.old a b call outcomes after)) }
-    ensures first { GoesOn D.content D.faults shard.old.journal.live.disk shard.new.journal.live.disk }
-    ensures second { shard.new.journal.idle ≡ shard.old.journal.idle }
+    requires asked { Awaits (Next.Ask part) conn.old }
+    requires open { AreOpen (parts_of hosts.old) }
+    requires apart { AreApart (parts_of hosts.old) }
+    ensures ok { IfOk result (λ outcomes. (s : Shards) → AreCarried D.content D.image D.starved (parts_of hosts.old) s →
+        Leads D.content D.image D.starved D.faults D.losses D.arms D.armed (parts_of hosts.old) s (parts_of hosts.new)
+        (λ a call b. Does (rose_in D.faults D.losses D.arms D.armed (disks_in (parts_of hosts.old)) (disks_in (parts_of hosts.new))) (ends_in (parts_of hosts.old)) id (Next.Ask part) conn.old a b call outcomes.items conn.new)) }
+    ensures stopped { OnErr result ((s : Shards) → AreCarried D.content D.image D.starved (parts_of hosts.old) s →
+        Halts D.content D.image s (parts_of hosts.new)
+        (λ a call b. (outcomes : List Outcome) × (after : ConnParts)
+        × Does (rose_in D.faults D.losses D.arms D.armed (disks_in (parts_of hosts.old)) (disks_in (parts_of hosts.new))) (ends_in (parts_of hosts.old)) id (Next.Ask part) conn.old a b call outcomes after)) }
+    ensures disks { GoOn D.content D.faults (disks_in (parts_of hosts.old)) (disks_in (parts_of hosts.new)) }
+    ensures open { AreOpen (parts_of hosts.new) }
 {
-    match part {
-        Part::Foreign(op) => {
-            let answer = act(&op, shard)?;
-            conn.give(conf, PartAnswer::Foreign(answer))?;
-            replies(alloc, id, conn)
-        }
-        // No call that is served asks a log.
-        Part::Produce { .. } => unreachable!(),
-    }
+    let answer = act(part, hosts)?;
+    conn.give(conf, answer)?;
+    replies(alloc, id, conn)
 }
 
 // What the connection tells is done.
@@ -77,20 +73,23 @@ fn done<D: Disk>(
     id: u32,
     next: Next,
     conn: &mut Conn,
-    shard: &mut ForeignShard<D>,
+    hosts: &mut Hosts<D>,
 ) -> Result<Vec<Outcome>, NoMemory>
-    requires { Awaits next conn.old }
-    ensures ok { IfOk result (λ outcomes. (s : ForeignShardState) → IsCarried D.content D.image D.starved shard.old s →
-        Leads D.content D.image D.starved D.faults D.losses D.arms D.armed shard.old s shard.new
-        (λ a call b. Does (rose_by D.faults shard.old shard.new) (ends_by shard.old) id next conn.old a b call outcomes.items conn.new)) }
-    ensures stopped { OnErr result ((s : ForeignShardState) → IsCarried D.content D.image D.starved shard.old s →
-        Halts D.content D.image s shard.new
-        (λ a call b. (outcomes : List Outcome) × (after : ConnParts) × Does (rose_by D.faults shard.old shard.new) (ends_by shard.old) id next conn.old a b call outcomes after)) }
-    ensures first { GoesOn D.content D.faults shard.old.journal.live.disk shard.new.journal.live.disk }
-    ensures second { shard.new.journal.idle ≡ shard.old.journal.idle }
+    requires asked { Awaits next conn.old }
+    requires open { AreOpen (parts_of hosts.old) }
+    requires apart { AreApart (parts_of hosts.old) }
+    ensures ok { IfOk result (λ outcomes. (s : Shards) → AreCarried D.content D.image D.starved (parts_of hosts.old) s →
+        Leads D.content D.image D.starved D.faults D.losses D.arms D.armed (parts_of hosts.old) s (parts_of hosts.new)
+        (λ a call b. Does (rose_in D.faults D.losses D.arms D.armed (disks_in (parts_of hosts.old)) (disks_in (parts_of hosts.new))) (ends_in (parts_of hosts.old)) id next conn.old a b call outcomes.items conn.new)) }
+    ensures stopped { OnErr result ((s : Shards) → AreCarried D.content D.image D.starved (parts_of hosts.old) s →
+        Halts D.content D.image s (parts_of hosts.new)
+        (λ a call b. (outcomes : List Outcome) × (after : ConnParts)
+        × Does (rose_in D.faults D.losses D.arms D.armed (disks_in (parts_of hosts.old)) (disks_in (parts_of hosts.new))) (ends_in (parts_of hosts.old)) id next conn.old a b call outcomes after)) }
+    ensures disks { GoOn D.content D.faults (disks_in (parts_of hosts.old)) (disks_in (parts_of hosts.new)) }
+    ensures open { AreOpen (parts_of hosts.new) }
 {
     match next {
-        Next::Ask(part) => ask(alloc, conf, id, part, conn, shard),
+        Next::Ask(part) => ask(alloc, conf, id, part, conn, hosts),
         Next::Ready => replies(alloc, id, conn),
         Next::Closed(cause) => one(alloc, Outcome::Closed { conn: id, cause }),
         Next::Idle | Next::Gone => Ok(Vec::new(alloc)),
@@ -104,20 +103,23 @@ fn step<D: Disk>(
     conf: &Config,
     id: u32,
     conn: &mut Conn,
-    shard: &mut ForeignShard<D>,
+    hosts: &mut Hosts<D>,
 ) -> Result<(Vec<Outcome>, bool), NoMemory>
-    ensures ok { IfOk result (λ did. (s : ForeignShardState) → IsCarried D.content D.image D.starved shard.old s →
-        Leads D.content D.image D.starved D.faults D.losses D.arms D.armed shard.old s shard.new
-        (λ a call b. DoesTurn (rose_by D.faults shard.old shard.new) (ends_by shard.old) id (turn conf.now conn.old) a b call did.0.items conn.new)) }
-    ensures stopped { OnErr result ((s : ForeignShardState) → IsCarried D.content D.image D.starved shard.old s →
-        Halts D.content D.image s shard.new
-        (λ a call b. (outcomes : List Outcome) × (after : ConnParts) × DoesTurn (rose_by D.faults shard.old shard.new) (ends_by shard.old) id (turn conf.now conn.old) a b call outcomes after)) }
+    requires open { AreOpen (parts_of hosts.old) }
+    requires apart { AreApart (parts_of hosts.old) }
+    ensures ok { IfOk result (λ did. (s : Shards) → AreCarried D.content D.image D.starved (parts_of hosts.old) s →
+        Leads D.content D.image D.starved D.faults D.losses D.arms D.armed (parts_of hosts.old) s (parts_of hosts.new)
+        (λ a call b. DoesTurn (rose_in D.faults D.losses D.arms D.armed (disks_in (parts_of hosts.old)) (disks_in (parts_of hosts.new))) (ends_in (parts_of hosts.old)) id (turn conf.now conn.old) a b call did.0.items conn.new)) }
+    ensures stopped { OnErr result ((s : Shards) → AreCarried D.content D.image D.starved (parts_of hosts.old) s →
+        Halts D.content D.image s (parts_of hosts.new)
+        (λ a call b. (outcomes : List Outcome) × (after : ConnParts)
+        × DoesTurn (rose_in D.faults D.losses D.arms D.armed (disks_in (parts_of hosts.old)) (disks_in (parts_of hosts.new))) (ends_in (parts_of hosts.old)) id (turn conf.now conn.old) a b call outcomes after)) }
     ensures gone { IfOk result (λ did. did.1 ≡ is_gone conn.new) }
-    ensures first { GoesOn D.content D.faults shard.old.journal.live.disk shard.new.journal.live.disk }
-    ensures second { shard.new.journal.idle ≡ shard.old.journal.idle }
+    ensures disks { GoOn D.content D.faults (disks_in (parts_of hosts.old)) (disks_in (parts_of hosts.new)) }
+    ensures open { AreOpen (parts_of hosts.new) }
 {
     let next = conn.next_part(conf)?;
-    let outcomes = done(alloc, conf, id, next, conn, shard)?;
+    let outcomes = done(alloc, conf, id, next, conn, hosts)?;
     Ok((outcomes, conn.is_gone()))
 }
 
@@ -136,24 +138,26 @@ pub fn serve<D: Disk>(
     conf: &Config,
     id: u32,
     clients: &mut BTreeMap<u32, Conn>,
-    shard: &mut ForeignShard<D>,
+    hosts: &mut Hosts<D>,
 ) -> Result<Vec<Outcome>, NoMemory>
-    ensures ok { IfOk result (λ outcomes. (s : ForeignShardState) → IsCarried D.content D.image D.starved shard.old s →
-        Leads D.content D.image D.starved D.faults D.losses D.arms D.armed shard.old s shard.new
-        (λ a call b. Serves conf.now (rose_by D.faults shard.old shard.new) (ends_by shard.old) (record { connections = clients.old.entries; shards = a }) id
+    requires open { AreOpen (parts_of hosts.old) }
+    requires apart { AreApart (parts_of hosts.old) }
+    ensures ok { IfOk result (λ outcomes. (s : Shards) → AreCarried D.content D.image D.starved (parts_of hosts.old) s →
+        Leads D.content D.image D.starved D.faults D.losses D.arms D.armed (parts_of hosts.old) s (parts_of hosts.new)
+        (λ a call b. Serves conf.now (rose_in D.faults D.losses D.arms D.armed (disks_in (parts_of hosts.old)) (disks_in (parts_of hosts.new))) (ends_in (parts_of hosts.old)) (record { connections = clients.old.entries; shards = a }) id
         (conn_at id clients.old.entries) call outcomes.items (record { connections = clients.new.entries; shards = b }))) }
-    ensures stopped { OnErr result ((s : ForeignShardState) → IsCarried D.content D.image D.starved shard.old s →
-        Halts D.content D.image s shard.new
+    ensures stopped { OnErr result ((s : Shards) → AreCarried D.content D.image D.starved (parts_of hosts.old) s →
+        Halts D.content D.image s (parts_of hosts.new)
         (λ a call b. (outcomes : List Outcome) × (after : Machine) × (after.shards ≡ b)
-        × Serves conf.now (rose_by D.faults shard.old shard.new) (ends_by shard.old) (record { connections = clients.old.entries; shards = a }) id
+        × Serves conf.now (rose_in D.faults D.losses D.arms D.armed (disks_in (parts_of hosts.old)) (disks_in (parts_of hosts.new))) (ends_in (parts_of hosts.old)) (record { connections = clients.old.entries; shards = a }) id
         (conn_at id clients.old.entries) call outcomes after)) }
-    ensures first { GoesOn D.content D.faults shard.old.journal.live.disk shard.new.journal.live.disk }
-    ensures second { shard.new.journal.idle ≡ shard.old.journal.idle }
+    ensures disks { GoOn D.content D.faults (disks_in (parts_of hosts.old)) (disks_in (parts_of hosts.new)) }
+    ensures open { AreOpen (parts_of hosts.new) }
 {
     let Some(conn) = clients.get_mut(&id) else {
         return Ok(Vec::new(alloc));
     };
-    let (outcomes, gone) = step(alloc, conf, id, conn, shard)?;
+    let (outcomes, gone) = step(alloc, conf, id, conn, hosts)?;
     let_go(gone, id, clients);
     Ok(outcomes)
 }

@@ -1,7 +1,7 @@
-ghost use Rattle.std.specs.Prelude.{◌≡◌};
+ghost use Rattle.std.specs.Prelude.{◌≡◌, ◌≢◌, ◌⊎◌, true, false};
 ghost use Rattle.broker_core.specs.Causes.{no_memory};
 
-use edge_io::DiskName;
+use edge_io::{Disk, DiskName};
 use share_model::NoMemory;
 
 /// Why a broker was not opened.
@@ -31,5 +31,29 @@ impl From<NoMemory> for CoreFault {
 
     fn from(_: NoMemory) -> CoreFault {
         CoreFault::NoMemory
+    }
+}
+
+/// Why a call of a disk failed.
+pub fn fault_of_call<D: Disk>(disk: &D) -> CoreOpen
+    ensures device { result ≡ CoreOpen.Device → D.starved disk.now ≡ false }
+    ensures memory { D.starved disk.now ≡ true → result ≡ CoreOpen.NoMemory }
+    ensures only { (result ≡ CoreOpen.Device) ⊎ (result ≡ CoreOpen.NoMemory) }
+{
+    if disk.starved() {
+        CoreOpen::NoMemory
+    } else {
+        CoreOpen::Device
+    }
+}
+
+/// Why a shard was not opened again. Want of memory is told as such, also where it came in a restart.
+pub fn told(fault: CoreOpen) -> CoreFault
+    ensures reopen { (f : CoreOpen) → result ≡ CoreFault.Reopen f → (f ≡ fault) × (f ≢ CoreOpen.NoMemory) }
+    ensures memory { fault ≡ CoreOpen.NoMemory → result ≡ CoreFault.NoMemory }
+{
+    match fault {
+        CoreOpen::NoMemory => CoreFault::NoMemory,
+        fault => CoreFault::Reopen(fault),
     }
 }

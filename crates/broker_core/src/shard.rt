@@ -4,18 +4,14 @@ ghost use Rattle.std.specs.declared.option.Option.{Option};
 ghost use Rattle.edge_io.specs.declared.fault.Armed.TheVariants.{Nothing};
 ghost use Rattle.edge_io.specs.Causes.{Rose};
 ghost use Rattle.edge_io.specs.Disk.{IsTold};
-ghost use Rattle.share_model.specs.declared.foreign.ForeignAnswer.{ForeignAnswer};
 ghost use Rattle.call_fold.specs.Parts.{IsTellable};
 ghost use Rattle.share_model.specs.ForeignRules.{ShareStates};
-ghost use Rattle.share_model.specs.declared.fault.StoreFault.{StoreFault};
-ghost use Rattle.foreign_coord.specs.Shards.{ForeignShardState, StepsForeign};
-ghost use Rattle.broker_model.specs.Shards.{StepsShards};
-ghost use Rattle.broker_model.specs.Shards.ShardCall.{CallForeign};
+ghost use Rattle.foreign_coord.specs.Shards.{ForeignShardState};
 ghost use Rattle.broker_model.specs.Machine.{StandForStates};
-ghost use Rattle.broker_core.specs.Carried.{IsCarried, Leads, Halts, GoesOn, shards_of, rose_by, ends_by};
-ghost use Rattle.broker_core.specs.Restarts.{IsOpened, IsDamagedDisk, name_of, IsRestartedShard, IsNotRestarted, ImagesStandAs};
+ghost use Rattle.broker_core.specs.Carried.{IsCarried, LeadsForeign, HaltsForeign, GoesOn};
+ghost use Rattle.broker_core.specs.Restarts.{IsOpened, IsDamagedState, name_of, IsRestartedShard, IsNotRestarted, ImagesStandAs};
 
-use crate::fault::CoreOpen;
+use crate::fault::{CoreOpen, fault_of_call};
 use edge_io::{Disk, DiskName};
 use foreign_coord::ForeignShard;
 use share_coord::CoordOpen;
@@ -25,12 +21,9 @@ use std::alloc::Global;
 /// Does a call on foreign state. Where a disk has found no memory, it answers want of memory.
 pub fn act<D: Disk>(op: &ForeignOp, shard: &mut ForeignShard<D>) -> Result<ForeignAnswer, NoMemory>
     ensures ok { IfOk result (λ answer. (s : ForeignShardState) → IsCarried D.content D.image D.starved shard.old s →
-        (fault : Option StoreFault) × Leads D.content D.image D.starved D.faults D.losses D.arms D.armed shard.old s shard.new
-        (λ a call b. (call ≡ Some (CallForeign op.now answer fault))
-        × StepsShards (rose_by D.faults shard.old shard.new) (ends_by shard.old) a (CallForeign op.now answer fault) b)) }
+        LeadsForeign D.content D.image D.starved D.faults D.losses D.arms D.armed shard.old s shard.new op.now answer) }
     ensures stopped { OnErr result ((s : ForeignShardState) → IsCarried D.content D.image D.starved shard.old s →
-        Halts D.content D.image s shard.new (λ a call b. (answer : ForeignAnswer) × (fault : Option StoreFault) × (call ≡ Some (CallForeign op.now answer fault))
-        × StepsShards (rose_by D.faults shard.old shard.new) (ends_by shard.old) a (CallForeign op.now answer fault) b)) }
+        HaltsForeign D.content D.image D.faults shard.old s shard.new op.now) }
     ensures tellable { IfOk result (λ answer. All IsTellable answer.runs) }
     ensures first { GoesOn D.content D.faults shard.old.journal.live.disk shard.new.journal.live.disk }
     ensures second { shard.new.journal.idle ≡ shard.old.journal.idle }
@@ -40,19 +33,6 @@ pub fn act<D: Disk>(op: &ForeignOp, shard: &mut ForeignShard<D>) -> Result<Forei
         return Err(NoMemory);
     }
     Ok(answer)
-}
-
-// Why a call of a disk failed.
-fn fault_of_call<D: Disk>(disk: &D) -> CoreOpen
-    ensures device { result ≡ CoreOpen.Device → D.starved disk.now ≡ false }
-    ensures memory { D.starved disk.now ≡ true → result ≡ CoreOpen.NoMemory }
-    ensures only { (result ≡ CoreOpen.Device) ⊎ (result ≡ CoreOpen.NoMemory) }
-{
-    if disk.starved() {
-        CoreOpen::NoMemory
-    } else {
-        CoreOpen::Device
-    }
 }
 
 // Why the store was not opened, where neither disk has found no memory.
@@ -90,7 +70,7 @@ pub fn open<D: Disk>(
     ensures sound { IsTold (D.content first) → IsTold (D.content second) → D.armed first ≡ Nothing → D.armed second ≡ Nothing →
         IfErr result (λ e. e.2 ≢ CoreOpen.Device) }
     ensures damaged { IfErr result (λ e. (name : List ℕ) (place : ℕ) → e.2 ≡ CoreOpen.Damaged name place →
-        (a b : List ℕ) → D.content first ≡ Some a → D.content second ≡ Some b → IsDamagedDisk a b name place) }
+        (a b : List ℕ) → D.content first ≡ Some a → D.content second ≡ Some b → IsDamagedState a b name place) }
     ensures device { IfErr result (λ e. e.2 ≡ CoreOpen.Device → Rose (D.faults first) (D.faults e.0) ⊎ Rose (D.faults second) (D.faults e.1)) }
     ensures no_bay { IfErr result (λ e. e.2 ≢ CoreOpen.Bay) }
     ensures images { IfErr result (λ e. ImagesStandAs D.image first second e.0 e.1) }

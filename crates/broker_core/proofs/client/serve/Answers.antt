@@ -3,9 +3,9 @@ use Rattle.std.specs.Map.{set_value, remove_entry}
 use Rattle.conn_core.specs.Conns.{is_gone}
 use Rattle.broker_model.specs.Machine.{named, conn_at, left}
 use Rattle.broker_model.specs.Steps.{Serves}
-use Rattle.broker_core.specs.Carried.{rose_by, ends_by}
+use Rattle.broker_core.specs.Hosts.{disks_in, ends_in, parts_of, rose_in}
 use Rattle.broker_core.proofs.Stepping.{on_err, left_at}
-use Rattle.broker_core.proofs.Leading.{halts_so, leads_to}
+use Rattle.broker_core.proofs.Leading.{go_on_same, halts_so, leads_to}
 use Rattle.broker_core.proofs.client.serve.Goals as goal
 
 pub returns-in_err-outcomes-clause-stopped : goal.returns-in_err-outcomes-clause-stopped
@@ -14,12 +14,12 @@ returns-in_err-outcomes-clause-stopped g c =
     let found : conn_at c.args.id es ≡ Some c.in-Some.conn.now = search rules in
     on_err c.from_residual.result
     (λ s k. halts_so g.D.Disk.content g.D.Disk.image g.D.Disk.starved g.D.Disk.faults g.D.Disk.losses g.D.Disk.arms g.D.Disk.armed
-    c.step.new.shard s _ _
+    (parts_of c.step.new.hosts) s _ _
     (λ a call b h. (
       h.0,
       record { connections = left c.args.id h.1 es; shards = b },
       refl,
-      subst (λ o. Serves c.args.conf.now (rose_by g.D.Disk.faults c.args.shard.now c.step.new.shard) (ends_by c.args.shard.now)
+      subst (λ o. Serves c.args.conf.now (rose_in g.D.Disk.faults g.D.Disk.losses g.D.Disk.arms g.D.Disk.armed (disks_in (parts_of c.args.hosts.now)) (disks_in (parts_of c.step.new.hosts))) (ends_in (parts_of c.args.hosts.now))
           (record { connections = es; shards = a }) c.args.id o call h.0 (record { connections = left c.args.id h.1 es; shards = b })) (sym found)
           (record { after = h.1; does = h.2; leaves = refl }),
     ))
@@ -36,9 +36,12 @@ returns-clause-ok g c =
     let went : c.let_go.new.clients.entries ≡ cond (is_gone after) (remove_entry (named c.args.id) kept) kept = search rules in
     let leaves = went ∙ ap (λ l. cond (is_gone after) (remove_entry (named c.args.id) l) l) wrote ∙ left_at c.args.id after c.in-Some.conn.now es found in
     λ s k. leads_to g.D.Disk.content g.D.Disk.image g.D.Disk.starved g.D.Disk.faults g.D.Disk.losses g.D.Disk.arms g.D.Disk.armed
-    c.args.shard.now c.step.new.shard s _ _
+    (parts_of c.args.hosts.now) (parts_of c.step.new.hosts) s _ _
     (λ a call b h.
-    subst (λ o. Serves c.args.conf.now (rose_by g.D.Disk.faults c.args.shard.now c.step.new.shard) (ends_by c.args.shard.now)
+    subst (λ o. Serves c.args.conf.now (rose_in g.D.Disk.faults g.D.Disk.losses g.D.Disk.arms g.D.Disk.armed (disks_in (parts_of c.args.hosts.now)) (disks_in (parts_of c.step.new.hosts))) (ends_in (parts_of c.args.hosts.now))
     (record { connections = es; shards = a }) c.args.id o call c.in_ok-outcomes.outcomes.items (record { connections = c.let_go.new.clients.entries; shards = b }))
     (sym found) (record { after = after; does = h; leaves = leaves }))
     (c.in_ok-outcomes.ensures.ok s k)
+
+pub returns-in_default-clause-disks : goal.returns-in_default-clause-disks
+returns-in_default-clause-disks g c = go_on_same g.D.Disk.content g.D.Disk.image g.D.Disk.starved g.D.Disk.faults g.D.Disk.losses g.D.Disk.arms g.D.Disk.armed (disks_in (parts_of c.args.hosts.now))

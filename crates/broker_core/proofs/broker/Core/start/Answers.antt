@@ -1,99 +1,101 @@
-use Rattle.std.proofs.Common.{◌≡◌, ◌≢◌, ◌∙◌, inl, inr, refl, sym, ap, rules, Err, is_some}
-use Rattle.broker_model.specs.Shards.{state_a, state_b}
+use Rattle.std.proofs.Common.{◌≡◌, refl, sym, ◌∙◌, subst, ℕ, List, Err, rules}
+use Rattle.conn_core.specs.Conns.{ConnParts}
+use Rattle.broker_model.specs.Machine.{Machine}
 use Rattle.broker_core.specs.declared.fault.CoreOpen.TheVariants.{Damaged, Device, Bay}
-use Rattle.broker_core.specs.Bays.{HasLastCount}
-use Rattle.broker_core.proofs.Bays.{told_first, first_is, second_is, one_told, both_told, first_content, second_content, started, a_is_name, b_is_name, err_is, bay_rose, apart as apart_names}
+use Rattle.broker_core.specs.Bays.{IsFirst}
+use Rattle.broker_core.specs.Cores.{IsCore, core_of, state_of}
+use Rattle.broker_core.specs.Hosts.{parts_of}
+use Rattle.broker_core.proofs.Stepping.{err_same, on_err}
+use Rattle.broker_core.proofs.Starting.{all_counted, all_moves, all_out, hosts_apart, hosts_are, hosts_held, hosts_open, refused, started}
 use Rattle.broker_core.proofs.broker.Core.start.Goals as goal
 
-pub returns-in_default-take-clause-told : goal.returns-in_default-take-clause-told
-returns-in_default-take-clause-told g c = one_told g.B.Bay.disk g.B.Bay.out g.B.Bay.taken c.args.bay.now c.take.new.self c.take-2.new.self c.put_back.new.self
-    c.foreign_state_a-first_name.result c.foreign_state_b-second_name.result c.in-Ok.first c.foreign_state_a-first_name.ensures c.foreign_state_b-second_name.ensures
-    c.take.ensures.told c.take.ensures.others c.take-2.ensures.told c.take-2.ensures.others c.put_back.ensures.there c.put_back.ensures.others
+pub returns-in_err-hosts-clause-back : goal.returns-in_err-hosts-clause-back
+returns-in_err-hosts-clause-back g c = on_err c.from_residual.result
+    ((refused g.B.Bay.disk g.B.Bay.out g.B.Bay.taken g.B.Bay.steady g.B.Bay.faults g.D.Disk.content g.D.Disk.image g.D.Disk.starved g.D.Disk.faults g.D.Disk.losses g.D.Disk.arms g.D.Disk.armed
+    c.args.conf c.in_err-hosts.ensures.list c.in_err-hosts.field-0.0 c.args.bay.now c.take_hosts.new.bay c.in_err-hosts.ensures.err).back c.requires)
 
-pub returns-in-Ok-open-clause-opens : goal.returns-in-Ok-open-clause-opens
-returns-in-Ok-open-clause-opens g c = λ contents was t. started g.B.Bay.disk g.D.Disk.content g.D.Disk.image g.D.Disk.starved g.D.Disk.faults g.D.Disk.losses g.D.Disk.arms g.D.Disk.armed
-    c.args.bay.now contents was c.in-Ok.first c.in-Ok-take.second c.in-Ok-open.shard _ t
-    (first_is g.B.Bay.disk g.B.Bay.out g.B.Bay.taken c.args.bay.now c.foreign_state_a-first_name.result c.in-Ok.first t.first c.foreign_state_a-first_name.ensures c.in-Ok.ensures.given t.is_first)
-    (second_is g.B.Bay.disk g.B.Bay.out g.B.Bay.taken c.args.bay.now c.take.new.self c.foreign_state_a-first_name.result c.foreign_state_b-second_name.result c.in-Ok-take.second t.second
-    c.foreign_state_a-first_name.ensures c.foreign_state_b-second_name.ensures c.take.ensures.others c.in-Ok-take.ensures.given t.is_second)
-    c.new.ensures.empty refl c.in-Ok-open.ensures.opens
+pub returns-in_err-hosts-clause-damaged : goal.returns-in_err-hosts-clause-damaged
+returns-in_err-hosts-clause-damaged g c = λ disk place e contents was tells.
+    (let err : c.from_residual.result ≡ Err c.in_err-hosts.field-0.0 = search rules in
+    (refused g.B.Bay.disk g.B.Bay.out g.B.Bay.taken g.B.Bay.steady g.B.Bay.faults g.D.Disk.content g.D.Disk.image g.D.Disk.starved g.D.Disk.faults g.D.Disk.losses g.D.Disk.arms g.D.Disk.armed
+    c.args.conf c.in_err-hosts.ensures.list c.in_err-hosts.field-0.0 c.args.bay.now c.take_hosts.new.bay c.in_err-hosts.ensures.err).damaged
+    disk place (err_same c.in_err-hosts.field-0.0 (Damaged disk place) (sym err ∙ e)) contents was tells)
 
-pub returns-in-Err-clause-recovers : goal.returns-in-Err-clause-recovers
-returns-in-Err-clause-recovers g c = λ contents was states t stands name place err.
-    c.in-Err.ensures.recovers (contents state_a) (contents state_b) states
-    (first_content g.B.Bay.disk g.D.Disk.content g.D.Disk.image g.D.Disk.starved g.D.Disk.faults g.D.Disk.losses g.D.Disk.arms g.D.Disk.armed
-    c.args.bay.now contents was c.in-Ok.first t
-    (first_is g.B.Bay.disk g.B.Bay.out g.B.Bay.taken c.args.bay.now c.foreign_state_a-first_name.result c.in-Ok.first t.first c.foreign_state_a-first_name.ensures c.in-Ok.ensures.given t.is_first))
-    (second_content g.B.Bay.disk g.D.Disk.content g.D.Disk.image g.D.Disk.starved g.D.Disk.faults g.D.Disk.losses g.D.Disk.arms g.D.Disk.armed
-    c.args.bay.now contents was c.in-Ok-take.second t
-    (second_is g.B.Bay.disk g.B.Bay.out g.B.Bay.taken c.args.bay.now c.take.new.self c.foreign_state_a-first_name.result c.foreign_state_b-second_name.result c.in-Ok-take.second t.second
-    c.foreign_state_a-first_name.ensures c.foreign_state_b-second_name.ensures c.take.ensures.others c.in-Ok-take.ensures.given t.is_second))
-    stands name place (err_is c.in-Err.fault (Damaged name place) err)
+pub returns-in_err-hosts-clause-recovers : goal.returns-in_err-hosts-clause-recovers
+returns-in_err-hosts-clause-recovers g c = λ contents was tells stand disk place e.
+    (let err : c.from_residual.result ≡ Err c.in_err-hosts.field-0.0 = search rules in
+    (refused g.B.Bay.disk g.B.Bay.out g.B.Bay.taken g.B.Bay.steady g.B.Bay.faults g.D.Disk.content g.D.Disk.image g.D.Disk.starved g.D.Disk.faults g.D.Disk.losses g.D.Disk.arms g.D.Disk.armed
+    c.args.conf c.in_err-hosts.ensures.list c.in_err-hosts.field-0.0 c.args.bay.now c.take_hosts.new.bay c.in_err-hosts.ensures.err).recovers
+    contents was tells stand disk place (err_same c.in_err-hosts.field-0.0 (Damaged disk place) (sym err ∙ e)))
 
-pub returns-in-Err-clause-told : goal.returns-in-Err-clause-told
-returns-in-Err-clause-told g c = both_told g.B.Bay.disk g.B.Bay.out g.B.Bay.taken c.args.bay.now c.take.new.self c.take-2.new.self c.put_back-in-Err.new.self c.put_back-in-Err-2.new.self
-    c.foreign_state_a-first_name.result c.foreign_state_b-second_name.result c.in-Err.first c.in-Err.second c.foreign_state_a-first_name.ensures c.foreign_state_b-second_name.ensures
-    c.take.ensures.told c.take.ensures.others c.take-2.ensures.told c.take-2.ensures.others c.put_back-in-Err.ensures.there c.put_back-in-Err.ensures.others
-    c.put_back-in-Err-2.ensures.there c.put_back-in-Err-2.ensures.others
+pub returns-in_err-hosts-clause-bay : goal.returns-in_err-hosts-clause-bay
+returns-in_err-hosts-clause-bay g c = λ e.
+    (let err : c.from_residual.result ≡ Err c.in_err-hosts.field-0.0 = search rules in
+    (refused g.B.Bay.disk g.B.Bay.out g.B.Bay.taken g.B.Bay.steady g.B.Bay.faults g.D.Disk.content g.D.Disk.image g.D.Disk.starved g.D.Disk.faults g.D.Disk.losses g.D.Disk.arms g.D.Disk.armed
+    c.args.conf c.in_err-hosts.ensures.list c.in_err-hosts.field-0.0 c.args.bay.now c.take_hosts.new.bay c.in_err-hosts.ensures.err).bay
+    (err_same c.in_err-hosts.field-0.0 Bay (sym err ∙ e)))
 
-pub returns-in-Err-clause-sound : goal.returns-in-Err-clause-sound
-returns-in-Err-clause-sound g c = λ sound.
-    let a = sound.each state_a a_is_name in
-    let b = sound.each state_b b_is_name in
-    let first = first_is g.B.Bay.disk g.B.Bay.out g.B.Bay.taken c.args.bay.now c.foreign_state_a-first_name.result c.in-Ok.first a.0 c.foreign_state_a-first_name.ensures c.in-Ok.ensures.given a.1 in
-    let second = second_is g.B.Bay.disk g.B.Bay.out g.B.Bay.taken c.args.bay.now c.take.new.self c.foreign_state_a-first_name.result c.foreign_state_b-second_name.result c.in-Ok-take.second b.0
-    c.foreign_state_a-first_name.ensures c.foreign_state_b-second_name.ensures c.take.ensures.others c.in-Ok-take.ensures.given b.1 in (
-      λ err. c.in-Err.ensures.no_bay (err_is c.in-Err.fault Bay err),
-      λ err. c.in-Err.ensures.sound (ap (λ d. is_some (g.D.Disk.content d)) first ∙ a.2.tells) (ap (λ d. is_some (g.D.Disk.content d)) second ∙ b.2.tells)
-          (ap g.D.Disk.armed first ∙ a.2.is_unarmed) (ap g.D.Disk.armed second ∙ b.2.is_unarmed) (err_is c.in-Err.fault Device err),
-    )
+pub returns-in_err-hosts-clause-device : goal.returns-in_err-hosts-clause-device
+returns-in_err-hosts-clause-device g c = λ e.
+    (let err : c.from_residual.result ≡ Err c.in_err-hosts.field-0.0 = search rules in
+    (refused g.B.Bay.disk g.B.Bay.out g.B.Bay.taken g.B.Bay.steady g.B.Bay.faults g.D.Disk.content g.D.Disk.image g.D.Disk.starved g.D.Disk.faults g.D.Disk.losses g.D.Disk.arms g.D.Disk.armed
+    c.args.conf c.in_err-hosts.ensures.list c.in_err-hosts.field-0.0 c.args.bay.now c.take_hosts.new.bay c.in_err-hosts.ensures.err).device
+    (err_same c.in_err-hosts.field-0.0 Device (sym err ∙ e)))
 
-pub returns-in-Err-clause-device : goal.returns-in-Err-clause-device
-returns-in-Err-clause-device g c = λ err.
-    let apart : c.foreign_state_b-second_name.result ≢ c.foreign_state_a-first_name.result =
-    λ e. apart_names (sym c.foreign_state_a-first_name.ensures ∙ sym e ∙ c.foreign_state_b-second_name.ensures) in
-    bay_rose g.D.Disk.faults (HasLastCount g.B.Bay.disk g.D.Disk.faults c.args.bay.now)
-    (g.B.Bay.faults c.args.bay.now) (g.B.Bay.faults c.take.new.self) (g.B.Bay.faults c.take-2.new.self) (g.B.Bay.faults c.put_back-in-Err.new.self)
-    (g.B.Bay.faults c.put_back-in-Err-2.new.self) (g.B.Bay.taken c.take-2.new.self c.foreign_state_a-first_name.result)
-    (g.B.Bay.taken c.put_back-in-Err.new.self c.foreign_state_b-second_name.result) c.in-Ok.first c.in-Ok-take.second c.in-Err.first c.in-Err.second
-    (c.in-Err.ensures.device (err_is c.in-Err.fault Device err)) c.take.ensures.cause.later c.take-2.ensures.cause.later c.put_back-in-Err.ensures.later c.put_back-in-Err-2.ensures.later
-    ((c.take-2.ensures.others c.foreign_state_a-first_name.result (λ e. apart (sym e))).same_taken ∙ c.in-Ok.ensures.is_out.1)
-    ((c.put_back-in-Err.ensures.others c.foreign_state_b-second_name.result apart).same_taken ∙ c.in-Ok-take.ensures.is_out.1)
-    c.put_back-in-Err.ensures.counts c.put_back-in-Err-2.ensures.counts
-    (λ last. (
-      state_a,
-      c.in-Ok.first,
-      inl refl,
-      told_first g.B.Bay.disk c.args.bay.now c.foreign_state_a-first_name.result c.in-Ok.first c.foreign_state_a-first_name.ensures c.in-Ok.ensures.given,
-      last,
-    ))
-    (λ last. (
-      state_b,
-      c.in-Ok-take.second,
-      inr refl,
-      (λ d told. second_is g.B.Bay.disk g.B.Bay.out g.B.Bay.taken c.args.bay.now c.take.new.self c.foreign_state_a-first_name.result
-          c.foreign_state_b-second_name.result c.in-Ok-take.second d
-          c.foreign_state_a-first_name.ensures c.foreign_state_b-second_name.ensures c.take.ensures.others c.in-Ok-take.ensures.given told),
-      last,
-    ))
+pub returns-in_err-hosts-clause-later : goal.returns-in_err-hosts-clause-later
+returns-in_err-hosts-clause-later g c =
+    (refused g.B.Bay.disk g.B.Bay.out g.B.Bay.taken g.B.Bay.steady g.B.Bay.faults g.D.Disk.content g.D.Disk.image g.D.Disk.starved g.D.Disk.faults g.D.Disk.losses g.D.Disk.arms g.D.Disk.armed
+    c.args.conf c.in_err-hosts.ensures.list c.in_err-hosts.field-0.0 c.args.bay.now c.take_hosts.new.bay c.in_err-hosts.ensures.err).moves.later
 
-pub returns-in-Ok-open-clause-counts : goal.returns-in-Ok-open-clause-counts
-returns-in-Ok-open-clause-counts g c =
-    let apart : c.foreign_state_a-first_name.result ≢ c.foreign_state_b-second_name.result =
-    λ e. apart_names (sym c.foreign_state_a-first_name.ensures ∙ e ∙ c.foreign_state_b-second_name.ensures) in (
-      record {
-        given = c.in-Ok.first;
-        as_told = told_first g.B.Bay.disk c.args.bay.now c.foreign_state_a-first_name.result c.in-Ok.first c.foreign_state_a-first_name.ensures c.in-Ok.ensures.given;
-        noted = ap (g.B.Bay.taken c.take-2.new.self) (sym c.foreign_state_a-first_name.ensures)
-            ∙ (c.take-2.ensures.others c.foreign_state_a-first_name.result apart).same_taken ∙ c.in-Ok.ensures.is_out.1;
-        later = c.in-Ok-open.ensures.first.later;
-      },
-      record {
-        given = c.in-Ok-take.second;
-        as_told = λ d told. second_is g.B.Bay.disk g.B.Bay.out g.B.Bay.taken c.args.bay.now c.take.new.self c.foreign_state_a-first_name.result
-            c.foreign_state_b-second_name.result c.in-Ok-take.second d
-            c.foreign_state_a-first_name.ensures c.foreign_state_b-second_name.ensures c.take.ensures.others c.in-Ok-take.ensures.given told;
-        noted = ap (g.B.Bay.taken c.take-2.new.self) (sym c.foreign_state_b-second_name.ensures) ∙ c.in-Ok-take.ensures.is_out.1;
-        later = c.in-Ok-open.ensures.second.later;
-      },
-    )
+pub returns-in_err-hosts-clause-told : goal.returns-in_err-hosts-clause-told
+returns-in_err-hosts-clause-told g c =
+    (refused g.B.Bay.disk g.B.Bay.out g.B.Bay.taken g.B.Bay.steady g.B.Bay.faults g.D.Disk.content g.D.Disk.image g.D.Disk.starved g.D.Disk.faults g.D.Disk.losses g.D.Disk.arms g.D.Disk.armed
+    c.args.conf c.in_err-hosts.ensures.list c.in_err-hosts.field-0.0 c.args.bay.now c.take_hosts.new.bay c.in_err-hosts.ensures.err).moves.told
+
+pub returns-in_err-hosts-clause-sound : goal.returns-in_err-hosts-clause-sound
+returns-in_err-hosts-clause-sound g c = λ sound.
+    (let err : c.from_residual.result ≡ Err c.in_err-hosts.field-0.0 = search rules in
+    let never = (refused g.B.Bay.disk g.B.Bay.out g.B.Bay.taken g.B.Bay.steady g.B.Bay.faults g.D.Disk.content g.D.Disk.image g.D.Disk.starved g.D.Disk.faults g.D.Disk.losses g.D.Disk.arms g.D.Disk.armed
+    c.args.conf c.in_err-hosts.ensures.list c.in_err-hosts.field-0.0 c.args.bay.now c.take_hosts.new.bay c.in_err-hosts.ensures.err).sound sound in
+    (λ e. never.0 (err_same c.in_err-hosts.field-0.0 Bay (sym err ∙ e)), λ e. never.1 (err_same c.in_err-hosts.field-0.0 Device (sym err ∙ e))))
+
+pub invariant_of-result : goal.invariant_of-result
+invariant_of-result g c = record {
+  held = hosts_held g.B.Bay.disk g.B.Bay.out g.B.Bay.taken g.B.Bay.steady g.B.Bay.faults g.D.Disk.content g.D.Disk.image g.D.Disk.starved g.D.Disk.faults g.D.Disk.losses g.D.Disk.arms g.D.Disk.armed
+      c.args.conf c.in_ok-hosts.ensures.list c.args.bay.now (parts_of c.in_ok-hosts.hosts) c.take_hosts.new.bay c.in_ok-hosts.ensures.ok;
+  hosts = hosts_are g.B.Bay.disk g.B.Bay.out g.B.Bay.taken g.B.Bay.steady g.B.Bay.faults g.D.Disk.content g.D.Disk.image g.D.Disk.starved g.D.Disk.faults g.D.Disk.losses g.D.Disk.arms g.D.Disk.armed
+      c.args.conf c.in_ok-hosts.ensures.list c.args.bay.now (parts_of c.in_ok-hosts.hosts) c.take_hosts.new.bay c.in_ok-hosts.ensures.ok;
+  apart = hosts_apart g.B.Bay.disk g.B.Bay.out g.B.Bay.taken g.B.Bay.steady g.B.Bay.faults g.D.Disk.content g.D.Disk.image g.D.Disk.starved g.D.Disk.faults g.D.Disk.losses g.D.Disk.arms g.D.Disk.armed
+      c.args.conf c.in_ok-hosts.ensures.list c.args.bay.now (parts_of c.in_ok-hosts.hosts) c.take_hosts.new.bay c.in_ok-hosts.ensures.ok;
+}
+
+pub returns-clause-opens : goal.returns-clause-opens
+returns-clause-opens g c = λ contents was tells.
+    subst (λ (es : List (ℕ × ConnParts)). (m : Machine) × IsCore g.D.Disk.content g.D.Disk.image g.D.Disk.starved (core_of c.args.conf es (parts_of c.in_ok-hosts.hosts)) m
+    × IsFirst c.args.conf contents was (state_of g.D.Disk.faults g.D.Disk.losses g.D.Disk.arms g.D.Disk.armed m (core_of c.args.conf es (parts_of c.in_ok-hosts.hosts)))) (sym c.new.ensures.empty)
+    (started g.B.Bay.disk g.B.Bay.out g.B.Bay.taken g.B.Bay.steady g.B.Bay.faults g.D.Disk.content g.D.Disk.image g.D.Disk.starved g.D.Disk.faults g.D.Disk.losses g.D.Disk.arms g.D.Disk.armed
+    c.args.conf c.in_ok-hosts.ensures.list c.args.bay.now (parts_of c.in_ok-hosts.hosts) c.take_hosts.new.bay c.in_ok-hosts.ensures.ok
+    contents was tells)
+
+pub returns-clause-open : goal.returns-clause-open
+returns-clause-open g c = (
+  hosts_open g.B.Bay.disk g.B.Bay.out g.B.Bay.taken g.B.Bay.steady g.B.Bay.faults g.D.Disk.content g.D.Disk.image g.D.Disk.starved g.D.Disk.faults g.D.Disk.losses g.D.Disk.arms g.D.Disk.armed
+      c.args.conf c.in_ok-hosts.ensures.list c.args.bay.now (parts_of c.in_ok-hosts.hosts) c.take_hosts.new.bay c.in_ok-hosts.ensures.ok,
+  refl,
+)
+
+pub returns-clause-taken : goal.returns-clause-taken
+returns-clause-taken g c = all_out g.B.Bay.disk g.B.Bay.out g.B.Bay.taken g.B.Bay.steady g.B.Bay.faults g.D.Disk.content g.D.Disk.image g.D.Disk.starved g.D.Disk.faults g.D.Disk.losses g.D.Disk.arms g.D.Disk.armed
+    c.args.conf c.in_ok-hosts.ensures.list c.args.bay.now (parts_of c.in_ok-hosts.hosts) c.take_hosts.new.bay c.in_ok-hosts.ensures.ok c.requires
+
+pub returns-clause-counts : goal.returns-clause-counts
+returns-clause-counts g c = all_counted g.B.Bay.disk g.B.Bay.out g.B.Bay.taken g.B.Bay.steady g.B.Bay.faults g.D.Disk.content g.D.Disk.image g.D.Disk.starved g.D.Disk.faults g.D.Disk.losses g.D.Disk.arms g.D.Disk.armed
+    c.args.conf c.in_ok-hosts.ensures.list c.args.bay.now (parts_of c.in_ok-hosts.hosts) c.take_hosts.new.bay c.in_ok-hosts.ensures.ok
+
+pub returns-clause-later : goal.returns-clause-later
+returns-clause-later g c = (all_moves g.B.Bay.disk g.B.Bay.out g.B.Bay.taken g.B.Bay.steady g.B.Bay.faults g.D.Disk.content g.D.Disk.image g.D.Disk.starved g.D.Disk.faults g.D.Disk.losses g.D.Disk.arms g.D.Disk.armed
+    c.args.conf c.in_ok-hosts.ensures.list c.args.bay.now (parts_of c.in_ok-hosts.hosts) c.take_hosts.new.bay c.in_ok-hosts.ensures.ok).later
+
+pub returns-clause-told : goal.returns-clause-told
+returns-clause-told g c = (all_moves g.B.Bay.disk g.B.Bay.out g.B.Bay.taken g.B.Bay.steady g.B.Bay.faults g.D.Disk.content g.D.Disk.image g.D.Disk.starved g.D.Disk.faults g.D.Disk.losses g.D.Disk.arms g.D.Disk.armed
+    c.args.conf c.in_ok-hosts.ensures.list c.args.bay.now (parts_of c.in_ok-hosts.hosts) c.take_hosts.new.bay c.in_ok-hosts.ensures.ok).told

@@ -1,0 +1,66 @@
+-- The slot of foreign state as calls leave it (this project's own).
+-- For example an arm of `foreign/state-b` leaves the first disk, and the states, as they were.
+use Rattle.std.specs.Prelude.{◌≡◌, ◌≢◌, ◌⊎◌, ℕ, List, Bool}
+use Rattle.std.specs.declared.option.Option.{Option}
+use Rattle.edge_io.specs.declared.fault.Armed.{Armed}
+use Rattle.edge_io.specs.declared.fault.FaultMode.{FaultMode}
+use Rattle.edge_io.specs.Armed.{ArmsAlone}
+use Rattle.edge_io.specs.Causes.{Rose}
+use Rattle.share_coord.specs.Parts.{StoreParts}
+use Rattle.foreign_coord.specs.Shards.{ForeignShardState, Carries}
+use Rattle.broker_model.specs.Hosted.{state_a, state_b}
+use Rattle.broker_core.specs.declared.fault.CoreOpen.{CoreOpen}
+use Rattle.broker_core.specs.declared.fault.CoreOpen.TheVariants.{Device, Bay, NoMemory}
+use Rattle.broker_core.specs.declared.fault.CoreFault.{CoreFault}
+use Rattle.broker_core.specs.declared.fault.CoreFault.TheVariants as event_fault
+use Rattle.broker_core.specs.declared.slot.ForeignSlot.{ForeignSlot}
+use Rattle.broker_core.specs.declared.slot.ForeignSlot.TheVariants.{Open, Shut}
+use Rattle.broker_core.specs.Carried.{IsCarried, GoesOn}
+use Rattle.broker_core.specs.Restarts.{IsRestartedShard, IsNotRestarted}
+
+-- A fault of the first disk was armed, or of the second, or of none, by the name.
+abbrev pub ArmsEither : {D : Type 0} → (D → Option (List ℕ)) → (D → List ℕ → Type 0) → (D → List (ℕ × List ℕ)) → (D → ℕ) → (D → Armed) → (D → Bool)
+    → (D → ℕ) → List ℕ → ℕ → FaultMode → StoreParts D → StoreParts D → Type 0
+ArmsEither content image losses arms armed starved faults disk passes mode was is =
+    ((disk ≡ state_a) × ArmsAlone content image losses arms armed starved faults passes mode was.journal.live.disk is.journal.live.disk
+    × (is.journal.idle ≡ was.journal.idle))
+    ⊎ (((disk ≡ state_b) × ArmsAlone content image losses arms armed starved faults passes mode was.journal.idle is.journal.idle
+    × (is.journal.live ≡ was.journal.live))
+    ⊎ ((disk ≢ state_a) × (disk ≢ state_b) × (is ≡ was)))
+
+pub record ArmsForeign {D : Type 0} (content : D → Option (List ℕ)) (image : D → List ℕ → Type 0) (losses : D → List (ℕ × List ℕ)) (arms : D → ℕ)
+    (armed : D → Armed) (starved : D → Bool) (faults : D → ℕ) (disk : List ℕ) (passes : ℕ) (mode : FaultMode) (old new : ForeignSlot D) : Type 0 where
+  pub was : StoreParts D
+  pub is : StoreParts D
+  pub old_is : old ≡ Open was
+  pub new_is : new ≡ Open is
+  pub either : ArmsEither content image losses arms armed starved faults disk passes mode was is
+  pub end : is.journal.live.end ≡ was.journal.live.end
+  pub stays : (s : ForeignShardState) → Carries image was s → Carries image is s
+
+-- it was opened again
+pub record ReopensForeign {D : Type 0} (content : D → Option (List ℕ)) (image : D → List ℕ → Type 0) (starved : D → Bool)
+    (faults : D → ℕ) (losses : D → List (ℕ × List ℕ)) (arms : D → ℕ) (armed : D → Armed) (choice : ℕ) (old new : ForeignSlot D) : Type 0 where
+  pub was : StoreParts D
+  pub is : StoreParts D
+  pub old_is : old ≡ Open was
+  pub new_is : new ≡ Open is
+  pub first : GoesOn content faults was.journal.live.disk is.journal.live.disk
+  pub second : GoesOn content faults was.journal.idle is.journal.idle
+  pub reopens : (s : ForeignShardState) → IsCarried content image starved was s
+      → IsRestartedShard content image starved faults losses arms armed choice was s is
+
+-- it was not, for this reason
+pub record ShutsForeign {D : Type 0} (content : D → Option (List ℕ)) (image : D → List ℕ → Type 0) (starved : D → Bool) (faults : D → ℕ)
+    (fault : CoreFault) (old new : ForeignSlot D) : Type 0 where
+  pub was : StoreParts D
+  pub first : D
+  pub second : D
+  pub old_is : old ≡ Open was
+  pub new_is : new ≡ Shut first second
+  pub on_first : GoesOn content faults was.journal.live.disk first
+  pub on_second : GoesOn content faults was.journal.idle second
+  pub shuts : (s : ForeignShardState) → IsCarried content image starved was s
+      → IsNotRestarted content image s first second × (fault ≡ event_fault.NoMemory)
+  pub device : fault ≡ event_fault.Reopen Device → Rose (faults was.journal.live.disk) (faults first) ⊎ Rose (faults was.journal.idle) (faults second)
+  pub never : (f : CoreOpen) → fault ≡ event_fault.Reopen f → (f ≢ Bay) × (f ≢ NoMemory)
