@@ -24,7 +24,7 @@ always (Some x) P h = h x
 module _ (conf : ConfigParts) (input : InputChange) (output : OutputChange) (Session : List Event → (List Outcome → Type 0) → Ending → Type 0)
     (Untold Same : Type 0) (AtEntry : ((List ℕ → List ℕ) → Disks → Type 0) → Type 0) (Rises : Type 0) where
   abbrev Ends : Status → Type 0
-  Ends status = IsPlayed conf input output Session Untold Rises status ⊎ (Same × IsNotOpened output AtEntry Rises status)
+  Ends status = IsPlayed conf input output Session Untold Rises status ⊎ (Same × IsNotOpened conf output AtEntry Rises status)
 
   abbrev IsWhole : ℕ → Type 0
   IsWhole number = IfSome input.left (λ text. (events : List Event) → IsScript text events → (number ≡ 0) ⊎ (number ≡ 8))
@@ -63,22 +63,22 @@ module _ {B D : Type 0} (disk : B → List ℕ → Option D) (content : D → Op
   Replay status = IsReplay disk content faults losses arms armed bay_faults old new conf input output status
 
   abbrev Session : List Event → (List Outcome → Type 0) → Ending → Type 0
-  Session events Tells Ends = OverBay disk content faults losses arms armed old new (IsSession conf events Tells Ends)
+  Session events Tells Ends = OverBay disk content faults losses arms armed conf old new (IsSession conf events Tells Ends)
 
   abbrev Untold : Type 0
-  Untold = OfBay disk content faults losses arms armed old (λ contents was. ⊥)
+  Untold = OfBay disk content faults losses arms armed conf old (λ contents was. ⊥)
 
   abbrev AtEntry : ((List ℕ → List ℕ) → Disks → Type 0) → Type 0
-  AtEntry P = OfBay disk content faults losses arms armed old P
+  AtEntry P = OfBay disk content faults losses arms armed conf old P
 
   abbrev Rises : Type 0
-  Rises = CountRose disk faults bay_faults old new
+  Rises = CountRose disk faults bay_faults conf old new
 
   pub completes_on : (number : ℕ) (status : Status) → number ≡ status_number status → Replay status → status ≢ Damaged → status ≢ Device
       → (Rose input.faults input.faults_after → ⊥) → (Rose output.faults output.faults_after → ⊥)
       → IfSome input.left (λ text. (events : List Event) → IsScript text events → (number ≡ 0) ⊎ (number ≡ 8))
   completes_on number status is e whole fed read write = completes conf input output Session Untold input.Same AtEntry Rises number status is e whole fed read write
 
-  pub not_device_on : (status : Status) → Replay status → HoldsStates disk content faults losses arms armed old → (Rises → ⊥) → status ≢ Device
+  pub not_device_on : (status : Status) → Replay status → HoldsStates disk content faults losses arms armed conf old → (Rises → ⊥) → status ≢ Device
   not_device_on status e told still =
-      not_device conf input output Session Untold input.Same AtEntry Rises status e (λ untold. untold told.0 told.1 told.3) still
+      not_device conf input output Session Untold input.Same AtEntry Rises status e (λ untold. untold told.0 told.1 told.2) still

@@ -1,67 +1,139 @@
 -- Counts of faults over several events, and over a whole session.
-use Rattle.std.proofs.Common.{◌≡◌, ◌≤◌, ◌<◌, ◌-◌, ◌^◌, ◌⊎◌, inl, inr, refl, sym, ap, ◌∙◌, arith, rules, nat_lt, ℕ, List, Bool, true, false, Some, None, is_some}
+use Rattle.std.proofs.Common.{◌≡◌, ◌≤◌, ◌<◌, ◌-◌, ◌^◌, ◌⊎◌, inl, inr, refl, sym, ap, ◌∙◌, subst, arith, rules, nat_lt, ℕ, List, [], ◌∷◌, Bool, true, false, Some, None, is_some}
 use Rattle.std.proofs.lemmas.Bool.{cases_Bool}
+use Rattle.std.specs.List.{AllByRecursion, AllZip}
 use Rattle.std.specs.declared.option.Option.{Option}
 use Rattle.edge_io.specs.Causes.{Rose}
-use Rattle.broker_model.specs.Shards.{state_a, state_b}
+use Rattle.topic_conf.specs.Configs.{ConfigParts}
+use Rattle.broker_model.specs.Hosted.{IsTaken, state_a, state_b}
 use Rattle.broker_core.specs.declared.slot.ForeignSlot.{ForeignSlot}
-use Rattle.broker_core.specs.declared.slot.ForeignSlot.TheVariants.{Open, Shut, Gone}
-use Rattle.broker_core.specs.Bays.{AreTakenFrom, IsTakenFrom, HasLastCount, HasRisen}
+use Rattle.broker_core.specs.declared.slot.ForeignSlot.TheVariants as foreign
+use Rattle.broker_core.specs.declared.slot.LogState.{LogState}
+use Rattle.broker_core.specs.declared.slot.LogState.TheVariants as log
+use Rattle.broker_core.specs.declared.slot.LogSlot.{LogSlot}
+use Rattle.broker_core.specs.Bays.{AreTakenFrom, TakenIf, BothTaken, IsTakenFrom, HasName, HasLastCount, HasRisen, RisenIf, LogRisen, BothRisen}
 use Rattle.broker_core.specs.Carried.{GoesOn}
-use Rattle.broker_core.specs.Cores.{IsOpen, GoOn, OneRose, disks_in}
+use Rattle.broker_core.specs.Hosts.{HostsParts, LeftDisks, AreOpen, AreOpenLogs, IsOpen, IsOpenState, GoOn, GoesOnIf, LogGoesOn, BothGoOn, OneRose, RoseIf, LogRose, BothRose, disks_in, foreign_disks, log_disk, log_disks}
 use Rattle.share_top.specs.Sessions.{CountRose}
 
 module _ {D : Type 0} (content : D → Option (List ℕ)) (faults : D → ℕ) where
+  abbrev Named : Type 0
+  Named = List ℕ × Option D
+
+  -- ---- disks go on over two events
+
   disk_then : (a b c : D) → GoesOn content faults a b → GoesOn content faults b c → GoesOn content faults a c
   disk_then a b c p q = record { later = omega (arith, p.later, q.later); told = q.told ∙ p.told }
 
-  disk_same : (a : D) → GoesOn content faults a a
-  disk_same a = record { later = omega arith; told = refl }
+  if_then : (a b c : Option D) → GoesOnIf content faults a b → GoesOnIf content faults b c → GoesOnIf content faults a c
+  if_then None b c p q = tt
+  if_then (Some a) None c p q = absurd p
+  if_then (Some a) (Some b) None p q = absurd q
+  if_then (Some a) (Some b) (Some c) p q = disk_then a b c p q
 
-  pub go_on_same : (a : Option (D × D)) → GoOn content faults a a
-  go_on_same None = tt
-  go_on_same (Some a) = (disk_same a.0, disk_same a.1)
+  log_then : (a b c : Named) → LogGoesOn content faults a b → LogGoesOn content faults b c → LogGoesOn content faults a c
+  log_then a b c p q = record { name = q.name ∙ p.name; goes = if_then a.1 b.1 c.1 p.goes q.goes }
 
-  pub go_on_then : (a b c : Option (D × D)) → GoOn content faults a b → GoOn content faults b c → GoOn content faults a c
-  go_on_then None b c p q = tt
-  go_on_then (Some a) None c p q = absurd p
-  go_on_then (Some a) (Some b) None p q = absurd q
-  go_on_then (Some a) (Some b) (Some c) p q = (disk_then a.0 b.0 c.0 p.0 q.0, disk_then a.1 b.1 c.1 p.1 q.1)
+  logs_then : (xs ys zs : List Named) → AllZip (LogGoesOn content faults) xs ys → AllZip (LogGoesOn content faults) ys zs → AllZip (LogGoesOn content faults) xs zs
+  logs_then [] [] [] p q = tt
+  logs_then [] [] (c ∷ zs) p q = absurd q
+  logs_then [] (b ∷ ys) zs p q = absurd p
+  logs_then (a ∷ xs) [] zs p q = absurd p
+  logs_then (a ∷ xs) (b ∷ ys) [] p q = absurd q
+  logs_then (a ∷ xs) (b ∷ ys) (c ∷ zs) p q = (log_then a b c p.0 q.0, logs_then xs ys zs p.1 q.1)
+
+  both_then : (a b c : Option (D × D)) → BothGoOn content faults a b → BothGoOn content faults b c → BothGoOn content faults a c
+  both_then None b c p q = tt
+  both_then (Some a) None c p q = absurd p
+  both_then (Some a) (Some b) None p q = absurd q
+  both_then (Some a) (Some b) (Some c) p q = (disk_then a.0 b.0 c.0 p.0 q.0, disk_then a.1 b.1 c.1 p.1 q.1)
+
+  pub go_on_then : (a b c : LeftDisks D) → GoOn content faults a b → GoOn content faults b c → GoOn content faults a c
+  go_on_then a b c p q = record {
+    logs = logs_then a.logs b.logs c.logs p.logs q.logs;
+    foreign = both_then a.foreign b.foreign c.foreign p.foreign q.foreign;
+  }
+
+  -- ---- a count that rose in the last event has risen since the first
 
   rose_then : (a b c : D) → GoesOn content faults a b → Rose (faults b) (faults c) → Rose (faults a) (faults c)
   rose_then a b c p rose = omega (arith, p.later, rose)
 
-  rises_from : (a : D × D) (b c : Option (D × D)) → GoOn content faults (Some a) b → OneRose faults b c → OneRose faults (Some a) c
-  rises_from a None c p rose = absurd p
-  rises_from a (Some b) None p rose = absurd rose
-  rises_from a (Some b) (Some c) p (inl rose) = inl (rose_then a.0 b.0 c.0 p.0 rose)
-  rises_from a (Some b) (Some c) p (inr rose) = inr (rose_then a.1 b.1 c.1 p.1 rose)
+  state_rises : (state : LogState D) (b c : Option D) → IsOpenState state → GoesOnIf content faults (log_disk state) b → RoseIf faults b c
+      → RoseIf faults (log_disk state) c
+  state_rises (log.Open parts) None c opened p rose = absurd p
+  state_rises (log.Open parts) (Some b) None opened p rose = absurd rose
+  state_rises (log.Open parts) (Some b) (Some c) opened p rose = rose_then parts.journal.disk b c p rose
+  state_rises (log.Shut disk) b c opened p rose = absurd opened
+  state_rises log.Gone b c opened p rose = absurd opened
 
-  -- a count that rose in the last event has risen since the first
-  pub rises : (slot : ForeignSlot D) (b c : Option (D × D)) → IsOpen slot → GoOn content faults (disks_in slot) b → OneRose faults b c
-      → OneRose faults (disks_in slot) c
-  rises (Open store) b c opened p rose = rises_from (store.journal.live.disk, store.journal.idle) b c p rose
-  rises (Shut first second) b c opened p rose = absurd opened
-  rises Gone b c opened p rose = absurd opened
+  log_rises : (slots : List (LogSlot D)) (bs cs : List Named) → AreOpenLogs slots → AllZip (LogGoesOn content faults) (log_disks slots) bs
+      → LogRose faults bs cs → LogRose faults (log_disks slots) cs
+  log_rises [] [] cs opened p rose = absurd rose
+  log_rises [] (b ∷ bs) cs opened p rose = absurd p
+  log_rises (s ∷ slots) [] cs opened p rose = absurd rose
+  log_rises (s ∷ slots) (b ∷ bs) [] opened p rose = absurd rose
+  log_rises (s ∷ slots) (b ∷ bs) (c ∷ cs) opened p (inl rose) = inl (state_rises s.state b.1 c.1 opened.0 p.0.goes rose)
+  log_rises (s ∷ slots) (b ∷ bs) (c ∷ cs) opened p (inr rose) = inr (log_rises slots bs cs opened.1 p.1 rose)
+
+  both_rise : (slot : ForeignSlot D) (b c : Option (D × D)) → IsOpen slot → BothGoOn content faults (foreign_disks slot) b → BothRose faults b c
+      → BothRose faults (foreign_disks slot) c
+  both_rise (foreign.Open store) None c opened p rose = absurd p
+  both_rise (foreign.Open store) (Some b) None opened p rose = absurd rose
+  both_rise (foreign.Open store) (Some b) (Some c) opened p (inl rose) = inl (rose_then store.journal.live.disk b.0 c.0 p.0 rose)
+  both_rise (foreign.Open store) (Some b) (Some c) opened p (inr rose) = inr (rose_then store.journal.idle b.1 c.1 p.1 rose)
+  both_rise (foreign.Shut first second) b c opened p rose = absurd opened
+  both_rise foreign.Gone b c opened p rose = absurd opened
+
+  pub rises : (hosts : HostsParts D) (b c : LeftDisks D) → AreOpen hosts → GoOn content faults (disks_in hosts) b → OneRose faults b c
+      → OneRose faults (disks_in hosts) c
+  rises hosts b c opened p (inl rose) = inl (log_rises hosts.logs b.logs c.logs opened.logs p.logs rose)
+  rises hosts b c opened p (inr rose) = inr (both_rise hosts.foreign b.foreign c.foreign opened.foreign p.foreign rose)
 
 -- ---- over a session
 
-module _ {B D : Type 0} (disk : B → List ℕ → Option D) (taken : B → List ℕ → ℕ) (faults : D → ℕ) (bay_faults : B → ℕ) (old mid new : B) where
-  -- what was handed out with a count below that which it is put back with raises the bay's, and else its count was the last one
-  of_one : (name : List ℕ) (x y : D) (L : Type 0) → (t : IsTakenFrom disk taken faults name old mid x) → Rose (faults x) (faults y)
-      → (taken mid name < faults y → Rose (bay_faults mid) (bay_faults new)) → bay_faults old ≤ bay_faults mid
-      → (2 ^ 64 - 1 ≤ faults t.given → L) → Rose (bay_faults old) (bay_faults new) ⊎ L
-  of_one name x y L t rose back later last = go (cases_Bool (nat_lt (taken mid name) (faults y))) where
-    go : (nat_lt (taken mid name) (faults y) ≡ true) ⊎ (nat_lt (taken mid name) (faults y) ≡ false) → Rose (bay_faults old) (bay_faults new) ⊎ L
-    go (inl less) = inl (let l : taken mid name < faults y = search rules in let b = back l in omega (arith, b, later))
-    go (inr not) = inr (last (let l : faults y ≤ taken mid name = search rules in let n = t.noted in let k = t.later in omega (arith, l, n, k, rose)))
+module _ {B D : Type 0} (disk : B → List ℕ → Option D) (content : D → Option (List ℕ)) (taken : B → List ℕ → ℕ) (faults : D → ℕ) (bay_faults : B → ℕ)
+    (conf : ConfigParts) (old mid new : B) where
+  abbrev Result : Type 0
+  Result = CountRose disk faults bay_faults conf old new
 
-  pub count_rose : (before after : Option (D × D)) → AreTakenFrom disk taken faults old mid before → OneRose faults before after
-      → (HasRisen taken faults mid after → Rose (bay_faults mid) (bay_faults new)) → bay_faults old ≤ bay_faults mid
-      → CountRose disk faults bay_faults old new
-  count_rose None after t rose back later = absurd t
-  count_rose (Some x) None t rose back later = absurd rose
-  count_rose (Some x) (Some y) t (inl rose) back later = of_one state_a x.0 y.0 (HasLastCount disk faults old) t.0 rose (λ less. back (inl less)) later
-      (λ last. (state_a, t.0.given, inl refl, t.0.as_told, last))
-  count_rose (Some x) (Some y) t (inr rose) back later = of_one state_b x.1 y.1 (HasLastCount disk faults old) t.1 rose (λ less. back (inr less)) later
-      (λ last. (state_b, t.1.given, inr refl, t.1.as_told, last))
+  abbrev Back : Type 0
+  Back = Rose (bay_faults mid) (bay_faults new)
+
+  -- what was handed out with a count below that which it is put back with raises the bay's, and else its count was the last one
+  of_one : (name : List ℕ) (x y : D) → (t : IsTakenFrom disk taken faults name old mid x) → Rose (faults x) (faults y)
+      → (taken mid name < faults y → Back) → bay_faults old ≤ bay_faults mid → IsTaken conf name → Result
+  of_one name x y t rose back later is = go (cases_Bool (nat_lt (taken mid name) (faults y))) where
+    go : (nat_lt (taken mid name) (faults y) ≡ true) ⊎ (nat_lt (taken mid name) (faults y) ≡ false) → Result
+    go (inl less) = inl (let l : taken mid name < faults y = search rules in let b = back l in omega (arith, b, later))
+    go (inr not) =
+        let last : 2 ^ 64 - 1 ≤ faults t.given = let l : faults y ≤ taken mid name = search rules in let n = t.noted in let k = t.later in omega (arith, l, n, k, rose) in
+        inr (name, t.given, is, t.as_told, last)
+
+  of_log : (e f : List ℕ × Option D) → TakenIf disk taken faults old mid e → f.0 ≡ e.0 → RoseIf faults e.1 f.1
+      → (RisenIf taken faults mid f → Back) → bay_faults old ≤ bay_faults mid → IsTaken conf e.0 → Result
+  of_log (n, None) (m, o) t same rose back later is = absurd t
+  of_log (n, Some x) (m, None) t same rose back later is = absurd rose
+  of_log (n, Some x) (m, Some y) t same rose back later is =
+      of_one n x y t rose (λ less. back (subst (λ (k : List ℕ). taken mid k < faults y) (sym same) less)) later is
+
+  of_logs : (es fs : List (List ℕ × Option D)) → AllByRecursion (TakenIf disk taken faults old mid) es → AllZip (LogGoesOn content faults) es fs
+      → LogRose faults es fs → (LogRisen taken faults mid fs → Back) → bay_faults old ≤ bay_faults mid
+      → ((name : List ℕ) → HasName es name → IsTaken conf name) → Result
+  of_logs [] fs t goes rose back later names = absurd rose
+  of_logs (e ∷ es) [] t goes rose back later names = absurd rose
+  of_logs (e ∷ es) (f ∷ fs) t goes (inl rose) back later names = of_log e f t.0 goes.0.name rose (λ r. back (inl r)) later (names e.0 (inl refl))
+  of_logs (e ∷ es) (f ∷ fs) t goes (inr rose) back later names =
+      of_logs es fs t.1 goes.1 rose (λ r. back (inr r)) later (λ name has. names name (inr has))
+
+  of_both : (before after : Option (D × D)) → BothTaken disk taken faults old mid before → BothRose faults before after
+      → (BothRisen taken faults mid after → Back) → bay_faults old ≤ bay_faults mid → Result
+  of_both None after t rose back later = absurd t
+  of_both (Some x) None t rose back later = absurd rose
+  of_both (Some x) (Some y) t (inl rose) back later = of_one state_a x.0 y.0 t.0 rose (λ less. back (inl less)) later (inr (inl refl))
+  of_both (Some x) (Some y) t (inr rose) back later = of_one state_b x.1 y.1 t.1 rose (λ less. back (inr less)) later (inr (inr refl))
+
+  pub count_rose : (before after : LeftDisks D) → AreTakenFrom disk taken faults conf old mid before → GoOn content faults before after
+      → OneRose faults before after → (HasRisen taken faults mid after → Back) → bay_faults old ≤ bay_faults mid → Result
+  count_rose before after t goes (inl rose) back later = of_logs before.logs after.logs t.logs goes.logs rose (λ r. back (inl r)) later t.names
+  count_rose before after t goes (inr rose) back later = of_both before.foreign after.foreign t.foreign rose (λ r. back (inr r)) later

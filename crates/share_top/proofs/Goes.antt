@@ -11,18 +11,17 @@ use Rattle.session_script.specs.declared.event.Event.{Event}
 use Rattle.session_script.specs.declared.event.Outcome.{Outcome}
 use Rattle.session_script.specs.Output.{outcome_line, output_of}
 use Rattle.topic_conf.specs.Configs.{ConfigParts}
-use Rattle.broker_model.specs.Shards.{Shards, ShardCall, state_a, state_b}
+use Rattle.broker_model.specs.Shards.{Shards, ShardCall}
 use Rattle.broker_model.specs.Machine.{Machine}
-use Rattle.broker_model.specs.Disks.{IsTaken}
 use Rattle.broker_model.specs.Steps.{StepsTo}
-use Rattle.broker_model.specs.States.{State, IsStep, faults_of}
+use Rattle.broker_model.specs.States.{State, IsStep}
 use Rattle.broker_model.specs.Runs.{Step, outcomes_of}
-use Rattle.broker_core.specs.declared.slot.ForeignSlot.{ForeignSlot}
-use Rattle.broker_core.specs.declared.slot.ForeignSlot.TheVariants.{Open, Shut, Gone}
-use Rattle.broker_core.specs.Cores.{CoreParts, IsCore, IsSlot, Reaches, GoOn, StandStill, state_of, facts_in, ends_in, disks_in}
-use Rattle.broker_core.proofs.Opening.{carried_stands}
+use Rattle.broker_core.specs.Hosts.{LeftDisks, StandStill, facts_in, ends_in, disks_in}
+use Rattle.broker_core.specs.Cores.{CoreParts, IsCore, Reaches, state_of}
+use Rattle.broker_core.proofs.Leading.{still_all}
+use Rattle.broker_core.proofs.Events.{later as counts_later}
 use Rattle.share_top.specs.Changes.{OutputChange}
-use Rattle.share_top.specs.Sessions.{Ending, Leaves, LeavesWithin, Ran, Writes, WritesThen, WritesFront, WritesFrontOf, WritesPart}
+use Rattle.share_top.specs.Sessions.{Leaves, LeavesWithin, Ran}
 use Rattle.share_top.specs.Going.{Goes, Plays, Halts}
 use Rattle.share_top.proofs.Fronts.{front_behind, keeps_appends}
 use Rattle.share_top.proofs.Steps.{run_then, events_then, outcomes_then}
@@ -69,7 +68,7 @@ module _ {D : Type 0} (content : D → Option (List ℕ)) (image : D → List �
   abbrev G : ConfigParts → State → List Event → (List Outcome → Type 0) → CoreParts D → Type 0
   G conf first events Tells core = Goes content image starved faults losses arms armed conf first events Tells core
 
-  abbrev Still : Option (D × D) → Shards → Type 0
+  abbrev Still : LeftDisks D → Shards → Type 0
   Still left shards = StandStill content image shards left
 
   pub begins : (m : Machine) (core : CoreParts D) (Tells : List Outcome → Type 0) → Stands core m → Tells [] → G core.conf (at m core) [] Tells core
@@ -104,28 +103,22 @@ module _ {D : Type 0} (content : D → Option (List ℕ)) (image : D → List �
 
   -- ---- what is left
 
-  slot_still : (slot : ForeignSlot D) (shards : Shards) → IsSlot content image starved slot shards.foreign → Still (disks_in slot) shards
-  slot_still (Open store) shards k = record {
-    stand = carried_stands content image starved faults losses arms armed store shards.foreign k.carries;
-    told = k.told;
-    second_told = k.second_told;
-  }
-  slot_still (Shut first second) shards k = absurd k
-  slot_still Gone shards k = absurd k
+  core_still : (core : CoreParts D) (m : Machine) → Stands core m → Still (disks_in core.hosts) m.shards
+  core_still core m k = still_all content image starved faults losses arms armed core.hosts m.shards k.shards
 
   pub ran : (conf : ConfigParts) (first : State) (events : List Event) (T : List Outcome → Type 0) (core : CoreParts D) → G conf first events T core
-      → Ran conf first events T (Leaves (Still (disks_in core.foreign)) (facts_in faults losses arms armed (disks_in core.foreign)))
+      → Ran conf first events T (Leaves conf (Still (disks_in core.hosts)) (facts_in faults losses arms armed (disks_in core.hosts)))
   ran conf first events T core g = record {
     steps = g.steps;
     last = at g.machine core;
     run = g.run;
     events_are = g.events_are;
     tells = g.tells;
-    ends = record { known = λ name taken. refl; stands = slot_still core.foreign g.machine.shards g.core.foreign };
+    ends = record { known = λ name taken. refl; stands = core_still core g.machine g.core };
   }
 
   pub ran_within : (conf : ConfigParts) (first : State) (events : List Event) (T : List Outcome → Type 0) (core : CoreParts D) → G conf first events T core
-      → Ran conf first events T (LeavesWithin conf (Still (disks_in core.foreign)) (facts_in faults losses arms armed (disks_in core.foreign)))
+      → Ran conf first events T (LeavesWithin conf (Still (disks_in core.hosts)) (facts_in faults losses arms armed (disks_in core.hosts)))
   ran_within conf first events T core g = record {
     steps = g.steps;
     last = at g.machine core;
@@ -136,36 +129,30 @@ module _ {D : Type 0} (content : D → Option (List ℕ)) (image : D → List �
       after = g.machine;
       reaches = inl refl;
       later = λ name taken. omega arith;
-      stands = slot_still core.foreign g.machine.shards g.core.foreign;
+      stands = core_still core g.machine g.core;
     };
   }
 
   -- ---- no memory was found in an event
 
-  abbrev count_at : Option (D × D) → List ℕ → ℕ
+  abbrev count_at : LeftDisks D → List ℕ → ℕ
   count_at disks name = (facts_in faults losses arms armed disks name).faults
 
-  later : (old new : Option (D × D)) → GoOn content faults old new → (name : List ℕ) → IsTaken name → count_at old name ≤ count_at new name
-  later None new g name taken = omega arith
-  later (Some old) None g name taken = absurd g
-  later (Some old) (Some new) g name (inl e) = subst (λ (n : List ℕ). count_at (Some old) n ≤ count_at (Some new) n) (sym e) g.0.later
-  later (Some old) (Some new) g name (inr e) = subst (λ (n : List ℕ). count_at (Some old) n ≤ count_at (Some new) n) (sym e) g.1.later
-
   abbrev Rising : CoreParts D → CoreParts D → List ℕ → Type 0
-  Rising core next name = Rose (count_at (disks_in core.foreign) name) (count_at (disks_in next.foreign) name)
+  Rising core next name = Rose (count_at (disks_in core.hosts) name) (count_at (disks_in next.hosts) name)
 
   reached : (conf : ConfigParts) (core next : CoreParts D) → core.conf ≡ conf → (old after : Machine) (e : Event)
-      → Reaches core.conf (Rising core next) (ends_in core.foreign) old e after
+      → Reaches core.conf (Rising core next) (ends_in core.hosts) old e after
       → (after ≡ old) ⊎ ((event : Event) × (call : Option ShardCall) × (outcomes : List Outcome)
-      × StepsTo conf (Rising core next) (ends_in core.foreign) old event call outcomes after)
+      × StepsTo conf (Rising core next) (ends_in core.hosts) old event call outcomes after)
   reached conf core next same old after e (inl still) = inl still
   reached conf core next same old after e (inr r) =
-      inr (e, r.0, r.1, subst (λ (c : ConfigParts). StepsTo c (Rising core next) (ends_in core.foreign) old e r.0 r.1 after) same r.2)
+      inr (e, r.0, r.1, subst (λ (c : ConfigParts). StepsTo c (Rising core next) (ends_in core.hosts) old e r.0 r.1 after) same r.2)
 
   pub halted : (conf : ConfigParts) (first : State) (events : List Event) (e : Event) (T U : List Outcome → Type 0) (output : OutputChange)
       → ((xs : List Outcome) → T xs → Keeps output.held output.held_after → U xs) → (core next : CoreParts D) → core.conf ≡ conf → G conf first events T core
       → ((m : Machine) → Stands core m → Halts content image faults losses arms armed core m e next output)
-      → Ran conf first events U (LeavesWithin conf (Still (disks_in next.foreign)) (facts_in faults losses arms armed (disks_in next.foreign)))
+      → Ran conf first events U (LeavesWithin conf (Still (disks_in next.hosts)) (facts_in faults losses arms armed (disks_in next.hosts)))
   halted conf first events e T U output keep core next same g halts =
       let h = halts g.machine g.core in
       record {
@@ -177,7 +164,7 @@ module _ {D : Type 0} (content : D → Option (List ℕ)) (image : D → List �
         ends = record {
           after = h.stops.after;
           reaches = reached conf core next same g.machine h.stops.after e h.stops.reaches;
-          later = later (disks_in core.foreign) (disks_in next.foreign) h.disks;
+          later = λ name taken. counts_later content image starved faults losses arms armed (disks_in core.hosts) (disks_in next.hosts) h.disks name;
           stands = h.stops.still;
         };
       }

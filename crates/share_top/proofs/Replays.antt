@@ -11,7 +11,9 @@ use Rattle.session_script.specs.Unread.{Unread}
 use Rattle.session_script.specs.Reading.{Takes}
 use Rattle.broker_model.specs.Machine.{Machine}
 use Rattle.broker_model.specs.States.{State}
-use Rattle.broker_core.specs.Cores.{CoreParts, IsCore, IsOpen, GoOn, OneRose, disks_in, state_of}
+use Rattle.broker_core.specs.Hosts.{AreOpen, GoOn, OneRose, disks_in}
+use Rattle.broker_core.specs.Cores.{CoreParts, IsCore, state_of}
+use Rattle.broker_core.proofs.Leading.{go_on_same}
 use Rattle.share_top.specs.declared.status.Status.{Status}
 use Rattle.share_top.specs.declared.status.Status.TheVariants.{Done, Usage, Malformed, ReadFault, WriteFault, Damaged, Device, NoMemory}
 use Rattle.share_top.specs.Changes.{InputChange, OutputChange}
@@ -19,21 +21,21 @@ use Rattle.share_top.specs.Sessions.{Ending, Leaves, LeavesWithin, Writes, Write
 use Rattle.share_top.specs.Statuses.{IsPlayed, IsDone, IsRefusedScript, IsCut, IsBegun}
 use Rattle.share_top.specs.Going.{Going, FromCore, NeverFrom, Plays, PlaysPart, IsNotPlayed}
 use Rattle.share_top.proofs.ScriptReads as reads
-use Rattle.share_top.proofs.Counts.{go_on_same, go_on_then, rises}
+use Rattle.share_top.proofs.Counts.{go_on_then, rises}
 use Rattle.share_top.proofs.Goes.{begins, goes_on, retold, ran, ran_within, halted, text_behind, part_behind, kept_behind}
 
 module _ {D : Type 0} (content : D → Option (List ℕ)) (image : D → List ℕ → Type 0) (starved : D → Bool)
     (faults : D → ℕ) (losses : D → List (ℕ × List ℕ)) (arms : D → ℕ) (armed : D → Armed) where
   abbrev From : CoreParts D → CoreParts D → List Event → (List Outcome → Type 0) → Ending → Type 0
-  From first last events Tells Ends = FromCore content image starved faults losses arms armed first (disks_in last.foreign) events Tells Ends
+  From first last events Tells Ends = FromCore content image starved faults losses arms armed first (disks_in last.hosts) events Tells Ends
 
-  pub starts : (left : Option (List ℕ)) (first : CoreParts D) (Tells : List Outcome → Type 0) → IsOpen first.foreign → Tells []
+  pub starts : (left : Option (List ℕ)) (first : CoreParts D) (Tells : List Outcome → Type 0) → AreOpen first.hosts → Tells []
       → Going content image starved faults losses arms armed left left (record { place = 0; pending = [] }) Tells first first
   starts left first Tells opened told = record {
     read = reads.starts left;
     goes = λ m k. begins content image starved faults losses arms armed m first Tells k told;
     conf = refl;
-    disks = go_on_same content faults (disks_in first.foreign);
+    disks = go_on_same content image starved faults losses arms armed (disks_in first.hosts);
     is_open = opened;
   }
 
@@ -42,14 +44,14 @@ module _ {D : Type 0} (content : D → Option (List ℕ)) (image : D → List �
     -- an event was done, and its outcomes are told
     pub goes : (after : Option (List ℕ)) (U V : List Outcome → Type 0) → ((xs ys : List Outcome) → T xs → U ys → V (xs ++ ys)) → (e : Event) (next : CoreParts D)
         → Takes u v mid after (line_of e) → IsEvent e → v.place ≤ longest → Plays content image starved faults losses arms armed now e U next
-        → next.conf ≡ now.conf → GoOn content faults (disks_in now.foreign) (disks_in next.foreign) → IsOpen next.foreign
+        → next.conf ≡ now.conf → GoOn content faults (disks_in now.hosts) (disks_in next.hosts) → AreOpen next.hosts
         → Going content image starved faults losses arms armed left after v V first next
     goes after U V join e next t is le plays same disks opened = record {
       read = reads.read_on left mid after u v e going.read t is le;
       goes = λ m k. goes_on content image starved faults losses arms armed first.conf (state_of faults losses arms armed m first) going.read.events e T U V join
           now next going.conf (going.goes m k) plays;
       conf = same ∙ going.conf;
-      disks = go_on_then content faults (disks_in first.foreign) (disks_in now.foreign) (disks_in next.foreign) going.disks disks;
+      disks = go_on_then content faults (disks_in first.hosts) (disks_in now.hosts) (disks_in next.hosts) going.disks disks;
       is_open = opened;
     }
 
@@ -61,21 +63,21 @@ module _ {D : Type 0} (content : D → Option (List ℕ)) (image : D → List �
     abbrev begun : Machine → State
     begun m = state_of faults losses arms armed m first
 
-    whole : From first now going.read.events T Leaves
+    whole : From first now going.read.events T (Leaves first.conf)
     whole m k = ran content image starved faults losses arms armed first.conf (begun m) going.read.events T now (going.goes m k)
 
     pub done : Took end_line → v.pending ≡ [] → IsAtEnd input.left_after → v.place ≤ longest → input.ended ≡ true
-        → IsDone input (λ events. From first now events T Leaves)
-    done t none end le ended = reads.done input mid u v going.read (λ events. From first now events T Leaves) t none end le ended whole
+        → IsDone input (λ events. From first now events T (Leaves first.conf))
+    done t none end le ended = reads.done input mid u v going.read (λ events. From first now events T (Leaves first.conf)) t none end le ended whole
 
-    pub cut : Took [] → HasNoEvent v.place v.pending → IsCut input (λ events. From first now events T Leaves)
-    cut t none = reads.cut input mid u v going.read (λ events. From first now events T Leaves) t none whole
+    pub cut : Took [] → HasNoEvent v.place v.pending → IsCut input (λ events. From first now events T (Leaves first.conf))
+    cut t none = reads.cut input mid u v going.read (λ events. From first now events T (Leaves first.conf)) t none whole
 
     -- the last line is told, or a front of it
     pub malformed : (Says : ℕ → List Outcome → Type 0) (fault : ℕ) → ((xs : List Outcome) → T xs → Says fault xs) → Took []
         → IfSome input.left_after (λ more. IsRefused v.place (v.pending ++ more) fault)
-        → IsRefusedScript input (λ events fault. From first now events (Says fault) Leaves)
-    malformed Says fault f t h = reads.refused input mid u v going.read (λ events fault. From first now events (Says fault) Leaves) fault t h
+        → IsRefusedScript input (λ events fault. From first now events (Says fault) (Leaves first.conf))
+    malformed Says fault f t h = reads.refused input mid u v going.read (λ events fault. From first now events (Says fault) (Leaves first.conf)) fault t h
         (λ m k. ran content image starved faults losses arms armed first.conf (begun m) going.read.events (Says fault) now
         (retold content image starved faults losses arms armed first.conf (begun m) going.read.events T (Says fault) f now (going.goes m k)))
 
@@ -106,11 +108,11 @@ module _ {D : Type 0} (content : D → Option (List ℕ)) (image : D → List �
     pub stopped : (output all : OutputChange) (e : Event) (next : CoreParts D)
         → ((xs ys : List Outcome) → T xs → WritesFront output ys → WritesFront all (xs ++ ys))
         → ((xs : List Outcome) → T xs → Keeps output.held output.held_after → WritesFront all xs)
-        → (Rose output.faults output.faults_after → Rose all.faults all.faults_after) → IsOpen first.foreign
+        → (Rose output.faults output.faults_after → Rose all.faults all.faults_after) → AreOpen first.hosts
         → Took (line_of e) → IsEvent e → v.place ≤ longest → (status : Status)
         → IsNotPlayed content image starved faults losses arms armed now e next output status
         → IsPlayed first.conf input all (From first next) (NeverFrom content image starved first)
-        (OneRose faults (disks_in first.foreign) (disks_in next.foreign)) status
+        (OneRose faults (disks_in first.hosts) (disks_in next.hosts)) status
     stopped output all e next join keep rose opened t is le Done p = absurd p
     stopped output all e next join keep rose opened t is le Usage p = p
     stopped output all e next join keep rose opened t is le Malformed p = absurd p
@@ -118,7 +120,7 @@ module _ {D : Type 0} (content : D → Option (List ℕ)) (image : D → List �
     stopped output all e next join keep rose opened t is le WriteFault p = (rose p.0, inl (part output (WritesFront all) e next join keep t is le p.1))
     stopped output all e next join keep rose opened t is le Damaged p = never output (WritesFront all) e next join keep t is le p
     stopped output all e next join keep rose opened t is le Device p = (
-      rises content faults first.foreign (disks_in now.foreign) (disks_in next.foreign) opened going.disks p.0,
+      rises content faults first.hosts (disks_in now.hosts) (disks_in next.hosts) opened going.disks p.0,
       never output (WritesFront all) e next join keep t is le p.1,
     )
     stopped output all e next join keep rose opened t is le NoMemory p = part output (WritesFront all) e next join keep t is le p

@@ -1,12 +1,12 @@
 -- A script is read on by one event, or to its end.
-use Rattle.std.proofs.Common.{◌≡◌, ◌≤◌, ◌+◌, ℕ, List, [], ◌∷◌, ◌++◌, Bool, true, Option, Some, None, IfSome, length, length-append, refl}
+use Rattle.std.proofs.Common.{◌≡◌, ◌≤◌, ◌+◌, ℕ, List, [], ◌∷◌, ◌++◌, true, Option, Some, None, IfSome, length, length-append, refl}
 use Rattle.std.proofs.Common.{sym, ap, ◌∙◌, subst, arith, append_assoc, append-nil}
 use Rattle.std.specs.List.{flat_map, AllByRecursion}
 use Rattle.std.proofs.lemmas.List.Concat.{flat_map-append}
 use Rattle.std.specs.Io.KnownBytes.{Consumes, IsAtEnd}
 use Rattle.std.proofs.KnownBytes.{Consumes-trans}
 use Rattle.session_script.specs.declared.event.Event.{Event}
-use Rattle.session_script.specs.Script.{Begins, IsEvent, IsScript, IsMalformed, IsRefused, HasNoEvent, StandWhole, line_of, end_line, longest}
+use Rattle.session_script.specs.Script.{Begins, IsEvent, IsScript, IsMalformed, IsRefused, HasNoEvent, line_of, end_line, longest}
 use Rattle.session_script.specs.Unread.{Unread}
 use Rattle.session_script.specs.Reading.{Takes}
 use Rattle.session_script.proofs.OneReading.{malformed_is_none}

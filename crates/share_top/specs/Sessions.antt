@@ -1,6 +1,6 @@
 -- A recorded session on the disks of a bay: all that is promised of it is said of one run of the broker. This project's own.
--- For example the session `power 5` on two empty disks is a run of one step, from the opening of no keys to the opening of the contents
--- that are each disk's one loss, with choice 5; and what was written is its outcome's line `restarted`.
+-- For example the session `power 5` on empty disks is a run of one step, from the opening of empty logs and no keys to the opening of the
+-- contents that are each disk's one loss, with choice 5; and what was written is its outcome's line `restarted`.
 use Rattle.std.specs.Prelude.{◌≡◌, ◌⊎◌, ◌≤◌, ◌++◌, ℕ, List, Some}
 use Rattle.std.specs.declared.option.Option.{Option}
 use Rattle.std.specs.Io.KnownBytes.{Appends}
@@ -8,19 +8,19 @@ use Rattle.edge_io.specs.declared.fault.Armed.{Armed}
 use Rattle.edge_io.specs.declared.fault.Armed.TheVariants.{Nothing}
 use Rattle.edge_io.specs.Causes.{Rose}
 use Rattle.edge_io.specs.Streams.{AppendsFront}
-use Rattle.share_model.specs.ForeignRules.{ShareStates}
 use Rattle.session_script.specs.declared.event.Event.{Event}
 use Rattle.session_script.specs.declared.event.Outcome.{Outcome}
 use Rattle.session_script.specs.Output.{output_of, damaged_line}
 use Rattle.topic_conf.specs.Configs.{ConfigParts}
-use Rattle.broker_model.specs.Shards.{Shards, ShardCall, state_a, state_b}
-use Rattle.broker_model.specs.Machine.{Machine, StandWith, StandForStates}
-use Rattle.broker_model.specs.Disks.{Disks, IsTaken}
+use Rattle.broker_model.specs.Hosted.{IsTaken}
+use Rattle.broker_model.specs.Shards.{Shards, ShardCall}
+use Rattle.broker_model.specs.Machine.{Machine, StandsFor}
+use Rattle.broker_model.specs.Disks.{Disks}
 use Rattle.broker_model.specs.Steps.{StepsTo}
 use Rattle.broker_model.specs.States.{State, faults_of}
 use Rattle.broker_model.specs.Runs.{Step, IsRun, events_of, outcomes_of}
 use Rattle.broker_model.specs.Laws.{HoldsOfRun}
-use Rattle.broker_core.specs.Bays.{TellsDisks, IsFirst, HasLastCount}
+use Rattle.broker_core.specs.Bays.{TellsDisks, IsFirst, StandForAll, HasLastCount}
 use Rattle.broker_core.specs.Restarts.{IsDamagedDisk}
 use Rattle.share_top.specs.Changes.{OutputChange}
 
@@ -53,8 +53,8 @@ abbrev pub Ending : Type 1
 Ending = (Shards → Type 0) → Disks → State → Type 0
 
 -- what is known is what the last state has, and its shards are those for which the disks stand
-pub record Leaves (Stand : Shards → Type 0) (now : Disks) (last : State) : Type 0 where
-  pub known : (name : List ℕ) → IsTaken name → now name ≡ last.disks name
+pub record Leaves (conf : ConfigParts) (Stand : Shards → Type 0) (now : Disks) (last : State) : Type 0 where
+  pub known : (name : List ℕ) → IsTaken conf name → now name ≡ last.disks name
   pub stands : Stand last.machine.shards
 
 -- the disks stand for the last state's shards, or for those of one step more, of whose outcomes nothing was written
@@ -62,7 +62,7 @@ pub record LeavesWithin (conf : ConfigParts) (Stand : Shards → Type 0) (now : 
   pub after : Machine
   pub reaches : (after ≡ last.machine) ⊎ ((event : Event) × (call : Option ShardCall) × (outcomes : List Outcome)
       × StepsTo conf (λ name. Rose (faults_of last name) (now name).faults) last.ends last.machine event call outcomes after)
-  pub later : (name : List ℕ) → IsTaken name → faults_of last name ≤ (now name).faults
+  pub later : (name : List ℕ) → IsTaken conf name → faults_of last name ≤ (now name).faults
   pub stands : Stand after.shards
 
 -- ---- one run
@@ -76,48 +76,43 @@ pub record Ran (conf : ConfigParts) (first : State) (events : List Event) (Tells
   pub tells : Tells (outcomes_of steps)
   pub ends : Ends last
 
--- these contents stand for the shards, each with or without its pending write
-abbrev pub StandIn : (List ℕ → List ℕ) → Shards → Type 0
-StandIn contents shards = StandWith shards (contents state_a) (contents state_b)
-
 -- The session of these events, on disks that had these contents, of which this was known, and that were left with these contents, of
 -- which this is known now.
 pub record IsSession (conf : ConfigParts) (events : List Event) (Tells : List Outcome → Type 0) (Ends : Ending)
     (contents : List ℕ → List ℕ) (was : Disks) (left : List ℕ → List ℕ) (now : Disks) : Type 0 where
   pub first : State
   -- it begins with the opening of the contents
-  pub opens : IsFirst contents was first
-  pub ran : Ran conf first events Tells (Ends (StandIn left) now)
+  pub opens : IsFirst conf contents was first
+  pub ran : Ran conf first events Tells (Ends (StandsFor left) now)
   -- its losses, arms and counts
-  pub holds : HoldsOfRun first ran.steps ran.last
+  pub holds : HoldsOfRun conf first ran.steps ran.last
   -- a disk with nothing armed begins so: its count rises only behind an arm, as `holds` says
-  pub unarmed : (name : List ℕ) → IsTaken name → (was name).armed ≡ Nothing → (first.disks name).armed ≡ Nothing
+  pub unarmed : (name : List ℕ) → IsTaken conf name → (was name).armed ≡ Nothing → (first.disks name).armed ≡ Nothing
 
 -- ---- the disks of a bay; the members of the bay and of its disks come first
 
--- where a bay tells the broker's disks
+-- where a bay tells the disks of this broker
 abbrev pub OfBay : {B D : Type 0} → (B → List ℕ → Option D) → (D → Option (List ℕ)) → (D → ℕ) → (D → List (ℕ × List ℕ)) → (D → ℕ) → (D → Armed)
-    → B → ((List ℕ → List ℕ) → Disks → Type 0) → Type 0
-OfBay disk content faults losses arms armed bay P =
-    (contents : List ℕ → List ℕ) (was : Disks) → TellsDisks disk content faults losses arms armed bay contents was → P contents was
+    → ConfigParts → B → ((List ℕ → List ℕ) → Disks → Type 0) → Type 0
+OfBay disk content faults losses arms armed conf bay P =
+    (contents : List ℕ → List ℕ) (was : Disks) → TellsDisks disk content faults losses arms armed conf bay contents was → P contents was
 
 -- where a bay tells them, it tells them behind the call as well
 abbrev pub OverBay : {B D : Type 0} → (B → List ℕ → Option D) → (D → Option (List ℕ)) → (D → ℕ) → (D → List (ℕ × List ℕ)) → (D → ℕ) → (D → Armed)
-    → B → B → ((List ℕ → List ℕ) → Disks → (List ℕ → List ℕ) → Disks → Type 0) → Type 0
-OverBay disk content faults losses arms armed old new P = OfBay disk content faults losses arms armed old (λ contents was.
-    (left : List ℕ → List ℕ) × (now : Disks) × TellsDisks disk content faults losses arms armed new left now × P contents was left now)
+    → ConfigParts → B → B → ((List ℕ → List ℕ) → Disks → (List ℕ → List ℕ) → Disks → Type 0) → Type 0
+OverBay disk content faults losses arms armed conf old new P = OfBay disk content faults losses arms armed conf old (λ contents was.
+    (left : List ℕ → List ℕ) × (now : Disks) × TellsDisks disk content faults losses arms armed conf new left now × P contents was left now)
 
--- its disks are told, and stand for some states
+-- its disks are told, and stand for some logs and states
 abbrev pub HoldsStates : {B D : Type 0} → (B → List ℕ → Option D) → (D → Option (List ℕ)) → (D → ℕ) → (D → List (ℕ × List ℕ)) → (D → ℕ) → (D → Armed)
-    → B → Type 0
-HoldsStates disk content faults losses arms armed bay = (contents : List ℕ → List ℕ) × (was : Disks) × (states : ShareStates)
-    × TellsDisks disk content faults losses arms armed bay contents was × StandForStates (contents state_a) (contents state_b) states
+    → ConfigParts → B → Type 0
+HoldsStates disk content faults losses arms armed conf bay = (contents : List ℕ → List ℕ) × (was : Disks)
+    × TellsDisks disk content faults losses arms armed conf bay contents was × StandForAll conf contents
 
 -- one of these disks isn't store text, and this holds of the line that names it and the place of its fault
-abbrev pub NamesDamage : (List ℕ → List ℕ) → (List ℕ → Type 0) → Type 0
-NamesDamage contents Says =
-    (disk : List ℕ) × (place : ℕ) × IsDamagedDisk (contents state_a) (contents state_b) disk place × Says (damaged_line disk place)
+abbrev pub NamesDamage : ConfigParts → (List ℕ → List ℕ) → (List ℕ → Type 0) → Type 0
+NamesDamage conf contents Says = (disk : List ℕ) × (place : ℕ) × IsDamagedDisk conf contents disk place × Says (damaged_line disk place)
 
 -- the bay's count of faults rose, in which are those of its disks; or that of a disk stood at its last value
-abbrev pub CountRose : {B D : Type 0} → (B → List ℕ → Option D) → (D → ℕ) → (B → ℕ) → B → B → Type 0
-CountRose disk faults bay_faults old new = Rose (bay_faults old) (bay_faults new) ⊎ HasLastCount disk faults old
+abbrev pub CountRose : {B D : Type 0} → (B → List ℕ → Option D) → (D → ℕ) → (B → ℕ) → ConfigParts → B → B → Type 0
+CountRose disk faults bay_faults conf old new = Rose (bay_faults old) (bay_faults new) ⊎ HasLastCount disk faults conf old

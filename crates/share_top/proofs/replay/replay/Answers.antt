@@ -1,4 +1,4 @@
-use Rattle.std.proofs.Common.{ℕ, List, [], inl, inr, ap, Err, refl, ◌∙◌, subst, rules, arith}
+use Rattle.std.proofs.Common.{ℕ, List, inr, ap, Err, refl, ◌∙◌, subst, rules, arith}
 use Rattle.edge_io.specs.Causes.{Rose}
 use Rattle.session_script.specs.declared.event.Outcome.{Outcome}
 use Rattle.session_script.specs.declared.writer.LineFault.{LineFault}
@@ -7,6 +7,8 @@ use Rattle.session_script.specs.Script.{line_of, end_line}
 use Rattle.session_script.specs.Reading.{Takes}
 use Rattle.share_top.specs.Changes.{output_change}
 use Rattle.share_top.specs.Sessions.{Writes, WritesThen, WritesFront, WritesPart}
+use Rattle.broker_core.specs.Hosts.{disks_in}
+use Rattle.share_top.proofs.Counts.{go_on_then}
 use Rattle.share_top.proofs.Fronts.{appends_none, keeps_same, text_front}
 use Rattle.share_top.proofs.Goes.{text_behind, part_behind, line_behind, kept_behind}
 use Rattle.share_top.proofs.Replays.{starts, goes, done, cut, malformed, still, stopped}
@@ -109,3 +111,7 @@ events-preserved g c =
       read = omega (arith, c.events.invariant.read, c.take_event.ensures.later);
       counted = c.play_event.ensures.counted (λ e. absurd cc) ∙ c.events.invariant.counted;
     }
+
+pub returns-in-Err-clause-disks : goal.returns-in-Err-clause-disks
+returns-in-Err-clause-disks g c = go_on_then g.D.Disk.content g.D.Disk.faults (disks_in c.args.core.now.hosts) (disks_in c.events.core.hosts)
+    (disks_in c.play_event.new.core.hosts) c.events.invariant.going.disks c.play_event.ensures.disks

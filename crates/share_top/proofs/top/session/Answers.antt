@@ -1,37 +1,43 @@
-use Rattle.std.proofs.Common.{◌≡◌, ◌⊎◌, inl, inr, ⊎_elim, refl, ap, ◌∙◌, Err}
+use Rattle.std.proofs.Common.{inl, inr, ⊎_elim, refl, ap, ◌∙◌, Err, sym, subst, ℕ, List}
 use Rattle.broker_core.specs.declared.fault.CoreOpen.{CoreOpen}
-use Rattle.broker_core.specs.Cores.{OneRose, disks_in}
+use Rattle.broker_core.specs.Hosts.{OneRose, all_names, disks_in, slot_names}
+use Rattle.broker_core.specs.Bays.{AreOut}
 use Rattle.share_top.specs.Sessions.{CountRose}
 use Rattle.share_top.proofs.Counts.{count_rose}
 use Rattle.share_top.specs.Changes.{input_change, output_change}
-use Rattle.share_top.proofs.Ends.{played_over, not_opened, sound_tells, never_stopped, refusal_damaged}
+use Rattle.share_top.proofs.Ends.{names_stay, played_over, not_opened, sound_tells, never_stopped, refusal_damaged}
 use Rattle.share_top.proofs.top.session.Goals as goal
+
+pub finish-requires : goal.finish-requires
+finish-requires g c = subst (λ (l : List (List ℕ)). AreOut g.B.Bay.out (all_names l) c.start.new.bay)
+    (sym (names_stay g.B.D.Disk.content g.B.D.Disk.faults c.in-Ok.core.hosts.logs c.replay-status.new.core.hosts.logs c.replay-status.ensures.disks.logs))
+    c.in-Ok.ensures.taken
 
 pub returns-in-Ok-clause-replay : goal.returns-in-Ok-clause-replay
 returns-in-Ok-clause-replay g c = inl (played_over g.B.Bay.disk g.B.D.Disk.content g.B.D.Disk.image g.B.D.Disk.starved g.B.D.Disk.faults g.B.D.Disk.losses g.B.D.Disk.arms g.B.D.Disk.armed
     (λ d x e. (g.met.B.D.Disk.read_is_image d x e).0) c.args.bay.now c.start.new.bay c.finish.new.bay c.args.conf c.in-Ok.core
-    (disks_in c.replay-status.new.core.foreign) c.in-Ok.ensures.open.1 c.in-Ok.ensures.opens c.start.ensures.told c.finish.ensures.back
+    (disks_in c.replay-status.new.core.hosts) c.in-Ok.ensures.open.1 c.in-Ok.ensures.opens c.start.ensures.told c.replay-status.ensures.disks c.finish.ensures.back
     (input_change g.I.Source.left g.I.Source.ended g.I.Source.faults c.args.input.now c.replay-status.new.input)
     (output_change g.O.Sink.held g.O.Sink.faults c.args.output.now c.replay-status.new.output)
-    (OneRose g.B.D.Disk.faults (disks_in c.in-Ok.core.foreign) (disks_in c.replay-status.new.core.foreign))
-    (CountRose g.B.Bay.disk g.B.D.Disk.faults g.B.Bay.faults c.args.bay.now c.finish.new.bay)
-    (λ rose. count_rose g.B.Bay.disk g.B.Bay.taken g.B.D.Disk.faults g.B.Bay.faults c.args.bay.now c.start.new.bay c.finish.new.bay
-    (disks_in c.in-Ok.core.foreign) (disks_in c.replay-status.new.core.foreign) c.in-Ok.ensures.counts rose c.finish.ensures.rises c.start.ensures.later)
+    (OneRose g.B.D.Disk.faults (disks_in c.in-Ok.core.hosts) (disks_in c.replay-status.new.core.hosts))
+    (CountRose g.B.Bay.disk g.B.D.Disk.faults g.B.Bay.faults c.args.conf c.args.bay.now c.finish.new.bay)
+    (λ rose. count_rose g.B.Bay.disk g.B.D.Disk.content g.B.Bay.taken g.B.D.Disk.faults g.B.Bay.faults c.args.conf c.args.bay.now c.start.new.bay c.finish.new.bay
+    (disks_in c.in-Ok.core.hosts) (disks_in c.replay-status.new.core.hosts) c.in-Ok.ensures.counts c.replay-status.ensures.disks rose c.finish.ensures.rises c.start.ensures.later)
     c.replay-status.result c.replay-status.ensures.played)
 
 pub returns-in-Ok-clause-recovers : goal.returns-in-Ok-clause-recovers
 returns-in-Ok-clause-recovers g c = λ told is.
-    let o = c.in-Ok.ensures.opens told.0 told.1 told.3 in
-    never_stopped g.B.Bay.disk g.B.D.Disk.content g.B.D.Disk.image g.B.D.Disk.starved g.B.D.Disk.faults g.B.D.Disk.losses g.B.D.Disk.arms g.B.D.Disk.armed c.in-Ok.core (disks_in c.replay-status.new.core.foreign)
+    let o = c.in-Ok.ensures.opens told.0 told.1 told.2 in
+    never_stopped g.B.Bay.disk g.B.D.Disk.content g.B.D.Disk.image g.B.D.Disk.starved g.B.D.Disk.faults g.B.D.Disk.losses g.B.D.Disk.arms g.B.D.Disk.armed c.in-Ok.core (disks_in c.replay-status.new.core.hosts)
     (input_change g.I.Source.left g.I.Source.ended g.I.Source.faults c.args.input.now c.replay-status.new.input)
     (output_change g.O.Sink.held g.O.Sink.faults c.args.output.now c.replay-status.new.output) _ c.replay-status.result c.replay-status.ensures.played (inl is) o.0 o.1
 
 pub returns-in-Ok-clause-sound : goal.returns-in-Ok-clause-sound
 returns-in-Ok-clause-sound g c = λ sound is.
     let t = sound_tells g.B.Bay.disk g.B.D.Disk.content g.B.D.Disk.image g.B.D.Disk.starved g.B.D.Disk.faults g.B.D.Disk.losses g.B.D.Disk.arms g.B.D.Disk.armed
-    g.B.Bay.steady c.args.bay.now sound in
+    g.B.Bay.steady c.args.bay.now sound c.args.conf c.are_hosted.ensures in
     let o = c.in-Ok.ensures.opens t.0 t.1 t.2 in
-    never_stopped g.B.Bay.disk g.B.D.Disk.content g.B.D.Disk.image g.B.D.Disk.starved g.B.D.Disk.faults g.B.D.Disk.losses g.B.D.Disk.arms g.B.D.Disk.armed c.in-Ok.core (disks_in c.replay-status.new.core.foreign)
+    never_stopped g.B.Bay.disk g.B.D.Disk.content g.B.D.Disk.image g.B.D.Disk.starved g.B.D.Disk.faults g.B.D.Disk.losses g.B.D.Disk.arms g.B.D.Disk.armed c.in-Ok.core (disks_in c.replay-status.new.core.hosts)
     (input_change g.I.Source.left g.I.Source.ended g.I.Source.faults c.args.input.now c.replay-status.new.input)
     (output_change g.O.Sink.held g.O.Sink.faults c.args.output.now c.replay-status.new.output) _ c.replay-status.result c.replay-status.ensures.played (inr is) o.0 o.1
 
@@ -39,7 +45,7 @@ pub returns-in-Err-clause-replay : goal.returns-in-Err-clause-replay
 returns-in-Err-clause-replay g c = inr (
   refl,
   not_opened g.B.Bay.disk g.B.D.Disk.content g.B.D.Disk.image g.B.D.Disk.starved g.B.D.Disk.faults g.B.D.Disk.losses g.B.D.Disk.arms g.B.D.Disk.armed
-      c.args.bay.now c.start.new.bay g.B.Bay.faults (output_change g.O.Sink.held g.O.Sink.faults c.args.output.now c.refuse.new.output) c.in-Err.fault
+      c.args.bay.now c.start.new.bay g.B.Bay.faults c.args.conf (output_change g.O.Sink.held g.O.Sink.faults c.args.output.now c.refuse.new.output) c.in-Err.fault
       (λ name place e. c.start.ensures.damaged name place (c.in-Err.is ∙ ap (λ (f : CoreOpen). Err f) e))
       (λ why. ⊎_elim (λ e. c.start.ensures.device (c.in-Err.is ∙ ap (λ (f : CoreOpen). Err f) e))
       (λ e. inl (c.start.ensures.bay (c.in-Err.is ∙ ap (λ (f : CoreOpen). Err f) e))) why)
@@ -49,4 +55,4 @@ returns-in-Err-clause-replay g c = inr (
 pub returns-in-Err-clause-recovers : goal.returns-in-Err-clause-recovers
 returns-in-Err-clause-recovers g c = λ told is.
     let r = refusal_damaged c.in-Err.fault (output_change g.O.Sink.held g.O.Sink.faults c.args.output.now c.refuse.new.output) c.refuse.result c.refuse.ensures.refusal is in
-    c.start.ensures.recovers told.0 told.1 told.2 told.3 told.4 r.0 r.1 (c.in-Err.is ∙ ap (λ (f : CoreOpen). Err f) r.2)
+    c.start.ensures.recovers told.0 told.1 told.2 told.3 r.0 r.1 (c.in-Err.is ∙ ap (λ (f : CoreOpen). Err f) r.2)

@@ -1,0 +1,181 @@
+-- A load on the disk of a bay: what is said of the log and its disk is said of the bay's.
+use Rattle.std.proofs.Common.{◌≡◌, ◌+◌, ◌-◌, ◌<◌, ◌≤◌, ◌^◌, ◌↔◌, inl, inr, ⊎_elim, ℕ, List, [], ◌∷◌, All, true, Option, Some, None, IfSome, MatchOption, is_some, min, refl, sym, ap, subst, ◌∙◌, arith}
+use Rattle.std.specs.Option.{IsSome}
+use Rattle.std.proofs.lemmas.Bool.{cases_lt}
+use Rattle.std.specs.Io.KnownBytes.{Appends}
+use Rattle.edge_io.specs.Bays.{Holds, IsAsTold}
+use Rattle.edge_io.specs.Causes.{Rose}
+use Rattle.edge_io.specs.Moments.{LeavesOnly}
+use Rattle.edge_io.specs.Names.{IsTopicName, hosted_name, most_partitions}
+use Rattle.edge_io.specs.declared.name.DiskPlace.TheVariants.{Log}
+use Rattle.gate_journal.specs.Frames.{StandsAs}
+use Rattle.share_model.specs.Logs.{Batch}
+use Rattle.part_log.specs.declared.fault.OpenFault.{OpenFault}
+use Rattle.part_log.specs.declared.fault.OpenFault.TheVariants as open_fault
+use Rattle.part_log.specs.Logs.{IsLogText, IsNoLogText, LogParts}
+use Rattle.topic_conf.specs.declared.topic.Topic.{Topic}
+use Rattle.topic_conf.specs.Topics.{IsTopic, partitions}
+use Rattle.topic_conf.proofs.Lists.{partitions_cons, all_front, all_others}
+use Rattle.share_top.specs.declared.status.Status.{Status}
+use Rattle.share_top.specs.declared.status.Status.TheVariants.{Done, Usage, Malformed, ReadFault, WriteFault, Damaged, Device, NoMemory}
+use Rattle.share_top.specs.Changes.{InputChange, OutputChange}
+use Rattle.share_top.specs.Sessions.{WritesFrontOf}
+use Rattle.share_top.specs.Loading.{LoadEnding, IsWhole, IsRefusedSegment, IsBegunSegment, WithLine, WithPlace, IsLoaded, IsNotLoaded, IsLogDisk, OverDisk, IsStored, StoresIn, StaysIn, DamagesIn, DiskCountRose}
+use Rattle.share_top.specs.Loads.{IsGrown, IsLogRefusal}
+
+-- ---- the disk of a shard
+
+module _ (topics : List Topic) (topic : Topic) (others : List Topic) (shard : ℕ) (split : topics ≡ topic ∷ others) where
+  here_disk : shard < topic.parts → IsLogDisk topics shard (hosted_name topic.name shard Log)
+  here_disk lt = (topic, shard, record { before = []; after = others; topics_are = split; within = lt; shard_is = omega arith }, refl)
+
+  pub here : (text : List ℕ) (result : Option (List ℕ)) → text ≡ topic.name → IfSome result (λ n. n ≡ hosted_name text shard Log)
+      → (IsSome result ↔ (IsTopicName text × (shard < 64))) → All IsTopic topics → partitions topics ≤ most_partitions → shard < topic.parts
+      → MatchOption result (partitions topics ≤ shard) (IsLogDisk topics shard)
+  here text (Some name) named some exact each few lt = subst (IsLogDisk topics shard) (sym (some ∙ ap (λ (t : List ℕ). hosted_name t shard Log) named)) (here_disk lt)
+  here text None named some exact each few lt =
+      let is = all_front IsTopic topic others (subst (All IsTopic) split each) in
+      let sum = ap partitions split ∙ partitions_cons topic others in
+      let some_there = exact.1 (subst IsTopicName (sym named) is.name, (let r : shard < 64 = omega (arith, lt, few, sum) in r)) in
+      absurd (cc)
+
+  pub each_others : All IsTopic topics → All IsTopic others
+  each_others each = all_others IsTopic topic others (subst (All IsTopic) split each)
+
+  pub later : (result : Option (List ℕ)) → topic.parts ≤ shard → MatchOption result (partitions others ≤ shard - topic.parts) (IsLogDisk others (shard - topic.parts))
+      → MatchOption result (partitions topics ≤ shard) (IsLogDisk topics shard)
+  later None many h = let sum = ap partitions split ∙ partitions_cons topic others in omega (arith, many, h, sum)
+  later (Some name) many h =
+      let p = h.2 in
+      let sum = partitions_cons topic p.before in (
+        h.0,
+        h.1,
+        record {
+          before = topic ∷ p.before;
+          after = p.after;
+          topics_are = split ∙ ap (λ (l : List Topic). topic ∷ l) p.topics_are;
+          within = p.within;
+          shard_is = omega (arith, many, sum, p.shard_is);
+        },
+        h.3,
+      )
+
+-- ---- a table of one kind of endings gives that of another
+
+module _ (input : InputChange) (output : OutputChange) (E F : LoadEnding) (R S : Type 0)
+    (f : (log batches : List Batch) (pending : Option Batch) → E log batches pending → F log batches pending) (g : R → S) where
+  whole : (Tells : List ℕ → Type 0) → IsWhole input (WithLine E Tells) → IsWhole input (WithLine F Tells)
+  whole Tells w = record {
+    log = w.log;
+    batches = w.batches;
+    segment = w.segment;
+    whole = w.whole;
+    ended = w.ended;
+    ends = (f w.log w.batches None w.ends.0, w.ends.1);
+  }
+
+  refused : (Tells : List ℕ → Type 0) → IsRefusedSegment input (WithPlace E Tells) → IsRefusedSegment input (WithPlace F Tells)
+  refused Tells r = record { log = r.log; batches = r.batches; refused = r.refused; ends = (f r.log r.batches None r.ends.0, r.ends.1) }
+
+  begun : IsBegunSegment input E → IsBegunSegment input F
+  begun b = record { log = b.log; batches = b.batches; pending = b.pending; begins = b.begins; ends = f b.log b.batches b.pending b.ends }
+
+  pub weakens : (status : Status) → IsLoaded input output E R status → IsLoaded input output F S status
+  weakens Done w = whole (Appends output.held output.held_after) w
+  weakens Usage w = w
+  weakens Malformed w = refused (Appends output.held output.held_after) w
+  weakens ReadFault w = (
+    w.0,
+    w.1,
+    record {
+      log = w.2.log;
+      batches = w.2.batches;
+      given = w.2.given;
+      consumed = w.2.consumed;
+      whole = w.2.whole;
+      ends = f w.2.log w.2.batches None w.2.ends;
+    },
+  )
+  weakens WriteFault (rose, inl w) = (rose, inl (whole (λ line. WritesFrontOf line output) w))
+  weakens WriteFault (rose, inr w) = (rose, inr (refused (λ line. WritesFrontOf line output) w))
+  weakens Damaged w = w
+  weakens Device (kept, inl w) = (kept, inl (g w.0, begun w.1))
+  weakens Device (kept, inr w) = (
+    kept,
+    inr (record {
+      log = w.log;
+      batches = w.batches;
+      next = w.next;
+      begins = w.begins;
+      no_room = w.no_room;
+      ends = f w.log w.batches None w.ends;
+    }),
+  )
+  weakens NoMemory w = (w.0, begun w.1)
+
+-- ---- over a bay
+
+some_told : (o : Option (List ℕ)) → is_some o ≡ true → (c : List ℕ) × (o ≡ Some c)
+some_told None e = absurd cc
+some_told (Some c) e = (c, refl)
+
+module _ {B D : Type 0} (disk : B → List ℕ → Option D) (content : D → Option (List ℕ)) (image : D → List ℕ → Type 0) (faults : D → ℕ) (bay_faults : B → ℕ)
+    (name : List ℕ) (old mid new : B) where
+  -- the bay gave no disk
+  pub stays_there : disk new name ≡ disk old name → StaysIn disk content image name old new
+  stays_there same d c is has = (d, c, same ∙ is, has, λ x on. (x, on, inl refl))
+
+  module _ (first last : D) (given : IsAsTold (disk old name) first) (told : is_some (disk mid name) ≡ is_some (disk old name))
+      (there : Holds (disk mid name) (disk new name) last) (tells : is_some (content last) ≡ is_some (content first)) where
+    over : (P : D → List ℕ → D → List ℕ → Type 0) → ((c left : List ℕ) → content first ≡ Some c → content last ≡ Some left → P first c last left)
+        → OverDisk disk content name old new P
+    over P f d c is has =
+        let e : first ≡ d = given d is in
+        let first_has : content first ≡ Some c = ap content e ∙ has in
+        let left = some_told (content last) (tells ∙ ap is_some first_has) in
+        (last, left.0, there (told ∙ ap is_some is), left.1, subst (λ (x : D). P x c last left.0) e (f c left.0 first_has left.1))
+
+    pub stays : (moment : D → ℕ) (since : D → ℕ → List ℕ → Type 0) → ((d : D) (t : ℕ) (c : List ℕ) → t ≤ moment d → image d c → since d t c)
+        → LeavesOnly moment since first last (StandsAs (image first)) → StaysIn disk content image name old new
+    stays moment since counts l = over (λ d c e left. (x : List ℕ) → image e x → StandsAs (image d) x)
+        (λ c left is has x on. l.each x (counts last (moment first) x l.later on))
+
+    pub stores : ((d : D) (c : List ℕ) → content d ≡ Some c → image d c) → (opened new_log : LogParts D) → last ≡ new_log.journal.disk
+        → ((c : List ℕ) → content first ≡ Some c → IsLogText c opened.batches)
+        → (log batches : List Batch) (pending : Option Batch) → IsGrown image opened new_log log batches pending → StoresIn disk content image name old new log batches pending
+    stores read opened new_log at opens log batches pending h = over (λ d c e left. IsStored image log batches pending c e left)
+        (λ c left is has. record {
+          before = subst (IsLogText c) (sym h.was) (opens c is);
+          images = λ x on. h.images x (subst (λ (d : D). image d x) at on);
+          read = read last left has;
+        })
+
+  pub damages : (first : D) → IsAsTold (disk old name) first → (fault : OpenFault)
+      → ((place : ℕ) → fault ≡ open_fault.Damaged place → (c : List ℕ) → content first ≡ Some c → IsNoLogText c place)
+      → (place : ℕ) → fault ≡ open_fault.Damaged place → DamagesIn disk content name old place
+  damages first given fault f place is d c told has = f place is c (ap content (given d told) ∙ has)
+
+  -- the count of the disk rose, and so did the bay's, unless the disk's stood at its last value
+  pub rises : (first : D) (taken after : ℕ) → IsAsTold (disk old name) first → taken ≡ faults first → bay_faults old ≤ bay_faults mid
+      → bay_faults new ≡ min (bay_faults mid + (after - taken)) (2 ^ 64 - 1) → Rose (faults first) after → DiskCountRose disk faults bay_faults name old new
+  rises first taken after given noted later sum rose = ⊎_elim
+      (λ lt. inl (let r : Rose (bay_faults old) (bay_faults new) = omega (arith, lt, noted, later, sum, rose) in r))
+      (λ le. inr (first, given, le))
+      (cases_lt (faults first) (2 ^ 64 - 1))
+
+pub rose_on : (a b c : ℕ) → a ≤ b → Rose b c → Rose a c
+rose_on a b c le r = omega (arith, le, r)
+
+-- ---- a log that was not opened
+
+module _ (output : OutputChange) (name : List ℕ) (fault : OpenFault) (Damages : ℕ → Type 0) (Rises : Type 0)
+    (damaged : (place : ℕ) → fault ≡ open_fault.Damaged place → Damages place) (risen : fault ≡ open_fault.Device → Rises) where
+  pub not_loaded : (status : Status) → IsLogRefusal name fault output status → IsNotLoaded output name Damages Rises status
+  not_loaded Done r = r
+  not_loaded Usage r = r
+  not_loaded Malformed r = r
+  not_loaded ReadFault r = r
+  not_loaded WriteFault r = (r.0, (r.1.0, damaged r.1.0 r.1.1, r.1.2))
+  not_loaded Damaged r = (r.0, damaged r.0 r.1, r.2)
+  not_loaded Device r = (risen r.0, r.1)
+  not_loaded NoMemory r = r

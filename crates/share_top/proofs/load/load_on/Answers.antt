@@ -1,0 +1,48 @@
+use Rattle.std.proofs.Common.{inl, inr, refl, ap, ◌∙◌, is_some}
+use Rattle.edge_io.specs.Causes.{Rose}
+use Rattle.share_top.specs.Changes.{input_change, output_change}
+use Rattle.share_top.specs.Loading.{StoresIn, DamagesIn, DiskCountRose}
+use Rattle.share_top.specs.Loads.{IsGrown}
+use Rattle.share_top.proofs.LoadBays.{weakens, stores, stays, damages, rises, rose_on, not_loaded}
+use Rattle.share_top.proofs.load.load_on.Goals as goal
+
+pub returns-in-Ok-open-clause-loads : goal.returns-in-Ok-open-clause-loads
+returns-in-Ok-open-clause-loads g c =
+    let last = c.load_into-status.new.log.journal.disk in
+    let opened = c.in-Ok-open.ensures.runs in
+    let run = c.load_into-status.ensures.runs in
+    let given = c.in-Ok.ensures.given in
+    inl (weakens (input_change g.I.Source.left g.I.Source.ended g.I.Source.faults c.args.input.now c.load_into-status.new.input)
+    (output_change g.O.Sink.held g.O.Sink.faults c.args.output.now c.load_into-status.new.output)
+    (IsGrown g.B.D.Disk.image c.in-Ok-open.log c.load_into-status.new.log)
+    (StoresIn g.B.Bay.disk g.B.D.Disk.content g.B.D.Disk.image c.args.name.now c.args.bay.now c.put_back.new.self)
+    (Rose (g.B.D.Disk.faults c.in-Ok-open.log.journal.disk) (g.B.D.Disk.faults last))
+    (DiskCountRose g.B.Bay.disk g.B.D.Disk.faults g.B.Bay.faults c.args.name.now c.args.bay.now c.put_back.new.self)
+    (stores g.B.Bay.disk g.B.D.Disk.content g.B.D.Disk.image g.B.D.Disk.faults g.B.Bay.faults c.args.name.now c.args.bay.now c.take.new.self c.put_back.new.self
+    c.in-Ok.disk c.into_disk.result given c.in-Ok.ensures.told c.put_back.ensures.there
+    (ap (λ (d : g.row.B-D.Denot). is_some (g.B.D.Disk.content d)) c.into_disk.ensures ∙ run.told ∙ opened.told)
+    (λ d x e. (g.met.B.D.Disk.read_is_image d x e).0) c.in-Ok-open.log c.load_into-status.new.log c.into_disk.ensures c.in-Ok-open.ensures.opens)
+    (λ rose. rises g.B.Bay.disk g.B.D.Disk.content g.B.D.Disk.image g.B.D.Disk.faults g.B.Bay.faults c.args.name.now c.args.bay.now c.take.new.self c.put_back.new.self
+    c.in-Ok.disk (g.B.Bay.taken c.take.new.self c.args.name.now) (g.B.D.Disk.faults last) given c.in-Ok.ensures.is_out.1 c.in-Ok.ensures.cause.later
+    (rw (← c.into_disk.ensures) c.put_back.ensures.counts) (rose_on _ _ _ opened.later rose))
+    c.load_into-status.result c.load_into-status.ensures.loaded)
+
+pub returns-in-Err-clause-loads : goal.returns-in-Err-clause-loads
+returns-in-Err-clause-loads g c =
+    let given = c.in-Ok.ensures.given in
+    let runs = c.in-Err.ensures.runs in
+    inr (
+      refl,
+      stays g.B.Bay.disk g.B.D.Disk.content g.B.D.Disk.image g.B.D.Disk.faults g.B.Bay.faults c.args.name.now c.args.bay.now c.take.new.self c.put_back-in-Err.new.self
+          c.in-Ok.disk c.in-Err.disk given c.in-Ok.ensures.told c.put_back-in-Err.ensures.there runs.told g.B.D.Disk.moment g.B.D.Disk.since g.met.B.D.Disk.counts_now
+          c.in-Err.ensures.any_moment,
+      not_loaded (output_change g.O.Sink.held g.O.Sink.faults c.args.output.now c.refuse_log.new.output) c.args.name.now c.in-Err.fault
+          (DamagesIn g.B.Bay.disk g.B.D.Disk.content c.args.name.now c.args.bay.now)
+          (DiskCountRose g.B.Bay.disk g.B.D.Disk.faults g.B.Bay.faults c.args.name.now c.args.bay.now c.put_back-in-Err.new.self)
+          (damages g.B.Bay.disk g.B.D.Disk.content g.B.D.Disk.image g.B.D.Disk.faults g.B.Bay.faults c.args.name.now c.args.bay.now c.take.new.self c.put_back-in-Err.new.self
+          c.in-Ok.disk given c.in-Err.fault c.in-Err.ensures.damaged)
+          (λ is. rises g.B.Bay.disk g.B.D.Disk.content g.B.D.Disk.image g.B.D.Disk.faults g.B.Bay.faults c.args.name.now c.args.bay.now c.take.new.self c.put_back-in-Err.new.self
+          c.in-Ok.disk (g.B.Bay.taken c.take.new.self c.args.name.now) (g.B.D.Disk.faults c.in-Err.disk) given c.in-Ok.ensures.is_out.1 c.in-Ok.ensures.cause.later
+          c.put_back-in-Err.ensures.counts (c.in-Err.ensures.device is).0)
+          c.refuse_log.result c.refuse_log.ensures.refusal,
+    )

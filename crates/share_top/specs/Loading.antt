@@ -1,0 +1,195 @@
+-- The loading of a segment into the log of one partition (this project's own).
+-- For example a segment of a batch of 69 bytes with base 0 and one of 61 bytes with base 1000000000000 and last delta 4, loaded into an
+-- empty log, ends with status 0 and the line `loaded 2 1000000000005`.
+use Rattle.std.specs.Prelude.{◌≡◌, ◌⊎◌, ◌<◌, ◌≤◌, ◌+◌, ◌-◌, ◌^◌, ℕ, List, [], ◌∷◌, ◌++◌, Bool, true, false, Some, None, IfSome, String, length, codes}
+use Rattle.std.specs.declared.option.Option.{Option}
+use Rattle.std.specs.declared.alloc.Global.{Global}
+use Rattle.std.specs.Option.{option_to_list}
+use Rattle.std.specs.Fmt.{decimal}
+use Rattle.std.specs.Io.KnownBytes.{Appends, Keeps, Consumes, IsAtEnd}
+use Rattle.edge_io.specs.Bays.{IsAsTold}
+use Rattle.edge_io.specs.Causes.{Rose}
+use Rattle.edge_io.specs.Names.{hosted_name}
+use Rattle.edge_io.specs.declared.name.DiskPlace.TheVariants.{Log}
+use Rattle.gate_journal.specs.Frames.{StandsAs, blocks}
+use Rattle.share_model.specs.Logs.{Batch, end_of}
+use Rattle.share_model.specs.Pending.{WithPending}
+use Rattle.part_log.specs.Logs.{IsLogText, IsNoLogText, and_pending, frames_of}
+use Rattle.session_script.specs.Output.{malformed_line, damaged_line}
+use Rattle.topic_conf.specs.declared.topic.Topic.{Topic}
+use Rattle.topic_conf.specs.Configs.{ConfigParts}
+use Rattle.share_top.specs.declared.status.Status.{Status}
+use Rattle.share_top.specs.declared.status.Status.TheVariants.{Done, Usage, Malformed, ReadFault, WriteFault, Damaged, Device, NoMemory}
+use Rattle.share_top.specs.Changes.{InputChange, OutputChange}
+use Rattle.share_top.specs.Segments.{Begins, IsSegment, IsRefused, StandWhole, segment_of}
+use Rattle.share_top.specs.Sessions.{WritesFrontOf}
+use Rattle.share_top.specs.Statuses.{status_number}
+use Rattle.share_top.specs.Words.{AreLoadWords, IsPartitionOf, texts}
+
+-- the last line of a load: how many batches were added, and where the log ends
+abbrev pub loaded_line : ℕ → ℕ → List ℕ
+loaded_line count end = codes "loaded" ++ 32 ∷ (decimal count ++ 32 ∷ (decimal end ++ 10 ∷ []))
+
+-- the journal of this log has no room for the frame of this batch: its last gate stands behind the frames, and five bytes more are written
+abbrev pub HasNoRoom : List Batch → Batch → Type 0
+HasNoRoom log b = 2 ^ 62 < length (blocks (frames_of log)) + 1 + (length b.bytes + 5)
+
+-- ---- what was read. `Ends` is said of the log at entry, of the batches of the segment that were added to it, and of the one whose write
+-- is pending, if one is.
+
+abbrev pub LoadEnding : Type 1
+LoadEnding = List Batch → List Batch → Option Batch → Type 0
+
+-- the input, read to its end, is a segment of batches that may stand behind the log
+pub record IsWhole (input : InputChange) (Ends : LoadEnding) : Type 0 where
+  pub log : List Batch
+  pub batches : List Batch
+  pub segment : IfSome input.left (λ text. IsSegment text log batches)
+  pub whole : IsAtEnd input.left_after
+  pub ended : input.ended ≡ true
+  pub ends : Ends log batches None
+
+-- behind these batches the input has something that is no batch that may stand there
+pub record IsRefusedSegment (input : InputChange) (Ends : LoadEnding) : Type 0 where
+  pub log : List Batch
+  pub batches : List Batch
+  pub refused : IfSome input.left (λ text. IsRefused text log batches)
+  pub ends : Ends log batches None
+
+-- these are the batches that stand whole in the bytes that the input gave
+pub record IsCutSegment (input : InputChange) (Ends : LoadEnding) : Type 0 where
+  pub log : List Batch
+  pub batches : List Batch
+  pub given : List ℕ
+  pub consumed : Consumes input.left input.left_after given
+  pub whole : StandWhole given log batches
+  pub ends : Ends log batches None
+
+-- the input begins with these batches, and with the pending one behind them
+pub record IsBegunSegment (input : InputChange) (Ends : LoadEnding) : Type 0 where
+  pub log : List Batch
+  pub batches : List Batch
+  pub pending : Option Batch
+  pub begins : IfSome input.left (λ text. (rest : List ℕ) × Begins text log (batches ++ option_to_list pending) rest)
+  pub ends : Ends log batches pending
+
+-- the journal has no room for the batch behind these
+pub record IsFullSegment (input : InputChange) (Ends : LoadEnding) : Type 0 where
+  pub log : List Batch
+  pub batches : List Batch
+  pub next : Batch
+  pub begins : IfSome input.left (λ text. (rest : List ℕ) × Begins text log (batches ++ next ∷ []) rest)
+  pub no_room : HasNoRoom (log ++ batches) next
+  pub ends : Ends log batches None
+
+-- and of the count of the batches and the log's end
+abbrev pub WithLine : LoadEnding → (List ℕ → Type 0) → LoadEnding
+WithLine Ends Tells log batches pending = Ends log batches pending × Tells (loaded_line (length batches) (end_of (log ++ batches)))
+
+-- and of the place behind the batches
+abbrev pub WithPlace : LoadEnding → (List ℕ → Type 0) → LoadEnding
+WithPlace Ends Tells log batches pending = Ends log batches pending × Tells (malformed_line (length (segment_of batches)))
+
+-- ---- what each status says
+
+-- The log was opened. `Ends` is said of what was read and of the log, and `Rises` says that a count of the disk or the bay rose.
+abbrev pub IsLoaded : InputChange → OutputChange → LoadEnding → Type 0 → Status → Type 0
+-- the batches of the segment were added
+IsLoaded input output Ends Rises Done = IsWhole input (WithLine Ends (Appends output.held output.held_after))
+-- those before the first one that was refused were, and the last line names the first byte of that
+IsLoaded input output Ends Rises Malformed = IsRefusedSegment input (WithPlace Ends (Appends output.held output.held_after))
+-- those that the input gave whole were
+IsLoaded input output Ends Rises ReadFault = Rose input.faults input.faults_after × Keeps output.held output.held_after × IsCutSegment input Ends
+-- the output took a front of the last line
+IsLoaded input output Ends Rises WriteFault = Rose output.faults output.faults_after
+    × (IsWhole input (WithLine Ends (λ line. WritesFrontOf line output)) ⊎ IsRefusedSegment input (WithPlace Ends (λ line. WritesFrontOf line output)))
+-- those before the one that couldn't be stored were, and that one is pending, if one is; or the journal has no room for it
+IsLoaded input output Ends Rises Device = Keeps output.held output.held_after × ((Rises × IsBegunSegment input Ends) ⊎ IsFullSegment input Ends)
+IsLoaded input output Ends Rises NoMemory = Keeps output.held output.held_after × IsBegunSegment input Ends
+-- the others don't come
+IsLoaded input output Ends Rises Damaged = ⊥
+IsLoaded input output Ends Rises Usage = ⊥
+
+-- The log was not opened. `Damages` says of a place that the content of the disk isn't a log's, by this place.
+abbrev pub IsNotLoaded : OutputChange → List ℕ → (ℕ → Type 0) → Type 0 → Status → Type 0
+-- all that was written is the line that names the disk, or a front of that
+IsNotLoaded output disk Damages Rises Damaged = (place : ℕ) × Damages place × Appends output.held output.held_after (damaged_line disk place)
+IsNotLoaded output disk Damages Rises WriteFault = Rose output.faults output.faults_after
+    × ((place : ℕ) × Damages place × WritesFrontOf (damaged_line disk place) output)
+-- nothing was written
+IsNotLoaded output disk Damages Rises Device = Rises × Keeps output.held output.held_after
+IsNotLoaded output disk Damages Rises NoMemory = Keeps output.held output.held_after
+-- the others don't come
+IsNotLoaded output disk Damages Rises Done = ⊥
+IsNotLoaded output disk Damages Rises Usage = ⊥
+IsNotLoaded output disk Damages Rises Malformed = ⊥
+IsNotLoaded output disk Damages Rises ReadFault = ⊥
+
+-- no disk of the bay is out
+abbrev pub NoneIsOut : {B : Type 0} → (B → List ℕ → Bool) → B → Type 0
+NoneIsOut out bay = (name : List ℕ) → out bay name ≡ false
+
+-- ---- the disk of the log in a bay; the members of the bay and of its disks come first
+
+-- the disk of the log of a shard's partition
+abbrev pub IsLogDisk : List Topic → ℕ → List ℕ → Type 0
+IsLogDisk topics shard name = (topic : Topic) × (number : ℕ) × IsPartitionOf topics shard topic number × (name ≡ hosted_name topic.name number Log)
+
+-- where a bay tells the disk of this name, it tells it behind the call as well
+abbrev pub OverDisk : {B D : Type 0} → (B → List ℕ → Option D) → (D → Option (List ℕ)) → List ℕ → B → B
+    → (D → List ℕ → D → List ℕ → Type 0) → Type 0
+OverDisk disk content name old new P = (d : _) (c : List ℕ) → disk old name ≡ Some d → content d ≡ Some c →
+    (e : _) × (left : List ℕ) × (disk new name ≡ Some e) × (content e ≡ Some left) × P d c e left
+
+-- The disk stood for the log. A crash behind the call leaves the log with these batches, with or without the pending one; so does a read.
+pub record IsStored {D : Type 0} (image : D → List ℕ → Type 0) (log batches : List Batch) (pending : Option Batch)
+    (content : List ℕ) (now : D) (left : List ℕ) : Type 0 where
+  pub before : IsLogText content log
+  pub images : (c : List ℕ) → image now c → WithPending (IsLogText c) (log ++ batches) (and_pending (log ++ batches) pending)
+  pub read : image now left
+
+abbrev pub StoresIn : {B D : Type 0} → (B → List ℕ → Option D) → (D → Option (List ℕ)) → (D → List ℕ → Type 0) → List ℕ → B → B → LoadEnding
+StoresIn disk content image name old new log batches pending =
+    OverDisk disk content name old new (λ d c e left. IsStored image log batches pending c e left)
+
+-- a crash behind the call leaves what one before it might have left, or what stands for the same frames
+abbrev pub StaysIn : {B D : Type 0} → (B → List ℕ → Option D) → (D → Option (List ℕ)) → (D → List ℕ → Type 0) → List ℕ → B → B → Type 0
+StaysIn disk content image name old new = OverDisk disk content name old new (λ d c e left. (x : List ℕ) → image e x → StandsAs (image d) x)
+
+-- the content of the disk isn't a log's, by this place
+abbrev pub DamagesIn : {B D : Type 0} → (B → List ℕ → Option D) → (D → Option (List ℕ)) → List ℕ → B → ℕ → Type 0
+DamagesIn disk content name old place = (d : _) (c : List ℕ) → disk old name ≡ Some d → content d ≡ Some c → IsNoLogText c place
+
+-- the bay's count of faults rose, in which are those of the disk; or that of the disk stood at its last value
+abbrev pub DiskCountRose : {B D : Type 0} → (B → List ℕ → Option D) → (D → ℕ) → (B → ℕ) → List ℕ → B → B → Type 0
+DiskCountRose disk faults bay_faults name old new =
+    Rose (bay_faults old) (bay_faults new) ⊎ ((d : _) × IsAsTold (disk old name) d × (2 ^ 64 - 1 ≤ faults d))
+
+-- a load on the disk of this name
+abbrev pub IsLoad : {B D : Type 0} → (B → List ℕ → Option D) → (D → Option (List ℕ)) → (D → List ℕ → Type 0) → (D → ℕ) → (B → ℕ)
+    → List ℕ → B → B → InputChange → OutputChange → Status → Type 0
+IsLoad disk content image faults bay_faults name old new input output status =
+    IsLoaded input output (StoresIn disk content image name old new) (DiskCountRose disk faults bay_faults name old new) status
+    ⊎ (input.Same × StaysIn disk content image name old new
+    × IsNotLoaded output name (DamagesIn disk content name old) (DiskCountRose disk faults bay_faults name old new) status)
+
+-- ---- the program
+
+-- Where the words are those of a load, the program ends with this number. The members of the bay and of its disks come first.
+abbrev pub LoadsWith : {B D : Type 0} → (B → List ℕ → Option D) → (D → Option (List ℕ)) → (D → List ℕ → Type 0) → (D → ℕ) → (B → ℕ)
+    → B → B → List (String Global) → InputChange → OutputChange → ℕ → Type 0
+LoadsWith disk content image faults bay_faults old new words input output number =
+    (conf : ConfigParts) (shard : ℕ) → AreLoadWords (texts words) conf shard → (status : Status) × (number ≡ status_number status)
+    × (((status ≡ NoMemory) × input.Same × output.Same × (new ≡ old))
+    ⊎ ((name : List ℕ) × IsLogDisk conf.topics shard name × IsLoad disk content image faults bay_faults name old new input output status))
+
+-- A segment whose batches may stand behind the log is loaded, where no count rose, memory is found and the journal has room; it hasn't
+-- with 7 alone.
+abbrev pub LoadCompletes : {B D : Type 0} → (B → List ℕ → Option D) → (D → Option (List ℕ)) → (D → ℕ) → (B → ℕ)
+    → B → B → List (String Global) → InputChange → OutputChange → ℕ → Type 0
+LoadCompletes disk content faults bay_faults old new words input output number =
+    (conf : ConfigParts) (shard : ℕ) (name : List ℕ) → AreLoadWords (texts words) conf shard → IsLogDisk conf.topics shard name
+    → (DiskCountRose disk faults bay_faults name old new → ⊥)
+    → (Rose input.faults input.faults_after → ⊥) → (Rose output.faults output.faults_after → ⊥)
+    → (d : _) (c : List ℕ) (log batches : List Batch) → disk old name ≡ Some d → content d ≡ Some c → IsLogText c log
+    → IfSome input.left (λ text. IsSegment text log batches → (number ≡ 0) ⊎ ((number ≡ 7) ⊎ (number ≡ 8)))

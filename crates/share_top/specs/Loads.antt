@@ -1,0 +1,106 @@
+-- How far a load has come, and how one batch ends. Private clauses cite this alone.
+-- For example behind the first of two batches the place is that batch's size.
+use Rattle.std.specs.Prelude.{◌≡◌, ◌≢◌, ◌⊎◌, ◌<◌, ◌≤◌, ◌+◌, ◌^◌, ℕ, List, [], ◌++◌, Bool, true, false, None, IfSome, length, Result, Ok, Err}
+use Rattle.std.specs.declared.option.Option.{Option}
+use Rattle.std.specs.Io.KnownBytes.{Appends, Consumes, IsAtEnd, Keeps as KeepsText}
+use Rattle.edge_io.specs.Causes.{Rose}
+use Rattle.session_script.specs.Script.{longest}
+use Rattle.session_script.specs.Unread.{Unread}
+use Rattle.session_script.specs.Reading.{Takes}
+use Rattle.session_script.specs.Output.{damaged_line}
+use Rattle.part_log.specs.declared.fault.OpenFault.{OpenFault}
+use Rattle.part_log.specs.declared.fault.OpenFault.TheVariants as open_fault
+use Rattle.share_top.specs.declared.status.Status.{Status}
+use Rattle.share_top.specs.declared.status.Status.TheVariants as status
+use Rattle.share_top.specs.Sessions.{WritesFrontOf}
+use Rattle.share_model.specs.declared.fault.LogFault.{LogFault}
+use Rattle.share_model.specs.declared.fault.LogFault.TheVariants as log_fault
+use Rattle.share_model.specs.declared.fault.StoreFault.TheVariants as store_fault
+use Rattle.share_model.specs.Logs.{Batch}
+use Rattle.share_model.specs.Pending.{WithPending}
+use Rattle.part_log.specs.Logs.{IsAdded, IsUnwritten, IsLogText, LogParts, MayFollow, Keeps, and_pending}
+use Rattle.share_top.specs.declared.load.Stop.{Stop}
+use Rattle.share_top.specs.declared.load.Stop.TheVariants.{Refused, Read, Full, Device, NoMemory}
+use Rattle.share_top.specs.Changes.{InputChange, OutputChange}
+use Rattle.share_top.specs.Segments.{HasNoBatch, segment_of}
+use Rattle.share_top.specs.Loading.{LoadEnding, IsWhole, IsRefusedSegment, IsCutSegment, IsBegunSegment, IsFullSegment}
+
+-- ---- one batch
+
+-- why a segment is stopped, where its log took no batch that stands at this place
+abbrev pub stop_by : LogFault → ℕ → Bool → Stop
+stop_by (log_fault.Batch fault) place starved = Refused place
+stop_by (log_fault.Behind end) place starved = Refused place
+stop_by (log_fault.Store store_fault.Device) place true = NoMemory
+stop_by (log_fault.Store store_fault.Device) place false = Device
+stop_by (log_fault.Store (store_fault.Full end)) place starved = Full
+stop_by log_fault.NoMemory place starved = NoMemory
+
+-- this batch stands at the front of what is pending, and may stand behind the log
+pub record IsNext (log : List Batch) (unread : Unread) (b : Batch) : Type 0 where
+  pub more : List ℕ
+  pub follows : MayFollow log b
+  pub front : unread.pending ≡ b.bytes ++ more
+  pub within : unread.place + length b.bytes ≤ longest
+
+-- The batch at the front was added and taken, or the segment ended, or it was stopped there.
+abbrev pub LoadsNext : {D : Type 0} → (D → List ℕ → Type 0) → (D → ℕ) → LogParts D → LogParts D → Unread → Unread → InputChange → Result Bool Stop → Type 0
+LoadsNext image faults old new unread now input (Ok true) =
+    (b : Batch) × Takes unread now input.left input.left_after b.bytes × (now.place ≤ longest) × IsAdded image old new b
+LoadsNext image faults old new unread now input (Ok false) =
+    Takes unread now input.left input.left_after [] × (now.pending ≡ []) × IsAtEnd input.left_after × (input.ended ≡ true) × (new ≡ old)
+LoadsNext image faults old new unread now input (Err (Refused place)) = Takes unread now input.left input.left_after [] × (place ≡ now.place) × (new ≡ old)
+    × IfSome input.left_after (λ more. HasNoBatch now.place old.batches (now.pending ++ more) × (now.pending ++ more ≢ []))
+LoadsNext image faults old new unread now input (Err Read) = Takes unread now input.left input.left_after [] × (new ≡ old)
+    × HasNoBatch now.place old.batches now.pending × Rose input.faults input.faults_after
+LoadsNext image faults old new unread now input (Err Full) = Takes unread now input.left input.left_after [] × (new ≡ old)
+    × ((b : Batch) × IsNext old.batches now b × (2 ^ 62 < old.journal.end + (length b.bytes + 5)))
+LoadsNext image faults old new unread now input (Err Device) = Takes unread now input.left input.left_after []
+    × ((b : Batch) × IsNext old.batches now b × IsUnwritten image old new b) × Rose (faults old.journal.disk) (faults new.journal.disk)
+LoadsNext image faults old new unread now input (Err NoMemory) = Takes unread now input.left input.left_after []
+    × ((new ≡ old) ⊎ ((b : Batch) × IsNext old.batches now b × IsUnwritten image old new b))
+
+-- ---- all batches
+
+-- the input gave these bytes, which are those of batches that were added and what is pending
+pub record HasLoaded {D : Type 0} (image : D → List ℕ → Type 0) (first log : LogParts D) (left now : Option (List ℕ)) (unread : Unread) : Type 0 where
+  pub given : List ℕ
+  pub batches : List Batch
+  pub consumed : Consumes left now given
+  pub parts : given ≡ segment_of batches ++ unread.pending
+  pub place : unread.place ≡ length (segment_of batches)
+  pub added : log.batches ≡ first.batches ++ batches
+  pub kept : Keeps image log None
+
+-- the log was this one, has these batches more, and a crash leaves it with or without the pending one
+pub record IsGrown {D : Type 0} (image : D → List ℕ → Type 0) (first new : LogParts D) (log batches : List Batch) (pending : Option Batch) : Type 0 where
+  pub was : log ≡ first.batches
+  pub has : new.batches ≡ log ++ batches
+  pub images : (c : List ℕ) → image new.journal.disk c → WithPending (IsLogText c) (log ++ batches) (and_pending (log ++ batches) pending)
+
+-- and the place is that behind the batches
+abbrev pub AtPlace : ℕ → LoadEnding → LoadEnding
+AtPlace place Ends log batches pending = Ends log batches pending × (place ≡ length (segment_of batches))
+
+-- all of the segment was loaded, or it was stopped
+abbrev pub LoadsAll : InputChange → LoadEnding → Type 0 → Result (Unit {0}) Stop → Type 0
+LoadsAll input Ends Rises (Ok done) = IsWhole input Ends
+LoadsAll input Ends Rises (Err (Refused place)) = IsRefusedSegment input (AtPlace place Ends)
+LoadsAll input Ends Rises (Err Read) = Rose input.faults input.faults_after × IsCutSegment input Ends
+LoadsAll input Ends Rises (Err Full) = IsFullSegment input Ends
+LoadsAll input Ends Rises (Err Device) = Rises × IsBegunSegment input Ends
+LoadsAll input Ends Rises (Err NoMemory) = IsBegunSegment input Ends
+
+-- ---- the opening
+
+-- why the log of this disk was not opened, as it is told
+abbrev pub IsLogRefusal : List ℕ → OpenFault → OutputChange → Status → Type 0
+IsLogRefusal disk fault output status.Damaged = (place : ℕ) × (fault ≡ open_fault.Damaged place) × Appends output.held output.held_after (damaged_line disk place)
+IsLogRefusal disk fault output status.WriteFault = Rose output.faults output.faults_after
+    × ((place : ℕ) × (fault ≡ open_fault.Damaged place) × WritesFrontOf (damaged_line disk place) output)
+IsLogRefusal disk fault output status.Device = (fault ≡ open_fault.Device) × KeepsText output.held output.held_after
+IsLogRefusal disk fault output status.NoMemory = KeepsText output.held output.held_after
+IsLogRefusal disk fault output status.Done = ⊥
+IsLogRefusal disk fault output status.Usage = ⊥
+IsLogRefusal disk fault output status.Malformed = ⊥
+IsLogRefusal disk fault output status.ReadFault = ⊥

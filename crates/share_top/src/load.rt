@@ -1,0 +1,267 @@
+// The loading of a segment into the log of one partition.
+ghost use Rattle.std.specs.Prelude.{◌≡◌, ◌≢◌, ◌≤◌, ◌<◌, None, All, List, ℕ, MatchOption};
+ghost use Rattle.edge_io.specs.Armed.{RunsOn};
+ghost use Rattle.edge_io.specs.Causes.{Rose};
+ghost use Rattle.session_script.specs.Output.{malformed_line};
+ghost use Rattle.session_script.specs.Writing.{WritesText};
+ghost use Rattle.edge_io.specs.Names.{most_partitions};
+ghost use Rattle.share_model.specs.Logs.{Batch};
+ghost use Rattle.part_log.specs.Logs.{Keeps};
+ghost use Rattle.topic_conf.specs.Topics.{IsTopic, partitions};
+ghost use Rattle.share_top.specs.Changes.{input_change, output_change};
+ghost use Rattle.share_top.specs.Loading.{IsLoad, IsLoaded, IsLogDisk, NoneIsOut, loaded_line};
+ghost use Rattle.share_top.specs.Segments.{HasOneReading};
+ghost use Rattle.share_top.specs.Loads.{LoadsNext, LoadsAll, IsGrown, IsLogRefusal, stop_by};
+
+use crate::segment::{Front, SegmentFault, SegmentReader};
+use crate::status::Status;
+use edge_io::{Bay, Disk, DiskName, DiskPlace, Sink, Source, write_all};
+use part_log::{OpenFault, PartLog};
+use session_script::{LineFault, write_damaged, write_malformed};
+use share_model::{LogFault, StoreFault};
+use std::alloc::Global;
+use topic_conf::{Config, Topic};
+
+/// Why a segment was not loaded to its end.
+#[derive(Clone, Copy, Debug, PartialEq, Eq)]
+pub enum Stop {
+    /// No batch that may stand behind the log begins at this place.
+    Refused { place: u64 },
+    /// The input failed.
+    Read,
+    /// The journal has no room.
+    Full,
+    /// The disk failed.
+    Device,
+    /// No memory was found.
+    NoMemory,
+}
+
+// Why the log took no batch that stands at this place.
+fn stop_of(fault: LogFault, place: u64, starved: bool) -> Stop
+    ensures { result ≡ stop_by fault place starved }
+{
+    match fault {
+        LogFault::Batch(_) => Stop::Refused { place },
+        LogFault::Behind { .. } => Stop::Refused { place },
+        LogFault::Store(StoreFault::Device) => {
+            if starved {
+                return Stop::NoMemory;
+            }
+            Stop::Device
+        }
+        LogFault::Store(StoreFault::Full { .. }) => Stop::Full,
+        LogFault::NoMemory => Stop::NoMemory,
+    }
+}
+
+// Adds the batch at the front of the segment to the log. False where the segment has ended.
+fn load_next<D: Disk, I: Source>(
+    reader: &mut SegmentReader,
+    log: &mut PartLog<D>,
+    input: &mut I,
+) -> Result<bool, Stop>
+    ensures loads { LoadsNext D.image D.faults log.old log.new reader.old reader.new
+        (input_change I.left I.ended I.faults input.old input.new) result }
+    ensures later { I.faults input.old ≤ I.faults input.new }
+    ensures runs { RunsOn D.content D.losses D.arms D.armed D.starved D.faults log.old.journal.disk log.new.journal.disk }
+{
+    let size = match reader.front(input) {
+        Ok(Front::Batch { size }) => size,
+        Ok(Front::End) => return Ok(false),
+        Err(SegmentFault::Refused) => {
+            return Err(Stop::Refused {
+                place: reader.place(),
+            });
+        }
+        Err(SegmentFault::Read) => return Err(Stop::Read),
+        Err(SegmentFault::NoMemory) => return Err(Stop::NoMemory),
+    };
+    match log.load(reader.first(size)) {
+        Ok(_) => {
+            reader.skip(size);
+            Ok(true)
+        }
+        Err(fault) => Err(stop_of(fault, reader.place(), log.starved())),
+    }
+}
+
+// Adds the batches of the segment to the log, one after another.
+fn load_all<D: Disk, I: Source>(
+    alloc: Global,
+    log: &mut PartLog<D>,
+    input: &mut I,
+) -> Result<(), Stop>
+    requires { Keeps D.image log.old None }
+    ensures loads { LoadsAll (input_change I.left I.ended I.faults input.old input.new) (IsGrown D.image log.old log.new)
+        (Rose (D.faults log.old.journal.disk) (D.faults log.new.journal.disk)) result }
+    ensures runs { RunsOn D.content D.losses D.arms D.armed D.starved D.faults log.old.journal.disk log.new.journal.disk }
+{
+    let mut reader = SegmentReader::new(alloc);
+    'batches: loop {
+        match load_next(&mut reader, log, input) {
+            Ok(true) => {}
+            Ok(false) => return Ok(()),
+            Err(stop) => return Err(stop),
+        }
+    }
+}
+
+// Writes the line that tells how many batches were added, and where the log ends.
+fn write_loaded<O: Sink>(
+    alloc: Global,
+    count: u64,
+    end: u64,
+    output: &mut O,
+) -> Result<(), LineFault>
+    ensures { WritesText (O.held output.old) (O.held output.new) (O.faults output.old) (O.faults output.new) (loaded_line count end) result }
+{
+    let text = format!(in alloc; "loaded {count} {end}\n")?;
+    match write_all(output, text.as_bytes()) {
+        Ok(()) => Ok(()),
+        Err(_) => Err(LineFault::Write),
+    }
+}
+
+// Loads a segment into a log, and tells what came of it.
+fn load_into<D: Disk, I: Source, O: Sink>(
+    alloc: Global,
+    log: &mut PartLog<D>,
+    input: &mut I,
+    output: &mut O,
+) -> Status
+    requires { Keeps D.image log.old None }
+    ensures loaded { IsLoaded (input_change I.left I.ended I.faults input.old input.new) (output_change O.held O.faults output.old output.new)
+        (IsGrown D.image log.old log.new) (Rose (D.faults log.old.journal.disk) (D.faults log.new.journal.disk)) result }
+    ensures counted { result ≢ Status.WriteFault → O.faults output.new ≡ O.faults output.old }
+    ensures runs { RunsOn D.content D.losses D.arms D.armed D.starved D.faults log.old.journal.disk log.new.journal.disk }
+{
+    let before = log.len();
+    match load_all(alloc, log, input) {
+        Ok(()) => match write_loaded(alloc, log.len() - before, log.end(), output) {
+            Ok(()) => Status::Done,
+            Err(LineFault::Write) => Status::WriteFault,
+            Err(LineFault::NoMemory) => Status::NoMemory,
+        },
+        Err(stop) => match stop {
+            Stop::Refused { place } => match write_malformed(alloc, place, output) {
+                Ok(()) => Status::Malformed,
+                Err(LineFault::Write) => Status::WriteFault,
+                Err(LineFault::NoMemory) => Status::NoMemory,
+            },
+            Stop::Read => Status::ReadFault,
+            Stop::Full => Status::Device,
+            Stop::Device => Status::Device,
+            Stop::NoMemory => Status::NoMemory,
+        },
+    }
+}
+
+// Tells why a log was not opened.
+fn refuse_log<O: Sink>(
+    alloc: Global,
+    disk: &DiskName,
+    fault: OpenFault,
+    starved: bool,
+    output: &mut O,
+) -> Status
+    ensures refusal { IsLogRefusal disk.now fault (output_change O.held O.faults output.old output.new) result }
+    ensures counted { result ≢ Status.WriteFault → O.faults output.new ≡ O.faults output.old }
+{
+    match fault {
+        OpenFault::Damaged { place } => match write_damaged(alloc, disk, place, output) {
+            Ok(()) => Status::Damaged,
+            Err(LineFault::Write) => Status::WriteFault,
+            Err(LineFault::NoMemory) => Status::NoMemory,
+        },
+        OpenFault::Device => {
+            if starved {
+                return Status::NoMemory;
+            }
+            Status::Device
+        }
+        OpenFault::NoMemory => Status::NoMemory,
+    }
+}
+
+// Loads a segment into the log on the disk of this name.
+fn load_on<I: Source, O: Sink, B: Bay>(
+    alloc: Global,
+    name: &DiskName,
+    input: &mut I,
+    output: &mut O,
+    bay: &mut B,
+) -> Status
+where
+    B::D: Drop,
+    requires { NoneIsOut B.out bay.old }
+    ensures loads { IsLoad B.disk B.D.content B.D.image B.D.faults B.faults name.now bay.old bay.new
+        (input_change I.left I.ended I.faults input.old input.new) (output_change O.held O.faults output.old output.new) result }
+    ensures counted { result ≢ Status.WriteFault → O.faults output.new ≡ O.faults output.old }
+    ensures back { NoneIsOut B.out bay.new }
+{
+    let Ok(disk) = bay.take(name) else {
+        return if bay.starved() {
+            Status::NoMemory
+        } else {
+            Status::Device
+        };
+    };
+    match PartLog::open(alloc, disk) {
+        Ok(mut log) => {
+            let status = load_into(alloc, &mut log, input, output);
+            bay.put_back(name, log.into_disk());
+            status
+        }
+        Err((disk, fault)) => {
+            let starved = disk.starved();
+            bay.put_back(name, disk);
+            refuse_log(alloc, name, fault, starved, output)
+        }
+    }
+}
+
+// The disk of the log of a shard's partition. `None` where there is no such shard.
+fn log_disk(topics: &[Topic], shard: u32) -> Option<DiskName>
+    requires each { All IsTopic topics.now }
+    requires few { partitions topics.now ≤ most_partitions }
+    ensures { MatchOption result (partitions topics.now ≤ shard) (IsLogDisk topics.now shard) }
+{
+    let Some((topic, others)) = topics.split_first() else {
+        return None;
+    };
+    if shard < topic.parts {
+        return DiskName::hosted(topic.name.as_bytes(), shard, DiskPlace::Log);
+    }
+    log_disk(others, shard - topic.parts)
+}
+
+/// Loads a segment from `input` into the log of the partition of this shard, whose disk alone is taken from the bay, and put back.
+pub fn load<I: Source, O: Sink, B: Bay>(
+    alloc: Global,
+    conf: &Config,
+    shard: u32,
+    input: &mut I,
+    output: &mut O,
+    bay: &mut B,
+) -> Status
+where
+    B::D: Drop,
+    requires hosted { shard < partitions conf.now.topics }
+    requires home { NoneIsOut B.out bay.old }
+    ensures loads { (name : List ℕ) × IsLogDisk conf.now.topics shard name
+        × IsLoad B.disk B.D.content B.D.image B.D.faults B.faults name bay.old bay.new
+        (input_change I.left I.ended I.faults input.old input.new) (output_change O.held O.faults output.old output.new) result }
+    ensures counted { result ≢ Status.WriteFault → O.faults output.new ≡ O.faults output.old }
+    ensures back { NoneIsOut B.out bay.new }
+{
+    let Some(name) = log_disk(conf.topics(), shard) else {
+        unreachable!()
+    };
+    load_on(alloc, &name, input, output, bay)
+}
+
+/// A text is read in one way as batches that may stand behind a log, and a rest that begins with none.
+pub fn segments_are_read_one_way()
+    ensures { (text : List ℕ) (log : List Batch) → HasOneReading text log }
+{}
