@@ -1,11 +1,12 @@
 // What the program says on standard error, where it doesn't end with status 0.
 use crate::usage::usage_text;
-use edge_real::SystemFault;
+use edge_real::{FolderFault, ReaderSource, SystemFault, WriterSink};
+use std::io::{Read, Write};
 
 /// The status where the words are no command, and where one of them isn't UTF-8.
 pub const USAGE: u8 = 2;
 
-/// The status where the input is no script.
+/// The status where the input isn't what the command reads.
 const MALFORMED: u8 = 3;
 
 /// The status where the input failed.
@@ -23,11 +24,35 @@ const DEVICE: u8 = 7;
 /// The status where no memory is found.
 pub const NO_MEMORY: u8 = 8;
 
-/// The last faults of the standard streams, as the operating system told them.
-#[derive(Clone, Copy)]
-pub struct StreamFaults {
-    pub input: Option<SystemFault>,
-    pub output: Option<SystemFault>,
+/// What that status means of a script.
+pub const NO_SCRIPT: &str =
+    "the input is no script; the last line of the output names its first fault";
+
+/// What that status means of the batches of a log.
+pub const NO_SEGMENT: &str =
+    "a batch of the input is refused; the last line of the output names its place, and those before it are stored";
+
+/// The last faults of the standard streams, and of the folder of disks, as the operating system told them.
+#[derive(Drop)]
+pub struct Faults<'a> {
+    input: Option<SystemFault>,
+    output: Option<SystemFault>,
+    folder: Option<FolderFault<'a>>,
+}
+
+impl<'a> Faults<'a> {
+    /// The last faults of these.
+    pub fn of<R: Read, W: Write>(
+        input: &ReaderSource<R>,
+        output: &WriterSink<W>,
+        folder: Option<FolderFault<'a>>,
+    ) -> Faults<'a> {
+        Faults {
+            input: input.last_fault(),
+            output: output.last_fault(),
+            folder,
+        }
+    }
 }
 
 // A line on what the program met. It is lost where standard error can't be written.
@@ -36,34 +61,45 @@ fn tell(rt: &HostRuntime, what: &str) {
 }
 
 // A line on a stream, and what the operating system said of it.
-fn tell_fault(rt: &HostRuntime, stream: &str, fault: Option<SystemFault>) {
+fn tell_stream(rt: &HostRuntime, stream: &str, fault: Option<SystemFault>) {
     let _ = match fault {
         Some(fault) => eprintln!(rt; "sharebroker: {stream}: {fault}"),
         None => eprintln!(rt; "sharebroker: {stream} failed"),
     };
 }
 
-/// Says in one line what the status means; after bad words the usage text follows.
-pub fn tell_status(rt: &HostRuntime, status: u8, faults: StreamFaults) {
+// A line on a file of the folder, and what the operating system said of it. A disk in memory fails without a word of the system, and
+// a log that is full is no fault of a file.
+fn tell_device(rt: &HostRuntime, fault: Option<FolderFault<'_>>) {
+    let _ = match fault {
+        Some(fault) => eprintln!(rt; "sharebroker: {fault}"),
+        None => eprintln!(rt; "sharebroker: a disk failed, or a log is full"),
+    };
+}
+
+// The usage text, behind a line.
+fn tell_usage(rt: &HostRuntime) {
+    tell(rt, "bad words");
+    if let Ok(text) = usage_text(rt.alloc()) {
+        let _ = eprint!(rt; "{text}");
+    }
+}
+
+/// Says in one line what a status means, and gives it; after bad words the usage text follows. `malformed` is what is said of an input
+/// that isn't what the command reads.
+pub fn tell_status(rt: &HostRuntime, status: u8, malformed: &str, faults: Faults<'_>) -> u8 {
     match status {
-        USAGE => {
-            tell(rt, "bad words");
-            if let Ok(text) = usage_text(rt.alloc()) {
-                let _ = eprint!(rt; "{text}");
-            }
-        }
-        MALFORMED => tell(
-            rt,
-            "the input is no script; the last line of the output names its first fault",
-        ),
-        READ_FAULT => tell_fault(rt, "standard input", faults.input),
-        WRITE_FAULT => tell_fault(rt, "standard output", faults.output),
+        USAGE => tell_usage(rt),
+        MALFORMED => tell(rt, malformed),
+        READ_FAULT => tell_stream(rt, "standard input", faults.input),
+        WRITE_FAULT => tell_stream(rt, "standard output", faults.output),
         DAMAGED => tell(
             rt,
             "a disk has a content that no broker wrote; the last line of the output names it, and the place of its first fault",
         ),
-        DEVICE => tell(rt, "a disk failed"),
+        DEVICE => tell_device(rt, faults.folder),
         NO_MEMORY => tell(rt, "out of memory"),
         _ => {}
     }
+    status
 }

@@ -3,16 +3,17 @@
 
 ghost use Rattle.std.specs.Prelude.{◌≡◌, List, ℕ, false};
 ghost use Rattle.edge_mem.specs.Bays.{out_at};
+ghost use Rattle.edge_real.specs.Folders.{out_at as out_of_folder};
 
 mod ending;
 mod usage;
 
 use edge_mem::MemBay;
-use edge_real::{ReaderSource, WriterSink};
-use ending::{NO_MEMORY, StreamFaults, USAGE, tell_status};
+use edge_real::{FolderBay, ReaderSource, SystemFolders, WriterSink};
+use ending::{Faults, NO_MEMORY, NO_SCRIPT, NO_SEGMENT, USAGE, tell_status};
 use share_top::{BayChoice, bay_choice, run};
 use std::env;
-use std::io::{ErrorKind, Result};
+use std::io::{ErrorKind, Read, Result, Write};
 use std::process::ExitCode;
 
 // The words behind the program's name.
@@ -24,30 +25,62 @@ fn words(rt: &HostRuntime) -> Result<Vec<String>> {
     Ok(words)
 }
 
-// The bay over which these words are run. No disk of it is out.
-fn bay_for(rt: &HostRuntime, words: &[String]) -> MemBay
+// The word that names the folder over which these words are run. They are run over a fresh bay in memory where there is none.
+fn folder_word(words: &[String]) -> Option<&String> {
+    match bay_choice(words) {
+        BayChoice::Memory => None,
+        BayChoice::Folder { word } => words.get(word),
+    }
+}
+
+// A fresh bay. No disk of it is out.
+fn memory_bay(rt: &HostRuntime) -> MemBay
     ensures { (name : List ℕ) → out_at result name ≡ false }
 {
-    match bay_choice(words) {
-        BayChoice::Memory => MemBay::new(rt.alloc(), Vec::new(rt.alloc())),
-    }
+    MemBay::new(rt.alloc(), Vec::new(rt.alloc()))
+}
+
+// The disks of a folder. None is out.
+fn folder_bay(rt: &HostRuntime, folder: String) -> FolderBay<SystemFolders<'_, HostRuntime>>
+    ensures { (name : List ℕ) → out_of_folder result name ≡ false }
+{
+    FolderBay::over(rt.alloc(), SystemFolders { rt }, folder)
+}
+
+// Does what the words say, tells what is to be told of the status, and gives it.
+fn perform<R: Read, W: Write>(
+    rt: &HostRuntime,
+    words: &[String],
+    input: &mut ReaderSource<R>,
+    output: &mut WriterSink<W>,
+) -> u8 {
+    let Some(folder) = folder_word(words) else {
+        let mut bay = memory_bay(rt);
+        let status = run(rt, rt.alloc(), words, input, output, &mut bay);
+        return tell_status(rt, status, NO_SCRIPT, Faults::of(input, output, None));
+    };
+    let Ok(folder) = folder.clone() else {
+        return tell_status(rt, NO_MEMORY, NO_SEGMENT, Faults::of(input, output, None));
+    };
+    let mut bay = folder_bay(rt, folder);
+    let status = run(rt, rt.alloc(), words, input, output, &mut bay);
+    tell_status(
+        rt,
+        status,
+        NO_SEGMENT,
+        Faults::of(input, output, bay.last_fault()),
+    )
 }
 
 fn main(rt: HostRuntime) -> ExitCode {
     let mut input = ReaderSource::new(rt.stdin());
     let mut output = WriterSink::new(rt.stdout());
     let status = match words(&rt) {
-        Ok(words) => {
-            let mut bay = bay_for(&rt, &words);
-            run(&rt, rt.alloc(), &words, &mut input, &mut output, &mut bay)
+        Ok(words) => perform(&rt, &words, &mut input, &mut output),
+        Err(error) if error.kind() == ErrorKind::OutOfMemory => {
+            tell_status(&rt, NO_MEMORY, NO_SCRIPT, Faults::of(&input, &output, None))
         }
-        Err(error) if error.kind() == ErrorKind::OutOfMemory => NO_MEMORY,
-        Err(_) => USAGE,
+        Err(_) => tell_status(&rt, USAGE, NO_SCRIPT, Faults::of(&input, &output, None)),
     };
-    let faults = StreamFaults {
-        input: input.last_fault(),
-        output: output.last_fault(),
-    };
-    tell_status(&rt, status, faults);
     ExitCode::from(status)
 }

@@ -8,6 +8,15 @@ const ABOUT_TOPICS: &str = "\
 A name has 1 to 249 ASCII letters, digits, '.', '_' and '-', and is neither '.' nor '..'. Names differ, and so do ids.
 There are at most 64 partitions in all. For example: orders:3:6ba7b810-9dad-11d1-80b4-00c04fd430c8";
 
+// The topics, which stand last.
+fn topics<'a>(alloc: Global) -> Arg<'a> {
+    Arg::new(alloc, "topics")
+        .value_name("TOPIC")
+        .required(true)
+        .num_args(1..)
+        .help("A topic, as NAME:N:ID: its name, its number of partitions, and its id, a UUID")
+}
+
 // What `replay` takes.
 fn replay<'a>(alloc: Global) -> Result<Command<'a>, AllocError> {
     let reset = Arg::new(alloc, "reset")
@@ -25,25 +34,49 @@ fn replay<'a>(alloc: Global) -> Result<Command<'a>, AllocError> {
         .value_name("N")
         .default_value("5")
         .help("How often a record is delivered at most, 2 to 10");
-    let topics = Arg::new(alloc, "topics")
-        .value_name("TOPIC")
-        .required(true)
-        .num_args(1..)
-        .help("A topic, as NAME:N:ID: its name, its number of partitions, and its id, a UUID");
     Command::new(alloc, "replay")
         .bin_name("sharebroker replay")?
         .about(
             "Replays a recorded session from standard input, and writes its outcomes to standard output",
         )
-        .after_help(ABOUT_TOPICS)
         .disable_help_flag(true)
         .arg(reset)?
         .arg(lock_ms)?
         .arg(limit)?
-        .arg(topics)
+        .arg(topics(alloc))
+}
+
+// What `load` takes.
+fn load<'a>(alloc: Global) -> Result<Command<'a>, AllocError> {
+    let folder = Arg::new(alloc, "dir")
+        .long("dir")
+        .value_name("FOLDER")
+        .required(true)
+        .help("The folder of the disks, which is made where it is missing");
+    let name = Arg::new(alloc, "name")
+        .value_name("NAME")
+        .required(true)
+        .help("The name of one of the topics");
+    let part = Arg::new(alloc, "part")
+        .value_name("PART")
+        .required(true)
+        .help("The number of one of its partitions, from 0 on");
+    Command::new(alloc, "load")
+        .bin_name("sharebroker load")?
+        .about(
+            "Appends record batches from standard input to the log of a partition, with the offsets that they have",
+        )
+        .after_help(ABOUT_TOPICS)
+        .disable_help_flag(true)
+        .arg(folder)?
+        .arg(name)?
+        .arg(part)?
+        .arg(topics(alloc))
 }
 
 /// The usage text: each command with its options and the words behind them.
 pub fn usage_text(alloc: Global) -> Result<String, AllocError> {
-    replay(alloc)?.render_help()
+    let replay = replay(alloc)?.render_help()?;
+    let load = load(alloc)?.render_help()?;
+    Ok(format!(in alloc; "{replay}\n{load}")?)
 }
