@@ -1,6 +1,6 @@
 // A case as far as it was read.
-use crate::judge::{judge_again, judge_run, judge_settings};
-use edge_io::FaultMode;
+use crate::judge::{judge_again, judge_bay, judge_run, judge_settings};
+use edge_io::{DiskName, FaultMode};
 use row_text::{Rows, Taken, bytes_of, without_blanks};
 use std::alloc::Global;
 use std::io;
@@ -9,6 +9,7 @@ use std::io;
 pub struct Case {
     pub words: Vec<String>,
     pub script: String,
+    pub segment: Vec<u8>,
     pub wanted: String,
     pub read_faults: Vec<u64>,
     pub write_faults: Vec<u64>,
@@ -21,14 +22,14 @@ pub struct Case {
 /// A disk, and a content of it.
 #[derive(Drop)]
 pub struct DiskLine {
-    pub second: bool,
+    pub name: DiskName,
     pub bytes: Vec<u8>,
 }
 
 /// A fault that is armed on a disk.
-#[derive(Clone, Copy)]
+#[derive(Drop)]
 pub struct ArmLine {
-    pub second: bool,
+    pub name: DiskName,
     pub after: u64,
     pub mode: FaultMode,
 }
@@ -59,14 +60,25 @@ fn push_bytewise(alloc: Global, out: &mut String, text: &str) -> io::Result<()> 
     Ok(())
 }
 
+/// A disk by its name; the first one of foreign state where no disk has that name.
+fn named(name: &str) -> DiskName {
+    DiskName::parse(name).unwrap_or(DiskName::foreign_state_a())
+}
+
 /// A line of a disk's name and bytes.
 fn disk_line(alloc: Global, text: &str) -> io::Result<DiskLine> {
     let (name, digits) = text.split_once(' ').unwrap_or((text, ""));
     let bytes = bytes_of(alloc, digits)?;
     Ok(DiskLine {
-        second: name == "foreign/state-b",
+        name: named(name),
         bytes: bytes.unwrap_or(Vec::new(alloc)),
     })
+}
+
+/// Adds the bytes of a line to a segment.
+fn push_segment(alloc: Global, segment: &mut Vec<u8>, text: &str) -> io::Result<()> {
+    let bytes = bytes_of(alloc, text)?.unwrap_or(Vec::new(alloc));
+    Ok(segment.extend_from_slice(&bytes)?)
 }
 
 /// A line of a disk's name, a number of calls and a mode.
@@ -74,7 +86,7 @@ fn arm_line(text: &str) -> ArmLine {
     let (name, fault) = text.split_once(' ').unwrap_or((text, ""));
     let (after, mode) = fault.split_once(' ').unwrap_or((fault, ""));
     ArmLine {
-        second: name == "foreign/state-b",
+        name: named(name),
         after: after.parse().unwrap_or(0),
         mode: match mode {
             "torn" => FaultMode::Torn,
@@ -98,6 +110,7 @@ impl Case {
         Case {
             words: Vec::new(alloc),
             script: String::new(alloc),
+            segment: Vec::new(alloc),
             wanted: String::new(alloc),
             read_faults: Vec::new(alloc),
             write_faults: Vec::new(alloc),
@@ -122,6 +135,7 @@ impl Case {
             "send" => push_bytes(alloc, &mut self.script, "bytes", text)?,
             "bytewise" => push_bytewise(alloc, &mut self.script, text)?,
             "cut" => self.script.push_str(text)?,
+            "segment" => push_segment(alloc, &mut self.segment, text)?,
             "<" => push_line(&mut self.wanted, text)?,
             "reply" => push_bytes(alloc, &mut self.wanted, "reply", text)?,
             _ => return Ok(false),
@@ -134,6 +148,7 @@ impl Rows for Case {
     /// A case has the words of the one before it until it is given its own.
     fn begin(&mut self, alloc: Global) -> io::Result<()> {
         self.script = String::new(alloc);
+        self.segment = Vec::new(alloc);
         self.wanted = String::new(alloc);
         self.read_faults = Vec::new(alloc);
         self.write_faults = Vec::new(alloc);
@@ -149,6 +164,7 @@ impl Rows for Case {
             "status" => judge_run(rt, self, text)?,
             "again" => judge_again(rt.alloc(), self)?,
             "settings" => judge_settings(rt.alloc(), self, text)?,
+            "bay" => judge_bay(rt.alloc(), self, text)?,
             _ => match self.note(rt.alloc(), kind, text)? {
                 true => return Ok(Taken::Noted),
                 false => return Ok(Taken::Unknown),

@@ -1,8 +1,7 @@
 // The disks of a case: what they have before it, and what they are left with.
-ghost use Rattle.std.specs.Prelude.{◌≡◌, ◌⊎◌, false, IfOk};
+ghost use Rattle.std.specs.Prelude.{IfOk};
 ghost use Rattle.edge_mem.specs.Bays.{out_at};
-ghost use Rattle.broker_model.specs.Shards.{state_a, state_b};
-ghost use Rattle.broker_core.specs.Bays.{AreOut};
+ghost use Rattle.share_top.specs.Loading.{NoneIsOut};
 
 use crate::case::{ArmLine, Case, DiskLine};
 use edge_io::{Bay, Disk, DiskName};
@@ -11,48 +10,37 @@ use row_text::compared;
 use std::alloc::Global;
 use std::io;
 
-fn name_of(second: bool) -> DiskName
-    ensures { (result ≡ state_a) ⊎ (result ≡ state_b) }
-{
-    if second {
-        DiskName::foreign_state_b()
-    } else {
-        DiskName::foreign_state_a()
-    }
-}
-
 /// Gives a disk this content.
 fn fill(alloc: Global, bay: &mut MemBay, line: &DiskLine) -> io::Result<()>
-    requires { AreOut out_at false bay.old }
-    ensures { AreOut out_at false bay.new }
+    requires { NoneIsOut out_at bay.old }
+    ensures { NoneIsOut out_at bay.new }
 {
-    let name = name_of(line.second);
+    let name = &line.name;
     let Ok(disk) = MemDisk::new(alloc, line.bytes.as_slice().to_vec(alloc)?) else {
         return Ok(());
     };
-    let Ok(_) = bay.take(&name) else {
+    let Ok(_) = bay.take(name) else {
         return Ok(());
     };
-    bay.put_back(&name, disk);
+    bay.put_back(name, disk);
     Ok(())
 }
 
 /// Arms a fault of a disk.
-fn arm(bay: &mut MemBay, line: ArmLine)
-    requires { AreOut out_at false bay.old }
-    ensures { AreOut out_at false bay.new }
+fn arm(bay: &mut MemBay, line: &ArmLine)
+    requires { NoneIsOut out_at bay.old }
+    ensures { NoneIsOut out_at bay.new }
 {
-    let name = name_of(line.second);
-    let Ok(mut disk) = bay.take(&name) else {
+    let Ok(mut disk) = bay.take(&line.name) else {
         return;
     };
     disk.arm(line.after, line.mode);
-    bay.put_back(&name, disk);
+    bay.put_back(&line.name, disk);
 }
 
 /// The bay of a case.
 pub fn bay_of(alloc: Global, case: &Case) -> io::Result<MemBay>
-    ensures { IfOk result (λ bay. AreOut out_at false bay) }
+    ensures { IfOk result (λ bay. NoneIsOut out_at bay) }
 {
     let taken = (case.disks.len() as u64).saturating_add(case.arms.len() as u64);
     let mut failing = Vec::new(alloc);
@@ -64,29 +52,28 @@ pub fn bay_of(alloc: Global, case: &Case) -> io::Result<MemBay>
         fill(alloc, &mut bay, disk)?;
     }
     for fault in &case.arms {
-        arm(&mut bay, *fault);
+        arm(&mut bay, fault);
     }
     Ok(bay)
 }
 
 /// What differs between the content of a disk and the one that is wanted.
 fn compared_disk(alloc: Global, bay: &mut MemBay, line: &DiskLine) -> io::Result<Option<String>>
-    requires { AreOut out_at false bay.old }
-    ensures { AreOut out_at false bay.new }
+    requires { NoneIsOut out_at bay.old }
+    ensures { NoneIsOut out_at bay.new }
 {
-    let name = name_of(line.second);
-    let Ok(disk) = bay.take(&name) else {
+    let Ok(disk) = bay.take(&line.name) else {
         return Ok(Some(String::from_str(alloc, "the disk isn't there")?));
     };
     let got = hex::encode(alloc, disk.bytes());
-    bay.put_back(&name, disk);
+    bay.put_back(&line.name, disk);
     let wanted = hex::encode(alloc, line.bytes.as_slice())?;
     compared(alloc, got?.as_str(), wanted.as_str())
 }
 
 /// What differs between the disks of a case behind it, and what they are to be left with.
 pub fn compared_disks(alloc: Global, bay: &mut MemBay, case: &Case) -> io::Result<Option<String>>
-    requires { AreOut out_at false bay.old }
+    requires { NoneIsOut out_at bay.old }
 {
     for line in &case.left {
         if let Some(why) = compared_disk(alloc, bay, line)? {

@@ -5,7 +5,7 @@ use edge_mem::{MemSink, MemSource};
 use row_text::compared;
 use session_script::{ScriptReader, Taken, write_event};
 use share_model::Reset;
-use share_top::{Words, run};
+use share_top::{BayChoice, Words, bay_choice, run};
 use std::alloc::Global;
 use std::io;
 use topic_conf::Config;
@@ -13,8 +13,9 @@ use topic_conf::Config;
 /// Runs the session of a case.
 pub fn judge_run(rt: &HostRuntime, case: &Case, status: &str) -> io::Result<Option<String>> {
     let alloc = rt.alloc();
-    let script = case.script.as_bytes().to_vec(alloc)?;
-    let mut input = MemSource::new(script, case.read_faults.as_slice().to_vec(alloc)?);
+    let mut given = case.script.as_bytes().to_vec(alloc)?;
+    given.extend_from_slice(&case.segment)?;
+    let mut input = MemSource::new(given, case.read_faults.as_slice().to_vec(alloc)?);
     let mut output = MemSink::new(alloc, case.write_faults.as_slice().to_vec(alloc)?);
     let mut bay = bay_of(alloc, case)?;
     let ended = run(rt, alloc, &case.words, &mut input, &mut output, &mut bay);
@@ -66,10 +67,26 @@ fn settings(alloc: Global, conf: &Config) -> io::Result<String> {
     Ok(text)
 }
 
+/// Tells which bay the words of a case want: the place of the folder's word, or `memory`.
+pub fn judge_bay(alloc: Global, case: &Case, wanted: &str) -> io::Result<Option<String>> {
+    match bay_choice(&case.words) {
+        BayChoice::Memory => compared(alloc, "memory", wanted),
+        BayChoice::Folder { word } => {
+            let text = format!(in alloc; "folder {word}")?;
+            compared(alloc, text.as_str(), wanted)
+        }
+    }
+}
+
 /// Reads the words of a case.
 pub fn judge_settings(alloc: Global, case: &Case, wanted: &str) -> io::Result<Option<String>> {
     match Words::read(alloc, &case.words) {
         Ok(Words::Replay { conf }) => compared(alloc, settings(alloc, &conf)?.as_str(), wanted),
+        Ok(Words::Load { conf, shard }) => {
+            let settings = settings(alloc, &conf)?;
+            let text = format!(in alloc; "shard {shard} {settings}")?;
+            compared(alloc, text.as_str(), wanted)
+        }
         Err(fault) => Ok(Some(format!(in alloc; "{fault:?}")?)),
     }
 }

@@ -9,8 +9,9 @@
 //! | `send C HEX ..` | the line `bytes C HEX`; blanks in the hex are for reading |
 //! | `bytewise C HEX ..` | such a line for each byte |
 //! | `cut TEXT` | text without a line feed |
+//! | `segment HEX ..` | bytes of the input, behind the script; blanks in the hex are for reading |
 //! | `read-fault N`, `write-fault N` | the call of the input or output that fails, counted from 0 |
-//! | `bay-fault N` | the call for a disk that fails, counted from 0; the first disk is `foreign/state-a`, and the second `foreign/state-b` |
+//! | `bay-fault N` | the call for a disk that fails, counted from 0; of a replay the logs of the partitions come first, in their order, and then `foreign/state-a` and `foreign/state-b`; of a load there is the log alone |
 //! | `disk NAME HEX ..` | the content of a disk before the run; one that has no such line is empty |
 //! | `armed NAME N MODE` | a fault of a disk that is armed before the run |
 //! | `left NAME HEX ..` | the content that a disk is wanted to have behind the run |
@@ -18,7 +19,8 @@
 //! | `reply C HEX ..` | the line `reply C HEX` is wanted |
 //! | `status N` | the session is run, and has to write those lines and to end with N |
 //! | `again` | the events of the script are read, and written; that has to give the script without its `end` |
-//! | `settings TEXT` | the words are read, and have to give these settings |
+//! | `settings TEXT` | the words are read, and have to give these settings, behind `shard N` those of a load |
+//! | `bay TEXT` | the words have to want this bay: `memory`, or `folder N`, where the word N, counted from 0, names the folder |
 #![tactic(auto)]
 
 mod case;

@@ -1,10 +1,9 @@
-use Rattle.std.proofs.Common.{false}
 use Rattle.edge_mem.specs.Bays.{out_at}
-use Rattle.broker_core.specs.Bays.{AreOut}
+use Rattle.share_top.specs.Loading.{NoneIsOut}
 use Rattle.row_tests.proofs.disks.bay_of.Given as goal
 
 abbrev pub invariant-loop-disk : goal.invariant-loop-disk
-invariant-loop-disk l = AreOut out_at false l.bay
+invariant-loop-disk l = NoneIsOut out_at l.bay
 
 abbrev pub invariant-loop-fault : goal.invariant-loop-fault
-invariant-loop-fault l = AreOut out_at false l.bay
+invariant-loop-fault l = NoneIsOut out_at l.bay

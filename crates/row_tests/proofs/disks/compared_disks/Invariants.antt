@@ -1,7 +1,6 @@
-use Rattle.std.proofs.Common.{false}
 use Rattle.edge_mem.specs.Bays.{out_at}
-use Rattle.broker_core.specs.Bays.{AreOut}
+use Rattle.share_top.specs.Loading.{NoneIsOut}
 use Rattle.row_tests.proofs.disks.compared_disks.Given as goal
 
 abbrev pub invariant-loop-line : goal.invariant-loop-line
-invariant-loop-line l = AreOut out_at false l.bay
+invariant-loop-line l = NoneIsOut out_at l.bay
