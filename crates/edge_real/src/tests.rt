@@ -99,60 +99,107 @@ fn own_folder(rt: &HostRuntime) -> io::Result<String> {
     Ok(folder)
 }
 
-#[test]
-fn a_folder_has_what_was_synced_and_is_open_once(rt: HostRuntime) -> io::Result<()> {
-    let own = own_folder(&rt)?;
-    let data = format!(in rt.alloc(); "{own}/new/data")?;
-    let log = format!(in rt.alloc(); "{data}/orders/7/log")?;
-    let name = DiskName::hosted(b"orders", 7, DiskPlace::Log).expect(&rt, "it is a name");
-    let held = format!(in rt.alloc();
-        "{data}/lock~: lock: operation would block (another program has this folder open)"
+// A bay over a folder.
+fn bay_over<'a>(
+    rt: &'a HostRuntime,
+    folder: &str,
+) -> io::Result<FolderBay<SystemFolders<'a, HostRuntime>>>
+    ensures { IfOk result (λ b. (m : List ℕ) → out_at b m ≡ false) }
+{
+    let folder = format!(in rt.alloc(); "{folder}")?;
+    Ok(FolderBay::over(rt.alloc(), SystemFolders { rt }, folder))
+}
+
+// What follows a folder or a file.
+fn behind(alloc: Global, path: &str, more: &str) -> io::Result<String> {
+    let text = format!(in alloc; "{path}{more}")?;
+    Ok(text)
+}
+
+fn orders_7() -> Option<DiskName> {
+    DiskName::hosted(b"orders", 7, DiskPlace::Log)
+}
+
+// Fills a disk of a bay while a second bay finds the folder held; the second one has it once the first is gone.
+fn is_open_once(rt: &HostRuntime, data: &str) -> io::Result<bool> {
+    let Some(name) = orders_7() else {
+        return Ok(false);
+    };
+    let held = behind(
+        rt.alloc(),
+        data,
+        "/lock~: lock: operation would block (another program has this folder open)",
     )?;
-    let mut second = FolderBay::over(rt.alloc(), SystemFolders { rt: &rt }, data.clone()?);
-    {
-        let mut first = FolderBay::over(rt.alloc(), SystemFolders { rt: &rt }, data.clone()?);
-        assert!(rt; shows(rt.alloc(), &mut first, (&name, Act::Fill), Ok(()), "")?);
-        assert!(rt;
-            shows(
+    let mut second = bay_over(rt, data)?;
+    let filled = {
+        let mut first = bay_over(rt, data)?;
+        shows(rt.alloc(), &mut first, (&name, Act::Fill), Ok(()), "")?
+            && shows(
                 rt.alloc(),
                 &mut second,
                 (&name, Act::Check),
                 Err(Failed),
-                &held
+                &held,
             )?
-        );
-    }
-    assert_eq!(rt;
-        fs::read(&rt, log.as_str())?.as_slice(),
-        b"queue, logs".as_slice()
-    );
-    assert!(rt; shows(rt.alloc(), &mut second, (&name, Act::Check), Ok(()), &held)?);
-    OpenOptions::new()
-        .write(true)
-        .open(&rt, log.as_str())?
-        .set_len(7)?;
-    let short = format!(in rt.alloc(); "{log}: read: failed to fill whole buffer")?;
-    assert!(rt;
-        shows(
-            rt.alloc(),
-            &mut second,
-            (&name, Act::Check),
-            Err(Failed),
-            &short
-        )?
-    );
-    let below = format!(in rt.alloc(); "{log}/below")?;
-    let none = format!(in rt.alloc(); "{below}: make folder: Not a directory (os error 20)")?;
-    let mut third = FolderBay::over(rt.alloc(), SystemFolders { rt: &rt }, below);
-    assert!(rt;
-        shows(
-            rt.alloc(),
-            &mut third,
-            (&name, Act::Check),
-            Err(Failed),
-            &none
-        )?
-    );
+    };
+    Ok(filled && shows(rt.alloc(), &mut second, (&name, Act::Check), Ok(()), &held)?)
+}
+
+fn cut_to_7(rt: &HostRuntime, file: &str) -> io::Result<()> {
+    OpenOptions::new().write(true).open(rt, file)?.set_len(7)
+}
+
+// Whether a file that is cut to 7 bytes while its disk is kept is a fault that names it.
+fn tells_a_short_file(rt: &HostRuntime, data: &str, log: &str) -> io::Result<bool> {
+    let Some(name) = orders_7() else {
+        return Ok(false);
+    };
+    let short = behind(rt.alloc(), log, ": read: failed to fill whole buffer")?;
+    let mut bay = bay_over(rt, data)?;
+    let whole = shows(rt.alloc(), &mut bay, (&name, Act::Check), Ok(()), "")?;
+    cut_to_7(rt, log)?;
+    Ok(
+        whole
+            && shows(
+                rt.alloc(),
+                &mut bay,
+                (&name, Act::Check),
+                Err(Failed),
+                &short,
+            )?,
+    )
+}
+
+// Whether a folder below a file is a fault that names it.
+fn tells_a_file_above(rt: &HostRuntime, log: &str) -> io::Result<bool> {
+    let Some(name) = orders_7() else {
+        return Ok(false);
+    };
+    let below = behind(rt.alloc(), log, "/below")?;
+    let none = behind(
+        rt.alloc(),
+        below.as_str(),
+        ": make folder: Not a directory (os error 20)",
+    )?;
+    let mut bay = bay_over(rt, below.as_str())?;
+    shows(
+        rt.alloc(),
+        &mut bay,
+        (&name, Act::Check),
+        Err(Failed),
+        &none,
+    )
+}
+
+#[test]
+fn a_folder_has_what_was_synced_and_is_open_once(rt: HostRuntime) -> io::Result<()> {
+    let own = own_folder(&rt)?;
+    let data = behind(rt.alloc(), own.as_str(), "/new/data")?;
+    let log = behind(rt.alloc(), data.as_str(), "/orders/7/log")?;
+    assert!(rt; is_open_once(&rt, data.as_str())?);
+    assert!(rt; fs::read(&rt, log.as_str())?.as_slice() == b"queue, logs".as_slice());
+    assert!(rt; tells_a_short_file(&rt, data.as_str(), log.as_str())?);
+    assert!(rt; tells_a_file_above(&rt, log.as_str())?);
     fs::remove_dir_all(&rt, own.as_str())
 }
 
