@@ -1,0 +1,4 @@
+pub mod Optional
+pub mod OptionalRead
+pub mod HeartbeatRequest
+pub mod HeartbeatReply

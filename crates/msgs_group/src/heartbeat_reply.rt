@@ -1,0 +1,126 @@
+ghost use Rattle.std.specs.Prelude.{IfOk};
+ghost use Rattle.flex_fields.specs.Formats.{ReadsWhole, IsSpelling};
+ghost use Rattle.msgs_group.specs.HeartbeatReply.{assigned_topic, assignment, heartbeat_reply};
+
+use crate::optional::{put_optional, take_optional};
+use flex_fields::{
+    Bytes, Cursor, Items, NoMemory, Out, Text, Wire, WireFault, read_whole, take_array, write_whole,
+};
+use std::alloc::Global;
+use uuid::Uuid;
+
+/// The partitions of one topic that a member is to read.
+#[derive(Debug, Drop)]
+pub struct AssignedTopic {
+    pub topic_id: Uuid,
+    pub partitions: Items<i32>,
+}
+
+/// All that a member is to read.
+#[derive(Debug, Drop)]
+pub struct Assignment {
+    pub topic_partitions: Items<AssignedTopic>,
+}
+
+/// The epoch that a member has now, when it is to send the next heartbeat, and its assignment where it may be new; or an
+/// error.
+#[derive(Debug, Drop)]
+pub struct HeartbeatReply {
+    pub throttle_time_ms: i32,
+    pub error_code: i16,
+    pub error_message: Option<Text>,
+    pub member_id: Option<Text>,
+    pub member_epoch: i32,
+    pub heartbeat_interval_ms: i32,
+    pub assignment: Option<Assignment>,
+}
+
+impl Wire for AssignedTopic {
+    ghost format = { assigned_topic };
+
+    #[tactic(auto, unfolding(crate::specs::HeartbeatReply::assigned_topic))]
+    fn take(alloc: Global, cursor: &mut Cursor<'_>) -> Result<Self, WireFault> {
+        let topic_id = cursor.take_uuid()?;
+        let partitions = take_array(alloc, cursor)?;
+        cursor.skip_tags()?;
+        Ok(AssignedTopic {
+            topic_id,
+            partitions,
+        })
+    }
+
+    fn put(&self, out: &mut Out) -> Result<(), NoMemory> {
+        self.topic_id.put(out)?;
+        self.partitions.put(out)?;
+        out.put_tags()?;
+        Ok(())
+    }
+}
+
+impl Wire for Assignment {
+    ghost format = { assignment };
+
+    #[tactic(auto, unfolding(crate::specs::HeartbeatReply::assignment))]
+    fn take(alloc: Global, cursor: &mut Cursor<'_>) -> Result<Self, WireFault> {
+        let topic_partitions = take_array(alloc, cursor)?;
+        cursor.skip_tags()?;
+        Ok(Assignment { topic_partitions })
+    }
+
+    fn put(&self, out: &mut Out) -> Result<(), NoMemory> {
+        self.topic_partitions.put(out)?;
+        out.put_tags()?;
+        Ok(())
+    }
+}
+
+impl Wire for HeartbeatReply {
+    ghost format = { heartbeat_reply };
+
+    #[tactic(auto, unfolding(crate::specs::HeartbeatReply::heartbeat_reply))]
+    fn take(alloc: Global, cursor: &mut Cursor<'_>) -> Result<Self, WireFault> {
+        let throttle_time_ms = cursor.take_i32()?;
+        let error_code = cursor.take_i16()?;
+        let error_message = cursor.take_null_str(alloc)?;
+        let member_id = cursor.take_null_str(alloc)?;
+        let member_epoch = cursor.take_i32()?;
+        let heartbeat_interval_ms = cursor.take_i32()?;
+        let assignment = take_optional(alloc, cursor)?;
+        cursor.skip_tags()?;
+        Ok(HeartbeatReply {
+            throttle_time_ms,
+            error_code,
+            error_message,
+            member_id,
+            member_epoch,
+            heartbeat_interval_ms,
+            assignment,
+        })
+    }
+
+    fn put(&self, out: &mut Out) -> Result<(), NoMemory> {
+        self.throttle_time_ms.put(out)?;
+        self.error_code.put(out)?;
+        self.error_message.put(out)?;
+        self.member_id.put(out)?;
+        self.member_epoch.put(out)?;
+        self.heartbeat_interval_ms.put(out)?;
+        put_optional(out, &self.assignment)?;
+        out.put_tags()?;
+        Ok(())
+    }
+}
+
+/// Reads the body of the reply to ShareGroupHeartbeat. Places count from its first byte.
+pub fn read_heartbeat_reply(alloc: Global, bytes: &[u8]) -> Result<HeartbeatReply, WireFault>
+    ensures { ReadsWhole heartbeat_reply bytes.now result }
+{
+    read_whole(alloc, bytes)
+}
+
+/// Writes the body of the reply to ShareGroupHeartbeat.
+pub fn write_heartbeat_reply(alloc: Global, message: &HeartbeatReply) -> Result<Bytes, NoMemory>
+    ensures { IfOk result (IsSpelling heartbeat_reply message.now) }
+{
+    write_whole(alloc, message)
+}

@@ -1,0 +1,19 @@
+//! The members of share groups (KIP-932): their epochs, what they subscribe to and which partitions each is to read.
+//!
+//! Memberships live in memory alone: a crash empties them. Nothing here touches an acquisition lock.
+#![tactic(auto)]
+
+mod assignment;
+mod group;
+mod heartbeat;
+mod law;
+mod member;
+mod plan;
+mod refusal;
+mod reply;
+mod shard;
+mod subscription;
+
+pub use law::{memberships_stay_whole, partitions_are_shared_evenly};
+pub use member::Member;
+pub use shard::GroupShard;
