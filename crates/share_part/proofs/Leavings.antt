@@ -1,0 +1,58 @@
+-- What a crash leaves of a shard.
+use Rattle.std.proofs.Common.{⊎_elim, inl, inr, refl, ℕ, List, [], ◌∷◌, ◌++◌, Option, Some, None}
+use Rattle.std.specs.Option.{option_map}
+use Rattle.std.specs.Prelude.{IfSome}
+use Rattle.share_model.specs.ForeignRules.{ShareStates}
+use Rattle.share_model.specs.Held.{Held}
+use Rattle.share_model.specs.Logs.{Batch}
+use Rattle.share_model.specs.Pending.{WithPending}
+use Rattle.part_log.specs.Logs.{IsLogText, MayFollow, and_pending}
+use Rattle.share_coord.specs.Stored.{AreStored, Entries}
+use Rattle.share_part.specs.Hosting.{PartConfParts, AreHosted, AreStates, states_of}
+use Rattle.share_part.specs.Leaving.{IsLeftOf, IsOneOf}
+use Rattle.share_part.specs.Shards.{PartParts, PartShardState, Carries, IsPendingHosted}
+use Rattle.share_part.proofs.Producing.{hosted_later}
+use Rattle.share_part.proofs.Visiting.{carried}
+
+-- a log that is left: it is one of the two, and the states stay ones that the partition may have
+record LeftLog (conf : PartConfParts) (log : List Batch) (pending : Option Batch) (content : List ℕ) : Type 0 where
+  batches : List Batch
+  is : IsOneOf log (and_pending log pending) batches
+  text : IsLogText content batches
+  keeps : (states : ShareStates) → AreHosted conf log states → AreHosted conf batches states
+
+log_left : (conf : PartConfParts) (log : List Batch) (pending : Option Batch) (content : List ℕ) → IfSome pending (MayFollow log)
+    → WithPending (IsLogText content) log (and_pending log pending) → LeftLog conf log pending content
+log_left conf log None content follows w = record { batches = log; is = inl refl; text = w; keeps = λ states h. h }
+log_left conf log (Some b) content follows w = ⊎_elim
+    (λ (t : IsLogText content log). record { batches = log; is = inl refl; text = t; keeps = λ states h. h })
+    (λ (t : IsLogText content (log ++ b ∷ [])). record { batches = log ++ b ∷ []; is = inr refl; text = t; keeps = λ states h. hosted_later conf log b states follows h }) w
+
+record LeftStates (conf : PartConfParts) (log : List Batch) (states : ShareStates) (pending : Option ShareStates) (first second : List ℕ) : Type 0 where
+  its : ShareStates
+  is : IsOneOf states pending its
+  text : AreStates first second its
+  hosted : AreHosted conf log its
+
+states_left : (conf : PartConfParts) (log : List Batch) (entries : Entries) (pending : Option Entries) (first second : List ℕ)
+    → AreHosted conf log (states_of entries) → IsPendingHosted conf log (option_map states_of pending) → WithPending (AreStored first second) entries pending
+    → LeftStates conf log (states_of entries) (option_map states_of pending) first second
+states_left conf log entries None first second h p w =
+    record { its = states_of entries; is = inl refl; text = record { entries = entries; stored = w; is = refl }; hosted = h }
+states_left conf log entries (Some lost) first second h p w = ⊎_elim
+    (λ (s : AreStored first second entries). record { its = states_of entries; is = inl refl; text = record { entries = entries; stored = s; is = refl }; hosted = h })
+    (λ (s : AreStored first second lost). record { its = states_of lost; is = inr refl; text = record { entries = lost; stored = s; is = refl }; hosted = p }) w
+
+module _ {D W : Type 0} (image : D → List ℕ → Type 0) (holding : W → Held) (parts : PartParts D W) (log first second : List ℕ)
+    (at_log : image parts.log.journal.disk log) (at_first : image parts.states.journal.live.disk first) (at_second : image parts.states.journal.idle second) where
+  pub left_of : (shard : PartShardState) → Carries image holding parts shard → IsLeftOf parts.conf shard log first second
+  left_of = carried image holding parts (λ shard. IsLeftOf parts.conf shard log first second) (λ batch pending k.
+      let l = log_left parts.conf parts.log.batches batch log k.log.keeps.follows (k.log.keeps.images log at_log) in
+      let s = states_left parts.conf parts.log.batches parts.states.entries pending first second k.hosted k.pending_hosted (k.holds.images first second at_first at_second) in
+      record {
+        batches = l.batches;
+        states = s.its;
+        log_is = l.is;
+        states_are = s.is;
+        text = record { log_is = l.text; states_are = s.text; hosted = l.keeps s.its s.hosted };
+      })

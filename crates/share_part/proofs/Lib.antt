@@ -1,0 +1,28 @@
+-- Slotting: the slots of a log. Granting: the grants of what is taken. Gathering: what a walk takes, slot by slot. Seeing: the states of a store.
+-- Visiting: a visit as a step of the shard.
+pub mod Slotting
+pub mod Granting
+pub mod Gathering
+pub mod Walking
+pub mod Holdings
+pub mod Appending
+pub mod Mapping
+pub mod Seeing
+pub mod Producing
+pub mod Standing
+pub mod Leavings
+pub mod Opens
+pub mod Planning
+pub mod Staying
+pub mod Holding
+pub mod Visiting
+pub mod Advancing
+pub mod Doing
+pub mod Parting
+pub mod Keeping
+pub mod Sequel
+pub mod Verdicts
+pub mod Writing
+pub mod Settlement
+pub mod Stepping
+pub mod Acked

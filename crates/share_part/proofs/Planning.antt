@@ -1,0 +1,66 @@
+-- The table that a group has, or would get.
+use Rattle.std.proofs.Common.{◌≡◌, ◌∙◌, sym, ap, subst, ℕ, pos, List, [], Option, Some, None}
+use Rattle.std.specs.Prelude.{IsSome, Result, Ok, unwrap_or}
+use Rattle.std.specs.BTreeMap.{is_at}
+use Rattle.std.specs.Cmp.Lexicographic.{slice_cmp}
+use Rattle.std.specs.Map.{lookup}
+use Rattle.std.specs.Option.{option_map}
+use Rattle.std.specs.Ordering.{nat_cmp}
+use Rattle.flex_fields.specs.declared.fault.NoMemory.{NoMemory as want}
+use Rattle.share_model.specs.ForeignRules.{size_of}
+use Rattle.share_model.specs.Held.{Held}
+use Rattle.share_model.specs.Keys.{KeyParts}
+use Rattle.share_model.specs.Logs.{Batch, end_of}
+use Rattle.share_model.specs.ShareStates.{ShareState}
+use Rattle.share_model.specs.declared.run.Run.{Run}
+use Rattle.share_model.specs.declared.visit.ThenOutcome.{ThenOutcome}
+use Rattle.share_model.specs.declared.visit.ThenOutcome.TheVariants.{Done}
+use Rattle.share_coord.specs.Calls.{IsInitialised}
+use Rattle.share_coord.specs.Parts.{StoreParts}
+use Rattle.share_coord.specs.Stored.{Entries, kept_at}
+use Rattle.share_part.specs.Hosting.{PartConfParts, AreHosted, key_of, states_of}
+use Rattle.share_part.specs.Making.{MakesOnce, MakesTableOnce, state_for}
+use Rattle.share_part.specs.Shards.{first_start, held_in, held_of, new_state}
+use Rattle.share_part.specs.Tables.{MayGoOut, Table, table_of}
+use Rattle.share_part.proofs.Seeing.{goes_out, state_seen, view_of}
+
+module _ {W : Type 0} (holding : W → Held) (conf : PartConfParts) (log : List Batch) (entries : Entries) (windows : List (List ℕ × W)) (group : List ℕ) where
+  pub rows_go_out : (state : ShareState) → Some state ≡ option_map view_of (kept_at entries (key_of conf group)) → AreHosted conf log (states_of entries) → MayGoOut state.runs
+  rows_go_out state is h = goes_out conf log (states_of entries) (key_of conf group) state h (state_seen entries (key_of conf group) ∙ sym is)
+
+  state_by : (o : Option ShareState) → o ≡ option_map view_of (kept_at entries (key_of conf group)) → state_for conf log entries group ≡ unwrap_or o (new_state conf (end_of log))
+  state_by o is = ap (λ (s : Option ShareState). unwrap_or s (new_state conf (end_of log))) (state_seen entries (key_of conf group) ∙ sym is)
+
+  held_by : (w : W) → Some w ≡ lookup (is_at (slice_cmp nat_cmp group)) windows → holding w ≡ held_in holding windows group
+  held_by w is = ap (held_of holding) is
+
+  table_by : (state : ShareState) (w : W) (start : ℕ) (rows : List Run) → state_for conf log entries group ≡ state → Some w ≡ lookup (is_at (slice_cmp nat_cmp group)) windows
+      → start ≡ size_of state.start → rows ≡ state.runs
+      → ◌≡◌ {A = Table} (record { start = start; rows = rows; held = holding w }) (table_of (state_for conf log entries group) (held_in holding windows group))
+  table_by state w start rows its there at are =
+      let s : start ≡ size_of (state_for conf log entries group).start = at ∙ ap (λ (x : ShareState). size_of x.start) (sym its) in
+      let r : rows ≡ (state_for conf log entries group).runs = are ∙ ap (λ (x : ShareState). x.runs) (sym its) in
+      let h = held_by w there in
+      λ i. record { start = s i; rows = r i; held = h i }
+
+  pub table_there : (state : ShareState) → Some state ≡ option_map view_of (kept_at entries (key_of conf group)) → (w : W) → Some w ≡ lookup (is_at (slice_cmp nat_cmp group)) windows
+      → (start : ℕ) (rows : List Run) → start ≡ size_of state.start → rows ≡ state.runs
+      → ◌≡◌ {A = Table} (record { start = start; rows = rows; held = holding w }) (table_of (state_for conf log entries group) (held_in holding windows group))
+  table_there state is w there start rows at are = table_by state w start rows (state_by (Some state) is) there at are
+
+  pub table_new : None ≡ option_map view_of (kept_at entries (key_of conf group)) → (w : W) → Some w ≡ lookup (is_at (slice_cmp nat_cmp group)) windows
+      → (start : ℕ) (rows : List Run) → start ≡ first_start conf.reset (end_of log) → rows ≡ []
+      → ◌≡◌ {A = Table} (record { start = start; rows = rows; held = holding w }) (table_of (state_for conf log entries group) (held_in holding windows group))
+  table_new is w there start rows at are = table_by (new_state conf (end_of log)) w start rows (state_by None is) there at are
+
+pub made_table : {D : Type 0} (image : D → List ℕ → Type 0) (moment : D → ℕ) (since : D → ℕ → List ℕ → Type 0) (Failed : D → D → Type 0)
+    (conf : PartConfParts) (group : List ℕ) (end : ℕ) (old new : StoreParts D) (result : Result ThenOutcome want) (key : KeyParts) (start : ℕ)
+    → key ≡ key_of conf group → start ≡ first_start conf.reset end
+    → (IsSome (kept_at old.entries key) → (new ≡ old) × (result ≡ Ok Done))
+    → (kept_at old.entries key ≡ None → MakesOnce image moment since Failed (IsInitialised old.entries key (pos 0) (pos start)) old new result)
+    → MakesTableOnce image moment since Failed conf group end old new result
+made_table image moment since Failed conf group end old new result key start is at there absent = record {
+  there = subst (λ (k : KeyParts). IsSome (kept_at old.entries k) → (new ≡ old) × (result ≡ Ok Done)) is there;
+  absent = subst (λ (k : KeyParts). kept_at old.entries k ≡ None → MakesOnce image moment since Failed (IsInitialised old.entries k (pos 0) (pos (first_start conf.reset end))) old new result) is
+      (subst (λ (s : ℕ). kept_at old.entries key ≡ None → MakesOnce image moment since Failed (IsInitialised old.entries key (pos 0) (pos s)) old new result) at absent);
+}

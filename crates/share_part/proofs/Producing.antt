@@ -1,0 +1,201 @@
+-- A produced batch as a step of the shard.
+use Rattle.std.proofs.Common.{◌≡◌, ◌≢◌, ◌⊎◌, ⊎_elim, ◌∙◌, inl, inr, refl, sym, ap, subst, arith, ℕ, zero, suc, ◌+◌, ◌<◌, ◌≤◌, max, List, [], ◌∷◌, ◌++◌, length, slice_index_or, Option, Some, None, Bool, true, false, nat_le, if◌then◌else◌}
+use Rattle.std.specs.Prelude.{Result, Ok, Err}
+use Rattle.std.specs.List.{Contains}
+use Rattle.edge_io.specs.Armed.{StarvesUnarmed}
+use Rattle.edge_io.specs.Causes.{Rose}
+use Rattle.edge_io.specs.Moments.{LeavesOnly}
+use Rattle.edge_io.specs.declared.fault.Armed.{Armed}
+use Rattle.share_model.specs.ForeignRules.{ShareStates, size_of}
+use Rattle.share_model.specs.Held.{Held}
+use Rattle.share_model.specs.Logs.{Batch, end_of}
+use Rattle.share_model.specs.declared.fault.LogFault.{LogFault}
+use Rattle.share_model.specs.declared.fault.LogFault.TheVariants.{Batch as BadBatch, Behind, Store, NoMemory}
+use Rattle.share_model.specs.declared.fault.StoreFault.TheVariants.{Device, Full}
+use Rattle.part_log.specs.Logs.{AddsOnce, IsStoredLog, IsWithin, Keeps, LogParts, MayFollow}
+use Rattle.part_log.specs.Shards.{LogShardState, CarriesLog, IsLogOf, StepsLog, at_end}
+use Rattle.part_log.proofs.Frames.{bounds}
+use Rattle.part_log.proofs.Rising.{end_more, sound_more}
+use Rattle.share_part.specs.Hosting.{PartConfParts, AreHosted}
+use Rattle.share_part.specs.Once.{ProducesOnce}
+use Rattle.share_part.specs.Shards.{PartShardState, PartParts, Carries, IsPendingHosted}
+use Rattle.share_part.specs.Slots.{and_more, next_slot, slots_from}
+
+-- ---- a log that grows
+
+next_more : (log : List Batch) (b : Batch) (from slot : ℕ) → next_slot log from ≡ Some slot → next_slot (log ++ b ∷ []) from ≡ Some slot
+next_more [] b from slot is = absurd (let clash : ⊥ = cc in clash)
+next_more (c ∷ log) b from slot is = by_last (nat_le from c.last) is (next_more log b from slot)
+  where
+    by_last : (t : Bool) → (if t then Some (max from c.base) else next_slot log from) ≡ Some slot → (next_slot log from ≡ Some slot → next_slot (log ++ b ∷ []) from ≡ Some slot)
+        → (if t then Some (max from c.base) else next_slot (log ++ b ∷ []) from) ≡ Some slot
+    by_last true at ih = at
+    by_last false at ih = ih at
+
+pub front_or : (x o : ℕ) (xs : List ℕ) → Contains (x ∷ xs) o → (x ≡ o) ⊎ Contains xs o
+front_or x o xs h = by_index h.0 h.1 h.2
+  where
+    by_index : (k : ℕ) → k < length (x ∷ xs) → slice_index_or (x ∷ xs) k o ≡ o → (x ≡ o) ⊎ Contains xs o
+    by_index zero lt e = inl e
+    by_index (suc k) lt e = inr (k, omega (arith, lt), e)
+
+pub front_in : (x o : ℕ) (xs : List ℕ) → x ≡ o → Contains (x ∷ xs) o
+front_in x o xs e = (0, omega arith, e)
+
+pub behind_in : (x o : ℕ) (xs : List ℕ) → Contains xs o → Contains (x ∷ xs) o
+behind_in x o xs h = (suc h.0, (let lt = h.1 in omega (arith, lt)), h.2)
+
+pub none_in : (o : ℕ) → Contains [] o → ⊥
+none_in o h = let lt = h.1 in omega (arith, lt)
+
+pub contains_more : (n : ℕ) (log : List Batch) (b : Batch) (from o : ℕ) → Contains (slots_from n log from) o → Contains (slots_from n (log ++ b ∷ []) from) o
+unfolding slots_from
+contains_more zero log b from o h = h
+contains_more (suc n) log b from o h = by_next (next_slot log from) refl h (λ slot. contains_more n log b (slot + 1) o)
+  where
+    by_next : (r : Option ℕ) → next_slot log from ≡ r → Contains (and_more r (λ slot. slots_from n log (slot + 1))) o
+        → ((slot : ℕ) → Contains (slots_from n log (slot + 1)) o → Contains (slots_from n (log ++ b ∷ []) (slot + 1)) o)
+        → Contains (and_more (next_slot (log ++ b ∷ []) from) (λ slot. slots_from n (log ++ b ∷ []) (slot + 1))) o
+    by_next None is h ih = absurd (none_in o h)
+    by_next (Some slot) is h ih = subst (λ (r : Option ℕ). Contains (and_more r (λ slot. slots_from n (log ++ b ∷ []) (slot + 1))) o) (sym (next_more log b from slot is))
+        (⊎_elim (λ e. front_in slot o (slots_from n (log ++ b ∷ []) (slot + 1)) e) (λ c. behind_in slot o (slots_from n (log ++ b ∷ []) (slot + 1)) (ih slot c))
+        (front_or slot o (slots_from n log (slot + 1)) h))
+
+end_later : (log : List Batch) (b : Batch) → MayFollow log b → end_of log ≤ end_of (log ++ b ∷ [])
+end_later log b f =
+    let order = (bounds b f.stored).order in
+    let behind = f.behind in
+    omega (arith, end_more log b, order, behind)
+
+-- states that the partition may have stay so
+pub hosted_later : (conf : PartConfParts) (log : List Batch) (b : Batch) (states : ShareStates) → MayFollow log b → AreHosted conf log states → AreHosted conf (log ++ b ∷ []) states
+hosted_later conf log b states f h key state is =
+    let was = h key state is in
+    record {
+      key_is = was.key_is;
+      epochs = was.epochs;
+      start = (was.start.0, was.start.1, (let le = was.start.2 in let later = end_later log b f in omega (arith, le, later)));
+      rows = λ offset row at.
+          let r = was.rows offset row at in
+          record { slot = contains_more 2000 log b (size_of state.start) offset r.slot; delivered = r.delivered; again = r.again };
+    }
+
+pending_later : (conf : PartConfParts) (log : List Batch) (b : Batch) (pending : Option ShareStates) → MayFollow log b → IsPendingHosted conf log pending → IsPendingHosted conf (log ++ b ∷ []) pending
+pending_later conf log b None f h = tt
+pending_later conf log b (Some states) f h = hosted_later conf log b states f h
+
+-- the log is the same, or has one batch more
+abbrev pub Grows : List Batch → List Batch → Type 0
+Grows log more = (more ≡ log) ⊎ ((b : Batch) × MayFollow log b × (more ≡ log ++ b ∷ []))
+
+grows_hosted : (conf : PartConfParts) (log more : List Batch) (states : ShareStates) → Grows log more → AreHosted conf log states → AreHosted conf more states
+grows_hosted conf log more states (inl is) h = subst (λ (l : List Batch). AreHosted conf l states) (sym is) h
+grows_hosted conf log more states (inr g) h = subst (λ (l : List Batch). AreHosted conf l states) (sym g.2) (hosted_later conf log g.0 states g.1 h)
+
+grows_pending : (conf : PartConfParts) (log more : List Batch) (pending : Option ShareStates) → Grows log more → IsPendingHosted conf log pending → IsPendingHosted conf more pending
+grows_pending conf log more pending (inl is) h = subst (λ (l : List Batch). IsPendingHosted conf l pending) (sym is) h
+grows_pending conf log more pending (inr g) h = subst (λ (l : List Batch). IsPendingHosted conf l pending) (sym g.2) (pending_later conf log g.0 pending g.1 h)
+
+grows_sound : (log more : List Batch) → Grows log more → IsStoredLog log → IsStoredLog more
+grows_sound log more (inl is) h = subst IsStoredLog (sym is) h
+grows_sound log more (inr g) h = subst IsStoredLog (sym g.2) (sound_more log g.0 h g.1)
+
+step_grows : (rose : Type 0) (end : ℕ) (old new : LogShardState) (bytes : List ℕ) (result : Result ℕ LogFault) → StepsLog rose end old bytes result new → Grows old.batches new.batches
+step_grows rose end old new bytes (Ok base) s = inr (at_end old.batches bytes, s.follows, s.batches)
+step_grows rose end old new bytes (Err (BadBatch fault)) s = inl (ap (λ (l : LogShardState). l.batches) s.1)
+step_grows rose end old new bytes (Err (Store Device)) s = inl s.1.same
+step_grows rose end old new bytes (Err (Store (Full at))) s = inl (ap (λ (l : LogShardState). l.batches) s.1)
+step_grows rose end old new bytes (Err (Behind at)) s = absurd s
+step_grows rose end old new bytes (Err NoMemory) s = absurd s
+
+module _ {D W : Type 0} (content : D → Option (List ℕ)) (image : D → List ℕ → Type 0) (moment : D → ℕ) (since : D → ℕ → List ℕ → Type 0)
+    (armed : D → Armed) (starved : D → Bool) (faults : D → ℕ) (holding : W → Held) (now : ℕ) (bytes : List ℕ) (old : PartParts D W)
+    (log : LogParts D) (clock : ℕ) (result : Result ℕ LogFault)
+    (once : AddsOnce content image moment since armed starved faults old.log log (at_end old.log.batches bytes) result) where
+  abbrev after : PartParts D W
+  after = record { conf = old.conf; log = log; states = old.states; windows = old.windows; clock = clock }
+
+  added_grows : (r : Result ℕ LogFault) → AddsOnce content image moment since armed starved faults old.log log (at_end old.log.batches bytes) r → Grows old.log.batches log.batches
+  added_grows (Ok base) o = inr (at_end old.log.batches bytes, o.ok.1.follows, o.ok.1.batches)
+  added_grows (Err (Store Device)) o = inl (o.device refl).0.batches
+  added_grows (Err (BadBatch fault)) o = inl (ap (λ (l : LogParts D). l.batches) (o.unchanged (BadBatch fault) refl (λ e. let clash : ⊥ = cc in clash)))
+  added_grows (Err (Behind at)) o = inl (ap (λ (l : LogParts D). l.batches) (o.unchanged (Behind at) refl (λ e. let clash : ⊥ = cc in clash)))
+  added_grows (Err (Store (Full at))) o = inl (ap (λ (l : LogParts D). l.batches) (o.unchanged (Store (Full at)) refl (λ e. let clash : ⊥ = cc in clash)))
+  added_grows (Err NoMemory) o = inl (ap (λ (l : LogParts D). l.batches) (o.unchanged NoMemory refl (λ e. let clash : ⊥ = cc in clash)))
+
+  pub has_grown : Grows old.log.batches log.batches
+  has_grown = added_grows result once
+
+  pub stays_sound : IsStoredLog old.log.batches → IsStoredLog log.batches
+  stays_sound h = grows_sound old.log.batches log.batches (added_grows result once) h
+
+  pub stays_hosted : (states : ShareStates) → AreHosted old.conf old.log.batches states → AreHosted old.conf log.batches states
+  stays_hosted states h = grows_hosted old.conf old.log.batches log.batches states (added_grows result once) h
+
+  abbrev Moments : LogShardState → Type 0
+  Moments shard = LeavesOnly moment since old.log.journal.disk log.journal.disk
+      (λ c. IsLogOf shard c ⊎ IsLogOf (record { batches = shard.batches; pending = Some (at_end shard.batches bytes) }) c)
+
+  found : (batches : List Batch) (pending : Option Batch) (c : List ℕ) → IsWithin batches pending (at_end batches bytes) c
+      → IsLogOf (record { batches = batches; pending = pending }) c ⊎ IsLogOf (record { batches = batches; pending = Some (at_end batches bytes) }) c
+  found batches pending c h = ⊎_elim (λ w. inl w) (λ w. inr (inr w)) h
+
+  moments_at : (pending : Option Batch) → Keeps image old.log pending → Moments (record { batches = old.log.batches; pending = pending })
+  moments_at pending keeps =
+      let m = once.any_moment pending keeps in
+      record {
+        later = m.later;
+        each = λ c at. found old.log.batches pending c (m.each c at);
+        before = λ t c le at. ⊎_elim (λ was. inl was) (λ w. inr (found old.log.batches pending c w)) (m.before t c le at);
+      }
+
+  moments : (shard : PartShardState) → Carries image holding old shard → Moments shard.log
+  moments shard c =
+      let is : record { batches = old.log.batches; pending = shard.log.pending } ≡ shard.log = λ i. record { batches = sym c.log.batches i; pending = shard.log.pending } in
+      subst Moments is (moments_at shard.log.pending c.log.keeps)
+
+  sound : result ≡ Err (Store Device) → StarvesUnarmed content armed starved old.log.journal.disk log.journal.disk
+  sound is = (once.device is).3
+
+  -- no memory was found
+  pub hungry : result ≡ Err NoMemory → clock ≡ old.clock → ProducesOnce content image moment since armed starved faults holding now bytes old after result
+  hungry is same = record {
+    steps = λ fed. absurd (fed is);
+    memory = λ e.
+        let l : log ≡ old.log = once.unchanged NoMemory is (λ f. let clash : ⊥ = cc in clash) in
+        λ i. record { conf = old.conf; log = l i; states = old.states; windows = old.windows; clock = same i };
+    sound = sound;
+    any_moment = moments;
+    states = refl;
+    conf = refl;
+  }
+
+  -- a step was made
+  pub produced : result ≢ Err NoMemory → clock ≡ max old.clock now
+      → (result ≢ Err NoMemory → (shard : LogShardState) → CarriesLog image old.log shard → (next : LogShardState) × CarriesLog image log next
+      × StepsLog (Rose (faults old.log.journal.disk) (faults log.journal.disk)) old.log.journal.end shard bytes result next)
+      → ProducesOnce content image moment since armed starved faults holding now bytes old after result
+  produced fed at steps = record {
+    steps = λ same shard c.
+        let s = steps fed shard.log c.log in
+        let grows = step_grows (Rose (faults old.log.journal.disk) (faults log.journal.disk)) old.log.journal.end shard.log s.0 bytes result s.2 in (
+          record { log = s.0; states = shard.states; pending = shard.pending; held = shard.held; clock = clock },
+          record {
+            log = s.1;
+            pending = c.pending;
+            holds = c.holds;
+            states = c.states;
+            pending_is = c.pending_is;
+            held = c.held;
+            clock = refl;
+            hosted = grows_hosted old.conf shard.log.batches s.0.batches shard.states grows c.hosted;
+            pending_hosted = grows_pending old.conf shard.log.batches s.0.batches shard.pending grows c.pending_hosted;
+          },
+          record { clock = at ∙ ap (λ (n : ℕ). max n now) (sym c.clock); log = s.2; still = record { states = refl; pending = refl; held = refl } },
+        );
+    memory = λ is. absurd (fed is);
+    sound = sound;
+    any_moment = moments;
+    states = refl;
+    conf = refl;
+  }

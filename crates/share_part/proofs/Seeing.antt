@@ -1,0 +1,83 @@
+-- The states of a store, and those that a partition may have.
+use Rattle.std.proofs.Common.{◌≡◌, ◌∙◌, refl, sym, ap, subst, arith, ℕ, pos, ◌≤◌, List, [], ◌∷◌, Option, Some, Bool, true, false, cond}
+use Rattle.std.specs.Option.{option_map}
+use Rattle.std.specs.declared.cmp.Ordering.{Ordering}
+use Rattle.std.specs.declared.cmp.Ordering.TheVariants.{Less, Equal, Greater}
+use Rattle.std.specs.Ordering.{match_ordering}
+use Rattle.std.specs.BTreeMap.{insert_entry, is_at}
+use Rattle.share_model.specs.ForeignRules.{ShareStates, share_state_at}
+use Rattle.share_model.specs.Keys.{KeyParts, key_cmp}
+use Rattle.share_model.specs.Logs.{Batch, end_of}
+use Rattle.share_model.specs.ShareStates.{ShareState}
+use Rattle.share_model.specs.declared.reset.Reset.{Reset}
+use Rattle.share_model.specs.declared.reset.Reset.TheVariants.{Latest, Earliest}
+use Rattle.share_coord.specs.Calls.{IsInitialised}
+use Rattle.share_coord.specs.Stored.{Entries, kept_at, with_kept}
+use Rattle.share_coord.specs.declared.view.Kept.{Kept}
+use Rattle.share_part.specs.Hosting.{PartConfParts, AreHosted, IsHosted, key_of, states_of}
+use Rattle.share_part.specs.Shards.{first_start, new_state}
+use Rattle.share_part.specs.Tables.{MayGoOut}
+use Rattle.share_coord.proofs.Keys.{some_is}
+use Rattle.share_part.proofs.Mapping.{keys_total, keys_exact, at_is, set_found, set_other}
+
+abbrev pub view_of : Kept → ShareState
+view_of kept = kept.view
+
+found : (b : Bool) (x : Kept) (rest : Option Kept) (theirs : Option ShareState) → theirs ≡ option_map view_of rest
+    → cond b (Some x.view) theirs ≡ option_map view_of (cond b (Some x) rest)
+found true x rest theirs e = refl
+found false x rest theirs e = e
+
+pub state_seen : (es : Entries) (key : KeyParts) → share_state_at (states_of es) key ≡ option_map view_of (kept_at es key)
+state_seen [] key = refl
+state_seen (e ∷ es) key = found (is_at (key_cmp key) e.0) e.1 (kept_at es key) (share_state_at (states_of es) key) (state_seen es key)
+
+by_order : (r : Ordering) (a b c : Entries) (d : ShareStates) → states_of c ≡ d → states_of (match_ordering r a b c) ≡ match_ordering r (states_of a) (states_of b) d
+by_order Less a b c d e = refl
+by_order Equal a b c d e = refl
+by_order Greater a b c d e = e
+
+pub with_seen : (es : Entries) (key : KeyParts) (kept : Kept) → states_of (with_kept es key kept) ≡ insert_entry key_cmp (states_of es) key kept.view
+with_seen [] key kept = refl
+with_seen (e ∷ es) key kept = by_order (key_cmp key e.0) ((key, kept) ∷ e ∷ es) ((e.0, kept) ∷ es) (e ∷ with_kept es key kept)
+    ((e.0, e.1.view) ∷ insert_entry key_cmp (states_of es) key kept.view) (ap (λ (l : ShareStates). (e.0, e.1.view) ∷ l) (with_seen es key kept))
+
+-- ---- states that a partition may have
+
+module _ (conf : PartConfParts) (log : List Batch) where
+  placed : (states : ShareStates) (key : KeyParts) (state : ShareState) → AreHosted conf log states → IsHosted conf log key state
+      → (other : KeyParts) (its : ShareState) → share_state_at (insert_entry key_cmp states key state) other ≡ Some its
+      → (b : Bool) → is_at (key_cmp other) key ≡ b → IsHosted conf log other its
+  placed states key state h new other its is true same =
+      let one : other ≡ key = at_is key_cmp keys_total keys_exact other key same in
+      let found : share_state_at (insert_entry key_cmp states key state) key ≡ Some its = subst (λ (k : KeyParts). share_state_at (insert_entry key_cmp states key state) k ≡ Some its) one is in
+      let value : state ≡ its = some_is state its (sym (set_found key_cmp keys_total keys_exact key state states) ∙ found) in
+      subst (λ (k : KeyParts). IsHosted conf log k its) (sym one) (subst (IsHosted conf log key) value new)
+  placed states key state h new other its is false apart =
+      h other its (sym (set_other key_cmp keys_total keys_exact key state other apart states) ∙ is)
+
+  pub hosted_more : (states : ShareStates) (key : KeyParts) (state : ShareState) → AreHosted conf log states → IsHosted conf log key state
+      → AreHosted conf log (insert_entry key_cmp states key state)
+  hosted_more states key state h new other its is = placed states key state h new other its is (is_at (key_cmp other) key) refl
+
+  start_within : (reset : Reset) (end : ℕ) → first_start reset end ≤ end
+  start_within Latest end = omega arith
+  start_within Earliest end = omega arith
+
+  pub new_hosted : (group : List ℕ) → IsHosted conf log (key_of conf group) (new_state conf (end_of log))
+  new_hosted group = record {
+    key_is = refl;
+    epochs = (refl, refl);
+    start = (first_start conf.reset (end_of log), refl, start_within conf.reset (end_of log));
+    rows = λ offset row is. absurd (let never : ⊥ = cc in never);
+  }
+
+  -- what is stored of a group may go out
+  pub goes_out : (states : ShareStates) (key : KeyParts) (state : ShareState) → AreHosted conf log states → share_state_at states key ≡ Some state → MayGoOut state.runs
+  goes_out states key state h is offset row at free = ((h key state is).rows offset row at).again free
+
+-- ---- a table that is stored
+
+pub made_is : (conf : PartConfParts) (end : ℕ) (es new : Entries) (group : List ℕ) → IsInitialised es (key_of conf group) (pos 0) (pos (first_start conf.reset end)) new
+    → states_of new ≡ insert_entry key_cmp (states_of es) (key_of conf group) (new_state conf end)
+made_is conf end es new group is = ap states_of is.is ∙ with_seen es (key_of conf group) _

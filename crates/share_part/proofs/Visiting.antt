@@ -1,0 +1,586 @@
+-- A visit as a step of the shard.
+use Rattle.std.proofs.Common.{◌≡◌, ◌≢◌, ◌⊎◌, ⊎_elim, ◌∙◌, inl, inr, refl, sym, ap, subst, ℕ, pos, ◌+◌, ◌^◌, ◌<◌, max, List, [], length, Bool}
+use Rattle.std.specs.Prelude.{Option, Some, None, Result, Ok, Err, IsErr, IsSome, unwrap_or}
+use Rattle.std.specs.BTreeMap.{insert_entry}
+use Rattle.std.specs.Option.{option_map}
+use Rattle.edge_io.specs.Armed.{StarvesUnarmed}
+use Rattle.edge_io.specs.Causes.{Rose}
+use Rattle.edge_io.specs.declared.fault.Armed.{Armed}
+use Rattle.flex_fields.specs.declared.fault.NoMemory.{NoMemory as want}
+use Rattle.coord_checkpoint.specs.Disks.{HasFailed}
+use Rattle.share_model.specs.ForeignRules.{ShareStates, share_state_at}
+use Rattle.share_model.specs.Held.{Held}
+use Rattle.share_model.specs.Keys.{KeyParts, key_cmp}
+use Rattle.share_model.specs.Logs.{Batch, end_of}
+use Rattle.share_model.specs.ShareStates.{ShareState}
+use Rattle.share_model.specs.declared.fault.StoreFault.{StoreFault}
+use Rattle.share_model.specs.declared.fault.StoreFault.TheVariants.{Device, Full}
+use Rattle.share_model.specs.declared.visit.AckOutcome.TheVariants.{Done as acknowledged}
+use Rattle.share_model.specs.declared.visit.Then.TheVariants.{Nothing, Release, Fetch}
+use Rattle.share_model.specs.declared.visit.ThenOutcome.{ThenOutcome}
+use Rattle.share_model.specs.declared.visit.ThenOutcome.TheVariants.{Done, Store as store_outcome}
+use Rattle.share_model.specs.declared.visit.Visit.{Visit}
+use Rattle.share_model.specs.declared.visit.VisitAnswer.{VisitAnswer}
+use Rattle.part_log.specs.Logs.{Keeps, LogParts}
+use Rattle.part_log.specs.Shards.{CarriesLog}
+use Rattle.share_coord.specs.Calls.{IsInitialised}
+use Rattle.share_coord.specs.Holding.{Holds, WritesOnce}
+use Rattle.share_coord.specs.Parts.{StoreParts}
+use Rattle.share_coord.specs.Stored.{Entries, kept_at}
+use Rattle.share_coord.specs.declared.fault.CoordFault.{CoordFault}
+use Rattle.share_coord.specs.declared.fault.CoordFault.TheVariants.{Invalid, Unknown, FencedLeader, FencedState, TooMany, Store, NoMemory}
+use Rattle.share_coord.specs.declared.view.Kept.{Kept}
+use Rattle.share_part.specs.declared.limits.Limits.{Limits}
+use Rattle.share_part.specs.Hosting.{PartConfParts, AreHosted, HoldsWell, KeepsHolds, key_of, states_of}
+use Rattle.share_part.specs.declared.plan.Plan.{Plan}
+use Rattle.share_part.specs.Collecting.{IsPlanOf}
+use Rattle.share_part.specs.Making.{MakesOnce, MakesTableOnce, Tells, numbered_bytes, state_for}
+use Rattle.share_part.specs.Once.{Followed, FollowsOnce}
+use Rattle.share_part.specs.Shards.{PartShardState, PartParts, Carries, StepsThen, Does, Fetches, Acquires, MakesTable, IsEmptyAnswer, IsStill, IsPendingHosted, held_in, with_held, new_state, first_start}
+use Rattle.share_part.specs.Tables.{table_of, with_holds}
+use Rattle.share_part.specs.Walks.{acquired, AreRunsOf, bytes_in, written_out}
+use Rattle.share_part.proofs.Appending.{numbered_is}
+use Rattle.share_part.proofs.Holding.{AreKept, kept_taken, none_kept, one_kept, same_kept, table_kept}
+use Rattle.share_part.proofs.Mapping.{keys_exact, keys_total, set_found}
+use Rattle.share_part.proofs.Seeing.{state_seen, view_of, hosted_more, new_hosted, made_is, goes_out}
+
+module _ {D W : Type 0} (image : D → List ℕ → Type 0) (holding : W → Held) where
+  -- what a shard in memory carries, with these writes pending
+  abbrev pub shard_of : PartParts D W → Option Batch → Option Entries → PartShardState
+  shard_of parts batch pending = record {
+    log = record { batches = parts.log.batches; pending = batch };
+    states = states_of parts.states.entries;
+    pending = option_map states_of pending;
+    held = held_in holding parts.windows;
+    clock = parts.clock;
+  }
+
+  pub record Keeping (parts : PartParts D W) (batch : Option Batch) (pending : Option Entries) : Type 0 where
+    pub log : CarriesLog image parts.log (record { batches = parts.log.batches; pending = batch })
+    pub holds : Holds image parts.states pending
+    pub hosted : AreHosted parts.conf parts.log.batches (states_of parts.states.entries)
+    pub pending_hosted : IsPendingHosted parts.conf parts.log.batches (option_map states_of pending)
+
+  -- what holds of that holds of each shard that is carried
+  pub carried : (parts : PartParts D W) (P : PartShardState → Type 0) → ((batch : Option Batch) (pending : Option Entries) → Keeping parts batch pending → P (shard_of parts batch pending))
+      → (shard : PartShardState) → Carries image holding parts shard → P shard
+  carried parts P f shard c =
+      let log : shard.log ≡ record { batches = parts.log.batches; pending = shard.log.pending } = λ i. record { batches = c.log.batches i; pending = shard.log.pending } in
+      let is : shard_of parts shard.log.pending c.pending ≡ shard = λ i. record {
+        log = sym log i;
+        states = sym c.states i;
+        pending = sym c.pending_is i;
+        held = λ group. sym (c.held group) i;
+        clock = sym c.clock i;
+      } in
+      subst P is (f shard.log.pending c.pending (record {
+        log = subst (CarriesLog image parts.log) log c.log;
+        holds = c.holds;
+        hosted = hosted_as c;
+        pending_hosted = pending_as c;
+      }))
+    where
+      hosted_as : Carries image holding parts shard → AreHosted parts.conf parts.log.batches (states_of parts.states.entries)
+      hosted_as c = subst (λ (l : List Batch). AreHosted parts.conf l (states_of parts.states.entries)) c.log.batches
+          (subst (AreHosted parts.conf shard.log.batches) c.states c.hosted)
+
+      pending_as : (c : Carries image holding parts shard) → IsPendingHosted parts.conf parts.log.batches (option_map states_of c.pending)
+      pending_as c = subst (λ (l : List Batch). IsPendingHosted parts.conf l (option_map states_of c.pending)) c.log.batches
+          (subst (IsPendingHosted parts.conf shard.log.batches) c.pending_is c.pending_hosted)
+
+  -- with other holds, another clock, and a store of the same states
+  pub carries_with : (parts after : PartParts D W) (batch : Option Batch) (was pending : Option Entries) (held : List ℕ → Held) → Keeping parts batch was
+      → after.conf ≡ parts.conf → after.log ≡ parts.log → after.states.entries ≡ parts.states.entries → Holds image after.states pending
+      → IsPendingHosted parts.conf parts.log.batches (option_map states_of pending) → ((group : List ℕ) → held group ≡ held_in holding after.windows group)
+      → Carries image holding after (record {
+        log = record { batches = parts.log.batches; pending = batch };
+        states = states_of parts.states.entries;
+        pending = option_map states_of pending;
+        held = held;
+        clock = after.clock;
+      })
+  carries_with parts after batch was pending held k conf log entries holds hosted same = record {
+    log = subst (λ (l : LogParts D). CarriesLog image l (record { batches = parts.log.batches; pending = batch })) (sym log) k.log;
+    pending = pending;
+    holds = holds;
+    states = ap states_of (sym entries);
+    pending_is = refl;
+    held = same;
+    clock = refl;
+    hosted = subst (λ (c : PartConfParts). AreHosted c parts.log.batches (states_of parts.states.entries)) (sym conf) k.hosted;
+    pending_hosted = subst (λ (c : PartConfParts). IsPendingHosted c parts.log.batches (option_map states_of pending)) (sym conf) hosted;
+  }
+
+  -- with other devices that stand for the same
+  pub carries_armed : (old new : PartParts D W) (shard : PartShardState) → Carries image holding old shard → new.conf ≡ old.conf → new.log.batches ≡ old.log.batches
+      → ((pending : Option Batch) → Keeps image old.log pending → Keeps image new.log pending) → new.states.entries ≡ old.states.entries
+      → ((pending : Option Entries) → Holds image old.states pending → Holds image new.states pending) → new.windows ≡ old.windows → new.clock ≡ old.clock
+      → Carries image holding new shard
+  carries_armed old new shard c conf batches log entries states windows clock = record {
+    log = record { batches = c.log.batches ∙ sym batches; keeps = log shard.log.pending c.log.keeps };
+    pending = c.pending;
+    holds = states c.pending c.holds;
+    states = c.states ∙ ap states_of (sym entries);
+    pending_is = c.pending_is;
+    held = λ group. c.held group ∙ ap (λ (w : List (List ℕ × W)). held_in holding w group) (sym windows);
+    clock = c.clock ∙ sym clock;
+    hosted = subst (λ (p : PartConfParts). AreHosted p shard.log.batches shard.states) (sym conf) c.hosted;
+    pending_hosted = subst (λ (p : PartConfParts). IsPendingHosted p shard.log.batches shard.pending) (sym conf) c.pending_hosted;
+  }
+
+-- ---- a fetch
+
+pub err_is : {T E : Type 0} (r : Result T E) (e : E) → r ≡ Err e → IsErr r
+err_is {T} {E} r e is = subst (λ (x : Result T E). IsErr x) (sym is) refl
+
+module _ {D W : Type 0} (content : D → Option (List ℕ)) (image : D → List ℕ → Type 0) (moment : D → ℕ) (since : D → ℕ → List ℕ → Type 0)
+    (armed : D → Armed) (starved : D → Bool) (faults : D → ℕ) (holding : W → Held) (now : ℕ) (visit : Visit) (old new : PartParts D W)
+    (conf : new.conf ≡ old.conf) (log : new.log ≡ old.log) (idle : new.states.journal.idle ≡ old.states.journal.idle) where
+  abbrev Rises : Type 0
+  Rises = Rose (faults old.states.journal.live.disk) (faults new.states.journal.live.disk)
+
+  abbrev Once : Result VisitAnswer want → Type 0
+  Once result = FollowsOnce content image armed starved faults holding now visit old new result
+
+  abbrev Leads : VisitAnswer → PartShardState → Type 0
+  Leads answer s = (t : PartShardState) × Carries image holding new t × StepsThen old.conf Rises old.states.journal.live.end s now visit answer t
+
+  abbrev Starves : Type 0
+  Starves = StarvesUnarmed content armed starved old.states.journal.live.disk new.states.journal.live.disk
+
+  abbrev key : KeyParts
+  key = key_of old.conf visit.group
+
+  answered : (answer : VisitAnswer) → Followed image faults holding now visit old new answer → (answer.then ≡ store_outcome Device → Starves) → Once (Ok answer)
+  answered answer visited sound = record { steps = visited; memory = tt; sound = sound; log = log; idle = idle; conf = conf }
+
+  -- no memory was found
+  pub hungry : (e : want) → new.states.entries ≡ old.states.entries → ((pending : Option Entries) → Holds image old.states pending → Holds image new.states pending)
+      → ((group : List ℕ) → held_in holding new.windows group ≡ held_in holding old.windows group) → new.clock ≡ old.clock → Once (Err e)
+  hungry e entries stays held clock = record {
+    steps = tt;
+    memory = carried image holding old (λ s. Carries image holding new s) (λ batch pending k.
+        subst (λ (c : ℕ). Carries image holding new (record {
+          log = record { batches = old.log.batches; pending = batch };
+          states = states_of old.states.entries;
+          pending = option_map states_of pending;
+          held = held_in holding old.windows;
+          clock = c;
+        })) clock
+        (carries_with image holding old new batch pending pending (held_in holding old.windows) k conf log entries (stays pending k.holds) k.pending_hosted
+        (λ group. sym (held group))));
+    sound = tt;
+    log = log;
+    idle = idle;
+    conf = conf;
+  }
+
+  pub starved_so : (result : Result VisitAnswer want) → IsErr result → new.states.entries ≡ old.states.entries → ((pending : Option Entries) → Holds image old.states pending → Holds image new.states pending)
+      → ((group : List ℕ) → held_in holding new.windows group ≡ held_in holding old.windows group) → new.clock ≡ old.clock → Once result
+  starved_so (Ok answer) is entries stays held clock = absurd (let clash : ⊥ = cc in clash)
+  starved_so (Err e) is entries stays held clock = hungry e entries stays held clock
+
+  -- nothing is fetched
+  pub idly : (answer : VisitAnswer) → answer.ack ≡ acknowledged → IsEmptyAnswer Done answer → ((visit.then ≡ Nothing) ⊎ (visit.then ≡ Release))
+      → new.states ≡ old.states → new.windows ≡ old.windows → new.clock ≡ max old.clock now → Once (Ok answer)
+  idly answer ack empty what states windows clock = answered answer
+      (carried image holding old (Leads answer) (λ batch pending k.
+      let t : PartShardState = record {
+        log = record { batches = old.log.batches; pending = batch };
+        states = states_of old.states.entries;
+        pending = option_map states_of pending;
+        held = held_in holding old.windows;
+        clock = new.clock;
+      } in (
+        t,
+        carries_with image holding old new batch pending pending (held_in holding old.windows) k conf log (ap (λ (s : StoreParts D). s.entries) states)
+            (subst (λ (s : StoreParts D). Holds image s pending) (sym states) k.holds) k.pending_hosted
+            (λ group. ap (λ (w : List (List ℕ × W)). held_in holding w group) (sym windows)),
+        record { clock = clock; log = refl; ack = ack; does = by_kind (shard_of image holding old batch pending) t what (record { states = refl; pending = refl; held = refl }) },
+      )))
+      (λ is. absurd (let never : Done ≡ store_outcome Device = sym empty.outcome_is ∙ is in let clash : ⊥ = cc in clash))
+    where
+      by_kind : (s t : PartShardState) → ((visit.then ≡ Nothing) ⊎ (visit.then ≡ Release)) → IsStill s t → Does old.conf Rises old.states.journal.live.end s visit answer t visit.then
+      by_kind s t (inl is) still = subst (Does old.conf Rises old.states.journal.live.end s visit answer t) (sym is) (empty, still)
+      by_kind s t (inr is) still = subst (Does old.conf Rises old.states.journal.live.end s visit answer t) (sym is) (empty, still)
+
+  module _ (limits : Limits) (is_fetch : visit.then ≡ Fetch limits.records limits.bytes limits.first) where
+    does_fetch : (s t : PartShardState) (answer : VisitAnswer) (o : Option ShareState) → share_state_at s.states key ≡ o
+        → Fetches old.conf Rises old.states.journal.live.end s visit limits answer t o → Does old.conf Rises old.states.journal.live.end s visit answer t visit.then
+    does_fetch s t answer o is f = subst (Does old.conf Rises old.states.journal.live.end s visit answer t) (sym is_fetch)
+        (subst (Fetches old.conf Rises old.states.journal.live.end s visit limits answer t) (sym is) f)
+
+    -- ---- records are acquired
+
+    abbrev table_held : Held
+    table_held = held_in holding old.windows visit.group
+
+    abbrev held_then : ShareState → List ℕ → Held
+    held_then state = with_held (held_in holding old.windows) visit.group (with_holds visit.member (new.clock + old.conf.lock_ms)
+        (acquired old.log.batches (table_of state table_held) limits).taken table_held)
+
+    -- what was acquired of a table with this state, and is answered
+    pub record Took (answer : VisitAnswer) (state : ShareState) : Type 0 where
+      pub ack : answer.ack ≡ acknowledged
+      pub outcome_is : answer.then ≡ Done
+      pub grants : AreRunsOf (acquired old.log.batches (table_of state table_held) limits).taken answer.grants
+      pub batches : answer.batches ≡ bytes_in (acquired old.log.batches (table_of state table_held) limits).batches
+      pub held : (group : List ℕ) → held_in holding new.windows group ≡ held_then state group
+      pub clock : new.clock ≡ max old.clock now
+
+    not_fault : (answer : VisitAnswer) (state : ShareState) → Took answer state → answer.then ≡ store_outcome Device → Starves
+    not_fault answer state took is = absurd (let never : Done ≡ store_outcome Device = sym took.outcome_is ∙ is in let clash : ⊥ = cc in clash)
+
+    abbrev shard_then : Option Batch → ShareStates → Option ShareStates → ShareState → PartShardState
+    shard_then batch states pending state = record {
+      log = record { batches = old.log.batches; pending = batch };
+      states = states;
+      pending = pending;
+      held = held_then state;
+      clock = new.clock;
+    }
+
+    acquires : (batch : Option Batch) (pending : Option Entries) (states : ShareStates) (now_pending : Option ShareStates) (answer : VisitAnswer) (state : ShareState) → Took answer state
+        → Acquires old.conf (shard_of image holding old batch pending) state visit limits answer (shard_then batch states now_pending state)
+    acquires batch pending states now_pending answer state took =
+        record { outcome_is = took.outcome_is; grants = took.grants; batches = took.batches; held = refl }
+
+    -- the table was there
+    pub acquired_there : (answer : VisitAnswer) (kept : Kept) → kept_at old.states.entries key ≡ Some kept → new.states ≡ old.states → Took answer kept.view → Once (Ok answer)
+    acquired_there answer kept is states took = answered answer
+        (carried image holding old (Leads answer) (λ batch pending k. (
+          shard_then batch (states_of old.states.entries) (option_map states_of pending) kept.view,
+          carries_with image holding old new batch pending pending (held_then kept.view) k conf log (ap (λ (s : StoreParts D). s.entries) states)
+              (subst (λ (s : StoreParts D). Holds image s pending) (sym states) k.holds) k.pending_hosted (λ group. sym (took.held group)),
+          record {
+            clock = took.clock;
+            log = refl;
+            ack = took.ack;
+            does = does_fetch (shard_of image holding old batch pending) _ answer (Some kept.view) (state_seen old.states.entries key ∙ ap (option_map view_of) is)
+                (record { acquires = acquires batch pending _ _ answer kept.view took; states = refl; pending = refl });
+          },
+        ))) (not_fault answer kept.view took)
+
+    abbrev made : ShareState
+    made = new_state old.conf (end_of old.log.batches)
+
+    abbrev Written : Entries → Type 0
+    Written = IsInitialised old.states.entries key (pos 0) (pos (first_start old.conf.reset (end_of old.log.batches)))
+
+    abbrev Wrote : Result (Unit {0}) CoordFault → Type 0
+    Wrote done = WritesOnce image moment since (HasFailed content armed starved faults) Written old.states new.states done
+
+    made_states : (es : Entries) → Written es → states_of es ≡ insert_entry key_cmp (states_of old.states.entries) key made
+    made_states es is = made_is old.conf (end_of old.log.batches) old.states.entries es visit.group is
+
+    made_hosted : (es : Entries) → Written es → AreHosted old.conf old.log.batches (states_of old.states.entries) → AreHosted old.conf old.log.batches (states_of es)
+    made_hosted es is h = subst (AreHosted old.conf old.log.batches) (sym (made_states es is))
+        (hosted_more old.conf old.log.batches (states_of old.states.entries) key made h (new_hosted old.conf old.log.batches visit.group))
+
+    none_there : kept_at old.states.entries key ≡ None → share_state_at (states_of old.states.entries) key ≡ None
+    none_there is = state_seen old.states.entries key ∙ ap (option_map view_of) is
+
+    -- the table was made
+    pub acquired_first : (answer : VisitAnswer) (done : Unit {0}) → kept_at old.states.entries key ≡ None → Wrote (Ok done) → Took answer made → Once (Ok answer)
+    acquired_first answer done none once took = answered answer
+        (carried image holding old (Leads answer) (λ batch pending k. (
+          shard_then batch (states_of new.states.entries) None made,
+          record {
+            log = subst (λ (l : LogParts D). CarriesLog image l (record { batches = old.log.batches; pending = batch })) (sym log) k.log;
+            pending = None;
+            holds = once.kept pending k.holds;
+            states = refl;
+            pending_is = refl;
+            held = λ group. sym (took.held group);
+            clock = refl;
+            hosted = subst (λ (c : PartConfParts). AreHosted c old.log.batches (states_of new.states.entries)) (sym conf) (made_hosted new.states.entries once.written k.hosted);
+            pending_hosted = tt;
+          },
+          record {
+            clock = took.clock;
+            log = refl;
+            ack = took.ack;
+            does = does_fetch (shard_of image holding old batch pending) _ answer None (none_there none)
+                (subst (MakesTable old.conf Rises old.states.journal.live.end (shard_of image holding old batch pending) visit limits answer (shard_then batch (states_of new.states.entries) None made)) (sym took.outcome_is)
+                (record { acquires = acquires batch pending _ _ answer made took; states = made_states new.states.entries once.written; nothing = refl }));
+          },
+        ))) (not_fault answer made took)
+
+    -- ---- the table couldn't be stored
+
+    abbrev NotDevice : CoordFault → Type 0
+    NotDevice e = e ≢ Store Device
+
+    pub record Refused (answer : VisitAnswer) (fault : StoreFault) : Type 0 where
+      pub ack : answer.ack ≡ acknowledged
+      pub empty : IsEmptyAnswer (store_outcome fault) answer
+      pub held : (group : List ℕ) → held_in holding new.windows group ≡ held_in holding old.windows group
+      pub clock : new.clock ≡ max old.clock now
+
+    abbrev shard_same : Option Batch → Option Entries → PartShardState
+    shard_same batch pending = record {
+      log = record { batches = old.log.batches; pending = batch };
+      states = states_of old.states.entries;
+      pending = option_map states_of pending;
+      held = held_in holding old.windows;
+      clock = new.clock;
+    }
+
+    unmade : (answer : VisitAnswer) (fault : StoreFault) (batch : Option Batch) (was pending : Option Entries) → Keeping image holding old batch was → Refused answer fault
+        → new.states.entries ≡ old.states.entries → Holds image new.states pending → IsPendingHosted old.conf old.log.batches (option_map states_of pending)
+        → kept_at old.states.entries key ≡ None
+        → MakesTable old.conf Rises old.states.journal.live.end (shard_of image holding old batch was) visit limits answer (shard_same batch pending) (store_outcome fault)
+        → Leads answer (shard_of image holding old batch was)
+    unmade answer fault batch was pending k refused entries holds hosted none makes = (
+      shard_same batch pending,
+      carries_with image holding old new batch was pending (held_in holding old.windows) k conf log entries holds hosted (λ group. sym (refused.held group)),
+      record {
+        clock = refused.clock;
+        log = refl;
+        ack = refused.ack;
+        does = does_fetch (shard_of image holding old batch was) _ answer None (none_there none)
+            (subst (MakesTable old.conf Rises old.states.journal.live.end (shard_of image holding old batch was) visit limits answer (shard_same batch pending)) (sym refused.empty.outcome_is) makes);
+      },
+    )
+
+    pub unstored : (answer : VisitAnswer) (fault : StoreFault) → kept_at old.states.entries key ≡ None → Wrote (Err (Store fault)) → Refused answer fault → Once (Ok answer)
+    unstored answer Device none once refused =
+        let failed = once.device refl in
+        answered answer (carried image holding old (Leads answer) (λ batch pending k.
+        ⊎_elim
+        (λ holds. unmade answer Device batch pending pending k refused once.same holds k.pending_hosted none
+        (failed.0.0, refused.empty, record { states = refl; pending = inl refl; held = refl }))
+        (λ lost. unmade answer Device batch pending (Some lost.0) k refused once.same lost.2 (made_hosted lost.0 lost.1 k.hosted) none
+        (failed.0.0, refused.empty, record { states = refl; pending = inr (ap (λ (s : ShareStates). Some s) (made_states lost.0 lost.1)); held = refl }))
+        (once.failed pending k.holds)))
+        (λ is. failed.0.1)
+    unstored answer (Full at) none once refused =
+        let full = once.full at refl in
+        answered answer (carried image holding old (Leads answer) (λ batch pending k.
+        unmade answer (Full at) batch pending pending k refused once.same (once.stays (λ e. let never : ⊥ = cc in never) pending k.holds) k.pending_hosted none (
+          full.0,
+          refused.empty,
+          record { states = refl; pending = refl; held = refl },
+          record {
+            before = old.states.entries;
+            after = full.1.1;
+            frame = full.1.0;
+            is_before = refl;
+            is_after = made_states full.1.1 full.1.2;
+            accepted = full.1.3;
+            past = subst (λ (n : ℕ). 2 ^ 62 < n + (length full.1.0 + 5)) full.0 full.1.4;
+          },
+        )))
+        (λ is. absurd (let never : store_outcome (Full at) ≡ store_outcome Device = sym refused.empty.outcome_is ∙ is in let clash : ⊥ = cc in clash))
+
+    -- ---- by what became of the table
+
+    abbrev Failed : D → D → Type 0
+    Failed = HasFailed content armed starved faults
+
+    abbrev Made : ℕ → Result ThenOutcome want → Type 0
+    Made end result = MakesTableOnce image moment since Failed old.conf visit.group end old.states new.states result
+
+    -- what the store has answered
+    abbrev Told : Option Kept → Result ThenOutcome want → Type 0
+    Told (Some kept) result = (new.states ≡ old.states) × (result ≡ Ok Done)
+    Told None result = MakesOnce image moment since Failed Written old.states new.states result
+
+    told : (result : Result ThenOutcome want) (end : ℕ) → end ≡ end_of old.log.batches → Made end result → (o : Option Kept) → kept_at old.states.entries key ≡ o → Told o result
+    told result end at made None is = (subst (λ (n : ℕ). Made n result) at made).absent is
+    told result end at made (Some kept) is = made.there (subst (λ (o : Option Kept). IsSome o) (sym is) refl)
+
+    hosted_by : (result : Result ThenOutcome want) (done : Result (Unit {0}) CoordFault) → Wrote done → AreHosted old.conf old.log.batches (states_of old.states.entries)
+        → AreHosted old.conf old.log.batches (states_of new.states.entries)
+    hosted_by result (Ok u) once h = made_hosted new.states.entries once.written h
+    hosted_by result (Err e) once h = subst (λ (es : Entries). AreHosted old.conf old.log.batches (states_of es)) (sym once.same) h
+
+    hosted_told : (result : Result ThenOutcome want) (o : Option Kept) → Told o result → AreHosted old.conf old.log.batches (states_of old.states.entries)
+        → AreHosted old.conf old.log.batches (states_of new.states.entries)
+    hosted_told result None told h = hosted_by result told.done told.once h
+    hosted_told result (Some kept) told h = subst (λ (s : StoreParts D). AreHosted old.conf old.log.batches (states_of s.entries)) (sym told.0) h
+
+    -- the states are ones that the partition may have
+    pub hosted_after : (result : Result ThenOutcome want) (end : ℕ) → end ≡ end_of old.log.batches → Made end result
+        → AreHosted old.conf old.log.batches (states_of old.states.entries) → AreHosted old.conf old.log.batches (states_of new.states.entries)
+    hosted_after result end at made h = hosted_told result (kept_at old.states.entries key) (told result end at made (kept_at old.states.entries key) refl) h
+
+    -- it found no memory
+    abbrev Stays : Type 0
+    Stays = (new.states.entries ≡ old.states.entries) × ((pending : Option Entries) → Holds image old.states pending → Holds image new.states pending)
+
+    stays_done : (done : Result (Unit {0}) CoordFault) (result : Result ThenOutcome want) → IsErr result → Tells done result → Wrote done → Stays
+    stays_done (Ok u) result is tells once = absurd (let clash : ⊥ = cc in clash)
+    stays_done (Err Invalid) result is tells once = absurd tells
+    stays_done (Err Unknown) result is tells once = absurd tells
+    stays_done (Err (FencedLeader n)) result is tells once = absurd tells
+    stays_done (Err (FencedState n)) result is tells once = absurd tells
+    stays_done (Err (TooMany n)) result is tells once = absurd tells
+    stays_done (Err (Store fault)) result is tells once = absurd (let clash : ⊥ = cc in clash)
+    stays_done (Err NoMemory) result is tells once = (once.same, once.stays (λ e. let clash : ⊥ = cc in clash))
+
+    stays_told : (result : Result ThenOutcome want) → IsErr result → (o : Option Kept) → Told o result → Stays
+    stays_told result is None told = stays_done told.done result is told.tells told.once
+    stays_told result is (Some kept) told = absurd (let e = told.1 in let clash : ⊥ = cc in clash)
+
+    pub unanswered : (answer : Result VisitAnswer want) → IsErr answer → (result : Result ThenOutcome want) → IsErr result → (end : ℕ) → end ≡ end_of old.log.batches → Made end result
+        → ((group : List ℕ) → held_in holding new.windows group ≡ held_in holding old.windows group) → new.clock ≡ old.clock → Once answer
+    unanswered answer none result is end at made held clock =
+        let s = stays_told result is (kept_at old.states.entries key) (told result end at made (kept_at old.states.entries key) refl) in
+        starved_so answer none s.0 s.1 held clock
+
+    -- it couldn't be stored
+    store_done : (done : Result (Unit {0}) CoordFault) (fault : StoreFault) → Tells done (Ok (store_outcome fault)) → Wrote done → Wrote (Err (Store fault))
+    store_done (Ok u) fault tells once = absurd (let clash : ⊥ = cc in clash)
+    store_done (Err Invalid) fault tells once = absurd tells
+    store_done (Err Unknown) fault tells once = absurd tells
+    store_done (Err (FencedLeader n)) fault tells once = absurd tells
+    store_done (Err (FencedState n)) fault tells once = absurd tells
+    store_done (Err (TooMany n)) fault tells once = absurd tells
+    store_done (Err (Store its)) fault tells once = let same : its ≡ fault = cc in subst (λ (f : StoreFault). Wrote (Err (Store f))) same once
+    store_done (Err NoMemory) fault tells once = absurd (let clash : ⊥ = cc in clash)
+
+    refused_told : (answer : VisitAnswer) (fault : StoreFault) (o : Option Kept) → kept_at old.states.entries key ≡ o → Told o (Ok (store_outcome fault)) → Refused answer fault → Once (Ok answer)
+    refused_told answer fault None is told refused = unstored answer fault is (store_done told.done fault told.tells told.once) refused
+    refused_told answer fault (Some kept) is told refused = absurd (let e = told.1 in let clash : ⊥ = cc in clash)
+
+    refused_by : (answer : VisitAnswer) (outcome : ThenOutcome) → outcome ≢ Done → answer.ack ≡ acknowledged → IsEmptyAnswer outcome answer
+        → ((group : List ℕ) → held_in holding new.windows group ≡ held_in holding old.windows group) → new.clock ≡ max old.clock now
+        → Told (kept_at old.states.entries key) (Ok outcome) → Once (Ok answer)
+    refused_by answer Done not ack empty held clock t = absurd (not refl)
+    refused_by answer (store_outcome fault) not ack empty held clock t =
+        refused_told answer fault (kept_at old.states.entries key) refl t (record { ack = ack; empty = empty; held = held; clock = clock })
+
+    pub refused : (answer : VisitAnswer) (outcome : ThenOutcome) → outcome ≢ Done → answer.ack ≡ acknowledged → IsEmptyAnswer outcome answer
+        → ((group : List ℕ) → held_in holding new.windows group ≡ held_in holding old.windows group) → new.clock ≡ max old.clock now
+        → (result : Result ThenOutcome want) → result ≡ Ok outcome → (end : ℕ) → end ≡ end_of old.log.batches → Made end result → Once (Ok answer)
+    refused answer outcome not ack empty held clock result is end at made =
+        refused_by answer outcome not ack empty held clock
+        (subst (Told (kept_at old.states.entries key)) is (told result end at made (kept_at old.states.entries key) refl))
+
+    -- it is there, or was made
+    abbrev its_state : ShareState
+    its_state = state_for old.conf old.log.batches old.states.entries visit.group
+
+    state_is : (o : Option Kept) → kept_at old.states.entries key ≡ o → its_state ≡ unwrap_or (option_map view_of o) made
+    state_is o is = ap (λ (s : Option ShareState). unwrap_or s made) (state_seen old.states.entries key ∙ ap (option_map view_of) is)
+
+    done_so : (done : Result (Unit {0}) CoordFault) (answer : VisitAnswer) → Tells done (Ok Done) → Wrote done → kept_at old.states.entries key ≡ None → Took answer made → Once (Ok answer)
+    done_so (Ok u) answer tells once is took = acquired_first answer u is once took
+    done_so (Err Invalid) answer tells once is took = absurd tells
+    done_so (Err Unknown) answer tells once is took = absurd tells
+    done_so (Err (FencedLeader n)) answer tells once is took = absurd tells
+    done_so (Err (FencedState n)) answer tells once is took = absurd tells
+    done_so (Err (TooMany n)) answer tells once is took = absurd tells
+    done_so (Err (Store fault)) answer tells once is took = absurd (let clash : ⊥ = cc in clash)
+    done_so (Err NoMemory) answer tells once is took = absurd (let clash : ⊥ = cc in clash)
+
+    done_told : (answer : VisitAnswer) (o : Option Kept) → kept_at old.states.entries key ≡ o → Told o (Ok Done) → Took answer its_state → Once (Ok answer)
+    done_told answer None is told took = done_so told.done answer told.tells told.once is (subst (Took answer) (state_is None is) took)
+    done_told answer (Some kept) is told took = acquired_there answer kept is told.0 (subst (Took answer) (state_is (Some kept) is) took)
+
+    pub fetched : (answer : VisitAnswer) → Took answer its_state → (result : Result ThenOutcome want) → result ≡ Ok Done → (end : ℕ) → end ≡ end_of old.log.batches → Made end result → Once (Ok answer)
+    fetched answer took result is end at made =
+        done_told answer (kept_at old.states.entries key) refl (subst (Told (kept_at old.states.entries key)) is (told result end at made (kept_at old.states.entries key) refl)) took
+
+    -- what is held then
+    pub held_by : (w1 w2 : List (List ℕ × W)) → ((group : List ℕ) → held_in holding w1 group ≡ held_in holding old.windows group)
+        → ((group : List ℕ) → held_in holding w2 group ≡ held_in holding w1 group) → (plan : Plan) (state : ShareState)
+        → IsPlanOf old.log.batches plan (acquired old.log.batches (table_of state (held_in holding w1 visit.group)) limits)
+        → (end : ℕ) → end ≡ new.clock + old.conf.lock_ms
+        → ((other : List ℕ) → held_in holding new.windows other ≡ with_held (held_in holding w2) visit.group
+        (with_holds visit.member end (written_out plan.grants.items) (held_in holding w2 visit.group)) other)
+        → (other : List ℕ) → held_in holding new.windows other ≡ held_then state other
+    held_by w1 w2 h1 h2 plan state planned end at held other =
+        let p = subst (λ (h : Held). IsPlanOf old.log.batches plan (acquired old.log.batches (table_of state h) limits)) (h1 visit.group) planned in
+        let same : held_in holding w2 ≡ held_in holding old.windows = λ i group. (h2 group ∙ h1 group) i in
+        held other
+        ∙ ap (λ (f : List ℕ → Held). with_held f visit.group (with_holds visit.member end (written_out plan.grants.items) (f visit.group)) other) same
+        ∙ ap (λ (t : List (ℕ × ℕ)). with_held (held_in holding old.windows) visit.group (with_holds visit.member end t table_held) other) p.taken.offsets
+        ∙ ap (λ (e : ℕ). with_held (held_in holding old.windows) visit.group (with_holds visit.member e (acquired old.log.batches (table_of state table_held) limits).taken table_held) other) at
+
+    -- what was planned, and then held
+    pub took_by : (w1 w2 : List (List ℕ × W)) → ((group : List ℕ) → held_in holding w1 group ≡ held_in holding old.windows group)
+        → ((group : List ℕ) → held_in holding w2 group ≡ held_in holding w1 group) → (plan : Plan) (state : ShareState)
+        → IsPlanOf old.log.batches plan (acquired old.log.batches (table_of state (held_in holding w1 visit.group)) limits)
+        → (answer : VisitAnswer) → answer.ack ≡ acknowledged → answer.then ≡ Done → answer.grants ≡ plan.grants.items
+        → answer.batches ≡ numbered_bytes old.log.batches plan.numbers.items → (end : ℕ) → end ≡ new.clock + old.conf.lock_ms
+        → ((other : List ℕ) → held_in holding new.windows other ≡ with_held (held_in holding w2) visit.group
+        (with_holds visit.member end (written_out plan.grants.items) (held_in holding w2 visit.group)) other)
+        → new.clock ≡ max old.clock now → Took answer state
+    took_by w1 w2 h1 h2 plan state planned answer ack outcome grants batches end at held clock =
+        let p = subst (λ (h : Held). IsPlanOf old.log.batches plan (acquired old.log.batches (table_of state h) limits)) (h1 visit.group) planned in
+        record {
+          ack = ack;
+          outcome_is = outcome;
+          grants = subst (AreRunsOf (acquired old.log.batches (table_of state table_held) limits).taken) (sym grants) p.taken;
+          batches = batches ∙ numbered_is old.log.batches plan.numbers.items _ p.batches;
+          held = held_by w1 w2 h1 h2 plan state planned end at held;
+          clock = clock;
+        }
+
+    -- ---- what the groups hold is well
+
+    abbrev Wells : ShareStates → (List ℕ → Held) → Type 0
+    Wells states held = AreKept old.conf old.log.batches states held
+
+    -- the states are the same, or have the new table
+    abbrev Moved : Type 0
+    Moved = (states_of new.states.entries ≡ states_of old.states.entries)
+        ⊎ ((share_state_at (states_of old.states.entries) key ≡ None) × (states_of new.states.entries ≡ insert_entry key_cmp (states_of old.states.entries) key made))
+
+    moved_by : (done : Result (Unit {0}) CoordFault) → Wrote done → kept_at old.states.entries key ≡ None → Moved
+    moved_by (Ok u) once none = inr (none_there none, made_states new.states.entries once.written)
+    moved_by (Err e) once none = inl (ap states_of once.same)
+
+    moved_told : (result : Result ThenOutcome want) (o : Option Kept) → kept_at old.states.entries key ≡ o → Told o result → Moved
+    moved_told result None is told = moved_by told.done told.once is
+    moved_told result (Some kept) is told = inl (ap (λ (s : StoreParts D). states_of s.entries) told.0)
+
+    moved : (result : Result ThenOutcome want) (end : ℕ) → end ≡ end_of old.log.batches → Made end result → Moved
+    moved result end at made = moved_told result (kept_at old.states.entries key) refl (told result end at made (kept_at old.states.entries key) refl)
+
+    wells_by : Moved → Wells (states_of old.states.entries) (held_in holding old.windows) → Wells (states_of new.states.entries) (held_in holding old.windows)
+    wells_by (inl same) w = subst (λ (s : ShareStates). Wells s (held_in holding old.windows)) (sym same) w
+    wells_by (inr more) w =
+        let none : held_in holding old.windows visit.group ≡ [] = subst (λ (o : Option ShareState). HoldsWell old.log.batches o (held_in holding old.windows visit.group)) more.0 (w visit.group).0 in
+        subst (λ (s : ShareStates). Wells s (held_in holding old.windows)) (sym more.1)
+        (table_kept old.conf old.log.batches (states_of old.states.entries) (held_in holding old.windows) visit.group made w
+        (subst (KeepsHolds old.log.batches (Some made)) (sym none) (none_kept old.log.batches (Some made))))
+
+    pub wells_after : (result : Result ThenOutcome want) (end : ℕ) → end ≡ end_of old.log.batches → Made end result
+        → ((group : List ℕ) → held_in holding new.windows group ≡ held_in holding old.windows group)
+        → Wells (states_of old.states.entries) (held_in holding old.windows) → Wells (states_of new.states.entries) (held_in holding new.windows)
+    wells_after result end at made same w =
+        same_kept old.conf old.log.batches (states_of new.states.entries) (held_in holding old.windows) (held_in holding new.windows) same (wells_by (moved result end at made) w)
+
+    there_done : (done : Result (Unit {0}) CoordFault) → Tells done (Ok Done) → Wrote done → share_state_at (states_of new.states.entries) key ≡ Some made
+    there_done (Ok u) tells once = ap (λ (s : ShareStates). share_state_at s key) (made_states new.states.entries once.written)
+        ∙ set_found key_cmp keys_total keys_exact key made (states_of old.states.entries)
+    there_done (Err Invalid) tells once = absurd tells
+    there_done (Err Unknown) tells once = absurd tells
+    there_done (Err (FencedLeader n)) tells once = absurd tells
+    there_done (Err (FencedState n)) tells once = absurd tells
+    there_done (Err (TooMany n)) tells once = absurd tells
+    there_done (Err (Store fault)) tells once = absurd (let clash : ⊥ = cc in clash)
+    there_done (Err NoMemory) tells once = absurd (let clash : ⊥ = cc in clash)
+
+    there_told : (o : Option Kept) → kept_at old.states.entries key ≡ o → Told o (Ok Done) → share_state_at (states_of new.states.entries) key ≡ Some its_state
+    there_told None is told = there_done told.done told.tells told.once ∙ ap (λ (s : ShareState). Some s) (sym (state_is None is))
+    there_told (Some kept) is told = ap (λ (s : StoreParts D). share_state_at (states_of s.entries) key) told.0
+        ∙ state_seen old.states.entries key ∙ ap (option_map view_of) is ∙ ap (λ (s : ShareState). Some s) (sym (state_is (Some kept) is))
+
+    pub wells_took : ((group : List ℕ) → held_in holding new.windows group ≡ held_then its_state group) → (result : Result ThenOutcome want) → result ≡ Ok Done
+        → (end : ℕ) → end ≡ end_of old.log.batches → Made end result → AreHosted old.conf old.log.batches (states_of old.states.entries)
+        → Wells (states_of old.states.entries) (held_in holding old.windows) → Wells (states_of new.states.entries) (held_in holding new.windows)
+    wells_took held result is end at made hosted w =
+        let there = there_told (kept_at old.states.entries key) refl (subst (Told (kept_at old.states.entries key)) is (told result end at made (kept_at old.states.entries key) refl)) in
+        let first = wells_by (moved result end at made) w in
+        let out = goes_out old.conf old.log.batches (states_of new.states.entries) key its_state (hosted_after result end at made hosted) there in
+        let its : KeepsHolds old.log.batches (Some its_state) table_held = subst (λ (o : Option ShareState). KeepsHolds old.log.batches o table_held) there (first visit.group) in
+        let more = kept_taken old.log.batches its_state table_held visit.member (new.clock + old.conf.lock_ms) limits out its in
+        same_kept old.conf old.log.batches (states_of new.states.entries) (held_then its_state) (held_in holding new.windows) held
+        (one_kept old.conf old.log.batches (states_of new.states.entries) (held_in holding old.windows) visit.group
+        (with_holds visit.member (new.clock + old.conf.lock_ms) (acquired old.log.batches (table_of its_state table_held) limits).taken table_held) first
+        (subst (λ (o : Option ShareState). KeepsHolds old.log.batches o
+        (with_holds visit.member (new.clock + old.conf.lock_ms) (acquired old.log.batches (table_of its_state table_held) limits).taken table_held)) (sym there) more))

@@ -1,0 +1,38 @@
+use Rattle.std.proofs.Common.{◌≡◌, ◌∙◌, sym, ap, subst, Some, None, ℕ, Option}
+use Rattle.std.specs.Prelude.{IfOk}
+use Rattle.std.specs.Option.{option_map}
+use Rattle.share_model.specs.Keys.{KeyParts}
+use Rattle.share_model.specs.ShareStates.{ShareState}
+use Rattle.share_model.specs.declared.reset.Reset.{Reset}
+use Rattle.share_coord.specs.Stored.{kept_at}
+use Rattle.share_part.specs.Collecting.{IsPlanOf}
+use Rattle.share_part.specs.Shards.{first_start}
+use Rattle.share_part.specs.Tables.{MayGoOut, Table}
+use Rattle.share_part.specs.Walks.{acquired}
+use Rattle.share_part.proofs.Planning.{rows_go_out, table_there, table_new}
+use Rattle.share_part.proofs.Seeing.{view_of}
+use Rattle.share_part.proofs.fetch.planned.Goals as goal
+
+pub plan-requires-clause-rows : goal.plan-requires-clause-rows
+plan-requires-clause-rows g c =
+    let there = subst (λ (k : KeyParts). Some c.in-Some-look.view.now ≡ option_map view_of (kept_at c.args.states.now.entries k)) c.key.ensures c.in-Some-look.ensures in
+    subst (λ (s : ShareState). MayGoOut s.runs) (sym c.view.view_is)
+    (rows_go_out g.W.Window.held c.args.conf.now c.args.log.now.batches c.args.states.now.entries c.args.windows.now.entries c.args.group.now c.in-Some-look.view.now there c.requires.hosted)
+
+pub returns-in-Some-look-clause-is : goal.returns-in-Some-look-clause-is
+returns-in-Some-look-clause-is g c =
+    let there = subst (λ (k : KeyParts). Some c.in-Some-look.view.now ≡ option_map view_of (kept_at c.args.states.now.entries k)) c.key.ensures c.in-Some-look.ensures in
+    subst (λ (t : Table). IfOk c.plan.result (λ plan. IsPlanOf c.args.log.now.batches plan (acquired c.args.log.now.batches t c.args.limits)))
+    (table_there g.W.Window.held c.args.conf.now c.args.log.now.batches c.args.states.now.entries c.args.windows.now.entries c.args.group.now c.in-Some-look.view.now there
+    c.in-Some.window.now c.in-Some.ensures.value c.start_of.result c.view.inside.runs c.start_of.ensures (ap (λ (s : ShareState). s.runs) c.view.view_is))
+    c.plan.ensures.is
+
+pub returns-in-None-clause-is : goal.returns-in-None-clause-is
+returns-in-None-clause-is g c =
+    let absent = subst (λ (k : KeyParts). ◌≡◌ {A = Option ShareState} None (option_map view_of (kept_at c.args.states.now.entries k))) c.key.ensures c.in-None.ensures in
+    subst (λ (t : Table). IfOk c.plan-in-None.result (λ plan. IsPlanOf c.args.log.now.batches plan (acquired c.args.log.now.batches t c.args.limits)))
+    (table_new g.W.Window.held c.args.conf.now c.args.log.now.batches c.args.states.now.entries c.args.windows.now.entries c.args.group.now absent
+    c.in-Some.window.now c.in-Some.ensures.value c.first_start.result c.new-rows.result
+    (c.first_start.ensures.start ∙ ap (λ (r : Reset). first_start r c.end.result) c.reset.ensures ∙ ap (λ (n : ℕ). first_start c.args.conf.now.reset n) c.end.ensures.end)
+    c.new-rows.ensures)
+    c.plan-in-None.ensures.is

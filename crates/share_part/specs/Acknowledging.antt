@@ -1,0 +1,69 @@
+-- What the acknowledgements of a visit are answered, and leave of a shard (KIP-932; Kafka's ShareAcknowledge). They are all taken, or none is.
+-- The first that applies: they aren't well formed; the member doesn't hold an offset that they name, as where the group has no table; there
+-- are none, so that no offset is named; the write fails; they are done.
+-- Worked example: a log has one batch from 0 to 2, and `a` holds 0 to 2 with count 1. An accept from 0 to 2^63 - 1 is told that 3 isn't held,
+-- and leaves all. An accept from 0 to 2 stores the start 3 with no rows, and nothing is held any more; where the device fails, all three
+-- are held as before, and the write is pending.
+use Rattle.std.specs.Prelude.{◌≡◌, ◌⊎◌, ◌+◌, ◌<◌, ◌^◌, ℕ, List, length, Some, None, IsSome}
+use Rattle.std.specs.BTreeMap.{insert_entry}
+use Rattle.ack_ranges.specs.Batches.{IsWellFormed, kind_at}
+use Rattle.ack_ranges.specs.Faults.{IsFirstFault}
+use Rattle.share_model.specs.ForeignRules.{ShareStates, share_state_at}
+use Rattle.share_model.specs.Keys.{key_cmp}
+use Rattle.share_model.specs.ShareStates.{ShareState}
+use Rattle.share_model.specs.declared.fault.StoreFault.TheVariants.{Device, Full}
+use Rattle.share_model.specs.declared.visit.AckOutcome.{AckOutcome}
+use Rattle.share_model.specs.declared.visit.AckOutcome.TheVariants.{Done, Malformed, NotHeld, Store}
+use Rattle.share_model.specs.declared.visit.Visit.{Visit}
+use Rattle.share_coord.specs.Stored.{Entries, Accepts}
+use Rattle.share_part.specs.Hosting.{PartConfParts, key_of, states_of}
+use Rattle.share_part.specs.Settling.{Acts, AreHeldBy, IsLeastMissing, IsSettled, held_after}
+use Rattle.share_part.specs.Shards.{IsStill, PartShardState, with_held}
+use Rattle.share_part.specs.Tables.{table_of}
+
+-- the states once acts on a group's table are stored
+pub record AreSettled (conf : PartConfParts) (old : PartShardState) (group : List ℕ) (acts : Acts) (states : ShareStates) : Type 0 where
+  pub state : ShareState
+  pub next : ShareState
+  pub known : share_state_at old.states (key_of conf group) ≡ Some state
+  pub settled : IsSettled conf.limit acts old.log.batches (table_of state (old.held group)) next
+  pub is : states ≡ insert_entry key_cmp old.states (key_of conf group) next
+
+-- they are stored, and end what is held
+pub record IsActedOn (conf : PartConfParts) (old : PartShardState) (group : List ℕ) (acts : Acts) (new : PartShardState) : Type 0 where
+  pub states : AreSettled conf old group acts new.states
+  pub nothing : new.pending ≡ None
+  pub held : new.held ≡ with_held old.held group (held_after acts (old.held group))
+
+-- they couldn't be stored: the table is as before, and the pending write is the one from before or this one
+pub record IsNotActedOn (conf : PartConfParts) (old : PartShardState) (group : List ℕ) (acts : Acts) (new : PartShardState) : Type 0 where
+  pub states : new.states ≡ old.states
+  pub held : new.held ≡ old.held
+  pub pending : (new.pending ≡ old.pending) ⊎ ((lost : ShareStates) × (new.pending ≡ Some lost) × AreSettled conf old group acts lost)
+
+-- their frame would end past the last offset of a journal that ends at `end`
+pub record HasNoRoomFor (conf : PartConfParts) (end : ℕ) (old : PartShardState) (group : List ℕ) (acts : Acts) : Type 0 where
+  pub before : Entries
+  pub after : Entries
+  pub frame : List ℕ
+  pub is_before : states_of before ≡ old.states
+  pub is_after : AreSettled conf old group acts (states_of after)
+  pub accepted : Accepts before frame after
+  pub past : 2 ^ 62 < end + (length frame + 5)
+
+-- each offset that is named is held by the member
+abbrev pub AreTheirs : PartShardState → Visit → Type 0
+AreTheirs old visit = IsWellFormed visit.acks × AreHeldBy visit.member (kind_at visit.acks) (old.held visit.group)
+
+-- The acknowledgements of a visit, by their answer. `rose` says that the count of faults of the first state disk rose, `end` is where its
+-- journal ends.
+abbrev pub Acknowledges : PartConfParts → (rose : Type 0) → (end : ℕ) → PartShardState → Visit → PartShardState → AckOutcome → Type 0
+Acknowledges conf rose end old visit new (Malformed fault) = IsFirstFault visit.acks fault × IsStill old new
+Acknowledges conf rose end old visit new (NotHeld offset) =
+    IsWellFormed visit.acks × IsLeastMissing visit.member (kind_at visit.acks) (old.held visit.group) offset × IsStill old new
+Acknowledges conf rose end old visit new Done = AreTheirs old visit
+    × ((((offset : ℕ) → kind_at visit.acks offset ≡ None) × IsStill old new)
+    ⊎ (((offset : ℕ) × IsSome (kind_at visit.acks offset)) × IsActedOn conf old visit.group (kind_at visit.acks) new))
+Acknowledges conf rose end old visit new (Store Device) = AreTheirs old visit × rose × IsNotActedOn conf old visit.group (kind_at visit.acks) new
+Acknowledges conf rose end old visit new (Store (Full at)) =
+    AreTheirs old visit × (at ≡ end) × IsStill old new × HasNoRoomFor conf end old visit.group (kind_at visit.acks)

@@ -1,0 +1,21 @@
+-- What a crash may leave of the three disks of a hosted partition. This project's own.
+-- For example where a produced batch and a new table are both pending, there are four: the log with or without the batch, beside the
+-- states with or without the table.
+use Rattle.std.specs.Prelude.{◌≡◌, ◌⊎◌, List, ℕ, Option, Some}
+use Rattle.share_model.specs.ForeignRules.{ShareStates}
+use Rattle.share_model.specs.Logs.{Batch}
+use Rattle.part_log.specs.Logs.{and_pending}
+use Rattle.share_part.specs.Hosting.{PartConfParts, ArePartText}
+use Rattle.share_part.specs.Shards.{PartShardState}
+
+-- what completed writes left, or that with the pending write
+abbrev pub IsOneOf : {S : Type 0} → S → Option S → S → Type 0
+IsOneOf done pending found = (found ≡ done) ⊎ (pending ≡ Some found)
+
+-- contents of the three disks that a crash may leave of a shard
+pub record IsLeftOf (conf : PartConfParts) (shard : PartShardState) (log first second : List ℕ) : Type 0 where
+  pub batches : List Batch
+  pub states : ShareStates
+  pub log_is : IsOneOf shard.log.batches (and_pending shard.log.batches shard.log.pending) batches
+  pub states_are : IsOneOf shard.states shard.pending states
+  pub text : ArePartText conf log first second batches states

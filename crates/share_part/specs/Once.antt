@@ -1,0 +1,88 @@
+-- What a call on the shard of a partition does, as one record. This project's own.
+-- For example a visit without acknowledgements that finds no memory leaves what the shard and its disks stand for.
+use Rattle.std.specs.Prelude.{◌≡◌, ◌≢◌, ◌⊎◌, ℕ, List, Bool, Option, Some, Result, Err, IfOk, OnErr}
+use Rattle.edge_io.specs.Armed.{StarvesUnarmed}
+use Rattle.edge_io.specs.Causes.{Rose}
+use Rattle.edge_io.specs.Moments.{LeavesOnly}
+use Rattle.edge_io.specs.declared.fault.Armed.{Armed}
+use Rattle.flex_fields.specs.declared.fault.NoMemory.{NoMemory}
+use Rattle.share_model.specs.Held.{Held}
+use Rattle.share_model.specs.declared.fault.LogFault.{LogFault}
+use Rattle.share_model.specs.declared.fault.LogFault.TheVariants.{Store as log_store, NoMemory as log_memory}
+use Rattle.share_model.specs.declared.fault.StoreFault.TheVariants.{Device}
+use Rattle.share_model.specs.declared.visit.AckOutcome.{AckOutcome}
+use Rattle.share_model.specs.declared.visit.AckOutcome.TheVariants.{Store as ack_store}
+use Rattle.share_model.specs.declared.visit.ThenOutcome.TheVariants.{Store}
+use Rattle.share_model.specs.declared.visit.Visit.{Visit}
+use Rattle.share_model.specs.declared.visit.VisitAnswer.{VisitAnswer}
+use Rattle.part_log.specs.Shards.{IsLogOf, at_end}
+use Rattle.share_part.specs.Shards.{PartShardState, PartParts, Carries, StepsThen, StepsProduce}
+use Rattle.share_part.specs.Visits.{StepsAcks, StepsVisit}
+
+-- a shard that carried a state carries one that what follows the acknowledgements leads to
+abbrev pub Followed : {D W : Type 0} → (D → List ℕ → Type 0) → (D → ℕ) → (W → Held) → ℕ → Visit → PartParts D W → PartParts D W → VisitAnswer → Type 0
+Followed image faults holding now visit before after answer = (old : PartShardState) → Carries image holding before old → (new : PartShardState)
+    × Carries image holding after new
+    × StepsThen before.conf (Rose (faults before.states.journal.live.disk) (faults after.states.journal.live.disk)) before.states.journal.live.end old now visit answer new
+
+-- What follows the acknowledgements. The members of the disk come first.
+pub record FollowsOnce {D W : Type 0} (content : D → Option (List ℕ)) (image : D → List ℕ → Type 0) (armed : D → Armed) (starved : D → Bool)
+    (faults : D → ℕ) (holding : W → Held) (now : ℕ) (visit : Visit) (before after : PartParts D W) (result : Result VisitAnswer NoMemory) : Type 0 where
+  -- where it answers, a step was made; where it finds no memory, the shard stands for what it stood for
+  pub steps : IfOk result (Followed image faults holding now visit before after)
+  pub memory : OnErr result ((old : PartShardState) → Carries image holding before old → Carries image holding after old)
+  -- with nothing armed, a device fault comes only where the disk finds no memory
+  pub sound : IfOk result (λ answer. answer.then ≡ Store Device →
+      StarvesUnarmed content armed starved before.states.journal.live.disk after.states.journal.live.disk)
+  -- the log, its disk and the second state disk stay
+  pub log : after.log ≡ before.log
+  pub idle : after.states.journal.idle ≡ before.states.journal.idle
+  pub conf : after.conf ≡ before.conf
+
+-- a shard that carried a state carries one that a visit leads to
+abbrev pub Visited : {D W : Type 0} → (D → List ℕ → Type 0) → (D → ℕ) → (W → Held) → ℕ → Visit → PartParts D W → PartParts D W → VisitAnswer → Type 0
+Visited image faults holding now visit before after answer = (old : PartShardState) → Carries image holding before old → (new : PartShardState)
+    × Carries image holding after new
+    × StepsVisit before.conf (Rose (faults before.states.journal.live.disk) (faults after.states.journal.live.disk)) before.states.journal.live.end old now visit answer new
+
+-- the acknowledgements were done alone
+abbrev pub AcksStand : {D W : Type 0} → (D → List ℕ → Type 0) → (D → ℕ) → (W → Held) → Visit → PartParts D W → PartParts D W → PartShardState → Type 0
+AcksStand image faults holding visit before after old = (ack : AckOutcome) × (new : PartShardState) × Carries image holding after new
+    × StepsAcks before.conf (Rose (faults before.states.journal.live.disk) (faults after.states.journal.live.disk)) before.states.journal.live.end old visit ack new
+
+-- A visit. The members of the disk come first.
+pub record VisitsOnce {D W : Type 0} (content : D → Option (List ℕ)) (image : D → List ℕ → Type 0) (armed : D → Armed) (starved : D → Bool)
+    (faults : D → ℕ) (holding : W → Held) (now : ℕ) (visit : Visit) (before after : PartParts D W) (result : Result VisitAnswer NoMemory) : Type 0 where
+  -- where it answers, a step was made
+  pub steps : IfOk result (Visited image faults holding now visit before after)
+  -- where it finds no memory, the shard stands for what it stood for, or for what the acknowledgements left
+  pub memory : OnErr result ((old : PartShardState) → Carries image holding before old →
+      Carries image holding after old ⊎ AcksStand image faults holding visit before after old)
+  pub ack_sound : IfOk result (λ answer. answer.ack ≡ ack_store Device →
+      StarvesUnarmed content armed starved before.states.journal.live.disk after.states.journal.live.disk)
+  -- with nothing armed, a device fault comes only where the disk finds no memory
+  pub sound : IfOk result (λ answer. answer.then ≡ Store Device →
+      StarvesUnarmed content armed starved before.states.journal.live.disk after.states.journal.live.disk)
+  -- the log, its disk and the second state disk stay
+  pub log : after.log ≡ before.log
+  pub idle : after.states.journal.idle ≡ before.states.journal.idle
+  pub conf : after.conf ≡ before.conf
+
+abbrev pub Produced : {D W : Type 0} → (D → List ℕ → Type 0) → (D → ℕ) → (W → Held) → ℕ → List ℕ → PartParts D W → PartParts D W → Result ℕ LogFault → Type 0
+Produced image faults holding now bytes before after result = (old : PartShardState) → Carries image holding before old → (new : PartShardState)
+    × Carries image holding after new
+    × StepsProduce (Rose (faults before.log.journal.disk) (faults after.log.journal.disk)) before.log.journal.end old now bytes result new
+
+-- A produced batch. The members of the disk come first.
+pub record ProducesOnce {D W : Type 0} (content : D → Option (List ℕ)) (image : D → List ℕ → Type 0) (moment : D → ℕ) (since : D → ℕ → List ℕ → Type 0)
+    (armed : D → Armed) (starved : D → Bool) (faults : D → ℕ) (holding : W → Held) (now : ℕ) (bytes : List ℕ) (before after : PartParts D W)
+    (result : Result ℕ LogFault) : Type 0 where
+  pub steps : result ≢ Err log_memory → Produced image faults holding now bytes before after result
+  pub memory : result ≡ Err log_memory → after ≡ before
+  pub sound : result ≡ Err (log_store Device) → StarvesUnarmed content armed starved before.log.journal.disk after.log.journal.disk
+  -- at each moment since it began a crash leaves the log at entry, with or without its pending batch, or with this one
+  pub any_moment : (old : PartShardState) → Carries image holding before old → LeavesOnly moment since before.log.journal.disk after.log.journal.disk
+      (λ c. IsLogOf old.log c ⊎ IsLogOf (record { batches = old.log.batches; pending = Some (at_end old.log.batches bytes) }) c)
+  -- the states and their disks stay
+  pub states : after.states ≡ before.states
+  pub conf : after.conf ≡ before.conf

@@ -1,0 +1,56 @@
+-- What a shard is that was opened, and why none was. This project's own.
+-- For example three empty disks are opened as a shard with an empty log and no tables.
+use Rattle.std.specs.Prelude.{◌≡◌, ◌≢◌, ◌⊎◌, ℕ, List, Some, Bool, true, false}
+use Rattle.std.specs.declared.option.Option.{Option}
+use Rattle.edge_io.specs.declared.name.DiskPlace.{DiskPlace}
+use Rattle.edge_io.specs.declared.name.DiskPlace.TheVariants.{Log, StateA, StateB}
+use Rattle.edge_io.specs.declared.fault.Armed.{Armed}
+use Rattle.coord_checkpoint.specs.Disks.{HasFailed}
+use Rattle.share_model.specs.ForeignRules.{ShareStates}
+use Rattle.share_model.specs.Held.{Held}
+use Rattle.share_model.specs.Logs.{Batch}
+use Rattle.part_log.specs.Logs.{IsLogText, IsNoLogText}
+use Rattle.share_coord.specs.Stored.{AreDamaged}
+use Rattle.share_part.specs.Hosting.{PartConfParts, AreHosted, AreStates, ArePartText, states_of}
+use Rattle.share_part.specs.Shards.{PartParts, Carries, shard_with}
+use Rattle.share_part.specs.declared.opening.PartFault.{PartFault}
+use Rattle.share_part.specs.declared.opening.PartFault.TheVariants.{Damaged, Device}
+
+-- A shard that was opened of a log disk and two state disks. The members of the disk come first.
+pub record IsOpened {D W : Type 0} (content : D → Option (List ℕ)) (image : D → List ℕ → Type 0) (holding : W → Held) (conf : PartConfParts)
+    (log a b : D) (parts : PartParts D W) : Type 0 where
+  pub conf_is : parts.conf ≡ conf
+  -- it stands for the log and the states that it has: nothing is held or pending, and the clock is 0
+  pub carries : Carries image holding parts (shard_with parts.log.batches (states_of parts.states.entries))
+  -- the contents stood for these, and for no others
+  pub opens : (l x y : List ℕ) → content log ≡ Some l → content a ≡ Some x → content b ≡ Some y →
+      ArePartText conf l x y parts.log.batches (states_of parts.states.entries)
+  pub only : (l x y : List ℕ) (batches : List Batch) (states : ShareStates) → content log ≡ Some l → content a ≡ Some x → content b ≡ Some y →
+      ArePartText conf l x y batches states → (batches ≡ parts.log.batches) × (states ≡ states_of parts.states.entries)
+
+-- The states break the rules on a hosted partition.
+pub record AreMisplaced (conf : PartConfParts) (log first second : List ℕ) : Type 0 where
+  pub batches : List Batch
+  pub states : ShareStates
+  pub is_log : IsLogText log batches
+  pub are_states : AreStates first second states
+  pub broken : AreHosted conf batches states → ⊥
+
+-- contents are damaged on that disk, at that place; rules that are broken are told of the first state disk and place 0
+abbrev pub AreDamagedAt : PartConfParts → List ℕ → List ℕ → List ℕ → DiskPlace → ℕ → Type 0
+AreDamagedAt conf log first second Log place = IsNoLogText log place
+AreDamagedAt conf log first second StateA place = AreDamaged first second false place ⊎ ((place ≡ 0) × AreMisplaced conf log first second)
+AreDamagedAt conf log first second StateB place = AreDamaged first second true place
+
+-- The disks that come back where none was opened, and why. The members of the disk come first.
+pub record IsNotOpened {D : Type 0} (content : D → Option (List ℕ)) (armed : D → Armed) (starved : D → Bool) (faults : D → ℕ)
+    (conf : PartConfParts) (log a b log_now a_now b_now : D) (fault : PartFault) : Type 0 where
+  -- contents are damaged at that place, and stand for no log and states
+  pub damaged : (disk : DiskPlace) (place : ℕ) → fault ≡ Damaged disk place →
+      (l x y : List ℕ) → content log ≡ Some l → content a ≡ Some x → content b ≡ Some y → AreDamagedAt conf l x y disk place
+  pub sound : (l x y : List ℕ) (batches : List Batch) (states : ShareStates) → content log ≡ Some l → content a ≡ Some x → content b ≡ Some y →
+      ArePartText conf l x y batches states → (disk : DiskPlace) (place : ℕ) → fault ≢ Damaged disk place
+  -- a disk failed
+  pub log_device : fault ≡ Device Log → HasFailed content armed starved faults log log_now
+  pub first_device : fault ≡ Device StateA → HasFailed content armed starved faults a a_now
+  pub second_device : fault ≡ Device StateB → HasFailed content armed starved faults b b_now

@@ -1,0 +1,90 @@
+-- What became of the one write that stores acts. Private clauses cite this alone.
+-- For example a write that fails at the device is told by its fault, and leaves the states.
+use Rattle.std.specs.Prelude.{◌≡◌, ◌⊎◌, ℕ, ℤ, pos, negsuc, List, Option, Some, None, Result, Ok, Err, IsErr, IsSome}
+use Rattle.flex_fields.specs.declared.fault.NoMemory.{NoMemory as want}
+use Rattle.share_model.specs.ForeignRules.{share_state_at}
+use Rattle.share_model.specs.Held.{Held}
+use Rattle.share_model.specs.Keys.{KeyParts}
+use Rattle.share_model.specs.Logs.{Batch}
+use Rattle.share_model.specs.ShareStates.{ShareState}
+use Rattle.ack_ranges.specs.Batches.{IsWellFormed, kind_at}
+use Rattle.ack_ranges.specs.Faults.{IsFirstFault}
+use Rattle.share_model.specs.declared.ack.AckBatch.{AckBatch}
+use Rattle.share_model.specs.declared.ack.AckFault.{AckFault}
+use Rattle.share_model.specs.declared.visit.AckOutcome.{AckOutcome}
+use Rattle.share_model.specs.declared.visit.AckOutcome.TheVariants.{Done, Malformed, NotHeld, Store as refused}
+use Rattle.share_part.specs.Hosting.{PartConfParts, key_of, states_of}
+use Rattle.share_part.specs.Settling.{Acts, AreHeldBy, IsChange, IsLeastMissing}
+use Rattle.share_part.specs.Tables.{table_of}
+use Rattle.share_part.specs.declared.settle.Change.{Change}
+use Rattle.share_model.specs.declared.fault.StoreFault.{StoreFault}
+use Rattle.share_model.specs.declared.run.Run.{Run}
+use Rattle.share_coord.specs.Calls.{IsWritten}
+use Rattle.share_coord.specs.Holding.{Holds, WritesOnce}
+use Rattle.share_coord.specs.Parts.{StoreParts}
+use Rattle.share_coord.specs.Stored.{Entries}
+use Rattle.share_coord.specs.declared.fault.CoordFault.{CoordFault}
+use Rattle.share_coord.specs.declared.fault.CoordFault.TheVariants.{Invalid, Unknown, FencedLeader, FencedState, TooMany, Store, NoMemory}
+
+-- a start as a write carries it: -1 where it doesn't move
+abbrev pub start_number : Option ℕ → ℤ
+start_number None = negsuc 0
+start_number (Some start) = pos start
+
+-- what acts write of a key
+abbrev pub IsStored : Entries → KeyParts → Option ℕ → List Run → Entries → Type 0
+IsStored old key start runs new = IsWritten old key (pos 0) (pos 0) (start_number start) runs new
+
+-- the fault that is told; want of memory is none
+abbrev pub TellsFault : CoordFault → Result (Option StoreFault) want → Type 0
+TellsFault Invalid result = ⊥
+TellsFault Unknown result = ⊥
+TellsFault (FencedLeader known) result = ⊥
+TellsFault (FencedState known) result = ⊥
+TellsFault (TooMany runs) result = ⊥
+TellsFault (Store fault) result = result ≡ Ok (Some fault)
+TellsFault NoMemory result = IsErr result
+
+abbrev pub TellsStored : {T : Type 0} → Result T CoordFault → Result (Option StoreFault) want → Type 0
+TellsStored (Ok done) result = result ≡ Ok None
+TellsStored (Err fault) result = TellsFault fault result
+
+-- Acts that are stored, or aren't. The members of the disk come first.
+pub record StoresOnce {D : Type 0} (image : D → List ℕ → Type 0) (moment : D → ℕ) (since : D → ℕ → List ℕ → Type 0) (Failed : D → D → Type 0)
+    (Written : Entries → Type 0) (old new : StoreParts D) (result : Result (Option StoreFault) want) : Type 0 where
+  pub done : Result (Unit {0}) CoordFault
+  pub tells : TellsStored done result
+  pub once : WritesOnce image moment since Failed Written old new done
+
+-- ---- the acknowledgements of a group
+
+-- they are of what the member holds, and this came of their write
+pub record IsGroupStored {D : Type 0} (image : D → List ℕ → Type 0) (moment : D → ℕ) (since : D → ℕ → List ℕ → Type 0) (Failed : D → D → Type 0)
+    (conf : PartConfParts) (log : List Batch) (group member : List ℕ) (acts : Acts) (held : Held) (old new : StoreParts D)
+    (done : Result (Unit {0}) CoordFault) : Type 0 where
+  pub state : ShareState
+  pub change : Change
+  pub known : share_state_at (states_of old.entries) (key_of conf group) ≡ Some state
+  pub theirs : AreHeldBy member acts held
+  pub is : IsChange conf.limit acts log (table_of state held) change
+  pub once : WritesOnce image moment since Failed (IsStored old.entries (key_of conf group) change.start change.runs.items) old new done
+
+-- The acknowledgements of a group, by their answer: `was` is what the group held, `same` says that all groups hold what they did, and
+-- `ends` that the named offsets aren't held any more. The members of the disk come first.
+abbrev pub SettlesGroup : {D : Type 0} (image : D → List ℕ → Type 0) (moment : D → ℕ) (since : D → ℕ → List ℕ → Type 0) (Failed : D → D → Type 0)
+    (conf : PartConfParts) (log : List Batch) (group member : List ℕ) (acts : Acts) (was : Held) (old new : StoreParts D) (same ends : Type 0) → Result AckOutcome want → Type 0
+SettlesGroup image moment since Failed conf log group member acts was old new same ends (Ok (NotHeld offset)) = IsLeastMissing member acts was offset × (new ≡ old) × same
+SettlesGroup image moment since Failed conf log group member acts was old new same ends (Ok (Malformed fault)) = ⊥
+SettlesGroup image moment since Failed conf log group member acts was old new same ends (Ok Done) =
+    IsGroupStored image moment since Failed conf log group member acts was old new (Ok tt) × ends
+SettlesGroup image moment since Failed conf log group member acts was old new same ends (Ok (refused fault)) =
+    IsGroupStored image moment since Failed conf log group member acts was old new (Err (Store fault)) × same
+SettlesGroup image moment since Failed conf log group member acts was old new same ends (Err e) =
+    (new.entries ≡ old.entries) × ((pending : Option Entries) → Holds image old pending → Holds image new pending) × same
+
+-- The acknowledgements of a visit: they aren't well formed, or name no offset, or are done for the group. `still` says that nothing changed,
+-- and `Settles` what is done for the group.
+abbrev pub AcksOnce : List AckBatch → (still : Type 0) → (Result AckOutcome want → Type 0) → Result AckOutcome want → Type 0
+AcksOnce acks still Settles result = ((fault : AckFault) × (result ≡ Ok (Malformed fault)) × IsFirstFault acks fault × still)
+    ⊎ ((IsWellFormed acks × ((offset : ℕ) → kind_at acks offset ≡ None) × (result ≡ Ok Done) × still)
+    ⊎ (IsWellFormed acks × ((offset : ℕ) × IsSome (kind_at acks offset)) × Settles result))

@@ -1,0 +1,152 @@
+// The acknowledgements of a visit.
+ghost use Rattle.std.specs.Prelude.{◌≡◌, ℕ, List, Some, None, [], IfSome, IfNone, IfOk};
+ghost use Rattle.coord_checkpoint.specs.Disks.{HasFailed};
+ghost use Rattle.edge_io.specs.Armed.{RunsOn};
+ghost use Rattle.topic_conf.specs.Configs.{IsLimit};
+ghost use Rattle.ack_ranges.specs.Batches.{IsWellFormed, kind_at};
+ghost use Rattle.part_log.specs.Logs.{IsStoredLog};
+ghost use Rattle.share_model.specs.ForeignRules.{share_state_at};
+ghost use Rattle.share_part.specs.Acting.{IsFirstNamed, JudgesGroup};
+ghost use Rattle.share_part.specs.Hosting.{AreHosted, HoldsWell, key_of, states_of};
+ghost use Rattle.share_part.specs.Settling.{held_after};
+ghost use Rattle.share_part.specs.Shards.{held_in, with_held};
+ghost use Rattle.share_part.specs.Storing.{AcksOnce, SettlesGroup};
+
+use crate::conf::PartConf;
+use crate::ending::end_acknowledged;
+use crate::fetch::start_of;
+use crate::settle::{Judged, acknowledge};
+use crate::storing::store_change;
+use ack_ranges::{Pieces, check};
+use edge_io::Disk;
+use part_log::PartLog;
+use share_coord::Coord;
+use share_model::{AckBatch, AckOutcome, Name, NoMemory, Visit};
+use std::alloc::Global;
+use std::collections::BTreeMap;
+use window_rows::Window;
+
+// The least offset that well-formed acknowledgements name. `None` where they name none.
+fn first_named(batches: &[AckBatch]) -> Option<u64>
+    requires { IsWellFormed batches.now }
+    ensures some { IfSome result (IsFirstNamed (kind_at batches.now)) }
+    ensures none { IfNone result ((offset : ℕ) → kind_at batches.now offset ≡ None) }
+{
+    let mut pieces = Pieces::new(batches);
+    match pieces.next_piece() {
+        Some(piece) => Some(piece.first),
+        None => None,
+    }
+}
+
+// What well-formed acknowledgements come to on the table of a group, if it has one. A group without a table holds nothing.
+fn judge_group<D: Disk, W: Window>(
+    alloc: Global,
+    conf: &PartConf,
+    log: &PartLog<D>,
+    states: &Coord<D>,
+    windows: &BTreeMap<Name, W>,
+    visit: &Visit,
+    first: u64,
+) -> Result<Judged, NoMemory>
+    requires sound { IsStoredLog log.now.batches }
+    requires well_formed { IsWellFormed visit.now.acks }
+    requires first { IsFirstNamed (kind_at visit.now.acks) first }
+    requires idle { share_state_at (states_of states.now.entries) (key_of conf.now visit.now.group) ≡ None →
+        held_in W.held windows.now.entries visit.now.group ≡ [] }
+    ensures { IfOk result (JudgesGroup conf.now.limit visit.now.member (kind_at visit.now.acks) log.now.batches
+        (held_in W.held windows.now.entries visit.now.group) (share_state_at (states_of states.now.entries) (key_of conf.now visit.now.group))) }
+{
+    let Some(window) = windows.get(&visit.group) else {
+        return Ok(Judged::NotHeld(first));
+    };
+    match states.look(&conf.key(&visit.group)) {
+        Some(view) => acknowledge(
+            alloc,
+            log,
+            start_of(view),
+            &view.runs,
+            window,
+            &visit.member,
+            conf.limit(),
+            visit.acks.as_slice(),
+        ),
+        None => Ok(Judged::NotHeld(first)),
+    }
+}
+
+// Does the well-formed acknowledgements of a group, of which `first` is the least offset, by one write.
+fn settle_group<D: Disk, W: Window>(
+    alloc: Global,
+    conf: &PartConf,
+    log: &PartLog<D>,
+    states: &mut Coord<D>,
+    windows: &mut BTreeMap<Name, W>,
+    visit: &Visit,
+    first: u64,
+) -> Result<AckOutcome, NoMemory>
+    requires sound { IsStoredLog log.now.batches }
+    requires limit { IsLimit conf.now.limit }
+    requires well_formed { IsWellFormed visit.now.acks }
+    requires first { IsFirstNamed (kind_at visit.now.acks) first }
+    requires hosted { AreHosted conf.now log.now.batches (states_of states.old.entries) }
+    requires well { HoldsWell log.now.batches (share_state_at (states_of states.old.entries) (key_of conf.now visit.now.group))
+        (held_in W.held windows.old.entries visit.now.group) }
+    ensures settles { SettlesGroup D.image D.moment D.since (HasFailed D.content D.armed D.starved D.faults) conf.now log.now.batches
+        visit.now.group visit.now.member (kind_at visit.now.acks) (held_in W.held windows.old.entries visit.now.group) states.old states.new
+        ((other : List ℕ) → held_in W.held windows.new.entries other ≡ held_in W.held windows.old.entries other)
+        ((other : List ℕ) → held_in W.held windows.new.entries other ≡ with_held (held_in W.held windows.old.entries) visit.now.group
+        (held_after (kind_at visit.now.acks) (held_in W.held windows.old.entries visit.now.group)) other) result }
+    ensures runs { RunsOn D.content D.losses D.arms D.armed D.starved D.faults states.old.journal.live.disk states.new.journal.live.disk }
+    ensures idle { states.new.journal.idle ≡ states.old.journal.idle }
+{
+    let judged = judge_group(alloc, conf, log, states, windows, visit, first)?;
+    let change = match judged {
+        Judged::NotHeld(offset) => return Ok(AckOutcome::NotHeld { offset }),
+        Judged::Changes(change) => change,
+    };
+    let key = conf.key(&visit.group);
+    let fault = store_change(states, &key, change.start, &change.runs)?;
+    if let Some(fault) = fault {
+        return Ok(AckOutcome::Store(fault));
+    }
+    end_acknowledged(windows, &visit.group, visit.acks.as_slice());
+    Ok(AckOutcome::Done)
+}
+
+/// Does the acknowledgements of a visit: all of them by one write, or none. The holds of the named offsets end once they are stored.
+///
+/// Nothing changes where they aren't well formed, where the member doesn't hold an offset that they name, or after want of memory; after a
+/// store fault the table is as it was.
+pub fn acknowledge_visit<D: Disk, W: Window>(
+    alloc: Global,
+    conf: &PartConf,
+    log: &PartLog<D>,
+    states: &mut Coord<D>,
+    windows: &mut BTreeMap<Name, W>,
+    visit: &Visit,
+) -> Result<AckOutcome, NoMemory>
+    requires sound { IsStoredLog log.now.batches }
+    requires limit { IsLimit conf.now.limit }
+    requires hosted { AreHosted conf.now log.now.batches (states_of states.old.entries) }
+    requires well { HoldsWell log.now.batches (share_state_at (states_of states.old.entries) (key_of conf.now visit.now.group))
+        (held_in W.held windows.old.entries visit.now.group) }
+    ensures once { AcksOnce visit.now.acks ((states.new ≡ states.old) × (windows.new.entries ≡ windows.old.entries))
+        (SettlesGroup D.image D.moment D.since (HasFailed D.content D.armed D.starved D.faults) conf.now log.now.batches
+        visit.now.group visit.now.member (kind_at visit.now.acks) (held_in W.held windows.old.entries visit.now.group) states.old states.new
+        ((other : List ℕ) → held_in W.held windows.new.entries other ≡ held_in W.held windows.old.entries other)
+        ((other : List ℕ) → held_in W.held windows.new.entries other ≡ with_held (held_in W.held windows.old.entries) visit.now.group
+        (held_after (kind_at visit.now.acks) (held_in W.held windows.old.entries visit.now.group)) other)) result }
+    ensures runs { RunsOn D.content D.losses D.arms D.armed D.starved D.faults states.old.journal.live.disk states.new.journal.live.disk }
+    ensures idle { states.new.journal.idle ≡ states.old.journal.idle }
+    ensures range { IsLimit conf.now.limit }
+{
+    let batches = visit.acks.as_slice();
+    if let Err(fault) = check(batches) {
+        return Ok(AckOutcome::Malformed(fault));
+    }
+    let Some(first) = first_named(batches) else {
+        return Ok(AckOutcome::Done);
+    };
+    settle_group(alloc, conf, log, states, windows, visit, first)
+}

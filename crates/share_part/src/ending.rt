@@ -1,0 +1,41 @@
+// Ends the holds that acts were stored of.
+ghost use Rattle.std.specs.Prelude.{◌≡◌, ℕ, List, IsSome};
+ghost use Rattle.std.specs.BTreeMap.{is_at};
+ghost use Rattle.std.specs.Cmp.Lexicographic.{slice_cmp};
+ghost use Rattle.std.specs.Map.{lookup};
+ghost use Rattle.std.specs.Ordering.{nat_cmp};
+ghost use Rattle.ack_ranges.specs.Batches.{IsWellFormed, kind_at};
+ghost use Rattle.ack_ranges.specs.Pieces.{piece_at};
+ghost use Rattle.share_part.specs.Settling.{held_after};
+ghost use Rattle.share_part.specs.Shards.{held_in, with_held};
+
+use ack_ranges::Pieces;
+use share_model::{AckBatch, Name};
+use std::collections::BTreeMap;
+use window_rows::Window;
+
+// Ends the holds of the offsets of pieces.
+fn end_pieces<W: Window>(window: &mut W, mut pieces: Pieces<'_>)
+    ensures { W.held window.new ≡ held_after (piece_at pieces.entry) (W.held window.old) }
+{
+    while let Some(piece) = pieces.next_piece() {
+        window.end_hold(piece.first, piece.last);
+    }
+}
+
+/// Ends the holds of the offsets of well-formed acknowledgements, for a group whose window is there. It takes no memory.
+pub fn end_acknowledged<W: Window>(
+    windows: &mut BTreeMap<Name, W>,
+    group: &Name,
+    batches: &[AckBatch],
+)
+    requires there { IsSome (lookup (is_at (slice_cmp nat_cmp group.now)) windows.old.entries) }
+    requires well_formed { IsWellFormed batches.now }
+    ensures { (other : List ℕ) → held_in W.held windows.new.entries other ≡ with_held (held_in W.held windows.old.entries) group.now
+        (held_after (kind_at batches.now) (held_in W.held windows.old.entries group.now)) other }
+{
+    match windows.get_mut(group) {
+        Some(window) => end_pieces(window, Pieces::new(batches)),
+        None => unreachable!(),
+    }
+}

@@ -1,0 +1,142 @@
+// The pieces of a fetch.
+ghost use Rattle.std.specs.Prelude.{◌≡◌, ◌≤◌, ◌<◌, ◌^◌, ◌++◌, pos, ◌≤ℤ◌, List, None, Ok, IsSome, IfOk, OnOk, length, vec_len};
+ghost use Rattle.std.specs.BTreeMap.{is_at};
+ghost use Rattle.std.specs.Cmp.Lexicographic.{slice_cmp};
+ghost use Rattle.std.specs.List.{AllByRecursion};
+ghost use Rattle.std.specs.Map.{lookup};
+ghost use Rattle.std.specs.Ordering.{nat_cmp};
+ghost use Rattle.edge_io.specs.Armed.{RunsOn};
+ghost use Rattle.coord_checkpoint.specs.Disks.{HasFailed};
+ghost use Rattle.share_model.specs.ForeignRules.{size_of};
+ghost use Rattle.part_log.specs.Logs.{IsStoredLog};
+ghost use Rattle.share_coord.specs.Calls.{IsInitialised};
+ghost use Rattle.share_coord.specs.Stored.{kept_at};
+ghost use Rattle.share_part.specs.Collecting.{IsPlanOf};
+ghost use Rattle.share_part.specs.Hosting.{AreHosted, states_of};
+ghost use Rattle.share_part.specs.Making.{MakesOnce, MakesTableOnce, numbered_bytes, state_for};
+ghost use Rattle.share_part.specs.Shards.{first_start, held_in};
+ghost use Rattle.share_part.specs.Tables.{table_of};
+ghost use Rattle.share_part.specs.Walks.{acquired};
+
+use crate::conf::PartConf;
+use crate::limits::Limits;
+use crate::plan::Plan;
+use crate::walk::plan;
+use edge_io::Disk;
+use offset_runs::Runs;
+use part_log::PartLog;
+use share_coord::{Coord, CoordFault, StateView};
+use share_model::{Key, Name, NoMemory, Reset, Room, ThenOutcome};
+use std::alloc::Global;
+use std::collections::BTreeMap;
+use window_rows::Window;
+
+/// The offset that a state's start is.
+pub fn start_of(view: &StateView) -> u64
+    ensures { result ≡ size_of view.now.start }
+{
+    if view.start < 0 { 0 } else { view.start as u64 }
+}
+
+// Where a new group begins, in a log that ends here.
+fn first_start(reset: Reset, end: u64) -> u64
+    requires { end ≤ 2 ^ 62 }
+    ensures start { result ≡ first_start reset end }
+    ensures below { result ≤ 2 ^ 62 }
+{
+    match reset {
+        Reset::Latest => end,
+        Reset::Earliest => 0,
+    }
+}
+
+/// What a fetch will take of the table that a group has, or that it would get. It costs the slots that it walks.
+pub fn planned<D: Disk, W: Window>(
+    alloc: Global,
+    conf: &PartConf,
+    log: &PartLog<D>,
+    states: &Coord<D>,
+    windows: &BTreeMap<Name, W>,
+    group: &Name,
+    limits: Limits,
+) -> Result<Plan, NoMemory>
+    requires there { IsSome (lookup (is_at (slice_cmp nat_cmp group.now)) windows.now.entries) }
+    requires sound { IsStoredLog log.now.batches }
+    requires hosted { AreHosted conf.now log.now.batches (states_of states.now.entries) }
+    ensures is { IfOk result (λ plan. IsPlanOf log.now.batches plan (acquired log.now.batches
+        (table_of (state_for conf.now log.now.batches states.now.entries group.now) (held_in W.held windows.now.entries group.now)) limits)) }
+    ensures grants { IfOk result (λ plan. vec_len plan.grants ≤ 2001) }
+{
+    let Some(window) = windows.get(group) else {
+        unreachable!()
+    };
+    match states.look(&conf.key(group)) {
+        Some(view) => plan(alloc, log, start_of(view), &view.runs, window, limits),
+        None => {
+            let rows = Runs::new(alloc);
+            plan(
+                alloc,
+                log,
+                first_start(conf.reset(), log.end()),
+                &rows,
+                window,
+                limits,
+            )
+        }
+    }
+}
+
+// Stores a key's state that has none, with this start.
+fn store_state<D: Disk>(
+    states: &mut Coord<D>,
+    key: &Key,
+    start: u64,
+) -> Result<ThenOutcome, NoMemory>
+    requires { start ≤ 2 ^ 62 }
+    ensures there { IsSome (kept_at states.old.entries key.now) → (states.new ≡ states.old) × (result ≡ Ok ThenOutcome.Done) }
+    ensures absent { kept_at states.old.entries key.now ≡ None → MakesOnce D.image D.moment D.since
+        (HasFailed D.content D.armed D.starved D.faults) (IsInitialised states.old.entries key.now (pos 0) (pos start)) states.old states.new result }
+    ensures runs { RunsOn D.content D.losses D.arms D.armed D.starved D.faults states.old.journal.live.disk states.new.journal.live.disk }
+    ensures idle { states.new.journal.idle ≡ states.old.journal.idle }
+{
+    if states.look(key).is_some() {
+        return Ok(ThenOutcome::Done);
+    }
+    match states.init(key, 0, start as i64) {
+        Ok(()) => Ok(ThenOutcome::Done),
+        Err(CoordFault::Store(fault)) => Ok(ThenOutcome::Store(fault)),
+        Err(CoordFault::NoMemory) => Err(NoMemory),
+        Err(_) => unreachable!(),
+    }
+}
+
+/// Stores the table of a group that has none, where the log ends at `end`.
+pub fn make_table<D: Disk>(
+    states: &mut Coord<D>,
+    conf: &PartConf,
+    group: &Name,
+    end: u64,
+) -> Result<ThenOutcome, NoMemory>
+    requires { end ≤ 2 ^ 62 }
+    ensures made { MakesTableOnce D.image D.moment D.since (HasFailed D.content D.armed D.starved D.faults)
+        conf.now group.now end states.old states.new result }
+    ensures runs { RunsOn D.content D.losses D.arms D.armed D.starved D.faults states.old.journal.live.disk states.new.journal.live.disk }
+    ensures idle { states.new.journal.idle ≡ states.old.journal.idle }
+{
+    let key = conf.key(group);
+    store_state(states, &key, first_start(conf.reset(), end))
+}
+
+/// Appends the bytes of the batches with these numbers to a room that has memory set aside for them.
+pub fn append_batches<D: Disk>(log: &mut PartLog<D>, numbers: &[u64], out: &mut Room)
+    requires numbers { AllByRecursion (λ n. n < length log.old.batches) numbers.now }
+    requires spare { length (numbered_bytes log.old.batches numbers.now) ≤ out.old.spare }
+    ensures bytes { out.new.bytes ≡ out.old.bytes ++ numbered_bytes log.old.batches numbers.now }
+    ensures log { log.new ≡ log.old }
+{
+    for number in numbers {
+        if let Err(_) = log.batch_bytes(*number, out) {
+            unreachable!()
+        }
+    }
+}

@@ -1,0 +1,51 @@
+ghost use Rattle.std.specs.Prelude.{◌≡◌, ◌≤◌, ℕ, List, Some, length};
+ghost use Rattle.std.specs.BTreeMap.{insert_entry};
+ghost use Rattle.std.specs.List.{Contains};
+ghost use Rattle.std.specs.Option.{option_or};
+ghost use Rattle.share_model.specs.ForeignRules.{share_state_at, size_of};
+ghost use Rattle.share_model.specs.Keys.{key_cmp};
+ghost use Rattle.share_model.specs.Held.{Held};
+ghost use Rattle.share_model.specs.Logs.{Batch, IsLog};
+ghost use Rattle.share_model.specs.Runs.{IsCanonical, row_at};
+ghost use Rattle.share_model.specs.ShareStates.{ShareState};
+ghost use Rattle.share_model.specs.declared.ack.AckKind.{AckKind};
+ghost use Rattle.share_model.specs.declared.run.Run.{Run};
+ghost use Rattle.share_model.specs.declared.row.Row.{Row};
+ghost use Rattle.share_coord.specs.Stored.{Entries};
+ghost use Rattle.share_part.specs.Hosting.{AreHeldWell, IsHosted, PartConfParts, key_of, states_of};
+ghost use Rattle.share_part.specs.Settling.{Acts, AreRisingFrom, Books, IsChange, IsSettled, acted, acts_on, held_after, said_by};
+ghost use Rattle.share_part.specs.Slots.{slots_from};
+ghost use Rattle.share_part.specs.Storing.{IsStored};
+ghost use Rattle.share_part.specs.Tables.{table_of};
+ghost use Rattle.share_part.specs.declared.settle.Change.{Change};
+
+/// A state that a hosted partition may have stays one once acts on its table are stored, where what is held lies among the first 2000
+/// slots and is delivered for the tenth time at most.
+pub fn settled_tables_stay_hosted()
+    ensures { (conf : PartConfParts) (log : List Batch) (group : List ℕ) (state next : ShareState) (held : Held) (acts : Acts) →
+        IsLog log → conf.limit ≤ 10 → IsHosted conf log (key_of conf group) state → AreHeldWell log (size_of state.start) held →
+        IsSettled conf.limit acts log (table_of state held) next → IsHosted conf log (key_of conf group) next }
+{}
+
+/// Canonical runs whose rows stand at the first 2000 slots from a start are at most 2000.
+pub fn rows_of_slots_have_few_runs()
+    ensures { (log : List Batch) (start : ℕ) (runs : List Run) → IsLog log → IsCanonical runs →
+        ((offset : ℕ) (row : Row) → row_at runs offset ≡ Some row → Contains (slots_from 2000 log start) offset) → length runs ≤ 2000 }
+{}
+
+/// Acts one after another, on rising offsets, store and end what they do all at once.
+pub fn acts_in_order_are_acts_at_once()
+    ensures stored { (limit low : ℕ) (list : List (ℕ × AckKind)) (books : Books) → AreRisingFrom low list → (offset : ℕ) →
+        (acts_on limit list books).stored offset ≡ option_or (acted limit (said_by list) books.held offset) (books.stored offset) }
+    ensures held { (limit : ℕ) (list : List (ℕ × AckKind)) (books : Books) → (acts_on limit list books).held ≡ held_after (said_by list) books.held }
+{}
+
+/// A write of what acts change leaves the state of their table after them.
+pub fn stored_changes_settle_a_table()
+    ensures { (conf : PartConfParts) (log : List Batch) (old new : Entries) (group : List ℕ) (state : ShareState) (held : Held) (acts : Acts)
+        (change : Change) →
+        IsHosted conf log (key_of conf group) state → share_state_at (states_of old) (key_of conf group) ≡ Some state →
+        IsChange conf.limit acts log (table_of state held) change → IsStored old (key_of conf group) change.start change.runs.items new →
+        (next : ShareState) × IsSettled conf.limit acts log (table_of state held) next
+        × (states_of new ≡ insert_entry key_cmp (states_of old) (key_of conf group) next) }
+{}

@@ -1,0 +1,30 @@
+//! The shard of a hosted partition: its log, and the share groups that read it.
+#![tactic(auto)]
+
+mod acks;
+mod advance;
+mod budget;
+mod collector;
+mod conf;
+mod crash;
+mod ending;
+mod fetch;
+mod judge;
+mod laws;
+mod limits;
+mod opening;
+mod plan;
+mod settle;
+mod shard;
+mod storing;
+mod walk;
+mod windows;
+
+pub use conf::PartConf;
+pub use crash::a_crash_leaves_the_shard;
+pub use laws::{
+    acts_in_order_are_acts_at_once, rows_of_slots_have_few_runs, settled_tables_stay_hosted,
+};
+pub use limits::Limits;
+pub use opening::{PartFault, PartOpen};
+pub use shard::PartShard;

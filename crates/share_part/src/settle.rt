@@ -1,0 +1,237 @@
+// What acts on a table store.
+ghost use Rattle.std.specs.Prelude.{◌≡◌, ◌↔◌, ◌≤◌, ◌<◌, ◌+◌, ◌^◌, ℕ, [], IfSome, IfNone, IfOk, OnOk, Some, IsTrue};
+ghost use Rattle.ack_ranges.specs.Batches.{IsWellFormed, kind_at};
+ghost use Rattle.ack_ranges.specs.Pieces.{IsCanonical as AreCanonical, piece_at};
+ghost use Rattle.part_log.specs.Logs.{IsStoredLog};
+ghost use Rattle.share_model.specs.Held.{Held, hold_at};
+ghost use Rattle.share_part.specs.Acting.{AreDoneTo, AreRows, AreRowsTo, Comes, Ends, IsHeldWith, IsSaid};
+ghost use Rattle.share_part.specs.Settling.{Acts, AreBelow, IsChange, IsHeldBy, Judges, is_chosen, releasing, settled};
+
+use crate::advance::advance;
+use ack_ranges::{Piece, Pieces};
+use edge_io::Disk;
+use offset_runs::Runs;
+use part_log::PartLog;
+use share_model::{AckBatch, AckKind, Hold, Name, NoMemory, Row, RowState, Run};
+use std::alloc::Global;
+use window_rows::Window;
+
+/// What is to be stored of acts: the new start, where it moves, and the changed rows from there on.
+#[derive(Drop)]
+pub struct Change {
+    pub start: Option<u64>,
+    pub runs: Vec<Run>,
+}
+
+/// What acknowledgements come to. All of them are done, or none.
+#[derive(Drop)]
+pub enum Judged {
+    /// The member doesn't hold this offset, the least such one.
+    NotHeld(u64),
+    /// This is to be stored.
+    Changes(Change),
+}
+
+/// Whose records are released.
+#[derive(Clone, Copy)]
+pub enum Whose {
+    /// Those that a member holds.
+    Member(Name),
+    /// Those whose lock has ended by a moment, in milliseconds.
+    Due(u64),
+}
+
+// What an act stores of a record that is held with this delivery count.
+fn settled(limit: u16, kind: AckKind, count: u16) -> Row
+    ensures { result ≡ settled limit kind count }
+{
+    let state = match kind {
+        AckKind::Accept => RowState::Acknowledged,
+        AckKind::Gap => RowState::Archived,
+        AckKind::Reject => RowState::Archived,
+        AckKind::Release => {
+            if limit <= count {
+                RowState::Archived
+            } else {
+                RowState::Available
+            }
+        }
+    };
+    Row { state, count }
+}
+
+// Whether a hold is the member's.
+fn is_held_by(hold: &Hold, member: &Name) -> bool
+    ensures { IsTrue result ↔ (hold.now.member ≡ member.now) }
+{
+    hold.member.as_bytes() == member.as_bytes()
+}
+
+// The delivery count with which a member holds an offset. `None` where it doesn't.
+fn count_held<W: Window>(window: &W, member: &Name, offset: u64) -> Option<u16>
+    ensures some { IfSome result (λ count. IsHeldWith member.now count (hold_at (W.held window.now) offset)) }
+    ensures none { IfNone result (IsHeldBy member.now (hold_at (W.held window.now) offset) → ⊥) }
+{
+    let Some(hold) = window.look(offset) else {
+        return None;
+    };
+    if is_held_by(hold, member) {
+        return Some(hold.count);
+    }
+    None
+}
+
+// Does what a piece says. An offset that the member doesn't hold ends it, and is told.
+fn act_on_piece<W: Window>(
+    rows: &mut Runs,
+    window: &W,
+    member: &Name,
+    limit: u16,
+    piece: Piece,
+) -> Result<Option<u64>, NoMemory>
+    requires order { piece.first ≤ piece.last }
+    requires below { piece.last < 2 ^ 63 }
+    ensures { IfOk result (λ missing. (acts : Acts) → AreDoneTo limit member.now acts (W.held window.now) piece.first rows.old → IsSaid piece acts →
+        Comes limit member.now acts (W.held window.now) (piece.last + 1) rows.new missing) }
+{
+    for offset in piece.first..piece.last + 1 {
+        let Some(count) = count_held(window, member, offset) else {
+            return Ok(Some(offset));
+        };
+        rows.put_range(offset, offset, settled(limit, piece.kind, count))?;
+    }
+    Ok(None)
+}
+
+// Does what pieces say, from no rows on. The least offset that the member doesn't hold ends it, and is told.
+fn act_on_pieces<W: Window>(
+    rows: &mut Runs,
+    window: &W,
+    member: &Name,
+    limit: u16,
+    mut pieces: Pieces<'_>,
+) -> Result<Option<u64>, NoMemory>
+    requires none { rows.old ≡ [] }
+    requires pieces { AreCanonical pieces }
+    ensures { IfOk result (Ends limit member.now (piece_at pieces.entry) (W.held window.now) rows.new) }
+{
+    while let Some(piece) = pieces.next_piece() {
+        let missing = act_on_piece(rows, window, member, limit, piece)?;
+        if missing.is_some() {
+            return Ok(missing);
+        }
+    }
+    Ok(None)
+}
+
+// Whether a hold is one that is released.
+fn is_chosen(whose: &Whose, hold: &Hold) -> bool
+    ensures { result ≡ is_chosen whose.now hold.now }
+{
+    match whose {
+        Whose::Member(member) => is_held_by(hold, member),
+        Whose::Due(now) => hold.end <= *now,
+    }
+}
+
+// Stores the release of a held offset, where it is one that is released.
+fn release_one(
+    rows: &mut Runs,
+    offset: u64,
+    hold: &Hold,
+    whose: &Whose,
+    limit: u16,
+) -> Result<(), NoMemory>
+    ensures { OnOk result ((held : Held) → hold_at held offset ≡ Some hold.now →
+        AreRowsTo limit (releasing (is_chosen whose.now) held) held offset rows.old →
+        AreRowsTo limit (releasing (is_chosen whose.now) held) held (offset + 1) rows.new) }
+{
+    if !is_chosen(whose, hold) {
+        return Ok(());
+    }
+    rows.put_range(offset, offset, settled(limit, AckKind::Release, hold.count))?;
+    Ok(())
+}
+
+// Stores the releases, from no rows on.
+fn release_all<W: Window>(
+    rows: &mut Runs,
+    window: &W,
+    whose: &Whose,
+    limit: u16,
+) -> Result<(), NoMemory>
+    requires none { rows.old ≡ [] }
+    requires below { AreBelow (W.held window.now) }
+    ensures { OnOk result (AreRows limit (releasing (is_chosen whose.now) (W.held window.now)) (W.held window.now) rows.new) }
+{
+    let mut from = 0;
+    while let Some((offset, hold)) = window.next_held(from) {
+        release_one(rows, offset, hold, whose, limit)?;
+        from = offset + 1;
+    }
+    Ok(())
+}
+
+// What is to be stored once acts store these rows.
+fn change_of<D: Disk>(log: &PartLog<D>, start: u64, stored: &Runs, mut rows: Runs) -> Change
+    requires sound { IsStoredLog log.now.batches }
+    ensures { (limit : ℕ) (acts : Acts) (held : Held) → AreRows limit acts held rows →
+        IsChange limit acts log.now.batches (record { start = start; rows = stored.now; held = held }) result }
+{
+    let next = advance(log, start, rows.list(), stored.list());
+    rows.cut_below(next);
+    let runs = rows.into_vec();
+    if next == start {
+        return Change { start: None, runs };
+    }
+    Change {
+        start: Some(next),
+        runs,
+    }
+}
+
+/// What well-formed acknowledgements of a member come to on a table with this start, these rows and these holds.
+///
+/// It looks up each offset once, and ends at the first that the member doesn't hold.
+pub fn acknowledge<D: Disk, W: Window>(
+    alloc: Global,
+    log: &PartLog<D>,
+    start: u64,
+    stored: &Runs,
+    window: &W,
+    member: &Name,
+    limit: u16,
+    batches: &[AckBatch],
+) -> Result<Judged, NoMemory>
+    requires sound { IsStoredLog log.now.batches }
+    requires well_formed { IsWellFormed batches.now }
+    ensures { IfOk result (Judges limit member.now (kind_at batches.now) log.now.batches
+        (record { start = start; rows = stored.now; held = W.held window.now })) }
+{
+    let mut rows = Runs::new(alloc);
+    let missing = act_on_pieces(&mut rows, window, member, limit, Pieces::new(batches))?;
+    match missing {
+        Some(offset) => Ok(Judged::NotHeld(offset)),
+        None => Ok(Judged::Changes(change_of(log, start, stored, rows))),
+    }
+}
+
+/// What is to be stored once records of a table are released. It costs the records that are held.
+pub fn release<D: Disk, W: Window>(
+    alloc: Global,
+    log: &PartLog<D>,
+    start: u64,
+    stored: &Runs,
+    window: &W,
+    whose: &Whose,
+    limit: u16,
+) -> Result<Change, NoMemory>
+    requires sound { IsStoredLog log.now.batches }
+    requires below { AreBelow (W.held window.now) }
+    ensures { IfOk result (IsChange limit (releasing (is_chosen whose.now) (W.held window.now)) log.now.batches
+        (record { start = start; rows = stored.now; held = W.held window.now })) }
+{
+    let mut rows = Runs::new(alloc);
+    release_all(&mut rows, window, whose, limit)?;
+    Ok(change_of(log, start, stored, rows))
+}

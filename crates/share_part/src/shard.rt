@@ -1,0 +1,328 @@
+ghost use Rattle.std.specs.Prelude.{◌≡◌, ◌↔◌, ◌≤◌, ◌^◌, max, true, IfOk, IfErr, MatchResult, slice_get, ◌⊎◌};
+ghost use Rattle.std.specs.List.{AllByRecursion};
+ghost use Rattle.std.specs.Map.{keys_of};
+ghost use Rattle.std.specs.Option.{option_copied, option_map};
+ghost use Rattle.edge_io.specs.Armed.{ArmsAlone, RunsOn};
+ghost use Rattle.edge_io.specs.declared.name.DiskPlace.TheVariants.{Log, StateA, StateB};
+ghost use Rattle.share_model.specs.ForeignRules.{share_state_at};
+ghost use Rattle.share_model.specs.declared.fault.LogFault.{LogFault};
+ghost use Rattle.coord_checkpoint.specs.Disks.{RunsBoth};
+ghost use Rattle.edge_io.specs.Moments.{LeavesOnly};
+ghost use Rattle.gate_journal.specs.Frames.{StandsAs};
+ghost use Rattle.share_part.specs.Opening.{IsOpened, IsNotOpened};
+ghost use Rattle.share_part.specs.Hosting.{key_of, states_of};
+ghost use Rattle.share_part.specs.Shards.{Carries, IsEmptyAnswer, PartShardState};
+ghost use Rattle.share_part.specs.Walks.{IsSmallGrant};
+ghost use Rattle.share_part.specs.Once.{FollowsOnce, VisitsOnce, ProducesOnce};
+
+use crate::acks::acknowledge_visit;
+use crate::conf::PartConf;
+use crate::fetch::{append_batches, make_table, planned};
+use crate::judge::are_hosted;
+use crate::limits::Limits;
+use crate::opening::{PartFault, PartOpen, fault_of_log, fault_of_states};
+use crate::plan::Plan;
+use crate::windows::{add_window, hold, set_aside};
+use edge_io::{Disk, DiskPlace, FaultMode};
+use flex_fields::Items;
+use part_log::PartLog;
+use share_coord::{Coord, StateView};
+use share_model::{
+    AckOutcome, LogFault, Name, NoMemory, Room, Then, ThenOutcome, Visit, VisitAnswer,
+};
+use std::alloc::Global;
+use std::collections::BTreeMap;
+use std::marker::Model;
+use window_rows::Window;
+
+/// The shard of a hosted partition: its log, and the share groups that read it, each with its table and what it holds.
+///
+/// A contract sees the configuration, the log, the store of the groups' states, their windows and the clock.
+#[derive(Drop)]
+pub struct PartShard<D: Disk, W: Window> {
+    conf: PartConf,
+    log: PartLog<D>,
+    states: Coord<D>,
+    windows: BTreeMap<Name, W>,
+    clock: u64,
+    alloc: Global,
+}
+
+impl<D: Disk, W: Window> Model for PartShard<D, W> {
+    ghost use Rattle.share_part.specs.Hosting.{IsKeptShard};
+    ghost use Rattle.share_part.specs.Shards.{PartParts, held_in};
+
+    ghost Value = { PartParts D W };
+
+    ghost view = { λ s. record { conf = s.conf; log = s.log; states = s.states; windows = s.windows.entries; clock = s.clock } };
+
+    ghost invariant = { λ s. IsKeptShard s.conf s.log.batches s.states.entries (held_in W.held s.windows.entries) s.clock };
+}
+
+// An answer that no record was acquired. It takes no memory.
+fn empty(alloc: Global, outcome: ThenOutcome) -> VisitAnswer
+    ensures ack { result.ack ≡ AckOutcome.Done }
+    ensures answer { IsEmptyAnswer outcome result }
+{
+    VisitAnswer {
+        ack: AckOutcome::Done,
+        then: outcome,
+        grants: Items::new(Vec::new(alloc)),
+        batches: Room::new(alloc).into_blob(),
+    }
+}
+
+// Whether a batch wasn't taken for want of memory.
+fn has_no_memory(done: &Result<u64, LogFault>) -> bool
+    ensures { (result ≡ true) ↔ (done.now ≡ Err LogFault.NoMemory) }
+{
+    match done {
+        Err(LogFault::NoMemory) => true,
+        _ => false,
+    }
+}
+
+impl<D: Disk, W: Window> PartShard<D, W> {
+    /// Opens a partition of the disk of its log and the two of its states, which come back at an `Err`. Nothing is held.
+    ///
+    /// The log is opened first, and then the states, as `PartLog` and `Coord` do; then the states are judged. States that break the
+    /// rules on a hosted partition are told of the first state disk and place 0.
+    pub fn open(
+        alloc: Global,
+        disks: (D, D, D),
+        conf: PartConf,
+    ) -> Result<PartShard<D, W>, PartOpen<D>>
+        ensures opened { IfOk result (IsOpened D.content D.image W.held conf disks.0 disks.1 disks.2) }
+        ensures refused { IfErr result (λ e. IsNotOpened D.content D.armed D.starved D.faults conf disks.0 disks.1 disks.2
+            e.disks.0 e.disks.1 e.disks.2 e.fault) }
+        ensures log { MatchResult result
+            (λ s. LeavesOnly D.moment D.since disks.0 s.log.journal.disk (StandsAs (D.image disks.0)))
+            (λ e. LeavesOnly D.moment D.since disks.0 e.disks.0 (StandsAs (D.image disks.0))) }
+        ensures runs { MatchResult result
+            (λ s. RunsOn D.content D.losses D.arms D.armed D.starved D.faults disks.0 s.log.journal.disk)
+            (λ e. RunsOn D.content D.losses D.arms D.armed D.starved D.faults disks.0 e.disks.0) }
+        ensures both { MatchResult result
+            (λ s. RunsBoth D.content D.size D.image D.moment D.since D.losses D.arms D.armed D.starved D.faults disks.1 disks.2
+            s.states.journal.live.disk s.states.journal.idle)
+            (λ e. RunsBoth D.content D.size D.image D.moment D.since D.losses D.arms D.armed D.starved D.faults disks.1 disks.2
+            e.disks.1 e.disks.2) }
+    {
+        let (disk, a, b) = disks;
+        let log = match PartLog::open(alloc, disk) {
+            Ok(log) => log,
+            Err((disk, fault)) => {
+                return Err(PartOpen {
+                    disks: (disk, a, b),
+                    fault: fault_of_log(fault),
+                });
+            }
+        };
+        let states = match Coord::open(alloc, a, b) {
+            Ok(states) => states,
+            Err((a, b, fault)) => {
+                return Err(PartOpen {
+                    disks: (log.into_disk(), a, b),
+                    fault: fault_of_states(fault),
+                });
+            }
+        };
+        if !are_hosted(&conf, &log, &states) {
+            let (a, b) = states.into_disks();
+            return Err(PartOpen {
+                disks: (log.into_disk(), a, b),
+                fault: PartFault::Damaged {
+                    disk: DiskPlace::StateA,
+                    place: 0,
+                },
+            });
+        }
+        Ok(PartShard {
+            conf,
+            log,
+            states,
+            windows: BTreeMap::new(alloc),
+            clock: 0,
+            alloc,
+        })
+    }
+
+    // Raises the clock, and does nothing else.
+    fn pass(&mut self, now: u64) -> VisitAnswer
+        requires { now ≤ 2 ^ 62 }
+        ensures ack { result.ack ≡ AckOutcome.Done }
+        ensures answer { IsEmptyAnswer ThenOutcome.Done result }
+        ensures clock { self.new ≡ record self.old { clock = max self.old.clock now } }
+    {
+        self.clock = self.clock.max(now);
+        empty(self.alloc, ThenOutcome::Done)
+    }
+
+    fn fetch(&mut self, now: u64, visit: &Visit, limits: Limits) -> Result<VisitAnswer, NoMemory>
+        requires now { now ≤ 2 ^ 62 }
+        requires fetch { visit.now.then ≡ Then.Fetch limits.records limits.bytes limits.first }
+        ensures once { FollowsOnce D.content D.image D.armed D.starved D.faults W.held now visit.now self.old self.new result }
+        ensures runs { RunsOn D.content D.losses D.arms D.armed D.starved D.faults self.old.states.journal.live.disk self.new.states.journal.live.disk }
+        ensures ranges { IfOk result (λ answer. AllByRecursion IsSmallGrant answer.grants) }
+    {
+        let group = &visit.group;
+        add_window(self.alloc, &mut self.windows, group)?;
+        let plan = planned(
+            self.alloc,
+            &self.conf,
+            &self.log,
+            &self.states,
+            &self.windows,
+            group,
+            limits,
+        )?;
+        set_aside(&mut self.windows, group, plan.count)?;
+        let mut out = Room::new(self.alloc);
+        out.reserve(plan.size)?;
+        let outcome = make_table(&mut self.states, &self.conf, group, self.log.end())?;
+        self.clock = self.clock.max(now);
+        let ThenOutcome::Done = outcome else {
+            return Ok(empty(self.alloc, outcome));
+        };
+        append_batches(&mut self.log, &plan.numbers, &mut out);
+        let end = self.clock + u64::from(self.conf.lock_ms());
+        hold(&mut self.windows, group, &visit.member, end, &plan.grants);
+        Ok(VisitAnswer {
+            ack: AckOutcome::Done,
+            then: ThenOutcome::Done,
+            grants: Items::new(plan.grants),
+            batches: out.into_blob(),
+        })
+    }
+
+    // Does what follows the acknowledgements of a visit.
+    fn follow(&mut self, now: u64, visit: &Visit) -> Result<VisitAnswer, NoMemory>
+        requires now { now ≤ 2 ^ 62 }
+        ensures once { FollowsOnce D.content D.image D.armed D.starved D.faults W.held now visit.now self.old self.new result }
+        ensures runs { RunsOn D.content D.losses D.arms D.armed D.starved D.faults self.old.states.journal.live.disk self.new.states.journal.live.disk }
+        ensures ranges { IfOk result (λ answer. AllByRecursion IsSmallGrant answer.grants) }
+    {
+        match visit.then {
+            Then::Nothing => Ok(self.pass(now)),
+            Then::Release => Ok(self.pass(now)),
+            Then::Fetch {
+                records,
+                bytes,
+                first,
+            } => self.fetch(
+                now,
+                visit,
+                Limits {
+                    records,
+                    bytes,
+                    first,
+                },
+            ),
+        }
+    }
+
+    /// Does what a member of a group asks of the partition, at the moment `now`. The shard's clock is raised to it first.
+    ///
+    /// The acknowledgements come first: all are stored by one write and end the holds of the offsets that they name, or none is. What
+    /// the visit asks for follows them, whatever became of them.
+    ///
+    /// A fetch walks the first 2000 slots from the start of the group's table, in order, and acquires those that are available, until
+    /// the record limit is used up, or a batch doesn't fit. The first fetch of a group makes its table, which is stored first; where
+    /// that fails nothing is acquired. Want of memory is told before the acknowledgements
+    /// change anything, or behind them, and then nothing else changes.
+    pub fn visit(&mut self, now: u64, visit: &Visit) -> Result<VisitAnswer, NoMemory>
+        requires now { now ≤ 2 ^ 62 }
+        ensures once { VisitsOnce D.content D.image D.armed D.starved D.faults W.held now visit.now self.old self.new result }
+        ensures runs { RunsOn D.content D.losses D.arms D.armed D.starved D.faults self.old.states.journal.live.disk self.new.states.journal.live.disk }
+        ensures ranges { IfOk result (λ answer. AllByRecursion IsSmallGrant answer.grants) }
+    {
+        let ack = acknowledge_visit(
+            self.alloc,
+            &self.conf,
+            &self.log,
+            &mut self.states,
+            &mut self.windows,
+            visit,
+        )?;
+        let VisitAnswer {
+            then,
+            grants,
+            batches,
+            ..
+        } = self.follow(now, visit)?;
+        Ok(VisitAnswer {
+            ack,
+            then,
+            grants,
+            batches,
+        })
+    }
+
+    /// Adds a batch as a producer sends it, as `PartLog::append` does. The shard's clock is raised to `now`.
+    pub fn produce(&mut self, now: u64, batch: &[u8]) -> Result<u64, LogFault>
+        requires { now ≤ 2 ^ 62 }
+        ensures once { ProducesOnce D.content D.image D.moment D.since D.armed D.starved D.faults W.held now batch.now self.old self.new result }
+        ensures runs { RunsOn D.content D.losses D.arms D.armed D.starved D.faults self.old.log.journal.disk self.new.log.journal.disk }
+    {
+        let result = self.log.append(batch);
+        if has_no_memory(&result) {
+            return result;
+        }
+        self.clock = self.clock.max(now);
+        result
+    }
+
+    /// The stored state of a group's table. `None` where the group has none.
+    pub fn look_state(&self, group: &Name) -> Option<&StateView>
+        ensures { option_copied result ≡ share_state_at (states_of self.now.states.entries) (key_of self.now.conf group.now) }
+    {
+        self.states.look(&self.conf.key(group))
+    }
+
+    /// The group at a place among those that have a table, in byte order, from place 0 on.
+    pub fn group_at(&self, place: u64) -> Option<&Name>
+        ensures { option_copied result ≡ option_map (λ key. key.group) (slice_get (keys_of self.now.states.entries) place) }
+    {
+        match self.states.key_at(place) {
+            Some(key) => Some(&key.group),
+            None => None,
+        }
+    }
+
+    /// Whether a call of one of its disks has failed for want of memory.
+    pub fn starved(&self) -> bool
+        ensures { (result ≡ true) ↔ ((D.starved self.now.log.journal.disk ≡ true) ⊎ ((D.starved self.now.states.journal.live.disk ≡ true)
+            ⊎ (D.starved self.now.states.journal.idle ≡ true))) }
+    {
+        self.log.starved() || self.states.starved()
+    }
+
+    /// Gives the disks back: that of the log, and the two of the states.
+    pub fn into_disks(self) -> (D, D, D)
+        ensures { (result.0 ≡ self.log.journal.disk) × (result.1 ≡ self.states.journal.live.disk) × (result.2 ≡ self.states.journal.idle) }
+    {
+        let PartShard { log, states, .. } = self;
+        let (a, b) = states.into_disks();
+        (log.into_disk(), a, b)
+    }
+
+    /// Arms a fault of one of its disks, and changes nothing else.
+    pub fn arm(&mut self, disk: DiskPlace, after: u64, mode: FaultMode)
+        ensures log { disk ≡ DiskPlace.Log →
+            ArmsAlone D.content D.image D.losses D.arms D.armed D.starved D.faults after mode self.old.log.journal.disk self.new.log.journal.disk
+            × (self.new.states ≡ self.old.states) }
+        ensures first { disk ≡ DiskPlace.StateA →
+            ArmsAlone D.content D.image D.losses D.arms D.armed D.starved D.faults after mode self.old.states.journal.live.disk self.new.states.journal.live.disk
+            × (self.new.states.journal.idle ≡ self.old.states.journal.idle) × (self.new.log ≡ self.old.log) }
+        ensures second { disk ≡ DiskPlace.StateB →
+            ArmsAlone D.content D.image D.losses D.arms D.armed D.starved D.faults after mode self.old.states.journal.idle self.new.states.journal.idle
+            × (self.new.states.journal.live ≡ self.old.states.journal.live) × (self.new.log ≡ self.old.log) }
+        ensures conf { self.new.conf ≡ self.old.conf }
+        ensures stays { (shard : PartShardState) → Carries D.image W.held self.old shard → Carries D.image W.held self.new shard }
+    {
+        match disk {
+            DiskPlace::Log => self.log.arm(after, mode),
+            DiskPlace::StateA => self.states.arm(disk, after, mode),
+            DiskPlace::StateB => self.states.arm(disk, after, mode),
+        }
+    }
+}
