@@ -89,6 +89,8 @@ pub fn act<D: Disk>(part: Part, hosts: &mut Hosts<D>) -> Result<PartAnswer, NoMe
             let produced = produce_at(shard, batch.as_slice(), &mut hosts.logs)?;
             Ok(PartAnswer::Produce(produced))
         }
+        // No call that is served asks these yet.
+        Part::Visit { .. } | Part::Look { .. } => return Err(NoMemory),
     }
 }
 

@@ -1,5 +1,5 @@
 -- A step in which a write fails on a disk is one in which the count of that disk rose.
-use Rattle.std.proofs.Common.{◌≡◌, ◌⊎◌, inl, inr, ⊎_elim, refl, sym, ap, ◌∙◌, subst, ℕ, List, Bool, true, false, cond, Option, Some, None}
+use Rattle.std.proofs.Common.{◌≡◌, ◌⊎◌, inl, inr, ⊎_elim, refl, sym, ap, subst, ℕ, List, Bool, true, false, cond, Option, Some, None}
 use Rattle.std.specs.Cmp.Lexicographic.{same_text}
 use Rattle.session_script.specs.declared.event.Event.{Event}
 use Rattle.session_script.specs.declared.event.Outcome.{Outcome}
@@ -13,7 +13,7 @@ use Rattle.part_log.specs.Shards.{LogShardState, StepsLog}
 use Rattle.call_fold.specs.declared.part.Produced.{Produced}
 use Rattle.call_fold.specs.declared.part.Produced.TheVariants.{Base, Batch, Store}
 use Rattle.broker_model.specs.Hosted.{state_a, same_name}
-use Rattle.broker_model.specs.Shards.{Shards, ShardCall, NamedLog, StepsNamed, StepsShards, faults_met, faults_told, failures_in, result_of}
+use Rattle.broker_model.specs.Shards.{Shards, ShardCall, StepsNamed, StepsShards, faults_met, faults_told, failures_in, result_of}
 use Rattle.broker_model.specs.Shards.ShardCall.{CallForeign, CallLog}
 use Rattle.broker_model.specs.Machine.{Machine}
 use Rattle.broker_model.specs.Steps.{IsRestart, StepsTo}

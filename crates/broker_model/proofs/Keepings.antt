@@ -1,7 +1,6 @@
 -- No log loses a batch.
-use Rattle.std.proofs.Common.{◌≡◌, ◌⊎◌, inl, inr, ⊎_elim, refl, sym, ap, ◌∙◌, subst, ℕ, zero, suc, List, [], ◌∷◌, ◌++◌, append_assoc, append-nil, Option, Some, None}
+use Rattle.std.proofs.Common.{◌≡◌, inl, inr, ⊎_elim, refl, sym, ap, ◌∙◌, subst, ℕ, zero, suc, List, [], ◌∷◌, ◌++◌, append_assoc, append-nil, Option, Some, None}
 use Rattle.std.specs.List.{AllZip}
-use Rattle.edge_io.specs.Causes.{Rose}
 use Rattle.session_script.specs.declared.event.Event.{Event}
 use Rattle.share_model.specs.Logs.{Batch as LogBatch}
 use Rattle.share_model.specs.Pending.{WithPending}
@@ -20,7 +19,6 @@ use Rattle.broker_model.specs.Machine.{LandsLog}
 use Rattle.broker_model.specs.Steps.{IsRestart, StepsTo}
 use Rattle.broker_model.specs.States.{State, IsStep}
 use Rattle.broker_model.specs.Runs.{Step, IsRun}
-use Rattle.broker_model.specs.Laws.{NoPower}
 use Rattle.broker_model.specs.Keeping.{GoesOnAs, IsIn, KeepsBatches}
 use Rattle.broker_model.proofs.Chains.{run_parts}
 use Rattle.broker_model.proofs.Acts.{Acts, rose_in, step_acts, power_or_not}

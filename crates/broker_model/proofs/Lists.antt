@@ -1,6 +1,6 @@
 -- Lists of which one entry changes.
-use Rattle.std.proofs.Common.{◌≡◌, ◌⊎◌, inl, inr, refl, sym, ap, ◌∙◌, subst, ℕ, zero, suc, List, [], ◌∷◌}
-use Rattle.broker_model.specs.Hosted.{IsOneOf, ChangesAt, HoldsAt}
+use Rattle.std.proofs.Common.{◌≡◌, sym, ◌∙◌, ℕ, zero, suc, List, [], ◌∷◌}
+use Rattle.broker_model.specs.Hosted.{ChangesAt}
 
 -- the change says more than that
 pub changes_so : {A : Type 0} (n : ℕ) (P Q : A → A → Type 0) → ((x y : A) → P x y → Q x y) → (xs ys : List A) → ChangesAt n P xs ys → ChangesAt n Q xs ys

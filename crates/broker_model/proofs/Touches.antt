@@ -9,7 +9,7 @@ use Rattle.session_script.specs.declared.event.Event.TheVariants.{Open, Bytes, C
 use Rattle.session_script.specs.declared.event.Outcome.{Outcome}
 use Rattle.topic_conf.specs.Configs.{ConfigParts}
 use Rattle.conn_core.specs.Conns.{ConnParts, new_conn, conn_after_bytes, conn_after_end, is_gone}
-use Rattle.broker_model.specs.Shards.{Shards, ShardCall, NamedLog, StepsNamed, StepsShards, calls}
+use Rattle.broker_model.specs.Shards.{ShardCall, NamedLog, StepsNamed, StepsShards, calls}
 use Rattle.broker_model.specs.Shards.ShardCall.{CallForeign, CallLog}
 use Rattle.broker_model.specs.Machine.{Machine, named, conn_at, opened_at, at_connection, left, ended_in}
 use Rattle.broker_model.specs.Steps.{Serves, StepsTo}

@@ -1,6 +1,6 @@
 -- What the logs of a run keep: each batch that was ever answered with a base (this project's own).
 -- For example a batch that is answered with base 3 stands in its log, at offset 3, at each later time, also behind a power loss.
-use Rattle.std.specs.Prelude.{◌≡◌, ◌⊎◌, ℕ, List, [], ◌∷◌, ◌++◌, Some}
+use Rattle.std.specs.Prelude.{◌≡◌, ℕ, List, ◌∷◌, ◌++◌, Some}
 use Rattle.std.specs.List.{AllZip}
 use Rattle.rec_batch.specs.Placing.{placed}
 use Rattle.share_model.specs.Logs.{Batch}

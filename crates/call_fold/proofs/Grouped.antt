@@ -1,6 +1,6 @@
 -- Requests whose entries stand in groups, as partitions under topics, and calls that keep what they have from answer to answer: their
 -- parts and their rows, entry by entry. And rows that are parted into such groups again.
-use Rattle.std.proofs.Common.{◌≡◌, ◌∙◌, ℕ, suc, List, [], ◌∷◌, ◌++◌, Option, Some, length, take, drop, map, refl, sym, ap, append_assoc, append-nil}
+use Rattle.std.proofs.Common.{◌≡◌, ◌∙◌, suc, List, [], ◌∷◌, ◌++◌, Some, length, take, drop, map, refl, sym, ap, append_assoc}
 use Rattle.std.specs.List.{flat_map}
 use Rattle.call_fold.specs.declared.part.PartAnswer.{PartAnswer}
 use Rattle.call_fold.specs.declared.part.Part.{Part}

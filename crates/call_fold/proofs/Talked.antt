@@ -1,14 +1,12 @@
 -- A request in hand keeps to its talk, and a talk says what its entries mean.
-use Rattle.std.proofs.Common.{◌≡◌, ◌+◌, ◌∙◌, ℕ, suc, zero, List, [], ◌∷◌, ◌++◌, Option, Some, None, length, refl, sym, ap, arith, append_assoc, append-nil}
+use Rattle.std.proofs.Common.{◌≡◌, ◌∙◌, List, [], ◌∷◌, ◌++◌, Some, length, refl, sym, ap, arith, append_assoc, append-nil}
 use Rattle.call_fold.specs.declared.part.PartAnswer.{PartAnswer}
 use Rattle.call_fold.specs.declared.part.Part.{Part}
 use Rattle.call_fold.specs.declared.call.Entry.{Entry}
 use Rattle.call_fold.specs.declared.call.Entry.TheVariants.{Known, Ask}
-use Rattle.call_fold.specs.declared.call.Stage.{Stage}
-use Rattle.call_fold.specs.declared.call.Stage.TheVariants.{Asks, Says}
 use Rattle.call_fold.specs.Calls.{Acts, AskingParts}
 use Rattle.call_fold.specs.Going.{stage_of, stage_after}
-use Rattle.call_fold.specs.Talks.{Talk, says, asks, talk, talk_after, talk_of, stage_talk, talk_parts, talk_reply, questions, parts, entry_rows, last_call, MeansItsEntries}
+use Rattle.call_fold.specs.Talks.{talk, talk_after, talk_of, stage_talk, talk_parts, talk_reply, questions, parts, entry_rows, last_call, MeansItsEntries}
 
 begins : {C Q R : Type 0} (acts : Acts C Q R) (call : C) (entries : List (Entry Q R)) (rows : List R) →
     stage_talk (talk_of acts) (stage_of acts call entries rows) ≡ talk acts call entries rows

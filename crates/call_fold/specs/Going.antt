@@ -1,6 +1,6 @@
 -- How a request in hand goes on (this project's own): past the entries whose rows are known to the next question, and in the end to
 -- the body of its reply.
-use Rattle.std.specs.Prelude.{ℕ, List, [], ◌∷◌, ◌++◌}
+use Rattle.std.specs.Prelude.{List, [], ◌∷◌, ◌++◌}
 use Rattle.call_fold.specs.declared.part.PartAnswer.{PartAnswer}
 use Rattle.call_fold.specs.declared.call.Entry.{Entry}
 use Rattle.call_fold.specs.declared.call.Entry.TheVariants.{Known, Ask}

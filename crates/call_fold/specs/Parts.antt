@@ -1,18 +1,24 @@
 -- Which answers a part can have (this project's own): those of its kind, whose numbers a reply can say.
 -- For example an answer with the run 7 to 9, acknowledged and counted once, can be told (conn_rows,
 -- `a read tells the batches of its answer`).
-use Rattle.std.specs.Prelude.{◌<◌, ◌^◌, All}
+use Rattle.std.specs.Prelude.{◌+◌, ◌<◌, ◌^◌, [], length, All}
 use Rattle.share_model.specs.ForeignRules.{code_alone}
 use Rattle.share_model.specs.declared.fault.TheConstants.Code.{NONE}
 use Rattle.share_model.specs.declared.fault.StoreFault.TheVariants.{Device}
 use Rattle.share_model.specs.declared.foreign.ForeignAnswer.{ForeignAnswer}
+use Rattle.share_model.specs.declared.hold.Grant.{Grant}
 use Rattle.share_model.specs.declared.run.Run.{Run}
+use Rattle.share_model.specs.declared.visit.VisitAnswer.{VisitAnswer}
+use Rattle.share_model.specs.declared.visit.AckOutcome.TheVariants.{Store as NotAcknowledged}
+use Rattle.share_model.specs.declared.visit.ThenOutcome.TheVariants.{Store as NotDone}
 use Rattle.call_fold.specs.declared.part.Part.{Part}
-use Rattle.call_fold.specs.declared.part.Part.TheVariants.{Foreign as PartForeign, Produce as PartProduce}
+use Rattle.call_fold.specs.declared.part.Part.TheVariants.{Foreign as PartForeign, Produce as PartProduce, Visit as PartVisit, Look as PartLook}
+use Rattle.call_fold.specs.declared.part.Looked.{Looked}
+use Rattle.call_fold.specs.declared.part.Looked.TheVariants.{Absent, There}
 use Rattle.call_fold.specs.declared.part.Produced.{Produced}
 use Rattle.call_fold.specs.declared.part.Produced.TheVariants.{Base, Batch, Store}
 use Rattle.call_fold.specs.declared.part.PartAnswer.{PartAnswer}
-use Rattle.call_fold.specs.declared.part.PartAnswer.TheVariants.{Foreign, Produce}
+use Rattle.call_fold.specs.declared.part.PartAnswer.TheVariants.{Foreign, Produce, Visit, Look}
 
 -- a run that a reply can tell: its offsets are i64, at most 2^63 - 1, and its count is an i16, at most 32767
 pub record IsTellable (run : Run) : Type 0 where
@@ -26,17 +32,77 @@ HasTellableBase (Base base) = base < 2 ^ 63
 HasTellableBase (Batch fault) = Unit {0}
 HasTellableBase (Store fault) = Unit {0}
 
-abbrev pub IsAnswerTo : Part → PartAnswer → Type 0
-IsAnswerTo (PartForeign op) (Foreign answer) = All IsTellable answer.runs
-IsAnswerTo (PartForeign op) (Produce produced) = ⊥
-IsAnswerTo (PartProduce shard batch) (Foreign answer) = ⊥
-IsAnswerTo (PartProduce shard batch) (Produce produced) = HasTellableBase produced
+-- what is stored of a group; its numbers are those of a message, but for its runs
+abbrev pub IsTellableLook : Looked → Type 0
+IsTellableLook Absent = Unit {0}
+IsTellableLook (There state_epoch leader_epoch start runs) = All IsTellable runs
 
--- the answer of the foreign shard, or of a log; an answer of another kind never comes, and any value stands for it
+-- offsets that were acquired: i64, and their count an i16
+pub record IsTellableGrant (grant : Grant) : Type 0 where
+  pub first : grant.first < 2 ^ 63
+  pub last : grant.last < 2 ^ 63
+  pub count : grant.count < 2 ^ 15
+
+-- what a visit gave; its batches are one field of bytes
+pub record IsTellableVisit (answer : VisitAnswer) : Type 0 where
+  pub grants : All IsTellableGrant answer.grants
+  pub batches : length answer.batches + 1 < 2 ^ 32
+
+-- an answer of each kind, whose numbers a reply can say
+abbrev pub IsForeignAnswer : PartAnswer → Type 0
+IsForeignAnswer (Foreign answer) = All IsTellable answer.runs
+IsForeignAnswer (Produce produced) = ⊥
+IsForeignAnswer (Visit answer) = ⊥
+IsForeignAnswer (Look looked) = ⊥
+
+abbrev pub IsLogAnswer : PartAnswer → Type 0
+IsLogAnswer (Foreign answer) = ⊥
+IsLogAnswer (Produce produced) = HasTellableBase produced
+IsLogAnswer (Visit answer) = ⊥
+IsLogAnswer (Look looked) = ⊥
+
+abbrev pub IsVisitAnswer : PartAnswer → Type 0
+IsVisitAnswer (Foreign answer) = ⊥
+IsVisitAnswer (Produce produced) = ⊥
+IsVisitAnswer (Visit answer) = IsTellableVisit answer
+IsVisitAnswer (Look looked) = ⊥
+
+abbrev pub IsLookAnswer : PartAnswer → Type 0
+IsLookAnswer (Foreign answer) = ⊥
+IsLookAnswer (Produce produced) = ⊥
+IsLookAnswer (Visit answer) = ⊥
+IsLookAnswer (Look looked) = IsTellableLook looked
+
+abbrev pub IsAnswerTo : Part → PartAnswer → Type 0
+IsAnswerTo (PartForeign op) answer = IsForeignAnswer answer
+IsAnswerTo (PartProduce shard batch) answer = IsLogAnswer answer
+IsAnswerTo (PartVisit shard visit) answer = IsVisitAnswer answer
+IsAnswerTo (PartLook shard group) answer = IsLookAnswer answer
+
+-- The answer of the foreign shard, of a log, of a visit and of a look. An answer of another kind never comes, and any value stands for it.
 abbrev pub foreign_answer : PartAnswer → ForeignAnswer
 foreign_answer (Foreign answer) = answer
 foreign_answer (Produce produced) = code_alone NONE
+foreign_answer (Visit answer) = code_alone NONE
+foreign_answer (Look looked) = code_alone NONE
 
 abbrev pub log_answer : PartAnswer → Produced
-log_answer (Produce produced) = produced
 log_answer (Foreign answer) = Store Device
+log_answer (Produce produced) = produced
+log_answer (Visit answer) = Store Device
+log_answer (Look looked) = Store Device
+
+abbrev pub no_visit : VisitAnswer
+no_visit = record { ack = NotAcknowledged Device; then = NotDone Device; grants = []; batches = [] }
+
+abbrev pub visit_answer : PartAnswer → VisitAnswer
+visit_answer (Foreign answer) = no_visit
+visit_answer (Produce produced) = no_visit
+visit_answer (Visit answer) = answer
+visit_answer (Look looked) = no_visit
+
+abbrev pub look_answer : PartAnswer → Looked
+look_answer (Foreign answer) = Absent
+look_answer (Produce produced) = Absent
+look_answer (Visit answer) = Absent
+look_answer (Look looked) = looked

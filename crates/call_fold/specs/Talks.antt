@@ -2,7 +2,7 @@
 -- (this project's own). Answers belong to parts by their place. No call is named here.
 -- For example a Read of partitions 5 and 6 asks 5, then by any answer 6, and then says what the two answers told (conn_rows,
 -- `parts are asked and told in the order of the request`).
-use Rattle.std.specs.Prelude.{◌≡◌, ◌+◌, ℕ, List, [], ◌∷◌, ◌++◌, Option, Some, None, length, suc}
+use Rattle.std.specs.Prelude.{◌≡◌, ℕ, List, [], ◌∷◌, ◌++◌, Option, Some, None, length, suc}
 use Rattle.call_fold.specs.declared.part.Part.{Part}
 use Rattle.call_fold.specs.declared.part.PartAnswer.{PartAnswer}
 use Rattle.call_fold.specs.declared.call.Entry.{Entry}

@@ -9,5 +9,5 @@ mod rows;
 
 pub use call::{Asking, Call, Entry, Stage, go_on, known_rows, part_of, take};
 pub use law::each_row_is_of_its_own_entry;
-pub use part::{Part, PartAnswer, Produced};
+pub use part::{Looked, Part, PartAnswer, Produced};
 pub use rows::next_rows;

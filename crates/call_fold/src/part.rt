@@ -1,4 +1,6 @@
-use share_model::{BatchFault, Blob, ForeignAnswer, ForeignOp, StoreFault};
+use share_model::{
+    BatchFault, Blob, ForeignAnswer, ForeignOp, Name, RunList, StoreFault, Visit, VisitAnswer,
+};
 
 /// One event on one shard.
 #[derive(Debug, Drop)]
@@ -7,6 +9,10 @@ pub enum Part {
     Foreign(ForeignOp),
     /// A record batch for the log of a hosted partition, by the number of its shard. The batch isn't judged yet.
     Produce { shard: u32, batch: Blob },
+    /// Acknowledgements of a member on a hosted partition, and what follows them.
+    Visit { shard: u32, visit: Visit },
+    /// The stored state of a group on a hosted partition.
+    Look { shard: u32, group: Name },
 }
 
 /// What a log says to a batch.
@@ -20,9 +26,25 @@ pub enum Produced {
     Store(StoreFault),
 }
 
+/// What is stored of a group on a hosted partition.
+#[derive(Debug, Drop)]
+pub enum Looked {
+    /// The group has no table.
+    Absent,
+    /// Its epochs, its start offset, and its rows.
+    There {
+        state_epoch: i32,
+        leader_epoch: i32,
+        start: i64,
+        runs: RunList,
+    },
+}
+
 /// What a shard answers to a part.
 #[derive(Debug, Drop)]
 pub enum PartAnswer {
     Foreign(ForeignAnswer),
     Produce(Produced),
+    Visit(VisitAnswer),
+    Look(Looked),
 }

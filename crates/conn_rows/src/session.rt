@@ -96,7 +96,7 @@ fn op_text(alloc: Global, op: &ForeignOp) -> io::Result<String> {
     }
 }
 
-/// A part: a call on a state, or a batch for the log of a shard.
+/// A part: a call on a state, a batch for the log of a shard, or what share groups ask of one.
 fn part_text(alloc: Global, part: &Part) -> io::Result<String> {
     match part {
         Part::Foreign(op) => op_text(alloc, op),
@@ -104,6 +104,8 @@ fn part_text(alloc: Global, part: &Part) -> io::Result<String> {
             let digits = hex::encode(alloc, batch.as_slice())?;
             Ok(format!(in alloc; "produce {shard} {digits}")?)
         }
+        Part::Visit { shard, .. } => Ok(format!(in alloc; "visit {shard}")?),
+        Part::Look { shard, .. } => Ok(format!(in alloc; "look {shard}")?),
     }
 }
 
@@ -158,6 +160,7 @@ fn shard_answer(part: &Part, answer: Answer) -> Option<PartAnswer>
             Answer::State(_) => None,
             Answer::Log(produced) => log_answer(produced).map(PartAnswer::Produce),
         },
+        Part::Visit { .. } | Part::Look { .. } => None,
     }
 }
 

@@ -44,7 +44,7 @@ impl Call for ProduceHand {
     ) -> Result<ProducePartitionReply, NoMemory> {
         match answer {
             PartAnswer::Produce(produced) => Ok(log_row(alloc, question.index, produced)),
-            PartAnswer::Foreign(_) => unreachable!(),
+            PartAnswer::Foreign(_) | PartAnswer::Visit(_) | PartAnswer::Look(_) => unreachable!(),
         }
     }
 

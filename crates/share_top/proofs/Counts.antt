@@ -1,5 +1,5 @@
 -- Counts of faults over several events, and over a whole session.
-use Rattle.std.proofs.Common.{◌≡◌, ◌≤◌, ◌<◌, ◌-◌, ◌^◌, ◌⊎◌, inl, inr, refl, sym, ap, ◌∙◌, subst, arith, rules, nat_lt, ℕ, List, [], ◌∷◌, Bool, true, false, Some, None, is_some}
+use Rattle.std.proofs.Common.{◌≡◌, ◌≤◌, ◌<◌, ◌-◌, ◌^◌, ◌⊎◌, inl, inr, refl, sym, ◌∙◌, subst, arith, rules, nat_lt, ℕ, List, [], ◌∷◌, true, false, Some, None}
 use Rattle.std.proofs.lemmas.Bool.{cases_Bool}
 use Rattle.std.specs.List.{AllByRecursion, AllZip}
 use Rattle.std.specs.declared.option.Option.{Option}
@@ -11,7 +11,7 @@ use Rattle.broker_core.specs.declared.slot.ForeignSlot.TheVariants as foreign
 use Rattle.broker_core.specs.declared.slot.LogState.{LogState}
 use Rattle.broker_core.specs.declared.slot.LogState.TheVariants as log
 use Rattle.broker_core.specs.declared.slot.LogSlot.{LogSlot}
-use Rattle.broker_core.specs.Bays.{AreTakenFrom, TakenIf, BothTaken, IsTakenFrom, HasName, HasLastCount, HasRisen, RisenIf, LogRisen, BothRisen}
+use Rattle.broker_core.specs.Bays.{AreTakenFrom, TakenIf, BothTaken, IsTakenFrom, HasName, HasRisen, RisenIf, LogRisen, BothRisen}
 use Rattle.broker_core.specs.Carried.{GoesOn}
 use Rattle.broker_core.specs.Hosts.{HostsParts, LeftDisks, AreOpen, AreOpenLogs, IsOpen, IsOpenState, GoOn, GoesOnIf, LogGoesOn, BothGoOn, OneRose, RoseIf, LogRose, BothRose, disks_in, foreign_disks, log_disk, log_disks}
 use Rattle.share_top.specs.Sessions.{CountRose}

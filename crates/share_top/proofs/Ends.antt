@@ -1,20 +1,17 @@
 -- A session over a bay: what its replay says of the broker's disks is said of those of the bay.
-use Rattle.std.proofs.Common.{◌≡◌, ◌≢◌, ◌≤◌, ◌<◌, ◌+◌, ◌⊎◌, inl, inr, refl, sym, ap, ◌∙◌, subst, ℕ, zero, suc, List, [], ◌∷◌, ◌++◌, All, Bool, true, false, Some, None, is_some, if◌then◌else◌, arith, Result, Ok, Err}
+use Rattle.std.proofs.Common.{◌≡◌, ◌<◌, ◌+◌, ◌⊎◌, inl, inr, refl, sym, ap, ◌∙◌, subst, ℕ, zero, suc, List, [], ◌∷◌, All, Bool, true, false, Some, None, is_some, if◌then◌else◌, arith}
 use Rattle.std.proofs.lemmas.Bool.{cases_Bool}
 use Rattle.std.specs.List.{AllByRecursion, AllZip}
 use Rattle.std.specs.declared.option.Option.{Option}
-use Rattle.std.specs.Io.KnownBytes.{Appends, Keeps}
 use Rattle.edge_io.specs.declared.fault.Armed.{Armed}
-use Rattle.edge_io.specs.declared.fault.Armed.TheVariants.{Nothing}
 use Rattle.edge_io.specs.declared.name.DiskPlace.{DiskPlace}
 use Rattle.edge_io.specs.declared.name.DiskPlace.TheVariants.{Log}
-use Rattle.edge_io.specs.Bays.{Holds, IsSound}
-use Rattle.edge_io.specs.Causes.{Rose}
+use Rattle.edge_io.specs.Bays.{IsSound}
 use Rattle.edge_io.specs.Disk.{IsTold}
 use Rattle.edge_io.specs.Names.{IsDiskName, hosted_name}
 use Rattle.session_script.specs.declared.event.Event.{Event}
 use Rattle.session_script.specs.declared.event.Outcome.{Outcome}
-use Rattle.session_script.specs.Output.{damaged_line, malformed_line}
+use Rattle.session_script.specs.Output.{malformed_line}
 use Rattle.topic_conf.specs.declared.topic.Topic.{Topic}
 use Rattle.topic_conf.specs.Topics.{IsTopicList}
 use Rattle.topic_conf.specs.Configs.{ConfigParts}
@@ -30,7 +27,7 @@ use Rattle.broker_core.specs.declared.fault.CoreOpen.{CoreOpen}
 use Rattle.broker_core.specs.declared.fault.CoreOpen.TheVariants as open_fault
 use Rattle.broker_core.specs.declared.slot.LogSlot.{LogSlot}
 use Rattle.broker_core.specs.Bays.{TellsDisks, TellsStill, IsFirst, ArePutBack, HoldsIf, BothHold, HasName}
-use Rattle.broker_core.specs.Hosts.{LeftDisks, GoOn, LogGoesOn, IsLogSlot, StandStill, ForeignStill, LogStill, StateStill, disks_in, facts_at, facts_in, facts_among, foreign_facts, log_disk, log_disks, slot_names}
+use Rattle.broker_core.specs.Hosts.{LeftDisks, GoOn, LogGoesOn, IsLogSlot, StandStill, ForeignStill, LogStill, disks_in, facts_at, facts_in, facts_among, foreign_facts, log_disks, slot_names}
 use Rattle.broker_core.specs.Cores.{CoreParts, IsCore, state_of}
 use Rattle.broker_core.specs.Restarts.{IsDamagedDisk}
 use Rattle.broker_core.proofs.Opening.{is_told}
@@ -38,8 +35,8 @@ use Rattle.broker_core.proofs.Places.{is_same, one_in_either, same_self}
 use Rattle.share_top.specs.declared.status.Status.{Status}
 use Rattle.share_top.specs.declared.status.Status.TheVariants.{Done, Usage, Malformed, ReadFault, WriteFault, Damaged, Device, NoMemory}
 use Rattle.share_top.specs.Changes.{InputChange, OutputChange}
-use Rattle.share_top.specs.Sessions.{Ending, Leaves, LeavesWithin, Ran, IsSession, OfBay, OverBay, NamesDamage, CountRose, Writes, WritesThen, WritesFront, WritesFrontOf, WritesPart}
-use Rattle.share_top.specs.Statuses.{IsPlayed, IsNotOpened, IsDone, IsRefusedScript, IsCut, IsBegun}
+use Rattle.share_top.specs.Sessions.{Ending, Leaves, LeavesWithin, Ran, IsSession, OfBay, OverBay, CountRose, Writes, WritesThen, WritesFront, WritesPart}
+use Rattle.share_top.specs.Statuses.{IsPlayed, IsNotOpened, IsRefusedScript, IsBegun}
 use Rattle.share_top.specs.Going.{FromCore, NeverFrom, IsRefusal}
 
 -- ---- how a run may end

@@ -1,5 +1,5 @@
 -- How a replay ends: with its script, or within it.
-use Rattle.std.proofs.Common.{◌≡◌, ◌≤◌, ◌⊎◌, inl, inr, refl, sym, ap, ◌∙◌, subst, ℕ, List, [], ◌∷◌, ◌++◌, Bool, true, IfSome}
+use Rattle.std.proofs.Common.{◌≡◌, ◌≤◌, inl, inr, refl, ◌∙◌, ℕ, List, [], ◌∷◌, ◌++◌, Bool, true, IfSome}
 use Rattle.std.specs.declared.option.Option.{Option}
 use Rattle.std.specs.Io.KnownBytes.{Keeps, IsAtEnd}
 use Rattle.edge_io.specs.declared.fault.Armed.{Armed}
@@ -12,17 +12,17 @@ use Rattle.session_script.specs.Reading.{Takes}
 use Rattle.broker_model.specs.Machine.{Machine}
 use Rattle.broker_model.specs.States.{State}
 use Rattle.broker_core.specs.Hosts.{AreOpen, GoOn, OneRose, disks_in}
-use Rattle.broker_core.specs.Cores.{CoreParts, IsCore, state_of}
+use Rattle.broker_core.specs.Cores.{CoreParts, state_of}
 use Rattle.broker_core.proofs.Leading.{go_on_same}
 use Rattle.share_top.specs.declared.status.Status.{Status}
 use Rattle.share_top.specs.declared.status.Status.TheVariants.{Done, Usage, Malformed, ReadFault, WriteFault, Damaged, Device, NoMemory}
 use Rattle.share_top.specs.Changes.{InputChange, OutputChange}
-use Rattle.share_top.specs.Sessions.{Ending, Leaves, LeavesWithin, Writes, WritesFront}
+use Rattle.share_top.specs.Sessions.{Ending, Leaves, LeavesWithin, WritesFront}
 use Rattle.share_top.specs.Statuses.{IsPlayed, IsDone, IsRefusedScript, IsCut, IsBegun}
 use Rattle.share_top.specs.Going.{Going, FromCore, NeverFrom, Plays, PlaysPart, IsNotPlayed}
 use Rattle.share_top.proofs.ScriptReads as reads
 use Rattle.share_top.proofs.Counts.{go_on_then, rises}
-use Rattle.share_top.proofs.Goes.{begins, goes_on, retold, ran, ran_within, halted, text_behind, part_behind, kept_behind}
+use Rattle.share_top.proofs.Goes.{begins, goes_on, retold, ran, ran_within, halted}
 
 module _ {D : Type 0} (content : D → Option (List ℕ)) (image : D → List ℕ → Type 0) (starved : D → Bool)
     (faults : D → ℕ) (losses : D → List (ℕ × List ℕ)) (arms : D → ℕ) (armed : D → Armed) where

@@ -1,7 +1,7 @@
 -- A recorded session on the disks of a bay: all that is promised of it is said of one run of the broker. This project's own.
 -- For example the session `power 5` on empty disks is a run of one step, from the opening of empty logs and no keys to the opening of the
 -- contents that are each disk's one loss, with choice 5; and what was written is its outcome's line `restarted`.
-use Rattle.std.specs.Prelude.{◌≡◌, ◌⊎◌, ◌≤◌, ◌++◌, ℕ, List, Some}
+use Rattle.std.specs.Prelude.{◌≡◌, ◌⊎◌, ◌≤◌, ◌++◌, ℕ, List}
 use Rattle.std.specs.declared.option.Option.{Option}
 use Rattle.std.specs.Io.KnownBytes.{Appends}
 use Rattle.edge_io.specs.declared.fault.Armed.{Armed}

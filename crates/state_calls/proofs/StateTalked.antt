@@ -1,6 +1,6 @@
 -- Each partition is told by its own part.
 use Rattle.std.proofs.Common.{◌≡◌, ◌∙◌, ℕ, ℤ, pos, negsuc, nat_abs, suc, Bool, true, false, cond, List, [], ◌∷◌, ◌++◌, Option, Some, None}
-use Rattle.std.proofs.Common.{length, take, drop, map, refl, ap}
+use Rattle.std.proofs.Common.{length, drop, map, refl, ap}
 use Rattle.std.specs.List.{flat_map}
 use Rattle.flex_fields.specs.Formats.{Format}
 use Rattle.share_model.specs.declared.fault.Code.{Code}
@@ -13,7 +13,6 @@ use Rattle.msgs_state.specs.declared.state_message.StateRequest.{StateRequest}
 use Rattle.call_fold.specs.declared.part.PartAnswer.{PartAnswer}
 use Rattle.call_fold.specs.declared.part.Part.{Part}
 use Rattle.call_fold.specs.declared.call.Entry.{Entry}
-use Rattle.call_fold.specs.declared.call.Entry.TheVariants.{Known, Ask}
 use Rattle.call_fold.specs.declared.call.Stage.TheVariants.{Says}
 use Rattle.call_fold.specs.Calls.{Acts}
 use Rattle.call_fold.specs.Going.{stage_of, known_rows}
@@ -23,8 +22,8 @@ use Rattle.call_fold.proofs.Grouped.{took, left_over, took_all, left_all, part_l
 use Rattle.state_calls.specs.declared.plan.Wished.{Wished}
 use Rattle.state_calls.specs.declared.state.StateHand.{StateHand}
 use Rattle.state_calls.specs.States.{StateMeans, is_group, is_hosted, immediate_code, entry_of, partition_entry, topic_entries, shape_of}
-use Rattle.state_calls.specs.StateCalls.{state_acts, state_stage, state_body, hand_of, rows_by_topic, body_of}
-use Rattle.state_calls.specs.StateTalks.{code_at, part_unless, parts_in, request_topic, answer_unless, answers_in, own_answer, own_row, own_topic}
+use Rattle.state_calls.specs.StateCalls.{state_acts, state_body, hand_of, rows_by_topic, body_of}
+use Rattle.state_calls.specs.StateTalks.{code_at, part_unless, request_topic, answer_unless, answers_in, own_answer, own_row, own_topic}
 use Rattle.state_calls.specs.StateTalks.{refused_topic, state_talk, TellsByItsPart}
 
 -- a partition that is asked has a number that isn't negative

@@ -3,7 +3,7 @@
 -- the row of its own answer, or of the code that is known at once. Answers belong to partitions by their place.
 -- For example partitions -7, 0, -1 and 1 of a topic ask 0 and 1, and have 42, the first answer, 42 and the second (conn_rows,
 -- `answers stand at their places, with known ones between them`).
-use Rattle.std.specs.Prelude.{◌≡◌, ℕ, ℤ, nat_abs, Bool, true, false, suc, Option, Some, None, List, [], ◌∷◌, map, flat_map, take, length}
+use Rattle.std.specs.Prelude.{◌≡◌, ℕ, ℤ, nat_abs, true, false, suc, Option, Some, None, List, [], ◌∷◌, map, flat_map, take, length}
 use Rattle.flex_fields.specs.Formats.{Format}
 use Rattle.share_model.specs.declared.fault.Code.{Code}
 use Rattle.share_model.specs.declared.fault.TheConstants.Code.{INVALID_GROUP_ID}

@@ -72,7 +72,7 @@ impl<S: StateCall> Call for StateHand<S> {
     ) -> Result<S::Row, NoMemory> {
         match answer {
             PartAnswer::Foreign(answer) => S::row(alloc, question.place.partition(), answer),
-            PartAnswer::Produce(_) => unreachable!(),
+            PartAnswer::Produce(_) | PartAnswer::Visit(_) | PartAnswer::Look(_) => unreachable!(),
         }
     }
 

@@ -1,9 +1,9 @@
 use Rattle.std.proofs.Common.{refl, sym, ap, ◌∙◌, ℕ, List}
 use Rattle.call_fold.specs.declared.part.Part.TheVariants.{Produce}
-use Rattle.broker_core.specs.Hosts.{parts_of}
+use Rattle.broker_core.specs.Hosts.{parts_of, disks_in}
 use Rattle.broker_core.specs.declared.slot.ForeignSlot.TheVariants.{Open}
 use Rattle.broker_core.proofs.Stepping.{on_err}
-use Rattle.broker_core.proofs.Leading.{foreign_leads, foreign_halts, foreign_on, batch_leads, batch_halts, leads_go_on, halts_go_on, halts_so, leads_to, led_open, halted_open}
+use Rattle.broker_core.proofs.Leading.{foreign_leads, foreign_halts, foreign_on, batch_leads, batch_halts, leads_go_on, halts_go_on, halts_so, leads_to, led_open, halted_open, halts_still, go_on_same}
 use Rattle.broker_core.proofs.hosts.act.Goals as goal
 
 pub returns-in_err-answer-in-Open-clause-disks : goal.returns-in_err-answer-in-Open-clause-disks
@@ -63,3 +63,11 @@ pub returns-in_ok-produced-in-Produce-clause-open : goal.returns-in_ok-produced-
 returns-in_ok-produced-in-Produce-clause-open g c = led_open g.D.Disk.content g.D.Disk.image g.D.Disk.starved g.D.Disk.faults g.D.Disk.losses g.D.Disk.arms g.D.Disk.armed
     (parts_of c.args.hosts.now) (record { logs = c.produce_at.new.logs.items; foreign = c.args.hosts.now.foreign }) c.in-Produce.shard _ _ refl
     c.in_ok-produced-in-Produce.ensures.ok c.requires.open
+
+pub returns-in-Visit-clause-stopped : goal.returns-in-Visit-clause-stopped
+returns-in-Visit-clause-stopped g c = λ s k. halts_still g.D.Disk.content g.D.Disk.image g.D.Disk.starved g.D.Disk.faults g.D.Disk.losses g.D.Disk.arms g.D.Disk.armed
+    (parts_of c.args.hosts.now) s _ k
+
+pub returns-in-Visit-clause-disks : goal.returns-in-Visit-clause-disks
+returns-in-Visit-clause-disks g c = go_on_same g.D.Disk.content g.D.Disk.image g.D.Disk.starved g.D.Disk.faults g.D.Disk.losses g.D.Disk.arms g.D.Disk.armed
+    (disks_in (parts_of c.args.hosts.now))

@@ -1,6 +1,6 @@
 use Rattle.std.proofs.Common.{inl, inr, ⊎_elim, refl, ap, ◌∙◌, Err, sym, subst, ℕ, List}
 use Rattle.broker_core.specs.declared.fault.CoreOpen.{CoreOpen}
-use Rattle.broker_core.specs.Hosts.{OneRose, all_names, disks_in, slot_names}
+use Rattle.broker_core.specs.Hosts.{OneRose, all_names, disks_in}
 use Rattle.broker_core.specs.Bays.{AreOut}
 use Rattle.share_top.specs.Sessions.{CountRose}
 use Rattle.share_top.proofs.Counts.{count_rose}
