@@ -1,0 +1,10 @@
+pub mod Partitions
+pub mod Codes
+pub mod Visits
+pub mod Rows
+pub mod Fetch
+pub mod Shapes
+pub mod Acknowledge
+pub mod FetchTalks
+pub mod AckTalks
+pub mod TopicRows

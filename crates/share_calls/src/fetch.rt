@@ -1,0 +1,261 @@
+// ShareFetch.
+ghost use Rattle.std.specs.Prelude.{◌≡◌, ◌++◌, ◌-◌, length, map, pos, Some, [], IfOk, OnOk, OnErr};
+ghost use Rattle.share_session.specs.Plans.{plan_of};
+ghost use Rattle.share_calls.specs.Fetch.{at_least_0, offsets, granted, hand_after, then_of, told};
+ghost use Rattle.share_calls.specs.Fetch.{fetch_acts, fetch_reply, fetch_body, fetch_stage, fetch_begins};
+ghost use Rattle.share_calls.specs.Visits.{told_rows};
+
+use crate::fetch_rows::{FetchRow, fetch_row, push_all_unhosted};
+use crate::groups::topics_of;
+use crate::partition::partition_of;
+use crate::visiting::{Visiting, push_untold, visit_of};
+use call_fold::{Asking, Call, Entry, Part, PartAnswer, Stage, go_on};
+use flex_fields::{Bytes, Items};
+use msgs_share::{
+    FetchedPartition, ShareFetchReply, ShareFetchRequest, ShareTopic, write_share_fetch_reply,
+};
+use share_model::{Code, Grant, NoMemory, Then, VisitAnswer};
+use share_session::{Planned, Purpose, SessionChange, Sessions, VisitPlan};
+use std::alloc::Global;
+use std::collections::VecDeque;
+use topic_conf::Config;
+
+/// What a ShareFetch is at.
+pub type FetchStage = Stage<Asking<FetchHand, Visiting, Option<FetchRow>>>;
+
+const MOST_BYTES: u32 = 16_777_216;
+
+/// What a ShareFetch keeps from visit to visit: the lock duration in milliseconds, how many records and bytes of batches are left to
+/// its reply, and whether no batch is in it yet.
+#[derive(Drop)]
+pub struct FetchHand {
+    lock_ms: i32,
+    records: u32,
+    bytes: u32,
+    first: bool,
+}
+
+// How many are left of so many records, once the offsets of a grant are taken.
+fn less_grant(records: u32, grant: &Grant) -> u32
+    ensures { result ≡ records - offsets grant.now }
+{
+    if grant.first > grant.last {
+        return records;
+    }
+    let more = grant.last - grant.first;
+    if more >= u64::from(records) {
+        0
+    } else {
+        records - more as u32 - 1
+    }
+}
+
+// How many are left once those of all grants are.
+fn left_after(records: u32, grants: &[Grant]) -> u32
+    ensures { result ≡ records - granted grants.now }
+{
+    let mut left = records;
+    for grant in grants {
+        left = less_grant(left, grant);
+    }
+    left
+}
+
+// How many are left of so many bytes, once these are in the reply.
+fn bytes_after(bytes: u32, batches: &[u8]) -> u32
+    ensures { result ≡ bytes - length batches.now }
+{
+    if batches.len() >= bytes as usize {
+        0
+    } else {
+        bytes - batches.len() as u32
+    }
+}
+
+impl FetchHand {
+    // What follows the acknowledgements of a visit.
+    fn then_of(&self, purpose: Purpose) -> Then
+        ensures { result ≡ then_of self.now purpose }
+    {
+        match purpose {
+            Purpose::Nothing => Then::Nothing,
+            Purpose::Release => Then::Release,
+            Purpose::Fetch => Then::Fetch {
+                records: self.records,
+                bytes: self.bytes,
+                first: self.first,
+            },
+        }
+    }
+
+    // What an answer leaves to the visits behind it.
+    fn count(&mut self, answer: &VisitAnswer)
+        ensures { self.new ≡ hand_after self.old answer.now }
+    {
+        self.records = left_after(self.records, answer.grants.as_slice());
+        self.bytes = bytes_after(self.bytes, answer.batches.as_slice());
+        self.first = self.first && answer.batches.as_slice().is_empty();
+    }
+}
+
+impl Call for FetchHand {
+    type Question = Visiting;
+
+    type Row = Option<FetchRow>;
+
+    ghost acts = { fetch_acts };
+
+    fn part(&self, alloc: Global, question: &Visiting) -> Result<Part, NoMemory> {
+        let step = &question.step;
+        Ok(Part::Visit {
+            shard: step.shard,
+            visit: visit_of(alloc, step, self.then_of(step.purpose))?,
+        })
+    }
+
+    fn row(
+        &mut self,
+        alloc: Global,
+        question: Visiting,
+        answer: PartAnswer,
+    ) -> Result<Option<FetchRow>, NoMemory> {
+        let Visiting { told, .. } = question;
+        match answer {
+            PartAnswer::Visit(answer) => {
+                self.count(&answer);
+                match told {
+                    Some(id) => Ok(Some(fetch_row(alloc, id, answer)?)),
+                    None => Ok(None),
+                }
+            }
+            PartAnswer::Foreign(_) | PartAnswer::Produce(_) | PartAnswer::Look(_) => unreachable!(),
+        }
+    }
+
+    fn body(
+        self,
+        alloc: Global,
+        rows: VecDeque<Option<FetchRow>>,
+    ) -> Result<Option<Bytes>, NoMemory>
+        ensures { IfOk result (λ body. body ≡ Some (fetch_body self.lock_ms (pos 0) (told_rows rows.items))) }
+    {
+        let responses = topics_of(alloc, rows)?;
+        let body = reply_with(alloc, self.lock_ms, Code::NONE, responses)?;
+        Ok(Some(body))
+    }
+}
+
+// The body of a reply.
+fn reply_with(
+    alloc: Global,
+    lock_ms: i32,
+    code: Code,
+    responses: Items<ShareTopic<FetchedPartition>>,
+) -> Result<Bytes, NoMemory>
+    ensures { IfOk result (λ body. body ≡ fetch_reply lock_ms code.0 responses) }
+{
+    write_share_fetch_reply(
+        alloc,
+        &ShareFetchReply {
+            throttle_time_ms: 0,
+            error_code: code.0,
+            error_message: None,
+            acquisition_lock_timeout_ms: lock_ms,
+            responses,
+            node_endpoints: Items::new(Vec::new(alloc)),
+        },
+    )
+}
+
+// The body of the reply to a request that is refused as a whole: it tells no partition.
+fn refused_fetch(alloc: Global, conf: &Config, code: Code) -> Result<Bytes, NoMemory>
+    ensures { IfOk result (λ body. body ≡ fetch_body (pos conf.now.lock_ms) code.0 []) }
+{
+    reply_with(
+        alloc,
+        conf.lock_ms() as i32,
+        code,
+        Items::new(Vec::new(alloc)),
+    )
+}
+
+// Steps are put behind what is left; the reply tells each by its partition.
+fn push_told(
+    conf: &Config,
+    steps: VisitPlan,
+    left: &mut VecDeque<Entry<Visiting, Option<FetchRow>>>,
+) -> Result<(), NoMemory>
+    ensures { OnOk result (left.new.items ≡ left.old.items ++ map (told conf.now.topics) steps.items) }
+{
+    for step in steps {
+        let told = partition_of(conf.topics(), step.shard);
+        left.push_back(Entry::Ask(Visiting { step, told }))?;
+    }
+    Ok(())
+}
+
+// A limit below 0 counts as 0.
+fn at_least_0(limit: i32) -> u32
+    ensures { result ≡ at_least_0 limit }
+{
+    if limit < 0 { 0 } else { limit as u32 }
+}
+
+// A fetch that isn't refused begins.
+fn fetch_stage(
+    alloc: Global,
+    conf: &Config,
+    request: &ShareFetchRequest,
+    plan: Planned,
+) -> Result<(FetchStage, SessionChange), NoMemory>
+    ensures stage { IfOk result (λ r. r.0 ≡ fetch_stage conf.now request.now (plan_of plan)) }
+    ensures change { IfOk result (λ r. r.1 ≡ plan.change) }
+{
+    let Planned {
+        released,
+        told,
+        closed,
+        change,
+    } = plan;
+    let mut left = VecDeque::new(alloc);
+    push_untold(released, &mut left)?;
+    push_told(conf, told, &mut left)?;
+    push_untold(closed, &mut left)?;
+    push_all_unhosted(alloc, conf, request.topics.as_slice(), &mut left)?;
+    let hand = FetchHand {
+        lock_ms: conf.lock_ms() as i32,
+        records: at_least_0(request.max_records),
+        bytes: at_least_0(request.max_bytes).min(MOST_BYTES),
+        first: true,
+    };
+    let stage = go_on(alloc, hand, left, VecDeque::new(alloc))?;
+    Ok((stage, change))
+}
+
+/// A ShareFetch begins: with its first visit, or its reply. The session of its member is what it leaves. Where there is no memory, the
+/// sessions are as they were.
+pub fn fetch_call(
+    alloc: Global,
+    conf: &Config,
+    sessions: &mut Sessions,
+    request: &ShareFetchRequest,
+) -> Result<FetchStage, NoMemory>
+    ensures stage { IfOk result (λ stage. stage ≡ (fetch_begins conf.now sessions.old request.now).stage) }
+    ensures sessions { OnOk result (sessions.new ≡ (fetch_begins conf.now sessions.old request.now).sessions) }
+    ensures kept { OnErr result (sessions.new ≡ sessions.old) }
+{
+    match sessions.plan_fetch(request, conf) {
+        Ok(plan) => {
+            let (stage, change) = fetch_stage(alloc, conf, request, plan)?;
+            sessions.apply(change)?;
+            Ok(stage)
+        }
+        Err(fault) => {
+            let Some(code) = fault.code() else {
+                return Err(NoMemory);
+            };
+            let body = refused_fetch(alloc, conf, code)?;
+            Ok(Stage::Says(Some(body)))
+        }
+    }
+}

@@ -1,0 +1,26 @@
+//! ShareFetch and ShareAcknowledge in hand (KIP-932): the visits that each asks of the hosted partitions, those of a fetch with the
+//! limits that the visits before left, and the reply that their answers make.
+#![tactic(auto)]
+
+mod ack_entries;
+mod ack_rows;
+mod acknowledge;
+mod codes;
+mod fetch;
+mod fetch_rows;
+mod groups;
+mod law;
+mod partition;
+mod visiting;
+
+pub use ack_rows::TopicShape;
+pub use acknowledge::{AckHand, AckStage, ack_call};
+pub use fetch::{FetchHand, FetchStage, fetch_call};
+pub use fetch_rows::FetchRow;
+pub use law::{
+    each_acknowledged_partition_is_told_by_its_own_visit,
+    each_fetched_partition_is_told_by_its_own_visit, each_shard_is_told_by_its_partition,
+    each_topic_has_one_element,
+};
+pub use partition::PartitionId;
+pub use visiting::Visiting;
