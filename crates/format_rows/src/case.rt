@@ -1,4 +1,5 @@
 // The bytes of a case, and what they are to be.
+use crate::acks::ack_told;
 use crate::batches::{Records, batch_told, seal};
 use crate::kinds::wire_told;
 use crate::records::record_told;
@@ -71,6 +72,9 @@ impl Case {
             return Ok(Some(told));
         }
         if let Some(told) = record_told(alloc, kind, bytes)? {
+            return Ok(Some(told));
+        }
+        if let Some(told) = ack_told(alloc, kind, text)? {
             return Ok(Some(told));
         }
         value_told(alloc, kind, bytes, text)

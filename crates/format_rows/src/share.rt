@@ -2,6 +2,9 @@
 use crate::kinds::{fault_text, push_written, read_front};
 use crate::plain::plain;
 use flex_fields::{Bytes, NoMemory, Wire};
+use msgs_group::{
+    read_heartbeat_reply, read_heartbeat_request, write_heartbeat_reply, write_heartbeat_request,
+};
 use msgs_share::{
     read_share_ack_reply, read_share_ack_request, read_share_fetch_reply, read_share_fetch_request,
     write_share_ack_reply, write_share_ack_request, write_share_fetch_reply,
@@ -70,6 +73,26 @@ fn ack_reply(alloc: Global, bytes: &[u8]) -> io::Result<String> {
     }
 }
 
+fn heartbeat_request(alloc: Global, bytes: &[u8]) -> io::Result<String> {
+    match read_heartbeat_request(alloc, bytes) {
+        Ok(message) => {
+            let written = write_heartbeat_request(alloc, &message);
+            shown(alloc, bytes, &message, written)
+        }
+        Err(fault) => fault_text(alloc, fault),
+    }
+}
+
+fn heartbeat_reply(alloc: Global, bytes: &[u8]) -> io::Result<String> {
+    match read_heartbeat_reply(alloc, bytes) {
+        Ok(message) => {
+            let written = write_heartbeat_reply(alloc, &message);
+            shown(alloc, bytes, &message, written)
+        }
+        Err(fault) => fault_text(alloc, fault),
+    }
+}
+
 /// What bytes are as a kind of this file. `None` where it has no such kind.
 pub fn share_told(alloc: Global, kind: &str, bytes: &[u8]) -> io::Result<Option<String>> {
     let text = match kind {
@@ -77,6 +100,8 @@ pub fn share_told(alloc: Global, kind: &str, bytes: &[u8]) -> io::Result<Option<
         "ShareFetchResponse" => fetch_reply(alloc, bytes)?,
         "ShareAcknowledgeRequest" => ack_request(alloc, bytes)?,
         "ShareAcknowledgeResponse" => ack_reply(alloc, bytes)?,
+        "ShareGroupHeartbeatRequest" => heartbeat_request(alloc, bytes)?,
+        "ShareGroupHeartbeatResponse" => heartbeat_reply(alloc, bytes)?,
         _ => return Ok(None),
     };
     Ok(Some(text))
