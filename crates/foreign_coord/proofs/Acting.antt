@@ -1,6 +1,6 @@
 -- From what the store does to what the shard does.
 use Rattle.std.proofs.Common.{◌≡◌, ◌≢◌, ◌⊎◌, ⊎_elim, ◌<◌, ◌+◌, ◌^◌, inl, inr, refl, sym, ap, subst, arith, ℕ, List, length}
-use Rattle.std.proofs.Common.{Bool, true, false, Option, Some, None, Result, Ok, Err, IfOk, IfErr, OnOk, OnErr, IsErr, if◌then◌else◌}
+use Rattle.std.proofs.Common.{Bool, false, Option, Some, None, Result, Ok, Err, IfOk, IfErr, OnErr, IsErr, if◌then◌else◌}
 use Rattle.std.specs.Option.{option_map}
 use Rattle.std.proofs.lemmas.Result.{IfOk-weaker}
 use Rattle.edge_io.specs.Armed.{StarvesUnarmed}
@@ -11,7 +11,7 @@ use Rattle.flex_fields.specs.declared.fault.NoMemory.{NoMemory as want}
 use Rattle.share_model.specs.ForeignRules.{code_alone}
 use Rattle.share_model.specs.ForeignRules.{ShareStates, Does}
 use Rattle.share_model.specs.Pending.{WithPending}
-use Rattle.share_model.specs.declared.fault.TheConstants.Code.{NONE, INVALID_REQUEST, KAFKA_STORAGE_ERROR}
+use Rattle.share_model.specs.declared.fault.TheConstants.Code.{NONE, KAFKA_STORAGE_ERROR}
 use Rattle.share_model.specs.declared.fault.StoreFault.{StoreFault}
 use Rattle.share_model.specs.declared.fault.StoreFault.TheVariants.{Device, Full}
 use Rattle.share_model.specs.declared.foreign.ForeignAnswer.{ForeignAnswer}
@@ -23,7 +23,7 @@ use Rattle.share_coord.specs.Calls.{Causes}
 use Rattle.share_coord.specs.Holding.{Holds, IsWithin, WritesOnce}
 use Rattle.share_coord.specs.declared.fault.CoordFault.{CoordFault}
 use Rattle.share_coord.specs.declared.fault.CoordFault.TheVariants.{Invalid, Unknown, FencedLeader, FencedState, TooMany, Store, NoMemory}
-use Rattle.foreign_coord.specs.Acts.{states_of, AreStates}
+use Rattle.share_coord.specs.States.{states_of, AreStates}
 use Rattle.foreign_coord.specs.Codes.{Tells, TellsFault, code_in}
 use Rattle.foreign_coord.specs.Once.{ActsOnce, Carried}
 use Rattle.foreign_coord.specs.Shards.{ForeignShardState, StepsForeign, Grants, IsFull, Carries, IsFound, writes}

@@ -17,7 +17,7 @@ use Rattle.share_model.specs.declared.foreign.StateBatch.{StateBatch}
 use Rattle.share_model.specs.declared.run.Run.{Run}
 use Rattle.coord_checkpoint.specs.Disks.{HasFailed}
 use Rattle.share_coord.specs.Parts.{StoreParts}
-use Rattle.share_coord.specs.Stored.{Entries, kept_at}
+use Rattle.share_coord.specs.Stored.{kept_at}
 use Rattle.share_coord.specs.Calls.{Causes, IsInitialised, IsWritten, IsTooMany, IsForgotten, init_refusal, write_refusal}
 use Rattle.share_coord.specs.Holding.{WritesOnce}
 use Rattle.share_coord.specs.declared.fault.CoordFault.{CoordFault}
@@ -25,11 +25,11 @@ use Rattle.share_coord.specs.declared.fault.CoordFault.TheVariants.{Invalid, Unk
 use Rattle.share_coord.specs.declared.view.Kept.{Kept}
 use Rattle.share_coord.proofs.Keys.{some_none}
 use Rattle.share_coord.proofs.Seen.{either_there}
-use Rattle.foreign_coord.specs.Acts.{states_of}
+use Rattle.share_coord.specs.States.{states_of}
 use Rattle.foreign_coord.specs.Codes.{Tells, TellsFault, code_in}
 use Rattle.foreign_coord.specs.Once.{ActsOnce}
-use Rattle.foreign_coord.specs.Shards.{Grants, is_granted}
-use Rattle.foreign_coord.proofs.Acting.{IsRefusedBy, acts, idle, err_at, cause_some, cause_many}
+use Rattle.foreign_coord.specs.Shards.{is_granted}
+use Rattle.foreign_coord.proofs.Acting.{acts, idle, err_at, cause_some, cause_many}
 use Rattle.foreign_coord.proofs.Rules.{IsNumeric, init_granted, init_refused, write_granted, write_refused, write_many, none_code, other_code, read_code}
 use Rattle.foreign_coord.proofs.States.{view_of, state_seen, without_seen, without_none}
 

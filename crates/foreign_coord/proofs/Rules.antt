@@ -13,7 +13,7 @@ use Rattle.share_coord.specs.Stored.{Entries, kept_at}
 use Rattle.share_coord.specs.Calls.{IsInitialised, IsWritten, IsTooMany, init_refusal, write_refusal}
 use Rattle.share_coord.specs.declared.fault.CoordFault.{CoordFault}
 use Rattle.share_coord.specs.declared.fault.CoordFault.TheVariants.{Invalid, Unknown, FencedLeader, FencedState, TooMany, Store, NoMemory}
-use Rattle.foreign_coord.specs.Acts.{states_of}
+use Rattle.share_coord.specs.States.{states_of}
 use Rattle.foreign_coord.specs.Codes.{code_in}
 use Rattle.foreign_coord.proofs.States.{view_of, state_seen, with_seen, code_or, init_code_is, write_code_is}
 

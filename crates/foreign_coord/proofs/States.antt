@@ -19,7 +19,7 @@ use Rattle.share_coord.specs.declared.fault.CoordFault.{CoordFault}
 use Rattle.share_coord.specs.declared.fault.CoordFault.TheVariants.{Invalid, FencedLeader, FencedState}
 use Rattle.share_coord.specs.declared.view.Kept.{Kept}
 use Rattle.share_coord.proofs.Keys.{some_none}
-use Rattle.foreign_coord.specs.Acts.{states_of}
+use Rattle.share_coord.specs.States.{states_of}
 use Rattle.foreign_coord.specs.Codes.{code_in}
 
 abbrev pub view_of : Kept → ShareState

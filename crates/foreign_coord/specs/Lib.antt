@@ -1,4 +1,3 @@
-pub mod Acts
 pub mod Codes
 pub mod Shards
 pub mod Once

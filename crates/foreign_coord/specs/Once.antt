@@ -11,7 +11,7 @@ use Rattle.share_model.specs.declared.fault.TheConstants.Code.{KAFKA_STORAGE_ERR
 use Rattle.share_model.specs.declared.foreign.ForeignAnswer.{ForeignAnswer}
 use Rattle.share_model.specs.declared.foreign.ForeignOp.{ForeignOp}
 use Rattle.share_coord.specs.Parts.{StoreParts}
-use Rattle.foreign_coord.specs.Acts.{states_of}
+use Rattle.share_coord.specs.States.{states_of}
 use Rattle.foreign_coord.specs.Shards.{ForeignShardState, StepsForeign, IsFull, Carries, IsFound}
 
 -- a store that carried a state carries one that a step leads to

@@ -18,7 +18,7 @@ use Rattle.share_model.specs.declared.foreign.ForeignOp.TheVariants.{Init, Read,
 use Rattle.share_coord.specs.Holding.{Holds}
 use Rattle.share_coord.specs.Parts.{StoreParts}
 use Rattle.share_coord.specs.Stored.{Entries, Accepts}
-use Rattle.foreign_coord.specs.Acts.{states_of, AreStates}
+use Rattle.share_coord.specs.States.{states_of, AreStates}
 
 -- the shard of foreign state: the states, and what the pending write would leave
 pub record ForeignShardState : Type 0 where

@@ -12,7 +12,7 @@ ghost use Rattle.coord_checkpoint.specs.Disks.{RunsBoth};
 ghost use Rattle.share_coord.specs.Stored.{Entries, kept_at};
 ghost use Rattle.share_coord.specs.Holding.{Holds};
 ghost use Rattle.share_coord.specs.Opening.{IsOpened, IsNotOpened};
-ghost use Rattle.foreign_coord.specs.Acts.{states_of};
+ghost use Rattle.share_coord.specs.States.{states_of};
 ghost use Rattle.foreign_coord.specs.Once.{ActsOnce};
 ghost use Rattle.state_records.specs.States.{AreStoredRuns};
 ghost use Rattle.foreign_coord.specs.Shards.{ForeignShardState, StepsForeign, IsFull, Carries, IsFound};

@@ -1,4 +1,4 @@
-ghost use Rattle.std.specs.Prelude.{◌≡◌, ◌⊎◌, ◌↔◌, true, false, Some, None, Ok, Err, is_some, IsSome, IfOk, IfErr, slice_get, MatchResult};
+ghost use Rattle.std.specs.Prelude.{◌≡◌, ◌⊎◌, ◌↔◌, ◌<◌, ◌^◌, length, true, false, Some, None, Ok, Err, is_some, IsSome, IfOk, IfErr, slice_get, MatchResult};
 ghost use Rattle.std.specs.Option.{option_map, option_copied};
 ghost use Rattle.std.specs.Map.{keys_of};
 ghost use Rattle.std.specs.declared.option.Option.{Option};
@@ -8,9 +8,11 @@ ghost use Rattle.share_coord.specs.Stored.{Entries, kept_at};
 ghost use Rattle.share_coord.specs.Calls.{Causes, IsInitialised, IsWritten, IsTooMany, IsForgotten, init_refusal, write_refusal};
 ghost use Rattle.share_coord.specs.Holding.{Holds, WritesOnce};
 ghost use Rattle.share_coord.specs.Opening.{IsOpened, IsNotOpened};
+ghost use Rattle.share_coord.specs.States.{states_of};
 
 use crate::fault::CoordFault;
 use crate::replay::{ReplayFault, replay};
+use crate::states::States;
 use crate::store::Store;
 use crate::view::StateView;
 use coord_checkpoint::CoordOpen;
@@ -148,7 +150,18 @@ impl<D: Disk> Coord<D> {
         }
     }
 
-    /// The key at a place, in byte order of group, topic and partition, from place 0 on.
+    /// All states with their keys, in byte order of group, topic and partition. A walk over them is linear.
+    pub fn states(&self) -> States<'_>
+        ensures rest { result ≡ states_of self.now.entries }
+        ensures fits { length self.now.entries < 2 ^ 63 }
+    {
+        States {
+            inner: self.store.map.iter(),
+        }
+    }
+
+    /// The key at a place, in byte order of group, topic and partition, from place 0 on. It goes past the keys before it; [`Coord::states`]
+    /// is for a walk.
     pub fn key_at(&self, place: u64) -> Option<&Key>
         ensures { option_copied result ≡ slice_get (keys_of self.now.entries) place }
     {

@@ -8,11 +8,13 @@ mod records;
 mod refusals;
 mod replay;
 mod rows;
+mod states;
 mod store;
 mod view;
 
 pub use coord::Coord;
 pub use coord_checkpoint::CoordOpen;
 pub use fault::CoordFault;
+pub use states::States;
 pub use store::Store;
 pub use view::{Kept, StateView};

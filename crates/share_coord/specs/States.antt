@@ -1,4 +1,4 @@
--- The states that a store of foreign state keeps. This project's own.
+-- What a store keeps, as share-partition states by their keys. This project's own; the states are KIP-932's.
 -- For example the contents `00` and nothing, a journal without a frame and an empty disk, stand for no states.
 use Rattle.std.specs.Prelude.{◌≡◌, ℕ, List, map}
 use Rattle.share_model.specs.ForeignRules.{ShareStates}
