@@ -1,8 +1,8 @@
 -- A text is cut in one way at its first blank, or at its first line feed.
 use Rattle.std.proofs.Common.{◌≡◌, ◌≢◌, ◌<◌, ◌≤◌, ◌^◌, ℕ, zero, suc, List, [], ◌∷◌, ◌++◌, Option, Some, None, MatchOption, length, get_or}
-use Rattle.std.proofs.Common.{refl, ap, subst, arith, lit<}
-use Rattle.std.proofs.Common.{Bool, true, not, ◌&&◌, ◌==◌}
-use Rattle.std.proofs.lemmas.Bool.{and_parts}
+use Rattle.std.proofs.Common.{refl, sym, ap, ◌∙◌, subst, arith, lit<}
+use Rattle.std.proofs.Common.{Bool, true, false, not, ◌&&◌, ◌==◌}
+use Rattle.std.proofs.lemmas.Bool.{and_parts, false≢true}
 use Rattle.std.proofs.lemmas.Bool.Decides.{nat_tests}
 use Rattle.std.specs.Fmt.{decimal}
 use Rattle.std.specs.Char.{digit_value}
@@ -11,7 +11,7 @@ use Rattle.std.proofs.lemmas.Fmt.{decimal_is_IsNumeral}
 use Rattle.std.proofs.lemmas.Str.Pattern.{IsSplitOnceResult, split_after, split_parts}
 use denote.Ref.{Bor}
 use Rattle.std.proofs.lemmas.List.Elements.{All-get_or}
-use Rattle.edge_io.specs.Names.{IsDiskName}
+use Rattle.edge_io.specs.Names.{is_topic_byte, IsTopicName, IsDiskName}
 use Rattle.edge_io.proofs.Names.{IsNameByte, name_bytes}
 use Rattle.session_script.specs.Lines.{HasNone, IsCut, HasNoCut}
 
@@ -64,7 +64,11 @@ no_blank n h = none_digits 32 (decimal n) (omega arith) (decimal_is_IsNumeral n 
 pub no_feed : (n : ℕ) → n < 2 ^ 64 → HasNone 10 (decimal n)
 no_feed n h = none_digits 10 (decimal n) (omega arith) (decimal_is_IsNumeral n h).0.1
 
--- nor has the name of a disk
+-- nor has the name of a topic
+pub topic_lacks : (c : ℕ) (name : List ℕ) → is_topic_byte c ≡ false → IsTopicName name → HasNone c name
+topic_lacks c name other is = none_at c name (λ i lt e. false≢true (sym other ∙ subst (λ (b : ℕ). is_topic_byte b ≡ true) e (is.2 i 0 lt)))
+
+-- nor has that of a disk
 pub disk_lacks : (c : ℕ) (name : List ℕ) → (IsNameByte c → ⊥) → IsDiskName name → HasNone c name
 disk_lacks c name other is =
     none_at c name (λ i lt e. other (subst IsNameByte e (All-get_or IsNameByte name i 0 lt (name_bytes name is))))

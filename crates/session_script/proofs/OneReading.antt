@@ -8,9 +8,9 @@ use Rattle.hex.proofs.HexLemmas.{decode_of-encode_lower}
 use Rattle.edge_io.specs.declared.fault.FaultMode.{FaultMode}
 use Rattle.edge_io.specs.declared.fault.FaultMode.TheVariants.{Once, Torn, Dead}
 use Rattle.session_script.specs.declared.event.Event.{Event}
-use Rattle.session_script.specs.declared.event.Event.TheVariants.{Open, Bytes, Close, Step, Arm, Power}
+use Rattle.session_script.specs.declared.event.Event.TheVariants.{Open, Bytes, Close, Step, Expire, Tick, Arm, Power}
 use Rattle.session_script.specs.Script.{words_of, mode_word, line_of, IsEvent, end_line, longest, HasNoEvent, HasOneReading, IsScript, IsMalformed}
-use Rattle.session_script.proofs.Cuts.{one_cut, no_blank, disk_lacks}
+use Rattle.session_script.proofs.Cuts.{one_cut, no_blank, topic_lacks, disk_lacks}
 use Rattle.session_script.proofs.Sayings.{same_head, same_rest}
 use Rattle.session_script.proofs.Refusals.{no_feed_words, line_then, end_no_event}
 
@@ -38,52 +38,30 @@ same_mode Dead Dead e = refl
 
 same_event : (a b : Event) → IsEvent a → IsEvent b → words_of a ≡ words_of b → a ≡ b
 same_event (Open c) (Open d) p q e = ap Open (same_number c d (omega arith) (omega arith) (same_rest (codes "open" ++ 32 ∷ []) _ _ e))
-same_event (Open c) (Bytes d y) p q e = absurd (omega (arith, same_head _ _ _ _ e))
-same_event (Open c) (Close d) p q e = absurd (omega (arith, same_head _ _ _ _ e))
-same_event (Open c) (Step d u) p q e = absurd (omega (arith, same_head _ _ _ _ e))
-same_event (Open c) (Arm l o w) p q e = absurd (omega (arith, same_head _ _ _ _ e))
-same_event (Open c) (Power d) p q e = absurd (omega (arith, same_head _ _ _ _ e))
-same_event (Bytes c x) (Open d) p q e = absurd (omega (arith, same_head _ _ _ _ e))
 same_event (Bytes c x) (Bytes d y) p q e =
     let s = same_numbered c d (encode_lower x) (encode_lower y) p.0 q.0 (same_rest (codes "bytes" ++ 32 ∷ []) _ _ e) in
     let b = same_bytes x y p.3 q.3 s.1 in
     λ i. Bytes (s.0 i) (b i)
-same_event (Bytes c x) (Close d) p q e = absurd (omega (arith, same_head _ _ _ _ e))
-same_event (Bytes c x) (Step d u) p q e = absurd (omega (arith, same_head _ _ _ _ e))
-same_event (Bytes c x) (Arm l o w) p q e = absurd (omega (arith, same_head _ _ _ _ e))
-same_event (Bytes c x) (Power d) p q e = absurd (omega (arith, same_head _ _ _ _ e))
-same_event (Close c) (Open d) p q e = absurd (omega (arith, same_head _ _ _ _ e))
-same_event (Close c) (Bytes d y) p q e = absurd (omega (arith, same_head _ _ _ _ e))
 same_event (Close c) (Close d) p q e = ap Close (same_number c d (omega arith) (omega arith) (same_rest (codes "close" ++ 32 ∷ []) _ _ e))
-same_event (Close c) (Step d u) p q e = absurd (omega (arith, same_head _ _ _ _ e))
-same_event (Close c) (Arm l o w) p q e = absurd (omega (arith, same_head _ _ _ _ e))
-same_event (Close c) (Power d) p q e = absurd (omega (arith, same_head _ _ _ _ e))
-same_event (Step c t) (Open d) p q e = absurd (omega (arith, same_head _ _ _ _ e))
-same_event (Step c t) (Bytes d y) p q e = absurd (omega (arith, same_head _ _ _ _ e))
-same_event (Step c t) (Close d) p q e = absurd (omega (arith, same_head _ _ _ _ e))
 same_event (Step c t) (Step d u) p q e =
     let s = same_numbered c d (decimal t) (decimal u) p.0 q.0 (same_rest (codes "step" ++ 32 ∷ []) _ _ e) in
     let b = same_number t u (omega (arith, p.1)) (omega (arith, q.1)) s.1 in
     λ i. Step (s.0 i) (b i)
-same_event (Step c t) (Arm l o w) p q e = absurd (omega (arith, same_head _ _ _ _ e))
-same_event (Step c t) (Power d) p q e = absurd (omega (arith, same_head _ _ _ _ e))
-same_event (Arm k n m) (Open d) p q e = absurd (omega (arith, same_head _ _ _ _ e))
-same_event (Arm k n m) (Bytes d y) p q e = absurd (omega (arith, same_head _ _ _ _ e))
-same_event (Arm k n m) (Close d) p q e = absurd (omega (arith, same_head _ _ _ _ e))
-same_event (Arm k n m) (Step d u) p q e = absurd (omega (arith, same_head _ _ _ _ e))
+same_event (Expire x n t) (Expire y o u) p q e =
+    let s = one_cut 32 x y _ _ (topic_lacks 32 x refl p.0) (topic_lacks 32 y refl q.0) (same_rest (codes "expire" ++ 32 ∷ []) _ _ e) in
+    let r = same_numbered n o (decimal t) (decimal u) (omega (arith, p.1)) (omega (arith, q.1)) s.1 in
+    let b = same_number t u (omega (arith, p.2)) (omega (arith, q.2)) r.1 in
+    λ i. Expire (s.0 i) (r.0 i) (b i)
+same_event (Tick t) (Tick u) p q e =
+    ap Tick (same_number t u (omega (arith, p)) (omega (arith, q)) (same_rest (codes "tick" ++ 32 ∷ []) _ _ e))
 same_event (Arm k n m) (Arm l o w) p q e =
     let s = one_cut 32 k l _ _ (disk_lacks 32 k (λ g. omega (arith, g.0)) p.0) (disk_lacks 32 l (λ g. omega (arith, g.0)) q.0) (same_rest (codes "arm" ++ 32 ∷ []) _ _ e) in
     let r = one_cut 32 (decimal n) (decimal o) (mode_word m) (mode_word w) (no_blank n p.1) (no_blank o q.1) s.1 in
     let g = same_number n o p.1 q.1 r.0 in
     let f = same_mode m w r.1 in
     λ i. Arm (s.0 i) (g i) (f i)
-same_event (Arm k n m) (Power d) p q e = absurd (omega (arith, same_head _ _ _ _ e))
-same_event (Power c) (Open d) p q e = absurd (omega (arith, same_head _ _ _ _ e))
-same_event (Power c) (Bytes d y) p q e = absurd (omega (arith, same_head _ _ _ _ e))
-same_event (Power c) (Close d) p q e = absurd (omega (arith, same_head _ _ _ _ e))
-same_event (Power c) (Step d u) p q e = absurd (omega (arith, same_head _ _ _ _ e))
-same_event (Power c) (Arm l o w) p q e = absurd (omega (arith, same_head _ _ _ _ e))
 same_event (Power c) (Power d) p q e = ap Power (same_number c d p q (same_rest (codes "power" ++ 32 ∷ []) _ _ e))
+same_event a b p q e = absurd (omega (arith, same_head _ _ _ _ e))
 
 same_line : (a b : Event) (x y : List ℕ) → IsEvent a → IsEvent b → line_of a ++ x ≡ line_of b ++ y → (a ≡ b) × (x ≡ y)
 same_line a b x y p q e =

@@ -10,11 +10,11 @@ use Rattle.edge_io.specs.declared.fault.FaultMode.{FaultMode}
 use Rattle.edge_io.specs.declared.fault.FaultMode.TheVariants.{Once, Torn, Dead}
 use Rattle.edge_io.proofs.Names.{name_short}
 use Rattle.session_script.specs.declared.event.Event.{Event}
-use Rattle.session_script.specs.declared.event.Event.TheVariants.{Open, Bytes, Close, Step, Arm, Power}
+use Rattle.session_script.specs.declared.event.Event.TheVariants.{Open, Bytes, Close, Step, Expire, Tick, Arm, Power}
 use Rattle.session_script.specs.Script.{words_of, mode_word, line_of, IsEvent, end_line, longest, HasNoEvent, IsRefused}
 use Rattle.session_script.specs.Lines.{HasNone, IsLine, IsUnfinished, SaysNothing, longest_line}
-use Rattle.session_script.proofs.Cuts.{one_cut, none_append, no_feed, lacks_none, disk_lacks}
-use Rattle.session_script.proofs.Sayings.{same_head}
+use Rattle.session_script.proofs.Cuts.{one_cut, none_append, no_feed, lacks_none, topic_lacks, disk_lacks}
+use Rattle.session_script.proofs.Sayings.{same_head, same_rest}
 use Rattle.session_script.proofs.Hexes.{hex_no_feed}
 
 then_none : (front rest : List ℕ) → HasNone 10 front → HasNone 10 rest → HasNone 10 (front ++ 32 ∷ rest)
@@ -39,6 +39,12 @@ no_feed_words (Close conn) is =
 no_feed_words (Step conn now) is =
     none_append 10 (codes "step" ++ 32 ∷ []) (decimal conn ++ 32 ∷ decimal now) (lacks_none 10 (codes "step" ++ 32 ∷ []) refl)
     (numbered_none conn (decimal now) (omega (arith, is.0)) (no_feed now (omega (arith, is.1))))
+no_feed_words (Expire topic part now) is =
+    none_append 10 (codes "expire" ++ 32 ∷ []) (topic ++ 32 ∷ (decimal part ++ 32 ∷ decimal now)) (lacks_none 10 (codes "expire" ++ 32 ∷ []) refl)
+    (then_none topic (decimal part ++ 32 ∷ decimal now) (topic_lacks 10 topic refl is.0)
+    (numbered_none part (decimal now) (omega (arith, is.1)) (no_feed now (omega (arith, is.2)))))
+no_feed_words (Tick now) is =
+    none_append 10 (codes "tick" ++ 32 ∷ []) (decimal now) (lacks_none 10 (codes "tick" ++ 32 ∷ []) refl) (no_feed now (omega (arith, is)))
 no_feed_words (Arm disk after mode) is =
     none_append 10 (codes "arm" ++ 32 ∷ []) (disk ++ 32 ∷ (decimal after ++ 32 ∷ mode_word mode)) (lacks_none 10 (codes "arm" ++ 32 ∷ []) refl)
     (then_none disk (decimal after ++ 32 ∷ mode_word mode) (disk_lacks 10 disk (λ p. omega (arith, p.0)) is.0) (numbered_none after (mode_word mode) is.1 (mode_none mode)))
@@ -70,12 +76,8 @@ end_has_none : HasNone 10 end_word
 end_has_none = lacks_none 10 end_word refl
 
 end_is_none : (event : Event) → end_word ≡ words_of event → ⊥
-end_is_none (Open conn) e = absurd (omega (arith, same_head _ _ _ _ e))
-end_is_none (Bytes conn bytes) e = absurd (omega (arith, same_head _ _ _ _ e))
-end_is_none (Close conn) e = absurd (omega (arith, same_head _ _ _ _ e))
-end_is_none (Step conn now) e = absurd (omega (arith, same_head _ _ _ _ e))
-end_is_none (Arm disk after mode) e = absurd (omega (arith, same_head _ _ _ _ e))
-end_is_none (Power choice) e = absurd (omega (arith, same_head _ _ _ _ e))
+end_is_none (Expire topic part now) e = absurd (omega (arith, same_head _ _ _ _ (same_rest (codes "e") _ _ e)))
+end_is_none event e = absurd (omega (arith, same_head _ _ _ _ e))
 
 -- a line that is the last one's
 same_end : (bytes more rest : List ℕ) (n : ℕ) → IsLine bytes n → bytes ++ more ≡ end_line ++ rest → take n bytes ≡ end_word
@@ -138,6 +140,13 @@ words_short (Step conn now) is =
     let n = length-decimal-le 19 now (omega arith) (omega (arith, is.1)) (omega (arith, is.1)) in
     let a = length-append (decimal conn) (32 ∷ decimal now) in
     omega (arith, d, n, a)
+words_short (Expire topic part now) is =
+    let n = count_short part (omega (arith, is.1)) in
+    let m = count_short now (omega (arith, is.2)) in
+    let a = length-append topic (32 ∷ (decimal part ++ 32 ∷ decimal now)) in
+    let b = length-append (decimal part) (32 ∷ decimal now) in
+    omega (arith, is.0.1, n, m, a, b)
+words_short (Tick now) is = omega (arith, count_short now (omega (arith, is)))
 words_short (Arm disk after mode) is =
     let d = name_short disk is.0 in
     let n = count_short after is.1 in

@@ -7,6 +7,7 @@ use Rattle.std.specs.List.{AllByRecursion}
 use Rattle.std.specs.Fmt.{decimal}
 use Rattle.hex.specs.Hex.{encode_lower, IsBytes}
 use Rattle.session_script.specs.declared.event.Event.{Event}
+use Rattle.edge_io.specs.Names.{IsTopicName}
 use Rattle.edge_io.specs.declared.fault.FaultMode.{FaultMode}
 use Rattle.session_script.specs.Script.{words_of, mode_word, IsEvent}
 
@@ -55,6 +56,13 @@ IsNumbered text conn rest = (conn < 2 ^ 32) × (text ≡ decimal conn ++ 32 ∷ 
 
 abbrev pub IsNotNumbered : List ℕ → Type 0
 IsNotNumbered text = (conn : ℕ) (rest : List ℕ) → IsNumbered text conn rest → ⊥
+
+-- the word is the name of a topic
+abbrev pub IsTopicWord : List ℕ → List ℕ → Type 0
+IsTopicWord word topic = IsTopicName topic × (word ≡ topic)
+
+abbrev pub IsNoTopicWord : List ℕ → Type 0
+IsNoTopicWord word = (topic : List ℕ) → IsTopicWord word topic → ⊥
 
 -- the word is that of a fault mode
 abbrev pub IsMode : List ℕ → FaultMode → Type 0

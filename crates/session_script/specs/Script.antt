@@ -7,11 +7,11 @@ use Rattle.std.specs.Prelude.{◌≡◌, ◌<◌, ◌≤◌, ◌+◌, ◌^◌, �
 use Rattle.std.specs.List.{flat_map, AllByRecursion}
 use Rattle.std.specs.Fmt.{decimal}
 use Rattle.hex.specs.Hex.{encode_lower, IsBytes}
-use Rattle.edge_io.specs.Names.{IsDiskName}
+use Rattle.edge_io.specs.Names.{IsTopicName, IsDiskName, most_partitions}
 use Rattle.edge_io.specs.declared.fault.FaultMode.{FaultMode}
 use Rattle.edge_io.specs.declared.fault.FaultMode.TheVariants.{Once, Torn, Dead}
 use Rattle.session_script.specs.declared.event.Event.{Event}
-use Rattle.session_script.specs.declared.event.Event.TheVariants.{Open, Bytes, Close, Step, Arm, Power}
+use Rattle.session_script.specs.declared.event.Event.TheVariants.{Open, Bytes, Close, Step, Expire, Tick, Arm, Power}
 
 -- how an armed fault breaks a call
 abbrev pub mode_word : FaultMode → List ℕ
@@ -25,6 +25,8 @@ words_of (Open conn) = codes "open" ++ 32 ∷ decimal conn
 words_of (Bytes conn bytes) = codes "bytes" ++ 32 ∷ (decimal conn ++ 32 ∷ encode_lower bytes)
 words_of (Close conn) = codes "close" ++ 32 ∷ decimal conn
 words_of (Step conn now) = codes "step" ++ 32 ∷ (decimal conn ++ 32 ∷ decimal now)
+words_of (Expire topic part now) = codes "expire" ++ 32 ∷ (topic ++ 32 ∷ (decimal part ++ 32 ∷ decimal now))
+words_of (Tick now) = codes "tick" ++ 32 ∷ decimal now
 words_of (Arm disk after mode) = codes "arm" ++ 32 ∷ (disk ++ 32 ∷ (decimal after ++ 32 ∷ mode_word mode))
 words_of (Power choice) = codes "power" ++ 32 ∷ decimal choice
 
@@ -32,12 +34,15 @@ words_of (Power choice) = codes "power" ++ 32 ∷ decimal choice
 abbrev pub line_of : Event → List ℕ
 line_of event = words_of event ++ 10 ∷ []
 
--- connections are u32, moments are milliseconds up to 2^62, a line brings 1 to 65536 bytes, and calls and choices are u64
+-- connections are u32, moments are milliseconds up to 2^62, a line brings 1 to 65536 bytes, partitions are those that a topic may
+-- have, and calls and choices are u64
 abbrev pub IsEvent : Event → Type 0
 IsEvent (Open conn) = conn < 2 ^ 32
 IsEvent (Bytes conn bytes) = (conn < 2 ^ 32) × (0 < length bytes) × (length bytes ≤ 65536) × IsBytes bytes
 IsEvent (Close conn) = conn < 2 ^ 32
 IsEvent (Step conn now) = (conn < 2 ^ 32) × (now ≤ 2 ^ 62)
+IsEvent (Expire topic part now) = IsTopicName topic × (part < most_partitions) × (now ≤ 2 ^ 62)
+IsEvent (Tick now) = now ≤ 2 ^ 62
 IsEvent (Arm disk after mode) = IsDiskName disk × (after < 2 ^ 64)
 IsEvent (Power choice) = choice < 2 ^ 64
 

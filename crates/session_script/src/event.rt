@@ -1,5 +1,5 @@
 use edge_io::{DiskName, FaultMode};
-use share_model::{Blob, CloseCause};
+use share_model::{Blob, CloseCause, Name, ShardId};
 
 /// One line of a recorded session: what happens to the broker.
 #[derive(Debug, Drop)]
@@ -22,6 +22,16 @@ pub enum Event {
         conn: u32,
         now: u64,
     },
+    /// The broker frees what is locked no longer on this partition of the topic of this name, at this moment in milliseconds.
+    Expire {
+        topic: Name,
+        part: u32,
+        now: u64,
+    },
+    /// The broker drops the members that are heard of no longer, at this moment in milliseconds.
+    Tick {
+        now: u64,
+    },
     /// The next `after` calls of this disk pass, and the one after them is broken.
     Arm {
         disk: DiskName,
@@ -37,6 +47,8 @@ pub enum Event {
 /// What an event makes the broker do, as a client sees it.
 #[derive(Debug, Drop)]
 pub enum Outcome {
+    /// An expiry on this shard, or a release in a visit to it, couldn't be stored.
+    Fault { shard: ShardId },
     /// A reply is sent: the whole frame, its size included.
     Reply { conn: u32, frame: Blob },
     /// The connection is closed.

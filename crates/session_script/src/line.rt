@@ -3,8 +3,8 @@ ghost use Rattle.std.specs.Prelude.{◌≡◌, ◌∷◌, ◌++◌, IfOk, MatchO
 ghost use Rattle.session_script.specs.Lines.{Says, SaysNothing};
 
 use crate::event::Event;
-use crate::word::{cut, fault_mode, hexadecimal, number, numbered};
-use edge_io::DiskName;
+use crate::word::{cut, fault_mode, hexadecimal, number, numbered, topic_name};
+use edge_io::{DiskName, MAX_PARTITIONS};
 use flex_fields::NoMemory;
 use share_model::Blob;
 use std::alloc::Global;
@@ -12,6 +12,9 @@ use std::str;
 
 /// The greatest moment, in milliseconds.
 const LAST_MOMENT: u64 = 1 << 62;
+
+/// The greatest number of a partition.
+const LAST_PARTITION: u64 = MAX_PARTITIONS as u64 - 1;
 
 /// The most bytes that one line brings.
 const MOST_BYTES: usize = 65536;
@@ -44,6 +47,40 @@ fn step(rest: &str) -> Option<Event>
         return None;
     };
     Some(Event::Step { conn, now })
+}
+
+fn expire(rest: &str) -> Option<Event>
+    ensures { MatchOption result (SaysNothing (codes "expire" ++ 32 ∷ rest.now)) (Says (codes "expire" ++ 32 ∷ rest.now)) }
+{
+    let Some((topic, rest)) = cut(rest) else {
+        return None;
+    };
+    let Some((part, now)) = cut(rest) else {
+        return None;
+    };
+    let Some(topic) = topic_name(topic) else {
+        return None;
+    };
+    let Some(part) = number(LAST_PARTITION, part) else {
+        return None;
+    };
+    let Some(now) = number(LAST_MOMENT, now) else {
+        return None;
+    };
+    Some(Event::Expire {
+        topic,
+        part: part as u32,
+        now,
+    })
+}
+
+fn tick(rest: &str) -> Option<Event>
+    ensures { MatchOption result (SaysNothing (codes "tick" ++ 32 ∷ rest.now)) (Says (codes "tick" ++ 32 ∷ rest.now)) }
+{
+    let Some(now) = number(LAST_MOMENT, rest) else {
+        return None;
+    };
+    Some(Event::Tick { now })
 }
 
 fn arm(rest: &str) -> Option<Event>
@@ -109,6 +146,8 @@ pub fn event(alloc: Global, line: &[u8]) -> Result<Option<Event>, NoMemory>
         "bytes" => bytes(alloc, rest),
         "close" => Ok(close(rest)),
         "step" => Ok(step(rest)),
+        "expire" => Ok(expire(rest)),
+        "tick" => Ok(tick(rest)),
         "arm" => Ok(arm(rest)),
         "power" => Ok(power(rest)),
         _ => Ok(None),

@@ -2,12 +2,14 @@
 ghost use Rattle.std.specs.Prelude.{◌≡◌, ◌<◌, ◌≤◌, ◌^◌, IfOk, MatchOption};
 ghost use Rattle.std.specs.List.{list_any};
 ghost use Rattle.std.specs.Char.{is_ascii_uppercase};
-ghost use Rattle.session_script.specs.Lines.{IsCut, HasNoCut, IsNumber, IsNoNumber, IsNumbered, IsNotNumbered, IsMode, IsNoMode, IsHex, IsNoHex};
+ghost use Rattle.session_script.specs.Lines.{IsCut, HasNoCut, IsNumber, IsNoNumber, IsNumbered, IsNotNumbered};
+ghost use Rattle.session_script.specs.Lines.{IsTopicWord, IsNoTopicWord, IsMode, IsNoMode, IsHex, IsNoHex};
 
-use edge_io::FaultMode;
+use edge_io::{FaultMode, is_topic_name};
 use flex_fields::NoMemory;
 use hex::FromHexError;
 use itoa::Buffer;
+use share_model::Name;
 use std::alloc::Global;
 
 /// What stands before and behind the first blank.
@@ -47,6 +49,16 @@ pub fn numbered(text: &str) -> Option<(u32, &str)>
         return None;
     };
     Some((conn as u32, rest))
+}
+
+/// The topic's name that is written as `word`.
+pub fn topic_name(word: &str) -> Option<Name>
+    ensures { MatchOption result (IsNoTopicWord word.now) (IsTopicWord word.now) }
+{
+    if !is_topic_name(word.as_bytes()) {
+        return None;
+    }
+    Name::new(word)
 }
 
 /// How a fault that is armed so breaks a call.

@@ -1,16 +1,17 @@
 ghost use Rattle.std.specs.Prelude.{◌≡◌, ◌++◌, ◌∷◌, [], IfOk, codes, string_bytes};
 ghost use Rattle.std.specs.Fmt.{decimal};
 ghost use Rattle.session_script.specs.Script.{line_of, mode_word};
-ghost use Rattle.session_script.specs.Output.{outcome_line, cause_text, malformed_line, damaged_line};
+ghost use Rattle.session_script.specs.Output.{IsHostedShard, IsTold, shard_text, outcome_line, cause_text, malformed_line, damaged_line};
 ghost use Rattle.session_script.specs.Writing.{WritesText};
 ghost use Rattle.session_script.specs.declared.writer.LineFault.TheVariants.{NoMemory as no_memory};
 
 use crate::event::{Event, Outcome};
 use edge_io::{DiskName, FaultMode, Sink, write_all};
 use flex_fields::NoMemory;
-use share_model::CloseCause;
+use share_model::{CloseCause, Name, ShardId};
 use std::alloc::{AllocError, Global};
 use thiserror::Error;
+use topic_conf::Config;
 
 /// Why a line was not written.
 #[derive(Clone, Copy, Debug, PartialEq, Eq, Error)]
@@ -78,6 +79,12 @@ fn arm_line(
     format!(in alloc; "arm {disk} {after} {mode}\n")
 }
 
+fn expire_line(alloc: Global, topic: &Name, part: u32, now: u64) -> Result<String, AllocError>
+    ensures { IfOk result (λ text. string_bytes text ≡ codes "expire" ++ 32 ∷ (topic.now ++ 32 ∷ (decimal part ++ 32 ∷ (decimal now ++ 10 ∷ [])))) }
+{
+    format!(in alloc; "expire {topic} {part} {now}\n")
+}
+
 fn event_line(alloc: Global, event: &Event) -> Result<String, AllocError>
     ensures { IfOk result (λ text. string_bytes text ≡ line_of event.now) }
 {
@@ -92,6 +99,8 @@ fn event_line(alloc: Global, event: &Event) -> Result<String, AllocError>
             let now = now.to_string(alloc)?;
             line(alloc, "step", *conn, &now)
         }
+        Event::Expire { topic, part, now } => expire_line(alloc, topic, *part, *now),
+        Event::Tick { now } => format!(in alloc; "tick {now}\n"),
         Event::Arm { disk, after, mode } => arm_line(alloc, disk, *after, *mode),
         Event::Power { choice } => format!(in alloc; "power {choice}\n"),
     }
@@ -109,10 +118,31 @@ fn cause_text(alloc: Global, cause: CloseCause) -> Result<String, AllocError>
     }
 }
 
-fn outcome_line(alloc: Global, outcome: &Outcome) -> Result<String, AllocError>
-    ensures { IfOk result (λ text. string_bytes text ≡ outcome_line outcome.now) }
+fn fault_of(alloc: Global, topic: &Name, part: u32) -> Result<String, AllocError>
+    ensures { IfOk result (λ text. string_bytes text ≡ codes "fault" ++ 32 ∷ (topic.now ++ 47 ∷ (decimal part ++ 10 ∷ []))) }
+{
+    format!(in alloc; "fault {topic}/{part}\n")
+}
+
+fn fault_line(alloc: Global, shard: ShardId, conf: &Config) -> Result<String, AllocError>
+    requires { IsHostedShard conf.now.topics shard }
+    ensures { IfOk result (λ text. string_bytes text ≡ codes "fault" ++ 32 ∷ (shard_text conf.now.topics shard ++ 10 ∷ [])) }
+{
+    let ShardId::Part(number) = shard else {
+        unreachable!()
+    };
+    let Some((topic, part)) = conf.partition_of(number) else {
+        unreachable!()
+    };
+    fault_of(alloc, &topic.name, part)
+}
+
+fn outcome_line(alloc: Global, outcome: &Outcome, conf: &Config) -> Result<String, AllocError>
+    requires { IsTold conf.now.topics outcome.now }
+    ensures { IfOk result (λ text. string_bytes text ≡ outcome_line conf.now.topics outcome.now) }
 {
     match outcome {
+        Outcome::Fault { shard } => fault_line(alloc, *shard, conf),
         Outcome::Reply { conn, frame } => {
             let digits = hex::encode(alloc, frame.as_slice())?;
             line(alloc, "reply", *conn, &digits)
@@ -142,15 +172,18 @@ pub fn write_event<O: Sink>(alloc: Global, event: &Event, output: &mut O) -> Res
     write_text(text.as_str(), output)
 }
 
-/// Writes an outcome's line.
+/// Writes an outcome's line. The configuration tells the name of the partition that a fault is of.
 pub fn write_outcome<O: Sink>(
     alloc: Global,
     outcome: &Outcome,
+    conf: &Config,
     output: &mut O,
 ) -> Result<(), LineFault>
-    ensures { WritesText (O.held output.old) (O.held output.new) (O.faults output.old) (O.faults output.new) (outcome_line outcome.now) result }
+    requires { IsTold conf.now.topics outcome.now }
+    ensures { WritesText (O.held output.old) (O.held output.new) (O.faults output.old) (O.faults output.new)
+        (outcome_line conf.now.topics outcome.now) result }
 {
-    let text = outcome_line(alloc, outcome)?;
+    let text = outcome_line(alloc, outcome, conf)?;
     write_text(text.as_str(), output)
 }
 

@@ -5,7 +5,7 @@ use Rattle.edge_io.specs.Names.{IsDiskName, hosted_name}
 use Rattle.edge_io.specs.declared.name.DiskPlace.{DiskPlace}
 use Rattle.topic_conf.specs.declared.topic.Topic.{Topic}
 use Rattle.edge_io.specs.Names.{most_partitions}
-use Rattle.topic_conf.specs.Topics.{partitions, IsTopic, IsTopicList}
+use Rattle.topic_conf.specs.Topics.{partitions, IsTopicList}
 
 -- each has a partition, and together they have no more than there is room for
 abbrev pub FitInto : ℕ → List Topic → Type 0

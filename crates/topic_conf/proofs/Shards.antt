@@ -11,16 +11,16 @@ use Rattle.topic_conf.specs.declared.topic.Topic.{Topic}
 use Rattle.topic_conf.specs.Topics.{AreApart, IsShard, partitions, partition_at, shard_at}
 use Rattle.topic_conf.proofs.Lists.{partitions_cons, all_front, all_others, pairs_front, pairs_others}
 
-chosen : {X : Type 0} (b : Bool) (x y z : X) → cond b x y ≡ z → ((b ≡ true) × (x ≡ z)) ⊎ ((b ≡ false) × (y ≡ z))
+pub chosen : {X : Type 0} (b : Bool) (x y z : X) → cond b x y ≡ z → ((b ≡ true) × (x ≡ z)) ⊎ ((b ≡ false) × (y ≡ z))
 chosen true x y z e = inl (refl, e)
 chosen false x y z e = inr (refl, e)
 
-mapped : (f : ℕ → ℕ) (o : Option ℕ) (y : ℕ) → option_map f o ≡ Some y → (x : ℕ) × (o ≡ Some x) × (y ≡ f x)
+pub mapped : (f : ℕ → ℕ) (o : Option ℕ) (y : ℕ) → option_map f o ≡ Some y → (x : ℕ) × (o ≡ Some x) × (y ≡ f x)
 mapped f None y e = absurd (cc)
 mapped f (Some x) y e = (x, refl, cc)
 
 -- the number of a partition among those of its topic
-partition_found : (partition : ℤ) (parts shard : ℕ) → partition_at partition parts ≡ Some shard → (shard < parts) × (partition ≡ pos shard)
+pub partition_found : (partition : ℤ) (parts shard : ℕ) → partition_at partition parts ≡ Some shard → (shard < parts) × (partition ≡ pos shard)
 partition_found (pos n) parts shard e =
     let found = cond_some (nat_lt n parts) n shard e in
     let lt : n < parts = grind (arith, nat_tests, found.0) in
@@ -85,7 +85,7 @@ found_apart topic (other ∷ topics) id partition shard apart e =
       go rest (inl here) = λ same. (all_front (AreApart topic) other topics apart).ids (same ∙ sym here.same)
       go rest (inr h) = rest h.later h.found
 
-is_false : (b : Bool) → (b ≡ true → ⊥) → b ≡ false
+pub is_false : (b : Bool) → (b ≡ true → ⊥) → b ≡ false
 is_false true h = absurd (h refl)
 is_false false h = refl
 

@@ -1,7 +1,8 @@
 -- The topics that a broker hosts, and the numbers of their partitions' shards (this project's own). A topic is named by its
 -- name, which is one that Kafka allows, or by its id, which has 16 bytes.
 -- For example 63 partitions of `orders` and one of `audit` may be hosted together, and 64 and one may not.
-use Rattle.std.specs.Prelude.{◌≡◌, ◌≢◌, ◌≤◌, ◌+◌, ℕ, ℤ, pos, negsuc, List, [], ◌∷◌, Option, Some, None, length, All, AllPairs, sum_by, nat_lt, if◌then◌else◌}
+use Rattle.std.specs.Prelude.{◌≡◌, ◌≢◌, ◌≤◌, ◌+◌, ◌-◌, ℕ, ℤ, pos, negsuc, List, [], ◌∷◌, Option, Some, None, length, All, AllPairs}
+use Rattle.std.specs.Prelude.{sum_by, nat_lt, if◌then◌else◌}
 use Rattle.std.specs.List.{position}
 use Rattle.std.specs.Option.{option_map}
 use Rattle.std.specs.Str.{bytes_eq}
@@ -50,6 +51,18 @@ abbrev pub shard_at : List ℕ → ℤ → List Topic → Option ℕ
 shard_at id partition [] = None
 shard_at id partition (topic ∷ topics) =
     if bytes_eq topic.id id then partition_at partition topic.parts else option_map (λ shard. topic.parts + shard) (shard_at id partition topics)
+
+-- The number of a partition's shard, by its topic's name: there, the shard of partition 0 of `audit` is 3.
+abbrev pub shard_named : List ℕ → ℕ → List Topic → Option ℕ
+shard_named name part [] = None
+shard_named name part (topic ∷ topics) =
+    if bytes_eq topic.name name then partition_at (pos part) topic.parts else option_map (λ shard. topic.parts + shard) (shard_named name part topics)
+
+-- The partition of a shard: its topic, and its number in that. There, shard 3 is partition 0 of `audit`, and no shard is 4.
+abbrev pub partition_at_shard : List Topic → ℕ → Option (Topic × ℕ)
+partition_at_shard [] shard = None
+partition_at_shard (topic ∷ topics) shard =
+    if nat_lt shard topic.parts then Some (topic, shard) else partition_at_shard topics (shard - topic.parts)
 
 -- the shard of this number is that of a partition
 pub record IsShard (topics : List Topic) (shard : ℕ) : Type 0 where

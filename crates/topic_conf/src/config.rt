@@ -1,8 +1,8 @@
-ghost use Rattle.std.specs.Prelude.{◌≡◌, ◌≤◌, ◌<◌, IsTrue, length};
-ghost use Rattle.topic_conf.specs.Topics.{IsTopicList, partitions, place_by_name, place_by_id, shard_at};
+ghost use Rattle.std.specs.Prelude.{◌≡◌, ◌≤◌, IfNone, MatchOption, None, Some};
+ghost use Rattle.topic_conf.specs.Topics.{IsTopicList, partitions, place_by_name, place_by_id, shard_at, shard_named, partition_at_shard};
 ghost use Rattle.topic_conf.specs.Configs.{IsLockTime, IsLimit};
 
-use crate::places::{place_by_id, place_by_name, shard_at};
+use crate::places::{partition_at_shard, place_by_id, place_by_name, shard_at, shard_named};
 use crate::topic::{Topic, TopicList};
 use share_model::{Name, Reset};
 use std::marker::Model;
@@ -129,5 +129,22 @@ impl Config {
         ensures { result ≡ shard_at topic part self.now.topics }
     {
         shard_at(topic, part, self.topics.as_slice())
+    }
+
+    /// The number of the shard of a partition of the topic of this name. `None` where the topic or the partition isn't
+    /// hosted.
+    pub fn shard_of(&self, name: &str, part: u32) -> Option<u32>
+        ensures { result ≡ shard_named name.now part self.now.topics }
+    {
+        shard_named(name, part, self.topics.as_slice())
+    }
+
+    /// The partition of a shard: its topic, and its number in that. `None` where no shard has this number.
+    pub fn partition_of(&self, shard: u32) -> Option<(&Topic, u32)>
+        ensures found { MatchOption result (partition_at_shard self.now.topics shard ≡ None)
+            (λ x. partition_at_shard self.now.topics shard ≡ Some (x.0.now, x.1)) }
+        ensures none { IfNone result (partitions self.now.topics ≤ shard) }
+    {
+        partition_at_shard(self.topics.as_slice(), shard)
     }
 }

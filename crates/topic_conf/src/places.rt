@@ -1,6 +1,7 @@
 // Where a topic stands, and the numbers of shards.
-ghost use Rattle.std.specs.Prelude.{◌≡◌, ◌<◌, IfSome, length};
-ghost use Rattle.topic_conf.specs.Topics.{IsTopicList, partitions, partition_at, place_by_name, place_by_id, shard_at};
+ghost use Rattle.std.specs.Prelude.{◌≡◌, ◌<◌, ◌≤◌, IfSome, IfNone, MatchOption, None, Some, pos, length};
+ghost use Rattle.topic_conf.specs.Topics.{IsTopicList, partitions, partition_at, place_by_name, place_by_id};
+ghost use Rattle.topic_conf.specs.Topics.{shard_at, shard_named, partition_at_shard};
 
 use crate::topic::Topic;
 use uuid::Uuid;
@@ -22,11 +23,18 @@ pub fn place_by_id(id: Uuid, topics: &[Topic]) -> Option<usize>
 }
 
 // The partition, where the topic has it.
+fn partition_within(partition: u32, parts: u32) -> Option<u32>
+    ensures { result ≡ partition_at (pos partition) parts }
+{
+    (partition < parts).then_some(partition)
+}
+
+// The partition, where the topic has it.
 fn partition_at(partition: i32, parts: u32) -> Option<u32>
     ensures { result ≡ partition_at partition parts }
 {
     let partition = u32::try_from(partition).ok()?;
-    (partition < parts).then_some(partition)
+    partition_within(partition, parts)
 }
 
 // The number of the partition's shard.
@@ -42,6 +50,36 @@ pub fn shard_at(id: Uuid, partition: i32, topics: &[Topic]) -> Option<u32>
         }
         before += topic.parts;
         rest = others;
+    }
+    None
+}
+
+// The number of the shard of the partition of the topic of this name.
+pub fn shard_named(name: &str, part: u32, topics: &[Topic]) -> Option<u32>
+    requires { IsTopicList topics.now }
+    ensures { result ≡ shard_named name.now part topics.now }
+{
+    let mut first = 0;
+    for topic in topics {
+        if topic.name.as_str() == name {
+            return Some(first + partition_within(part, topic.parts)?);
+        }
+        first += topic.parts;
+    }
+    None
+}
+
+// The partition of this shard.
+pub fn partition_at_shard(topics: &[Topic], shard: u32) -> Option<(&Topic, u32)>
+    ensures found { MatchOption result (partition_at_shard topics.now shard ≡ None) (λ x. partition_at_shard topics.now shard ≡ Some (x.0.now, x.1)) }
+    ensures none { IfNone result (partitions topics.now ≤ shard) }
+{
+    let mut number = shard;
+    for topic in topics {
+        if number < topic.parts {
+            return Some((topic, number));
+        }
+        number -= topic.parts;
     }
     None
 }

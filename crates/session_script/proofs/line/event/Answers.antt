@@ -10,4 +10,4 @@ returns-in_default-cut c = not_words c.args.line.now (rw c.in-Ok.ensures.cases.0
 
 pub returns-in_default-word : goal.returns-in_default-word
 returns-in_default-word c = other_word c.args.line.now c.in-Some.word.now c.in-Some.rest.now (rw c.in-Ok.ensures.cases.0 at c.in-Some.ensures)
-    (search rules) (search rules) (search rules) (search rules) (search rules) (search rules)
+    (search rules) (search rules) (search rules) (search rules) (search rules) (search rules) (search rules) (search rules)
