@@ -30,4 +30,4 @@ pub use reset::Reset;
 pub use room::Room;
 pub use row::{Row, RowState};
 pub use run::{Run, canonical_runs_are_unique};
-pub use visit::{AckOutcome, ShardId, Then, ThenOutcome, Visit, VisitAnswer};
+pub use visit::{AckOutcome, ExpireAnswer, ShardId, Then, ThenOutcome, Visit, VisitAnswer};

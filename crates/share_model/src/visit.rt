@@ -71,3 +71,19 @@ pub enum ThenOutcome {
     /// It couldn't be stored, or a batch couldn't be read. Nothing was released or acquired.
     Store(StoreFault),
 }
+
+/// What became of an expiry. `freed` counts the records that were given back, over all groups.
+#[derive(Clone, Copy, Debug, PartialEq, Eq)]
+pub enum ExpireAnswer {
+    /// Each record whose lock had ended is given back.
+    Done {
+        freed: u64,
+    },
+    /// The releases of `group` couldn't be stored. Those of the groups before it are; nothing was given back of it and of the groups
+    /// behind it.
+    Store {
+        freed: u64,
+        group: Name,
+        fault: StoreFault,
+    },
+}

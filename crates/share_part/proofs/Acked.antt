@@ -1,20 +1,18 @@
 -- The acknowledgements of a visit as a step of the shard, and what follows them.
-use Rattle.std.proofs.Common.{◌≡◌, ⊎_elim, ◌∙◌, inl, inr, refl, sym, ap, subst, arith, ℕ, max, ◌+◌, ◌^◌, ◌<◌, ◌≤◌, List, length, Option, Some, None, Bool}
+use Rattle.std.proofs.Common.{◌≡◌, ◌∙◌, inl, inr, refl, sym, ap, subst, arith, ℕ, max, ◌≤◌, List, Option, Some, None, Bool}
 use Rattle.std.specs.Prelude.{Result, Ok, Err, IsErr, IsSome}
-use Rattle.std.specs.BTreeMap.{insert_entry}
-use Rattle.std.specs.Option.{option_map}
 use Rattle.ack_ranges.specs.Batches.{IsWellFormed, kind_at}
 use Rattle.coord_checkpoint.specs.Disks.{HasFailed}
 use Rattle.edge_io.specs.Armed.{RunsOn, StarvesUnarmed}
 use Rattle.edge_io.specs.Causes.{Rose}
 use Rattle.edge_io.specs.declared.fault.Armed.{Armed}
 use Rattle.flex_fields.specs.declared.fault.NoMemory.{NoMemory as want}
-use Rattle.share_model.specs.ForeignRules.{ShareStates, share_state_at}
+use Rattle.share_model.specs.ForeignRules.{share_state_at}
 use Rattle.share_model.specs.Held.{Held}
-use Rattle.share_model.specs.Keys.{KeyParts, key_cmp}
 use Rattle.share_model.specs.Logs.{Batch}
 use Rattle.share_model.specs.ShareStates.{ShareState}
 use Rattle.share_model.specs.declared.ack.AckKind.{AckKind}
+use Rattle.share_model.specs.declared.fault.StoreFault.{StoreFault}
 use Rattle.share_model.specs.declared.fault.StoreFault.TheVariants.{Device, Full}
 use Rattle.share_model.specs.declared.visit.AckOutcome.{AckOutcome}
 use Rattle.share_model.specs.declared.visit.AckOutcome.TheVariants.{Done, Malformed, NotHeld, Store}
@@ -25,50 +23,45 @@ use Rattle.share_model.specs.declared.visit.ThenOutcome.TheVariants.{Done as the
 use Rattle.share_model.specs.declared.visit.Visit.{Visit}
 use Rattle.share_model.specs.declared.visit.VisitAnswer.{VisitAnswer}
 use Rattle.part_log.specs.Logs.{IsStoredLog}
-use Rattle.share_coord.specs.Holding.{Holds}
 use Rattle.share_coord.specs.Parts.{StoreParts}
 use Rattle.share_coord.specs.Stored.{Entries}
-use Rattle.share_coord.specs.declared.fault.CoordFault.{CoordFault}
-use Rattle.share_coord.specs.declared.fault.CoordFault.TheVariants.{Store as coord_store}
-use Rattle.share_part.specs.Acknowledging.{Acknowledges, AreSettled}
-use Rattle.share_part.specs.Hosting.{PartConfParts, AreHosted, IsHosted, KeepsHolds, key_of, states_of}
+use Rattle.share_part.specs.Acknowledging.{Acknowledges, AreTheirs, NameNone, NameOne, StoresActs}
+use Rattle.share_part.specs.Following.{Acquires, Does, Fetches, IsEmptyAnswer, MakesTable}
+use Rattle.share_part.specs.Hosting.{PartConfParts, AreHosted, key_of, states_of}
 use Rattle.share_part.specs.Once.{FollowsOnce, VisitsOnce}
-use Rattle.share_part.specs.Settling.{Acts, IsSettled, held_after}
-use Rattle.share_part.specs.Shards.{PartShardState, PartParts, Acquires, Carries, Does, Fetches, IsEmptyAnswer, IsPendingHosted, MakesTable, held_in, with_held}
-use Rattle.share_part.specs.Storing.{AcksOnce, IsGroupStored, IsStored, SettlesGroup}
-use Rattle.share_part.specs.Tables.{table_of}
+use Rattle.share_part.specs.Settling.{Acts, AreHeldBy, held_after}
+use Rattle.share_part.specs.Shards.{PartShardState, PartParts, Carries, IsStill, held_in, with_held}
+use Rattle.share_part.specs.Storing.{AcksOnce, SettlesGroup, StoresGroup}
 use Rattle.share_part.specs.Visits.{AreToWrite, StepsAcks}
 use Rattle.share_part.specs.declared.limits.Limits.{Limits}
-use Rattle.share_part.proofs.Holding.{AreKept, kept_settled, same_kept, set_kept}
-use Rattle.share_part.proofs.Seeing.{hosted_more}
-use Rattle.share_part.proofs.Staying.{settled_hosted}
-use Rattle.share_part.proofs.Stepping.{next, now_settled, now_states}
-use Rattle.share_part.proofs.Visiting.{Keeping, carried, carries_with, shard_of}
+use Rattle.share_part.proofs.Holding.{AreKept}
+use Rattle.share_part.proofs.Storage.{behind, same_carried, stands_same, stands_stored, still, stored_device, stored_steps}
+use Rattle.share_part.proofs.Visiting.{carried, shard_of}
 
 -- ---- an answer with another outcome of the acknowledgements
 
 abbrev pub with_ack : AckOutcome → VisitAnswer → VisitAnswer
 with_ack ack a = record { ack = ack; then = a.then; grants = a.grants; batches = a.batches }
 
-module _ (conf : PartConfParts) (rose more : Type 0) (rises : rose → more) (end : ℕ) (old : PartShardState) (visit : Visit) (ack : AckOutcome) (a : VisitAnswer) (new : PartShardState) where
+module _ (conf : PartConfParts) (rose : Type 0) (end : ℕ) (old : PartShardState) (visit : Visit) (ack : AckOutcome) (a : VisitAnswer) (new : PartShardState) where
   empty_as : (o : ThenOutcome) → IsEmptyAnswer o a → IsEmptyAnswer o (with_ack ack a)
   empty_as o h = record { outcome_is = h.outcome_is; grants = h.grants; batches = h.batches }
 
   acquires_as : (state : ShareState) (limits : Limits) → Acquires conf old state visit limits a new → Acquires conf old state visit limits (with_ack ack a) new
   acquires_as state limits h = record { outcome_is = h.outcome_is; grants = h.grants; batches = h.batches; held = h.held }
 
-  makes_as : (limits : Limits) (o : ThenOutcome) → MakesTable conf rose end old visit limits a new o → MakesTable conf more end old visit limits (with_ack ack a) new o
+  makes_as : (limits : Limits) (o : ThenOutcome) → MakesTable conf rose end old visit limits a new o → MakesTable conf rose end old visit limits (with_ack ack a) new o
   makes_as limits then_done h = record { acquires = acquires_as _ limits h.acquires; states = h.states; nothing = h.nothing }
-  makes_as limits (then_store Device) h = (rises h.0, empty_as (then_store Device) h.1, h.2)
+  makes_as limits (then_store Device) h = (h.0, empty_as (then_store Device) h.1, h.2)
   makes_as limits (then_store (Full at)) h = (h.0, empty_as (then_store (Full at)) h.1, h.2, h.3)
 
-  fetches_as : (limits : Limits) (o : Option ShareState) → Fetches conf rose end old visit limits a new o → Fetches conf more end old visit limits (with_ack ack a) new o
+  fetches_as : (limits : Limits) (o : Option ShareState) → Fetches conf rose end old visit limits a new o → Fetches conf rose end old visit limits (with_ack ack a) new o
   fetches_as limits None h = makes_as limits a.then h
   fetches_as limits (Some state) h = record { acquires = acquires_as state limits h.acquires; states = h.states; pending = h.pending }
 
-  pub does_as : (t : Then) → Does conf rose end old visit a new t → Does conf more end old visit (with_ack ack a) new t
+  pub does_as : (t : Then) → Does conf rose end old visit a new t → Does conf rose end old visit (with_ack ack a) new t
   does_as Nothing h = (empty_as then_done h.0, h.1)
-  does_as Release h = (empty_as then_done h.0, h.1)
+  does_as Release h = (empty_as a.then h.0, h.1)
   does_as (Fetch records bytes first) h = fetches_as (record { records = records; bytes = bytes; first = first }) (share_state_at old.states (key_of conf visit.group)) h
 
 ok_same : (a b : AckOutcome) → ◌≡◌ {A = Result AckOutcome want} (Ok a) (Ok b) → a ≡ b
@@ -85,17 +78,14 @@ module _ {D W : Type 0} (content : D → Option (List ℕ)) (image : D → List 
     (windows : List (List ℕ × W)) (sound : IsStoredLog old.log.batches) (few : old.conf.limit ≤ 10)
     (hosted : AreHosted old.conf old.log.batches (states_of old.states.entries))
     (kept : AreKept old.conf old.log.batches (states_of old.states.entries) (held_in holding old.windows)) where
-  abbrev pub mid : PartParts D W
-  mid = record { conf = old.conf; log = old.log; states = states; windows = windows; clock = old.clock }
-
   abbrev acts : Acts
   acts = kind_at visit.acks
 
   abbrev was : Held
   was = held_in holding old.windows visit.group
 
-  abbrev key : KeyParts
-  key = key_of old.conf visit.group
+  abbrev pub mid : PartParts D W
+  mid = behind content image moment since armed starved faults holding visit.group acts old states windows old.clock sound few hosted kept
 
   abbrev Rises : Type 0
   Rises = Rose (faults old.states.journal.live.disk) (faults states.journal.live.disk)
@@ -115,71 +105,38 @@ module _ {D W : Type 0} (content : D → Option (List ℕ)) (image : D → List 
   abbrev pub Acked : Result AckOutcome want → Type 0
   Acked result = AcksOnce visit.acks ((states ≡ old.states) × (windows ≡ old.windows)) Settles result
 
-  abbrev Stored : Result (Unit {0}) CoordFault → Type 0
-  Stored done = IsGroupStored image moment since Failed old.conf old.log.batches visit.group visit.member acts was old.states states done
-
   same_of : windows ≡ old.windows → Same
   same_of is other = ap (λ (w : List (List ℕ × W)). held_in holding w other) is
-
-  -- ---- what is stored
-
-  module _ (done : Result (Unit {0}) CoordFault) (st : Stored done) (es : Entries) (w : IsStored old.states.entries key st.change.start st.change.runs.items es) where
-    its_hosted : IsHosted old.conf old.log.batches key st.state
-    its_hosted = hosted key st.state st.known
-
-    its_kept : KeepsHolds old.log.batches (Some st.state) was
-    its_kept = subst (λ (o : Option ShareState). KeepsHolds old.log.batches o was) st.known (kept visit.group)
-
-    abbrev its_next : ShareState
-    its_next = next old.conf old.log.batches old.states.entries es visit.group st.state was acts st.change its_hosted st.known st.is w
-
-    its_settled : IsSettled old.conf.limit acts old.log.batches (table_of st.state was) its_next
-    its_settled = now_settled old.conf old.log.batches old.states.entries es visit.group st.state was acts st.change its_hosted st.known st.is w
-
-    its_states : states_of es ≡ insert_entry key_cmp (states_of old.states.entries) key its_next
-    its_states = now_states old.conf old.log.batches old.states.entries es visit.group st.state was acts st.change its_hosted st.known st.is w
-
-    are_settled : (batch : Option Batch) (pending : Option Entries) → AreSettled old.conf (shard_of image holding old batch pending) visit.group acts (states_of es)
-    are_settled batch pending = record { state = st.state; next = its_next; known = st.known; settled = its_settled; is = its_states }
-
-    set_hosted : AreHosted old.conf old.log.batches (states_of es)
-    set_hosted = subst (AreHosted old.conf old.log.batches) (sym its_states) (hosted_more old.conf old.log.batches (states_of old.states.entries) key its_next hosted
-        (settled_hosted old.conf old.log.batches visit.group st.state was acts sound.rises few its_hosted its_kept.0 its_next its_settled))
-
-    set_well : AreKept old.conf old.log.batches (states_of es) (with_held (held_in holding old.windows) visit.group (held_after acts was))
-    set_well = subst (λ (s : ShareStates). AreKept old.conf old.log.batches s (with_held (held_in holding old.windows) visit.group (held_after acts was))) (sym its_states)
-        (set_kept old.conf old.log.batches (states_of old.states.entries) (held_in holding old.windows) visit.group its_next (held_after acts was) kept
-        (kept_settled old.conf.limit acts old.log.batches st.state its_next was sound.rises its_settled its_kept))
 
   -- ---- what the shard keeps
 
   abbrev pub Stands : Type 0
   Stands = AreHosted old.conf old.log.batches (states_of states.entries) × AreKept old.conf old.log.batches (states_of states.entries) (held_in holding windows)
 
-  stands_same : states_of states.entries ≡ states_of old.states.entries → Same → Stands
-  stands_same is same = (
-    subst (AreHosted old.conf old.log.batches) (sym is) hosted,
-    same_kept old.conf old.log.batches (states_of states.entries) (held_in holding old.windows) (held_in holding windows) same
-        (subst (λ (s : ShareStates). AreKept old.conf old.log.batches s (held_in holding old.windows)) (sym is) kept),
-  )
+  same_stand : states ≡ old.states → Same → Stands
+  same_stand is same = stands_same content image moment since armed starved faults holding visit.group acts old states windows old.clock sound few hosted kept
+      (ap (λ (s : StoreParts D). states_of s.entries) is) same
+
+  stored_stand : (r : Result (Option StoreFault) want)
+      → StoresGroup image moment since Failed old.conf old.log.batches visit.group acts was old.states states Same Ends r → Stands
+  stored_stand r h = stands_stored content image moment since armed starved faults holding visit.group acts old states windows old.clock sound few hosted kept r h
 
   stands_settled : (r : Result AckOutcome want) → Settles r → Stands
-  stands_settled (Ok (NotHeld o)) h = stands_same (ap (λ (s : StoreParts D). states_of s.entries) h.1) h.2
+  stands_settled (Ok (NotHeld o)) h = same_stand h.1 h.2
   stands_settled (Ok (Malformed f)) h = absurd h
-  stands_settled (Ok Done) h = (
-    set_hosted (Ok tt) h.0 states.entries h.0.once.written,
-    same_kept old.conf old.log.batches (states_of states.entries) (with_held (held_in holding old.windows) visit.group (held_after acts was)) (held_in holding windows) h.1
-        (set_well (Ok tt) h.0 states.entries h.0.once.written),
-  )
-  stands_settled (Ok (Store fault)) h = stands_same (ap states_of h.0.once.same) h.1
-  stands_settled (Err e) h = stands_same (ap states_of h.0) h.2
+  stands_settled (Ok Done) h = stored_stand (Ok None) h.1
+  stands_settled (Ok (Store fault)) h = stored_stand (Ok (Some fault)) h.1
+  stands_settled (Err e) h = stored_stand (Err e) h
 
   pub stands : (r : Result AckOutcome want) → Acked r → Stands
-  stands r (inl m) = stands_same (ap (λ (s : StoreParts D). states_of s.entries) m.3.0) (same_of m.3.1)
-  stands r (inr (inl n)) = stands_same (ap (λ (s : StoreParts D). states_of s.entries) n.3.0) (same_of n.3.1)
+  stands r (inl m) = same_stand m.3.0 (same_of m.3.1)
+  stands r (inr (inl n)) = same_stand n.3.0 (same_of n.3.1)
   stands r (inr (inr g)) = stands_settled r g.2
 
   -- ---- the step
+
+  abbrev DoesAcks : AckOutcome → PartShardState → PartShardState → Type 0
+  DoesAcks ack s t = Acknowledges old.conf Rises old.states.journal.live.end s visit t ack
 
   abbrev Steps : AckOutcome → PartShardState → Type 0
   Steps ack s = (t : PartShardState) × Carries image holding mid t × StepsAcks old.conf Rises old.states.journal.live.end s visit ack t
@@ -187,109 +144,50 @@ module _ {D W : Type 0} (content : D → Option (List ℕ)) (image : D → List 
   abbrev pub AllSteps : AckOutcome → Type 0
   AllSteps ack = (s : PartShardState) → Carries image holding old s → Steps ack s
 
-  same_carried : (batch : Option Batch) (was_pending pending : Option Entries) → Keeping image holding old batch was_pending → states.entries ≡ old.states.entries
-      → Holds image states pending → IsPendingHosted old.conf old.log.batches (option_map states_of pending) → Same → Carries image holding mid (shard_of image holding old batch pending)
-  same_carried batch was_pending pending k entries holds fine same =
-      carries_with image holding old mid batch was_pending pending (held_in holding old.windows) k refl refl entries holds fine (λ group. sym (same group))
+  -- the clock stays
+  clock_is : (s : PartShardState) → Carries image holding old s → s.clock ≡ old.clock
+  clock_is s c = c.clock
 
-  still : (ack : AckOutcome) → states ≡ old.states → Same
+  unmoved : (ack : AckOutcome) → states ≡ old.states → Same
       → ((batch : Option Batch) (pending : Option Entries) → Acknowledges old.conf Rises old.states.journal.live.end (shard_of image holding old batch pending) visit (shard_of image holding old batch pending) ack)
       → AllSteps ack
-  still ack is same does = carried image holding old (Steps ack) (λ batch pending k. (
-    shard_of image holding old batch pending,
-    same_carried batch pending pending k (ap (λ (s : StoreParts D). s.entries) is) (subst (λ (s : StoreParts D). Holds image s pending) (sym is) k.holds) k.pending_hosted same,
-    record { log = refl; clock = refl; does = does batch pending },
-  ))
+  unmoved ack is same does s c =
+      let st = still content image moment since armed starved faults holding visit.group acts old states windows old.clock sound few hosted kept (DoesAcks ack) is same does s c in
+      (st.then, st.carries, record { log = st.log; clock = st.clock_is ∙ sym (clock_is s c); does = st.does })
 
-  lost_hosted : (done : Result (Unit {0}) CoordFault) (st : Stored done) (lost : Entries) → IsStored old.states.entries key st.change.start st.change.runs.items lost
-      → IsPendingHosted old.conf old.log.batches (option_map states_of (Some lost))
-  lost_hosted done st lost w = set_hosted done st lost w
+  -- the acts are stored, or aren't
+  acts_steps : (ack : AckOutcome) (fault : Option StoreFault) → IsWellFormed visit.acks → AreHeldBy visit.member acts was
+      → ((s t : PartShardState) → AreTheirs s visit → StoresActs old.conf Rises old.states.journal.live.end s visit.group acts t fault → DoesAcks ack s t)
+      → StoresGroup image moment since Failed old.conf old.log.batches visit.group acts was old.states states Same Ends (Ok fault) → AllSteps ack
+  acts_steps ack fault formed theirs does h s c =
+      let st = stored_steps content image moment since armed starved faults holding visit.group acts old states windows old.clock sound few hosted kept fault h s c in
+      let held : AreHeldBy visit.member acts (s.held visit.group) = subst (AreHeldBy visit.member acts) (sym (c.held visit.group)) theirs in
+      (st.then, st.carries, record { log = st.log; clock = st.clock_is ∙ sym (clock_is s c); does = does s st.then (formed, held) st.does })
 
-  settled_steps : (ack : AckOutcome) → IsWellFormed visit.acks → ((offset : ℕ) × IsSome (acts offset)) → Settles (Ok ack) → AllSteps ack
-  settled_steps (NotHeld o) formed named h = still (NotHeld o) h.1 h.2 (λ batch pending. (formed, h.0, record { states = refl; pending = refl; held = refl }))
-  settled_steps (Malformed f) formed named h = absurd h
-  settled_steps Done formed named h = carried image holding old (Steps Done) (λ batch pending k. (
-    record {
-      log = record { batches = old.log.batches; pending = batch };
-      states = states_of states.entries;
-      pending = None;
-      held = with_held (held_in holding old.windows) visit.group (held_after acts was);
-      clock = old.clock;
-    },
-    record {
-      log = k.log;
-      pending = None;
-      holds = h.0.once.kept pending k.holds;
-      states = refl;
-      pending_is = refl;
-      held = λ group. sym (h.1 group);
-      clock = refl;
-      hosted = set_hosted (Ok tt) h.0 states.entries h.0.once.written;
-      pending_hosted = tt;
-    },
-    record {
-      log = refl;
-      clock = refl;
-      does = ((formed, h.0.theirs), inr (named, record { states = are_settled (Ok tt) h.0 states.entries h.0.once.written batch pending; nothing = refl; held = refl }));
-    },
-  ))
-  settled_steps (Store Device) formed named h = carried image holding old (Steps (Store Device)) (λ batch pending k.
-      let rises : Rises = (h.0.once.device refl).0.0 in
-      ⊎_elim
-      (λ holds. (
-        shard_of image holding old batch pending,
-        same_carried batch pending pending k h.0.once.same holds k.pending_hosted h.1,
-        record { log = refl; clock = refl; does = ((formed, h.0.theirs), rises, record { states = refl; held = refl; pending = inl refl }) },
-      ))
-      (λ lost. (
-        shard_of image holding old batch (Some lost.0),
-        same_carried batch pending (Some lost.0) k h.0.once.same lost.2 (lost_hosted (Err (coord_store Device)) h.0 lost.0 lost.1) h.1,
-        record {
-          log = refl;
-          clock = refl;
-          does = ((formed, h.0.theirs), rises, record { states = refl; held = refl; pending = inr (states_of lost.0, refl, are_settled (Err (coord_store Device)) h.0 lost.0 lost.1 batch pending) });
-        },
-      ))
-      (h.0.once.failed pending k.holds))
-  settled_steps (Store (Full at)) formed named h = carried image holding old (Steps (Store (Full at))) (λ batch pending k.
-      let full = h.0.once.full at refl in (
-        shard_of image holding old batch pending,
-        same_carried batch pending pending k h.0.once.same (h.0.once.stays (λ e. let never : ⊥ = cc in never) pending k.holds) k.pending_hosted h.1,
-        record {
-          log = refl;
-          clock = refl;
-          does = (
-            (formed, h.0.theirs),
-            full.0,
-            record { states = refl; pending = refl; held = refl },
-            record {
-              before = old.states.entries;
-              after = full.1.1;
-              frame = full.1.0;
-              is_before = refl;
-              is_after = are_settled (Err (coord_store (Full at))) h.0 full.1.1 full.1.2 batch pending;
-              accepted = full.1.3;
-              past = subst (λ (n : ℕ). 2 ^ 62 < n + (length full.1.0 + 5)) full.0 full.1.4;
-            },
-          );
-        },
-      ))
+  settled_steps : (ack : AckOutcome) → IsWellFormed visit.acks → Settles (Ok ack) → AllSteps ack
+  settled_steps (NotHeld o) formed h = unmoved (NotHeld o) h.1 h.2 (λ batch pending. (formed, h.0, record { states = refl; pending = refl; held = refl }))
+  settled_steps (Malformed f) formed h = absurd h
+  settled_steps Done formed h = acts_steps Done None formed h.0 (λ s t theirs stores. (theirs, stores)) h.1
+  settled_steps (Store fault) formed h = acts_steps (Store fault) (Some fault) formed h.0 (λ s t theirs stores. (theirs, stores)) h.1
+
+  none_stored : (s t : PartShardState) → NameNone acts → IsStill s t → AreTheirs s visit → StoresActs old.conf Rises old.states.journal.live.end s visit.group acts t None
+  none_stored s t none is theirs = inl (none, is)
 
   pub steps : (ack : AckOutcome) → Acked (Ok ack) → AllSteps ack
   steps ack (inl m) = subst AllSteps (sym (ok_same ack (Malformed m.0) m.1))
-      (still (Malformed m.0) m.3.0 (same_of m.3.1) (λ batch pending. (m.2, record { states = refl; pending = refl; held = refl })))
+      (unmoved (Malformed m.0) m.3.0 (same_of m.3.1) (λ batch pending. (m.2, record { states = refl; pending = refl; held = refl })))
   steps ack (inr (inl n)) = subst AllSteps (sym (ok_same ack Done n.2))
-      (still Done n.3.0 (same_of n.3.1) (λ batch pending.
+      (unmoved Done n.3.0 (same_of n.3.1) (λ batch pending.
       ((n.0, λ offset some. absurd (none_some (acts offset) (n.1 offset) some)), inl (n.1, record { states = refl; pending = refl; held = refl }))))
-  steps ack (inr (inr g)) = settled_steps ack g.0 g.1 g.2
+  steps ack (inr (inr g)) = settled_steps ack g.0 g.2
 
   -- where nothing is to be written, the journal ends where it did
-  ends_settled : (ack : AckOutcome) → IsWellFormed visit.acks → ((offset : ℕ) × IsSome (acts offset)) → Settles (Ok ack) → (batch : Option Batch) (pending : Option Entries)
+  ends_settled : (ack : AckOutcome) → IsWellFormed visit.acks → NameOne acts → Settles (Ok ack) → (batch : Option Batch) (pending : Option Entries)
       → (AreToWrite (shard_of image holding old batch pending) visit → ⊥) → states.journal.live.end ≡ old.states.journal.live.end
   ends_settled (NotHeld o) formed named h batch pending nothing = ap (λ (s : StoreParts D). s.journal.live.end) h.1
   ends_settled (Malformed f) formed named h batch pending nothing = absurd h
-  ends_settled Done formed named h batch pending nothing = absurd (nothing ((formed, h.0.theirs), named))
-  ends_settled (Store fault) formed named h batch pending nothing = absurd (nothing ((formed, h.0.theirs), named))
+  ends_settled Done formed named h batch pending nothing = absurd (nothing ((formed, h.0), named))
+  ends_settled (Store fault) formed named h batch pending nothing = absurd (nothing ((formed, h.0), named))
 
   ends : (ack : AckOutcome) → Acked (Ok ack) → (batch : Option Batch) (pending : Option Entries)
       → (AreToWrite (shard_of image holding old batch pending) visit → ⊥) → states.journal.live.end ≡ old.states.journal.live.end
@@ -308,8 +206,8 @@ module _ {D W : Type 0} (content : D → Option (List ℕ)) (image : D → List 
   device_settled (NotHeld o) h is = absurd (let clash : ⊥ = cc in clash)
   device_settled (Malformed f) h is = absurd h
   device_settled Done h is = absurd (let clash : ⊥ = cc in clash)
-  device_settled (Store Device) h is = (h.0.once.device refl).0.1
-  device_settled (Store (Full at)) h is = absurd (let clash : ⊥ = cc in clash)
+  device_settled (Store fault) h is = stored_device content image moment since armed starved faults holding visit.group acts old states windows old.clock sound few hosted kept (Some fault) h.1
+      (ap (λ (f : StoreFault). Some f) (let same : fault ≡ Device = cc in same))
 
   pub device_sound : (ack : AckOutcome) → Acked (Ok ack) → ack ≡ Store Device → Starves
   device_sound ack (inl m) is = absurd (let e : Malformed m.0 ≡ Store Device = sym (ok_same ack (Malformed m.0) m.1) ∙ is in let clash : ⊥ = cc in clash)
@@ -321,7 +219,7 @@ module _ {D W : Type 0} (content : D → Option (List ℕ)) (image : D → List 
   unanswered e (inl m) = absurd (not_ok e (Malformed m.0) m.1)
   unanswered e (inr (inl n)) = absurd (not_ok e Done n.2)
   unanswered e (inr (inr g)) = carried image holding old (λ s. Carries image holding mid s) (λ batch pending k.
-      same_carried batch pending pending k g.2.0 (g.2.1 pending k.holds) k.pending_hosted g.2.2)
+      same_carried content image moment since armed starved faults holding visit.group acts old states windows old.clock sound few hosted kept batch pending pending k g.2.0 (g.2.1 pending k.holds) k.pending_hosted g.2.2)
 
   pub none_acked : (now : ℕ) (r : Result AckOutcome want) (e : want) → r ≡ Err e → Acked r → states.journal.idle ≡ old.states.journal.idle → (result : Result VisitAnswer want) → IsErr result
       → VisitsOnce content image armed starved faults holding now visit old mid result
@@ -351,14 +249,11 @@ module _ {D W : Type 0} (content : D → Option (List ℕ)) (image : D → List 
     rises_first : Rises → Risen
     rises_first h = let later = more.later in omega (arith, h, later)
 
-    rises_then : Rose (faults states.journal.live.disk) (faults new.states.journal.live.disk) → Risen
-    rises_then h = let later = runs.later in omega (arith, h, later)
-
     acks_as : (s t : PartShardState) (a : AckOutcome) → Acknowledges old.conf Rises old.states.journal.live.end s visit t a → Acknowledges old.conf Risen old.states.journal.live.end s visit t a
     acks_as s t (Malformed f) h = h
     acks_as s t (NotHeld o) h = h
     acks_as s t Done h = h
-    acks_as s t (Store Device) h = (h.0, rises_first h.1, h.2)
+    acks_as s t (Store Device) h = (h.0, (h.1.0, rises_first h.1.1, h.1.2))
     acks_as s t (Store (Full at)) h = h
 
     steps_as : (s t : PartShardState) → StepsAcks old.conf Rises old.states.journal.live.end s visit ack t → StepsAcks old.conf Risen old.states.journal.live.end s visit ack t
@@ -379,10 +274,12 @@ module _ {D W : Type 0} (content : D → Option (List ℕ)) (image : D → List 
                 then.1,
                 record {
                   between = first.0;
+                  counted = faults states.journal.live.disk;
                   at = states.journal.live.end;
-                  acks = steps_as s first.0 first.2;
+                  acks = first.2;
+                  counts = (runs.later, more.later);
                   unwritten = unwritten ack acked s c;
-                  does = does_as old.conf (Rose (faults states.journal.live.disk) (faults new.states.journal.live.disk)) Risen rises_then states.journal.live.end first.0 visit ack inner then.0 visit.then then.2.does;
+                  does = does_as old.conf (Rose (faults states.journal.live.disk) (faults new.states.journal.live.disk)) states.journal.live.end first.0 visit ack inner then.0 visit.then then.2.does;
                   clock = then.2.clock ∙ ap (λ (n : ℕ). max n now) first.2.clock;
                   log = then.2.log ∙ first.2.log;
                 },

@@ -1,5 +1,5 @@
 -- Acts, one offset after another.
-use Rattle.std.proofs.Common.{◌≡◌, ◌∙◌, inl, inr, refl, sym, ap, subst, arith, ℕ, ◌+◌, ◌<◌, ◌≤◌, List, [], ◌∷◌, Option, Some, None, Bool, true, false}
+use Rattle.std.proofs.Common.{◌≡◌, ◌∙◌, inl, inr, refl, sym, ap, subst, arith, ℕ, ◌+◌, ◌<◌, ◌≤◌, List, [], ◌∷◌, length, Option, Some, None, Bool, true, false}
 use Rattle.std.proofs.lemmas.Bool.{cases_lt}
 use Rattle.std.proofs.lemmas.Bool.Decides.{nat_tests}
 use Rattle.std.specs.Prelude.{nat_le, nat_lt, ◌&&◌, is_some, IsSome, unwrap_or, if◌then◌else◌}
@@ -14,7 +14,7 @@ use Rattle.ack_ranges.specs.declared.piece.Piece.{Piece}
 use Rattle.ack_ranges.proofs.Looks.{here, beyond, begins_at}
 use Rattle.offset_runs.specs.Changes.{PutsRange, CutsBelow}
 use Rattle.share_model.specs.Held.{Held, hold_at}
-use Rattle.share_model.specs.Runs.{row_at, IsCanonical as AreCanonical}
+use Rattle.share_model.specs.Runs.{row_at, row_of, IsCanonical as AreCanonical}
 use Rattle.share_model.specs.declared.ack.AckBatch.{AckBatch}
 use Rattle.share_model.specs.declared.ack.AckKind.{AckKind}
 use Rattle.share_model.specs.declared.hold.Hold.{Hold}
@@ -22,6 +22,7 @@ use Rattle.share_model.specs.declared.row.Row.{Row}
 use Rattle.share_model.specs.declared.run.Run.{Run}
 use Rattle.share_model.specs.Logs.{Batch}
 use Rattle.window_rows.specs.Windows.{IsNextHeld}
+use Rattle.share_part.specs.Acknowledging.{NameNone, NameOne}
 use Rattle.share_part.specs.Tables.{Table}
 use Rattle.share_part.specs.Settling.{Acts, acted, act_row, settled, IsHeldBy, IsLeastMissing, IsNextStart, IsChange, Settles, release_of, releases_if, releasing, stored_after}
 use Rattle.share_part.specs.Acting.{AreDone, AreDoneTo, AreRows, AreRowsTo, Comes, Ends, IsHeldWith, IsSaid, laid}
@@ -272,6 +273,32 @@ module _ (limit : ℕ) (chosen : Hold → Bool) (held : Held) where
 
   pub none_released : (rows : List Run) → rows ≡ [] → AreRowsTo limit acts held 0 rows
   none_released rows none o = ap (λ (l : List Run). row_at l o) none ∙ sym (upto_beyond limit acts held 0 o (omega arith))
+
+  released_row : (r : Option Hold) → act_row limit (releases_if chosen r) r ≡ None → releases_if chosen r ≡ None
+  released_row None none = refl
+  released_row (Some hold) none = by_row (chosen hold) none
+    where
+      by_row : (b : Bool) → act_row limit (release_of b) (Some hold) ≡ None → release_of b ≡ None
+      by_row true none = absurd (let clash : ⊥ = cc in clash)
+      by_row false none = refl
+
+  -- with no rows, nothing is released
+  pub released_none : (rows : List Run) → length rows ≡ 0 → AreRows limit acts held rows → NameNone acts
+  released_none [] none are o = released_row (hold_at held o) (sym (are o))
+  released_none (run ∷ rows) none are o = absurd (omega (arith, none))
+
+  named_row : (kind : Option AckKind) (hold : Option Hold) (row : Row) → act_row limit kind hold ≡ Some row → IsSome kind
+  named_row None hold row some = absurd (let clash : ⊥ = cc in clash)
+  named_row (Some kind) hold row some = refl
+
+  -- and with rows something is
+  pub released_one : (rows : List Run) → AreCanonical rows → (length rows ≡ 0 → ⊥) → AreRows limit acts held rows → NameOne acts
+  released_one [] canonical not are = absurd (not refl)
+  released_one (run ∷ rows) canonical not are =
+      let from : nat_le run.first run.first ≡ true = grind (arith, nat_tests) in
+      let to : nat_le run.first run.last ≡ true = (let le = canonical.0 in grind (arith, nat_tests)) in
+      let there : row_at (run ∷ rows) run.first ≡ Some (row_of run) = (λ i. if from i && to i then Some (row_of run) else row_at rows run.first) in
+      (run.first, named_row (acts run.first) (hold_at held run.first) (row_of run) (sym (are run.first) ∙ there))
 
 -- ---- what is stored
 

@@ -1,5 +1,5 @@
 -- What a walk takes, slot by slot.
-use Rattle.std.proofs.Common.{◌≡◌, ◌∙◌, refl, sym, ap, subst, arith, ℕ, ◌+◌, ◌-◌, List, [], ◌∷◌, ◌++◌, length, append_assoc, length-append, Option, Some, None, Bool, true, false, nat_le, ◌||◌, if◌then◌else◌}
+use Rattle.std.proofs.Common.{◌≡◌, ◌∙◌, refl, sym, ap, subst, arith, ℕ, ◌+◌, ◌-◌, ◌^◌, ◌<◌, ◌≤◌, List, [], ◌∷◌, ◌++◌, length, append_assoc, length-append, Option, Some, None, Bool, true, false, nat_le, ◌||◌, if◌then◌else◌}
 use Rattle.std.specs.List.{AllByRecursion}
 use Rattle.std.specs.Prelude.{option_to_list}
 use Rattle.share_model.specs.Logs.{Batch, IsAt, IsLog}
@@ -11,7 +11,7 @@ use Rattle.share_part.specs.Walks.{Walk, bytes_in, fits, in_answer, new_batch, w
 use Rattle.share_part.specs.Collecting.{AreAt, Collects, Goes, OpensFirst, IsNewest, grants_of}
 use Rattle.share_part.specs.declared.collector.Collector.{Collector}
 use Rattle.share_part.proofs.Slotting.{batch_is}
-use Rattle.share_part.proofs.Granting.{all_more, all_front, first_run, run_grown, run_more}
+use Rattle.share_part.proofs.Granting.{all_more, all_front, first_run, grown_order, run_grown, run_more}
 
 at_more : (log : List Batch) (numbers : List ℕ) (batches : List Batch) (n : ℕ) (b : Batch) → AreAt log numbers batches → IsAt log n b
     → AreAt log (numbers ++ n ∷ []) (batches ++ b ∷ [])
@@ -78,7 +78,7 @@ module _ (log : List Batch) (c : Collector) (walk : Walk) (slot : ℕ) (place : 
 -- ---- one record more
 
 module _ (log : List Batch) (c d : Collector) (walk : Walk) (slot count : ℕ) (h : Collects log c walk)
-    (small : IsSmallGrant (record { first = slot; last = slot; count = count }))
+    (small : (slot < 2 ^ 62) × (count ≤ 10))
     (records : d.budget.records ≡ c.budget.records - 1) (bytes : d.budget.bytes ≡ c.budget.bytes) (first : d.budget.first ≡ c.budget.first)
     (counted : d.budget.count ≡ c.budget.count + 1) (size : d.budget.size ≡ c.budget.size)
     (newest : d.newest ≡ c.newest) (numbers : d.numbers.items ≡ c.numbers.items) where
@@ -104,7 +104,7 @@ module _ (log : List Batch) (c d : Collector) (walk : Walk) (slot count : ℕ) (
       let was : grants_of c ≡ [] = λ i. empty i ++ option_to_list (none i) in
       let is : grants_of d ≡ record { first = slot; last = slot; count = count } ∷ [] = λ i. (grants ∙ empty) i ++ option_to_list (growing i) in
       by_runs _ growing (subst (AreRunsOf (walk.taken ++ (slot, count) ∷ [])) (sym is) (first_run slot count walk.taken (subst (AreRunsOf walk.taken) was h.taken)))
-      (subst (AllByRecursion IsSmallGrant) (sym is) (small, tt))
+      (subst (AllByRecursion IsSmallGrant) (sym is) ((omega arith, small.0, small.1), tt))
 
   -- the growing one grows
   pub lengthened : (g : Grant) → c.growing ≡ Some g → joins g (record { first = slot; last = slot; count = count }) ≡ true
@@ -117,7 +117,8 @@ module _ (log : List Batch) (c d : Collector) (walk : Walk) (slot count : ℕ) (
       (run_grown c.grants.items g slot count walk.taken (subst (AreRunsOf walk.taken) was h.taken) joined))
       (subst (AllByRecursion IsSmallGrant) (sym is)
       (all_more IsSmallGrant c.grants.items (record { first = g.first; last = slot; count = count })
-      (all_front IsSmallGrant c.grants.items (g ∷ []) (subst (AllByRecursion IsSmallGrant) was h.small)) small))
+      (all_front IsSmallGrant c.grants.items (g ∷ []) (subst (AllByRecursion IsSmallGrant) was h.small))
+      (grown_order c.grants.items g slot count (subst (AreRunsOf walk.taken) was h.taken).apart joined, small.0, small.1)))
 
   -- the growing one is closed
   pub closed : (g : Grant) → c.growing ≡ Some g → joins g (record { first = slot; last = slot; count = count }) ≡ false
@@ -129,4 +130,4 @@ module _ (log : List Batch) (c d : Collector) (walk : Walk) (slot count : ℕ) (
       (run_more c.grants.items g slot count walk.taken (subst (AreRunsOf walk.taken) was h.taken) apart))
       (subst (AllByRecursion IsSmallGrant) (sym is)
       (all_more IsSmallGrant (c.grants.items ++ g ∷ []) (record { first = slot; last = slot; count = count })
-      (subst (AllByRecursion IsSmallGrant) was h.small) small))
+      (subst (AllByRecursion IsSmallGrant) was h.small) (omega arith, small.0, small.1)))

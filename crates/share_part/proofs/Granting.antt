@@ -70,6 +70,13 @@ last_order : (front : List Grant) (g : Grant) → AreApart (front ++ g ∷ []) �
 last_order [] g h = h.0
 last_order (f ∷ front) g h = last_order front g h.2
 
+-- the last grant, one longer, isn't empty either
+pub grown_order : (front : List Grant) (g : Grant) (slot count : ℕ) → AreApart (front ++ g ∷ []) → joins g (record { first = slot; last = slot; count = count }) ≡ true → g.first ≤ slot
+grown_order front g slot count apart joined =
+    let order = last_order front g apart in
+    let is : slot ≡ g.last + 1 = (joins_yes g slot count joined).0 in
+    omega (arith, order, is)
+
 -- ---- one offset more
 
 pub first_run : (slot count : ℕ) (taken : List (ℕ × ℕ)) → AreRunsOf taken [] → AreRunsOf (taken ++ (slot, count) ∷ []) (record { first = slot; last = slot; count = count } ∷ [])

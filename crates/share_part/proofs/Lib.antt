@@ -1,5 +1,6 @@
 -- Slotting: the slots of a log. Granting: the grants of what is taken. Gathering: what a walk takes, slot by slot. Seeing: the states of a store.
--- Visiting: a visit as a step of the shard.
+-- Visiting: what follows acknowledgements as a step of the shard. Storage: acts that are stored. Acked: acknowledgements. Freeing: releases. Ordered,
+-- Expiries, Expired: expiries.
 pub mod Slotting
 pub mod Granting
 pub mod Gathering
@@ -19,10 +20,18 @@ pub mod Visiting
 pub mod Advancing
 pub mod Doing
 pub mod Parting
+pub mod Letting
 pub mod Keeping
 pub mod Sequel
 pub mod Verdicts
 pub mod Writing
 pub mod Settlement
 pub mod Stepping
+pub mod Counting
+pub mod Releases
+pub mod Storage
+pub mod Freeing
+pub mod Ordered
+pub mod Expiries
+pub mod Expired
 pub mod Acked

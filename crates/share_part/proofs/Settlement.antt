@@ -18,22 +18,28 @@ use Rattle.part_log.specs.Logs.{IsStoredLog}
 use Rattle.share_part.specs.Acting.{JudgesGroup}
 use Rattle.share_part.specs.Hosting.{PartConfParts, AreHeldWell, AreHosted, HoldsWell, IsHosted, key_of, states_of}
 use Rattle.share_part.specs.Settling.{Acts, AreHeldBy, IsChange, Judges}
-use Rattle.share_part.specs.Storing.{IsGroupStored, IsStored, StoresOnce, TellsStored, start_number}
+use Rattle.share_part.specs.Storing.{IsActsStored, IsStored, StoresOnce, TellsStored, start_number}
 use Rattle.share_part.specs.Tables.{table_of}
 use Rattle.share_part.specs.declared.settle.Change.{Change}
 use Rattle.share_part.specs.declared.settle.Judged.{Judged}
 use Rattle.share_part.specs.declared.settle.Judged.TheVariants.{NotHeld, Changes}
 use Rattle.share_part.proofs.Writing.{start_bound, granted, not_many}
 
--- the state that acts change
-abbrev HasChange : ℕ → List ℕ → Acts → List Batch → Held → Option ShareState → Change → Type 0
-HasChange limit member acts log held o change = (state : ShareState) × (o ≡ Some state) × AreHeldBy member acts held × IsChange limit acts log (table_of state held) change
+-- the state that acts change, and what is to be stored of it
+abbrev pub HasChange : ℕ → Acts → List Batch → Held → Option ShareState → Change → Type 0
+HasChange limit acts log held o change = (state : ShareState) × (o ≡ Some state) × IsChange limit acts log (table_of state held) change
 
-change_there : (limit : ℕ) (member : List ℕ) (acts : Acts) (log : List Batch) (held : Held) (o : Option ShareState) (j : Judged) (change : Change) → j ≡ Changes change
-    → JudgesGroup limit member acts log held o j → HasChange limit member acts log held o change
+-- acknowledgements of what the member holds
+pub change_there : (limit : ℕ) (member : List ℕ) (acts : Acts) (log : List Batch) (held : Held) (o : Option ShareState) (j : Judged) (change : Change) → j ≡ Changes change
+    → JudgesGroup limit member acts log held o j → HasChange limit acts log held o change
 change_there limit member acts log held None j change is h = absurd (let never : NotHeld h.0 ≡ Changes change = sym h.1 ∙ is in let clash : ⊥ = cc in clash)
 change_there limit member acts log held (Some state) j change is h =
-    let both = subst (Judges limit member acts log (table_of state held)) is h in (state, refl, both.0, both.1)
+    let both = subst (Judges limit member acts log (table_of state held)) is h in (state, refl, both.1)
+
+pub theirs_there : (limit : ℕ) (member : List ℕ) (acts : Acts) (log : List Batch) (held : Held) (o : Option ShareState) (j : Judged) (change : Change) → j ≡ Changes change
+    → JudgesGroup limit member acts log held o j → AreHeldBy member acts held
+theirs_there limit member acts log held None j change is h = absurd (let never : NotHeld h.0 ≡ Changes change = sym h.1 ∙ is in let clash : ⊥ = cc in clash)
+theirs_there limit member acts log held (Some state) j change is h = (subst (Judges limit member acts log (table_of state held)) is h).0
 
 told_done : (done : Result (Unit {0}) CoordFault) → TellsStored done (Ok None) → done ≡ Ok tt
 told_done (Ok u) tells = refl
@@ -55,14 +61,10 @@ told_fault (Err (TooMany n)) fault tells = absurd tells
 told_fault (Err (Store its)) fault tells = let same : its ≡ fault = cc in ap (λ (f : StoreFault). Err (Store f)) same
 told_fault (Err NoMemory) fault tells = absurd (let clash : ⊥ = cc in clash)
 
-module _ {D : Type 0} (conf : PartConfParts) (log : List Batch) (group member : List ℕ) (acts : Acts) (held : Held) (old : StoreParts D)
+module _ {D : Type 0} (conf : PartConfParts) (log : List Batch) (group : List ℕ) (acts : Acts) (held : Held) (old : StoreParts D)
     (sound : IsStoredLog log) (few : conf.limit ≤ 10) (hosted : AreHosted conf log (states_of old.entries))
-    (well : HoldsWell log (share_state_at (states_of old.entries) (key_of conf group)) held)
-    (j : Judged) (change : Change) (is : j ≡ Changes change)
-    (judges : JudgesGroup conf.limit member acts log held (share_state_at (states_of old.entries) (key_of conf group)) j) where
-  found : HasChange conf.limit member acts log held (share_state_at (states_of old.entries) (key_of conf group)) change
-  found = change_there conf.limit member acts log held (share_state_at (states_of old.entries) (key_of conf group)) j change is judges
-
+    (well : HoldsWell log (share_state_at (states_of old.entries) (key_of conf group)) held) (change : Change)
+    (found : HasChange conf.limit acts log held (share_state_at (states_of old.entries) (key_of conf group)) change) where
   was : IsHosted conf log (key_of conf group) found.0
   was = hosted (key_of conf group) found.0 found.1
 
@@ -70,30 +72,29 @@ module _ {D : Type 0} (conf : PartConfParts) (log : List Batch) (group member : 
   holds = subst (λ (o : Option ShareState). HoldsWell log o held) found.1 well
 
   pub start_within : IfSome change.start (λ n. n ≤ 2 ^ 62)
-  start_within = start_bound conf log old.entries group found.0 held acts change sound few was holds found.1 found.3
+  start_within = start_bound conf log old.entries group found.0 held acts change sound few was holds found.1 found.2
 
   module _ (key : KeyParts) (runs : List Run) (key_is : key ≡ key_of conf group) (runs_are : runs ≡ change.runs.items) where
     pub granted_there : write_refusal (kept_at old.entries key) (pos 0) (pos 0) (start_number change.start) runs ≡ None
     granted_there =
         (λ i. write_refusal (kept_at old.entries (key_is i)) (pos 0) (pos 0) (start_number change.start) (runs_are i))
-        ∙ granted conf log old.entries group found.0 held acts change sound few was holds found.1 found.3
+        ∙ granted conf log old.entries group found.0 held acts change sound few was holds found.1 found.2
 
     pub few_there : (count : ℕ) → IsTooMany old.entries key (start_number change.start) runs count → ⊥
-    few_there count many = not_many conf log old.entries group found.0 held acts change sound few was holds found.1 found.3 count
+    few_there count many = not_many conf log old.entries group found.0 held acts change sound few was holds found.1 found.2 count
         (subst (λ (r : List Run). IsTooMany old.entries (key_of conf group) (start_number change.start) r count) runs_are
         (subst (λ (k : KeyParts). IsTooMany old.entries k (start_number change.start) runs count) key_is many))
 
     module _ (image : D → List ℕ → Type 0) (moment : D → ℕ) (since : D → ℕ → List ℕ → Type 0) (Failed : D → D → Type 0) (new : StoreParts D) where
       abbrev Stored : Result (Unit {0}) CoordFault → Type 0
-      Stored done = IsGroupStored image moment since Failed conf log group member acts held old new done
+      Stored done = IsActsStored image moment since Failed conf log group acts held old new done
 
       by_done : (done wanted : Result (Unit {0}) CoordFault) → done ≡ wanted → WritesOnce image moment since Failed (IsStored old.entries key change.start runs) old new done → Stored wanted
       by_done done wanted same once = record {
         state = found.0;
         change = change;
         known = found.1;
-        theirs = found.2;
-        is = found.3;
+        is = found.2;
         once = subst (WritesOnce image moment since Failed (IsStored old.entries (key_of conf group) change.start change.runs.items) old new) same
             (subst (λ (r : List Run). WritesOnce image moment since Failed (IsStored old.entries (key_of conf group) change.start r) old new done) runs_are
             (subst (λ (k : KeyParts). WritesOnce image moment since Failed (IsStored old.entries k change.start runs) old new done) key_is once));

@@ -16,7 +16,7 @@ use Rattle.share_model.specs.ShareStates.{ShareState}
 use Rattle.share_model.specs.declared.fault.StoreFault.{StoreFault}
 use Rattle.share_model.specs.declared.fault.StoreFault.TheVariants.{Device, Full}
 use Rattle.share_model.specs.declared.visit.AckOutcome.TheVariants.{Done as acknowledged}
-use Rattle.share_model.specs.declared.visit.Then.TheVariants.{Nothing, Release, Fetch}
+use Rattle.share_model.specs.declared.visit.Then.TheVariants.{Nothing, Fetch}
 use Rattle.share_model.specs.declared.visit.ThenOutcome.{ThenOutcome}
 use Rattle.share_model.specs.declared.visit.ThenOutcome.TheVariants.{Done, Store as store_outcome}
 use Rattle.share_model.specs.declared.visit.Visit.{Visit}
@@ -36,7 +36,8 @@ use Rattle.share_part.specs.declared.plan.Plan.{Plan}
 use Rattle.share_part.specs.Collecting.{IsPlanOf}
 use Rattle.share_part.specs.Making.{MakesOnce, MakesTableOnce, Tells, numbered_bytes, state_for}
 use Rattle.share_part.specs.Once.{Followed, FollowsOnce}
-use Rattle.share_part.specs.Shards.{PartShardState, PartParts, Carries, StepsThen, Does, Fetches, Acquires, MakesTable, IsEmptyAnswer, IsStill, IsPendingHosted, held_in, with_held, new_state, first_start}
+use Rattle.share_part.specs.Following.{Acquires, Does, Fetches, IsEmptyAnswer, MakesTable, StepsThen}
+use Rattle.share_part.specs.Shards.{PartShardState, PartParts, Carries, IsStill, IsPendingHosted, held_in, with_held, new_state, first_start}
 use Rattle.share_part.specs.Tables.{table_of, with_holds}
 use Rattle.share_part.specs.Walks.{acquired, AreRunsOf, bytes_in, written_out}
 use Rattle.share_part.proofs.Appending.{numbered_is}
@@ -181,7 +182,7 @@ module _ {D W : Type 0} (content : D → Option (List ℕ)) (image : D → List 
   starved_so (Err e) is entries stays held clock = hungry e entries stays held clock
 
   -- nothing is fetched
-  pub idly : (answer : VisitAnswer) → answer.ack ≡ acknowledged → IsEmptyAnswer Done answer → ((visit.then ≡ Nothing) ⊎ (visit.then ≡ Release))
+  pub idly : (answer : VisitAnswer) → answer.ack ≡ acknowledged → IsEmptyAnswer Done answer → visit.then ≡ Nothing
       → new.states ≡ old.states → new.windows ≡ old.windows → new.clock ≡ max old.clock now → Once (Ok answer)
   idly answer ack empty what states windows clock = answered answer
       (carried image holding old (Leads answer) (λ batch pending k.
@@ -196,13 +197,12 @@ module _ {D W : Type 0} (content : D → Option (List ℕ)) (image : D → List 
         carries_with image holding old new batch pending pending (held_in holding old.windows) k conf log (ap (λ (s : StoreParts D). s.entries) states)
             (subst (λ (s : StoreParts D). Holds image s pending) (sym states) k.holds) k.pending_hosted
             (λ group. ap (λ (w : List (List ℕ × W)). held_in holding w group) (sym windows)),
-        record { clock = clock; log = refl; ack = ack; does = by_kind (shard_of image holding old batch pending) t what (record { states = refl; pending = refl; held = refl }) },
+        record { clock = clock; log = refl; ack = ack; does = by_kind (shard_of image holding old batch pending) t (record { states = refl; pending = refl; held = refl }) },
       )))
       (λ is. absurd (let never : Done ≡ store_outcome Device = sym empty.outcome_is ∙ is in let clash : ⊥ = cc in clash))
     where
-      by_kind : (s t : PartShardState) → ((visit.then ≡ Nothing) ⊎ (visit.then ≡ Release)) → IsStill s t → Does old.conf Rises old.states.journal.live.end s visit answer t visit.then
-      by_kind s t (inl is) still = subst (Does old.conf Rises old.states.journal.live.end s visit answer t) (sym is) (empty, still)
-      by_kind s t (inr is) still = subst (Does old.conf Rises old.states.journal.live.end s visit answer t) (sym is) (empty, still)
+      by_kind : (s t : PartShardState) → IsStill s t → Does old.conf Rises old.states.journal.live.end s visit answer t visit.then
+      by_kind s t still = subst (Does old.conf Rises old.states.journal.live.end s visit answer t) (sym what) (empty, still)
 
   module _ (limits : Limits) (is_fetch : visit.then ≡ Fetch limits.records limits.bytes limits.first) where
     does_fetch : (s t : PartShardState) (answer : VisitAnswer) (o : Option ShareState) → share_state_at s.states key ≡ o

@@ -4,13 +4,14 @@
 -- Worked example: a log has one batch from 0 to 2, and `a` holds 0 to 2 with count 1. An accept from 0 to 2^63 - 1 is told that 3 isn't held,
 -- and leaves all. An accept from 0 to 2 stores the start 3 with no rows, and nothing is held any more; where the device fails, all three
 -- are held as before, and the write is pending.
-use Rattle.std.specs.Prelude.{◌≡◌, ◌⊎◌, ◌+◌, ◌<◌, ◌^◌, ℕ, List, length, Some, None, IsSome}
+use Rattle.std.specs.Prelude.{◌≡◌, ◌⊎◌, ◌+◌, ◌<◌, ◌^◌, ℕ, List, length, Option, Some, None, IsSome}
 use Rattle.std.specs.BTreeMap.{insert_entry}
 use Rattle.ack_ranges.specs.Batches.{IsWellFormed, kind_at}
 use Rattle.ack_ranges.specs.Faults.{IsFirstFault}
 use Rattle.share_model.specs.ForeignRules.{ShareStates, share_state_at}
 use Rattle.share_model.specs.Keys.{key_cmp}
 use Rattle.share_model.specs.ShareStates.{ShareState}
+use Rattle.share_model.specs.declared.fault.StoreFault.{StoreFault}
 use Rattle.share_model.specs.declared.fault.StoreFault.TheVariants.{Device, Full}
 use Rattle.share_model.specs.declared.visit.AckOutcome.{AckOutcome}
 use Rattle.share_model.specs.declared.visit.AckOutcome.TheVariants.{Done, Malformed, NotHeld, Store}
@@ -51,19 +52,28 @@ pub record HasNoRoomFor (conf : PartConfParts) (end : ℕ) (old : PartShardState
   pub accepted : Accepts before frame after
   pub past : 2 ^ 62 < end + (length frame + 5)
 
+-- acts that name no offset, and acts that name one
+abbrev pub NameNone : Acts → Type 0
+NameNone acts = (offset : ℕ) → acts offset ≡ None
+
+abbrev pub NameOne : Acts → Type 0
+NameOne acts = (offset : ℕ) × IsSome (acts offset)
+
+-- Acts on a group's table that are stored by one write, by the fault that it met, if it met one; where they name no offset there is no write.
+-- `rose` says that the count of faults of the first state disk rose, `end` is where its journal ends.
+abbrev pub StoresActs : PartConfParts → (rose : Type 0) → (end : ℕ) → PartShardState → (group : List ℕ) → Acts → PartShardState → Option StoreFault → Type 0
+StoresActs conf rose end old group acts new None = (NameNone acts × IsStill old new) ⊎ (NameOne acts × IsActedOn conf old group acts new)
+StoresActs conf rose end old group acts new (Some Device) = NameOne acts × rose × IsNotActedOn conf old group acts new
+StoresActs conf rose end old group acts new (Some (Full at)) = NameOne acts × (at ≡ end) × IsStill old new × HasNoRoomFor conf end old group acts
+
 -- each offset that is named is held by the member
 abbrev pub AreTheirs : PartShardState → Visit → Type 0
 AreTheirs old visit = IsWellFormed visit.acks × AreHeldBy visit.member (kind_at visit.acks) (old.held visit.group)
 
--- The acknowledgements of a visit, by their answer. `rose` says that the count of faults of the first state disk rose, `end` is where its
--- journal ends.
+-- the acknowledgements of a visit, by their answer
 abbrev pub Acknowledges : PartConfParts → (rose : Type 0) → (end : ℕ) → PartShardState → Visit → PartShardState → AckOutcome → Type 0
 Acknowledges conf rose end old visit new (Malformed fault) = IsFirstFault visit.acks fault × IsStill old new
 Acknowledges conf rose end old visit new (NotHeld offset) =
     IsWellFormed visit.acks × IsLeastMissing visit.member (kind_at visit.acks) (old.held visit.group) offset × IsStill old new
-Acknowledges conf rose end old visit new Done = AreTheirs old visit
-    × ((((offset : ℕ) → kind_at visit.acks offset ≡ None) × IsStill old new)
-    ⊎ (((offset : ℕ) × IsSome (kind_at visit.acks offset)) × IsActedOn conf old visit.group (kind_at visit.acks) new))
-Acknowledges conf rose end old visit new (Store Device) = AreTheirs old visit × rose × IsNotActedOn conf old visit.group (kind_at visit.acks) new
-Acknowledges conf rose end old visit new (Store (Full at)) =
-    AreTheirs old visit × (at ≡ end) × IsStill old new × HasNoRoomFor conf end old visit.group (kind_at visit.acks)
+Acknowledges conf rose end old visit new Done = AreTheirs old visit × StoresActs conf rose end old visit.group (kind_at visit.acks) new None
+Acknowledges conf rose end old visit new (Store fault) = AreTheirs old visit × StoresActs conf rose end old visit.group (kind_at visit.acks) new (Some fault)

@@ -8,7 +8,10 @@ pub mod Collecting
 pub mod Hosting
 pub mod Shards
 pub mod Acknowledging
+pub mod Following
 pub mod Visits
+pub mod Expiring
+pub mod Releasing
 pub mod Judging
 pub mod Making
 pub mod Storing

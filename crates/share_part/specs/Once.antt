@@ -1,6 +1,6 @@
 -- What a call on the shard of a partition does, as one record. This project's own.
 -- For example a visit without acknowledgements that finds no memory leaves what the shard and its disks stand for.
-use Rattle.std.specs.Prelude.{◌≡◌, ◌≢◌, ◌⊎◌, ℕ, List, Bool, Option, Some, Result, Err, IfOk, OnErr}
+use Rattle.std.specs.Prelude.{◌≡◌, ◌≢◌, ◌⊎◌, max, ℕ, List, Bool, Option, Some, Result, Ok, Err, IfOk, OnErr}
 use Rattle.edge_io.specs.Armed.{StarvesUnarmed}
 use Rattle.edge_io.specs.Causes.{Rose}
 use Rattle.edge_io.specs.Moments.{LeavesOnly}
@@ -12,11 +12,16 @@ use Rattle.share_model.specs.declared.fault.LogFault.TheVariants.{Store as log_s
 use Rattle.share_model.specs.declared.fault.StoreFault.TheVariants.{Device}
 use Rattle.share_model.specs.declared.visit.AckOutcome.{AckOutcome}
 use Rattle.share_model.specs.declared.visit.AckOutcome.TheVariants.{Store as ack_store}
+use Rattle.share_model.specs.declared.visit.ExpireAnswer.{ExpireAnswer}
+use Rattle.share_model.specs.declared.visit.ExpireAnswer.TheVariants.{Done, Store as expire_store}
 use Rattle.share_model.specs.declared.visit.ThenOutcome.TheVariants.{Store}
 use Rattle.share_model.specs.declared.visit.Visit.{Visit}
 use Rattle.share_model.specs.declared.visit.VisitAnswer.{VisitAnswer}
 use Rattle.part_log.specs.Shards.{IsLogOf, at_end}
-use Rattle.share_part.specs.Shards.{PartShardState, PartParts, Carries, StepsThen, StepsProduce}
+use Rattle.share_part.specs.Acknowledging.{NameNone}
+use Rattle.share_part.specs.Expiring.{ExpiresPart, StepsExpire, ending}
+use Rattle.share_part.specs.Following.{StepsThen}
+use Rattle.share_part.specs.Shards.{PartShardState, PartParts, Carries, StepsProduce, held_in}
 use Rattle.share_part.specs.Visits.{StepsAcks, StepsVisit}
 
 -- a shard that carried a state carries one that what follows the acknowledgements leads to
@@ -43,7 +48,7 @@ pub record FollowsOnce {D W : Type 0} (content : D → Option (List ℕ)) (image
 abbrev pub Visited : {D W : Type 0} → (D → List ℕ → Type 0) → (D → ℕ) → (W → Held) → ℕ → Visit → PartParts D W → PartParts D W → VisitAnswer → Type 0
 Visited image faults holding now visit before after answer = (old : PartShardState) → Carries image holding before old → (new : PartShardState)
     × Carries image holding after new
-    × StepsVisit before.conf (Rose (faults before.states.journal.live.disk) (faults after.states.journal.live.disk)) before.states.journal.live.end old now visit answer new
+    × StepsVisit before.conf (faults before.states.journal.live.disk) (faults after.states.journal.live.disk) before.states.journal.live.end old now visit answer new
 
 -- the acknowledgements were done alone
 abbrev pub AcksStand : {D W : Type 0} → (D → List ℕ → Type 0) → (D → ℕ) → (W → Held) → Visit → PartParts D W → PartParts D W → PartShardState → Type 0
@@ -62,6 +67,40 @@ pub record VisitsOnce {D W : Type 0} (content : D → Option (List ℕ)) (image 
       StarvesUnarmed content armed starved before.states.journal.live.disk after.states.journal.live.disk)
   -- with nothing armed, a device fault comes only where the disk finds no memory
   pub sound : IfOk result (λ answer. answer.then ≡ Store Device →
+      StarvesUnarmed content armed starved before.states.journal.live.disk after.states.journal.live.disk)
+  -- the log, its disk and the second state disk stay
+  pub log : after.log ≡ before.log
+  pub idle : after.states.journal.idle ≡ before.states.journal.idle
+  pub conf : after.conf ≡ before.conf
+
+-- a shard that carried a state carries one that an expiry leads to
+abbrev pub Expired : {D W : Type 0} → (D → List ℕ → Type 0) → (D → ℕ) → (W → Held) → ℕ → PartParts D W → PartParts D W → ExpireAnswer → Type 0
+Expired image faults holding now before after answer = (old : PartShardState) → Carries image holding before old → (new : PartShardState)
+    × Carries image holding after new
+    × StepsExpire before.conf (faults before.states.journal.live.disk) (faults after.states.journal.live.disk) before.states.journal.live.end old now answer new
+
+-- some groups were done alone
+abbrev pub PartStands : {D W : Type 0} → (D → List ℕ → Type 0) → (D → ℕ) → (W → Held) → ℕ → PartParts D W → PartParts D W → PartShardState → Type 0
+PartStands image faults holding now before after old = (new : PartShardState) × Carries image holding after new
+    × ExpiresPart before.conf (faults before.states.journal.live.disk) (faults after.states.journal.live.disk) before.states.journal.live.end old now new
+
+-- nothing that any group holds has ended by a moment
+abbrev pub IsNothingDue : {W : Type 0} → (W → Held) → List (List ℕ × W) → (clock : ℕ) → Type 0
+IsNothingDue holding windows clock = (group : List ℕ) → NameNone (ending clock (held_in holding windows group))
+
+-- An expiry. The members of the disk come first.
+pub record ExpiresOnce {D W : Type 0} (content : D → Option (List ℕ)) (image : D → List ℕ → Type 0) (armed : D → Armed) (starved : D → Bool)
+    (faults : D → ℕ) (holding : W → Held) (now : ℕ) (before after : PartParts D W) (result : Result ExpireAnswer NoMemory) : Type 0 where
+  -- where it answers, a step was made
+  pub steps : IfOk result (Expired image faults holding now before after)
+  -- where it finds no memory, the shard stands for what it stood for, or for what the groups left that were done
+  pub memory : OnErr result ((old : PartShardState) → Carries image holding before old →
+      Carries image holding after old ⊎ PartStands image faults holding now before after old)
+  -- where nothing is due it takes no memory, and raises the clock alone
+  pub quiet : IsNothingDue holding before.windows (max before.clock now) →
+      (result ≡ Ok (Done 0)) × (after ≡ record { conf = before.conf; log = before.log; states = before.states; windows = before.windows; clock = max before.clock now })
+  -- with nothing armed, a device fault comes only where the disk finds no memory
+  pub sound : IfOk result (λ answer. (freed : ℕ) (group : List ℕ) → answer ≡ expire_store freed group Device →
       StarvesUnarmed content armed starved before.states.journal.live.disk after.states.journal.live.disk)
   -- the log, its disk and the second state disk stay
   pub log : after.log ≡ before.log

@@ -1,6 +1,6 @@
 -- What became of the one write that stores acts. Private clauses cite this alone.
 -- For example a write that fails at the device is told by its fault, and leaves the states.
-use Rattle.std.specs.Prelude.{◌≡◌, ◌⊎◌, ℕ, ℤ, pos, negsuc, List, Option, Some, None, Result, Ok, Err, IsErr, IsSome}
+use Rattle.std.specs.Prelude.{◌≡◌, ◌⊎◌, ℕ, ℤ, pos, negsuc, List, Option, Some, None, Result, Ok, Err, IsErr}
 use Rattle.flex_fields.specs.declared.fault.NoMemory.{NoMemory as want}
 use Rattle.share_model.specs.ForeignRules.{share_state_at}
 use Rattle.share_model.specs.Held.{Held}
@@ -13,6 +13,7 @@ use Rattle.share_model.specs.declared.ack.AckBatch.{AckBatch}
 use Rattle.share_model.specs.declared.ack.AckFault.{AckFault}
 use Rattle.share_model.specs.declared.visit.AckOutcome.{AckOutcome}
 use Rattle.share_model.specs.declared.visit.AckOutcome.TheVariants.{Done, Malformed, NotHeld, Store as refused}
+use Rattle.share_part.specs.Acknowledging.{NameNone, NameOne}
 use Rattle.share_part.specs.Hosting.{PartConfParts, key_of, states_of}
 use Rattle.share_part.specs.Settling.{Acts, AreHeldBy, IsChange, IsLeastMissing}
 use Rattle.share_part.specs.Tables.{table_of}
@@ -56,35 +57,45 @@ pub record StoresOnce {D : Type 0} (image : D → List ℕ → Type 0) (moment :
   pub tells : TellsStored done result
   pub once : WritesOnce image moment since Failed Written old new done
 
--- ---- the acknowledgements of a group
+-- ---- acts on the table of a group
 
--- they are of what the member holds, and this came of their write
-pub record IsGroupStored {D : Type 0} (image : D → List ℕ → Type 0) (moment : D → ℕ) (since : D → ℕ → List ℕ → Type 0) (Failed : D → D → Type 0)
-    (conf : PartConfParts) (log : List Batch) (group member : List ℕ) (acts : Acts) (held : Held) (old new : StoreParts D)
-    (done : Result (Unit {0}) CoordFault) : Type 0 where
+-- the group has a table, and this came of the write of what acts change of it
+pub record IsActsStored {D : Type 0} (image : D → List ℕ → Type 0) (moment : D → ℕ) (since : D → ℕ → List ℕ → Type 0) (Failed : D → D → Type 0)
+    (conf : PartConfParts) (log : List Batch) (group : List ℕ) (acts : Acts) (held : Held) (old new : StoreParts D) (done : Result (Unit {0}) CoordFault) : Type 0 where
   pub state : ShareState
   pub change : Change
   pub known : share_state_at (states_of old.entries) (key_of conf group) ≡ Some state
-  pub theirs : AreHeldBy member acts held
   pub is : IsChange conf.limit acts log (table_of state held) change
   pub once : WritesOnce image moment since Failed (IsStored old.entries (key_of conf group) change.start change.runs.items) old new done
 
--- The acknowledgements of a group, by their answer: `was` is what the group held, `same` says that all groups hold what they did, and
+-- Acts on the table of a group, by the fault that is told: `was` is what the group held, `same` says that all groups hold what they did, and
 -- `ends` that the named offsets aren't held any more. The members of the disk come first.
+abbrev pub StoresGroup : {D : Type 0} (image : D → List ℕ → Type 0) (moment : D → ℕ) (since : D → ℕ → List ℕ → Type 0) (Failed : D → D → Type 0)
+    (conf : PartConfParts) (log : List Batch) (group : List ℕ) (acts : Acts) (was : Held) (old new : StoreParts D) (same ends : Type 0) → Result (Option StoreFault) want → Type 0
+StoresGroup image moment since Failed conf log group acts was old new same ends (Ok None) =
+    (NameNone acts × (new ≡ old) × same) ⊎ (NameOne acts × IsActsStored image moment since Failed conf log group acts was old new (Ok tt) × ends)
+StoresGroup image moment since Failed conf log group acts was old new same ends (Ok (Some fault)) =
+    NameOne acts × IsActsStored image moment since Failed conf log group acts was old new (Err (Store fault)) × same
+StoresGroup image moment since Failed conf log group acts was old new same ends (Err e) =
+    (new.entries ≡ old.entries) × ((pending : Option Entries) → Holds image old pending → Holds image new pending) × same
+
+-- ---- the acknowledgements of a group
+
+-- the acknowledgements of a group, by their answer
 abbrev pub SettlesGroup : {D : Type 0} (image : D → List ℕ → Type 0) (moment : D → ℕ) (since : D → ℕ → List ℕ → Type 0) (Failed : D → D → Type 0)
     (conf : PartConfParts) (log : List Batch) (group member : List ℕ) (acts : Acts) (was : Held) (old new : StoreParts D) (same ends : Type 0) → Result AckOutcome want → Type 0
 SettlesGroup image moment since Failed conf log group member acts was old new same ends (Ok (NotHeld offset)) = IsLeastMissing member acts was offset × (new ≡ old) × same
 SettlesGroup image moment since Failed conf log group member acts was old new same ends (Ok (Malformed fault)) = ⊥
 SettlesGroup image moment since Failed conf log group member acts was old new same ends (Ok Done) =
-    IsGroupStored image moment since Failed conf log group member acts was old new (Ok tt) × ends
+    AreHeldBy member acts was × StoresGroup image moment since Failed conf log group acts was old new same ends (Ok None)
 SettlesGroup image moment since Failed conf log group member acts was old new same ends (Ok (refused fault)) =
-    IsGroupStored image moment since Failed conf log group member acts was old new (Err (Store fault)) × same
+    AreHeldBy member acts was × StoresGroup image moment since Failed conf log group acts was old new same ends (Ok (Some fault))
 SettlesGroup image moment since Failed conf log group member acts was old new same ends (Err e) =
-    (new.entries ≡ old.entries) × ((pending : Option Entries) → Holds image old pending → Holds image new pending) × same
+    StoresGroup image moment since Failed conf log group acts was old new same ends (Err e)
 
 -- The acknowledgements of a visit: they aren't well formed, or name no offset, or are done for the group. `still` says that nothing changed,
 -- and `Settles` what is done for the group.
 abbrev pub AcksOnce : List AckBatch → (still : Type 0) → (Result AckOutcome want → Type 0) → Result AckOutcome want → Type 0
 AcksOnce acks still Settles result = ((fault : AckFault) × (result ≡ Ok (Malformed fault)) × IsFirstFault acks fault × still)
-    ⊎ ((IsWellFormed acks × ((offset : ℕ) → kind_at acks offset ≡ None) × (result ≡ Ok Done) × still)
-    ⊎ (IsWellFormed acks × ((offset : ℕ) × IsSome (kind_at acks offset)) × Settles result))
+    ⊎ ((IsWellFormed acks × NameNone (kind_at acks) × (result ≡ Ok Done) × still)
+    ⊎ (IsWellFormed acks × NameOne (kind_at acks) × Settles result))

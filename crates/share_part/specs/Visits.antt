@@ -2,14 +2,16 @@
 -- them (KIP-932; the order of the two is that of Kafka's ShareFetch). This project's own are the pending writes.
 -- Worked example: `a` holds 0 and 1 of a log from 0 to 2. A visit of `a` accepts 0 and fetches one record: a start of 1 is stored, the hold of
 -- 0 ends, and then 2 is acquired.
-use Rattle.std.specs.Prelude.{◌≡◌, max, ℕ, IsSome}
+use Rattle.std.specs.Prelude.{◌≡◌, ◌≤◌, max, ℕ}
 use Rattle.ack_ranges.specs.Batches.{kind_at}
 use Rattle.share_model.specs.declared.visit.AckOutcome.{AckOutcome}
 use Rattle.share_model.specs.declared.visit.Visit.{Visit}
 use Rattle.share_model.specs.declared.visit.VisitAnswer.{VisitAnswer}
-use Rattle.share_part.specs.Acknowledging.{Acknowledges, AreTheirs}
+use Rattle.edge_io.specs.Causes.{Rose}
+use Rattle.share_part.specs.Acknowledging.{Acknowledges, AreTheirs, NameOne}
+use Rattle.share_part.specs.Following.{Does}
 use Rattle.share_part.specs.Hosting.{PartConfParts}
-use Rattle.share_part.specs.Shards.{PartShardState, Does}
+use Rattle.share_part.specs.Shards.{PartShardState}
 
 -- the acknowledgements are done, and the log and the clock are as they were
 pub record StepsAcks (conf : PartConfParts) (rose : Type 0) (end : ℕ) (old : PartShardState) (visit : Visit) (ack : AckOutcome) (new : PartShardState) : Type 0 where
@@ -19,16 +21,19 @@ pub record StepsAcks (conf : PartConfParts) (rose : Type 0) (end : ℕ) (old : P
 
 -- there are acknowledgements to write: they are of what the member holds, and name an offset
 abbrev pub AreToWrite : PartShardState → Visit → Type 0
-AreToWrite old visit = AreTheirs old visit × ((offset : ℕ) × IsSome (kind_at visit.acks offset))
+AreToWrite old visit = AreTheirs old visit × NameOne (kind_at visit.acks)
 
--- A visit at the moment `now`. `rose` says that the count of faults of the first state disk rose, `end` is where its journal ends.
-pub record StepsVisit (conf : PartConfParts) (rose : Type 0) (end : ℕ) (old : PartShardState) (now : ℕ) (visit : Visit) (answer : VisitAnswer)
+-- A visit at the moment `now`. `count` and `later` are the faults of the first state disk before it and behind it, `end` is where its journal ends
+-- before it.
+pub record StepsVisit (conf : PartConfParts) (count later end : ℕ) (old : PartShardState) (now : ℕ) (visit : Visit) (answer : VisitAnswer)
     (new : PartShardState) : Type 0 where
-  -- what the acknowledgements left, and where the journal ended then
+  -- what the acknowledgements left, the faults by then, and where the journal ended then
   pub between : PartShardState
+  pub counted : ℕ
   pub at : ℕ
-  pub acks : StepsAcks conf rose end old visit answer.ack between
+  pub acks : StepsAcks conf (Rose count counted) end old visit answer.ack between
+  pub counts : (count ≤ counted) × (counted ≤ later)
   pub unwritten : (AreToWrite old visit → ⊥) → at ≡ end
-  pub does : Does conf rose at between visit answer new visit.then
+  pub does : Does conf (Rose counted later) at between visit answer new visit.then
   pub clock : new.clock ≡ max old.clock now
   pub log : new.log ≡ old.log

@@ -120,9 +120,9 @@ pub record AreRunsOf (taken : List (ℕ × ℕ)) (grants : List Grant) : Type 0 
   pub offsets : written_out grants ≡ taken
   pub apart : AreApart grants
 
--- the ranges of a grant: its offsets are ones that a log may have, and its records were delivered ten times at most
+-- the ranges of a grant: it isn't empty, its offsets are ones that a log may have, and its records were delivered ten times at most
 abbrev pub IsSmallGrant : Grant → Type 0
-IsSmallGrant g = (g.last < 2 ^ 62) × (g.count ≤ 10)
+IsSmallGrant g = (g.first ≤ g.last) × (g.last < 2 ^ 62) × (g.count ≤ 10)
 
 -- the bytes of batches, one after another
 abbrev pub bytes_in : List Batch → List ℕ

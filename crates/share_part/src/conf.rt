@@ -55,6 +55,14 @@ impl PartConf {
         }
     }
 
+    /// The partition's number: at most 63.
+    pub fn part(&self) -> u32
+        ensures same { result ≡ self.now.part }
+        ensures range { self.now.part < 64 }
+    {
+        self.part
+    }
+
     /// Where a group begins that has not read the partition before.
     pub fn reset(&self) -> Reset
         ensures { result ≡ self.now.reset }

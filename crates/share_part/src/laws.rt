@@ -1,22 +1,24 @@
-ghost use Rattle.std.specs.Prelude.{◌≡◌, ◌≤◌, ℕ, List, Some, length};
+ghost use Rattle.std.specs.Prelude.{◌≡◌, ◌⊎◌, ◌≤◌, ◌<◌, ℕ, List, Some, Bool, true, length};
 ghost use Rattle.std.specs.BTreeMap.{insert_entry};
 ghost use Rattle.std.specs.List.{Contains};
 ghost use Rattle.std.specs.Option.{option_or};
 ghost use Rattle.share_model.specs.ForeignRules.{share_state_at, size_of};
 ghost use Rattle.share_model.specs.Keys.{key_cmp};
-ghost use Rattle.share_model.specs.Held.{Held};
-ghost use Rattle.share_model.specs.Logs.{Batch, IsLog};
+ghost use Rattle.share_model.specs.Held.{Held, hold_at};
+ghost use Rattle.share_model.specs.Logs.{Batch, IsLog, IsSlot};
 ghost use Rattle.share_model.specs.Runs.{IsCanonical, row_at};
 ghost use Rattle.share_model.specs.ShareStates.{ShareState};
 ghost use Rattle.share_model.specs.declared.ack.AckKind.{AckKind};
 ghost use Rattle.share_model.specs.declared.run.Run.{Run};
+ghost use Rattle.share_model.specs.declared.hold.Hold.{Hold};
 ghost use Rattle.share_model.specs.declared.row.Row.{Row};
+ghost use Rattle.share_model.specs.declared.row.RowState.TheVariants.{Available, Archived};
 ghost use Rattle.share_coord.specs.Stored.{Entries};
 ghost use Rattle.share_part.specs.Hosting.{AreHeldWell, IsHosted, PartConfParts, key_of, states_of};
-ghost use Rattle.share_part.specs.Settling.{Acts, AreRisingFrom, Books, IsChange, IsSettled, acted, acts_on, held_after, said_by};
+ghost use Rattle.share_part.specs.Settling.{Acts, AreRisingFrom, Books, IsChange, IsSettled, acted, acts_on, held_after, releasing, said_by};
 ghost use Rattle.share_part.specs.Slots.{slots_from};
 ghost use Rattle.share_part.specs.Storing.{IsStored};
-ghost use Rattle.share_part.specs.Tables.{table_of};
+ghost use Rattle.share_part.specs.Tables.{Table, table_of};
 ghost use Rattle.share_part.specs.declared.settle.Change.{Change};
 
 /// A state that a hosted partition may have stays one once acts on its table are stored, where what is held lies among the first 2000
@@ -48,4 +50,17 @@ pub fn stored_changes_settle_a_table()
         IsChange conf.limit acts log (table_of state held) change → IsStored old (key_of conf group) change.start change.runs.items new →
         (next : ShareState) × IsSettled conf.limit acts log (table_of state held) next
         × (states_of new ≡ insert_entry key_cmp (states_of old) (key_of conf group) next) }
+{}
+
+/// A record that a release gives back keeps the count with which it was held. Below the delivery limit it is available with it; at the limit, and
+/// above, it is archived with it, or lies below the start.
+pub fn releases_keep_counts()
+    ensures below { (limit : ℕ) (chosen : Hold → Bool) (log : List Batch) (table : Table) (next : ShareState) →
+        IsSettled limit (releasing chosen table.held) log table next → (offset : ℕ) (hold : Hold) → hold_at table.held offset ≡ Some hold →
+        chosen hold ≡ true → hold.count < limit → IsSlot log offset → table.start ≤ offset →
+        row_at next.runs offset ≡ Some (record { state = Available; count = hold.count }) }
+    ensures at { (limit : ℕ) (chosen : Hold → Bool) (log : List Batch) (table : Table) (next : ShareState) →
+        IsSettled limit (releasing chosen table.held) log table next → (offset : ℕ) (hold : Hold) → hold_at table.held offset ≡ Some hold →
+        chosen hold ≡ true → limit ≤ hold.count →
+        (offset < size_of next.start) ⊎ (row_at next.runs offset ≡ Some (record { state = Archived; count = hold.count })) }
 {}

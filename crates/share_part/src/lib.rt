@@ -14,6 +14,7 @@ mod laws;
 mod limits;
 mod opening;
 mod plan;
+mod release;
 mod settle;
 mod shard;
 mod storing;
@@ -23,7 +24,8 @@ mod windows;
 pub use conf::PartConf;
 pub use crash::a_crash_leaves_the_shard;
 pub use laws::{
-    acts_in_order_are_acts_at_once, rows_of_slots_have_few_runs, settled_tables_stay_hosted,
+    acts_in_order_are_acts_at_once, releases_keep_counts, rows_of_slots_have_few_runs,
+    settled_tables_stay_hosted,
 };
 pub use limits::Limits;
 pub use opening::{PartFault, PartOpen};

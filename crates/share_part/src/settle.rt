@@ -5,6 +5,7 @@ ghost use Rattle.ack_ranges.specs.Pieces.{IsCanonical as AreCanonical, piece_at}
 ghost use Rattle.part_log.specs.Logs.{IsStoredLog};
 ghost use Rattle.share_model.specs.Held.{Held, hold_at};
 ghost use Rattle.share_part.specs.Acting.{AreDoneTo, AreRows, AreRowsTo, Comes, Ends, IsHeldWith, IsSaid};
+ghost use Rattle.share_part.specs.Releasing.{ReleasesTable};
 ghost use Rattle.share_part.specs.Settling.{Acts, AreBelow, IsChange, IsHeldBy, Judges, is_chosen, releasing, settled};
 
 use crate::advance::advance;
@@ -124,8 +125,8 @@ fn act_on_pieces<W: Window>(
     Ok(None)
 }
 
-// Whether a hold is one that is released.
-fn is_chosen(whose: &Whose, hold: &Hold) -> bool
+/// Whether a hold is one that is released.
+pub fn is_chosen(whose: &Whose, hold: &Hold) -> bool
     ensures { result ≡ is_chosen whose.now hold.now }
 {
     match whose {
@@ -216,7 +217,7 @@ pub fn acknowledge<D: Disk, W: Window>(
     }
 }
 
-/// What is to be stored once records of a table are released. It costs the records that are held.
+/// What is to be stored once records of a table are released. `None` where none is. It walks the records that are held once.
 pub fn release<D: Disk, W: Window>(
     alloc: Global,
     log: &PartLog<D>,
@@ -225,13 +226,16 @@ pub fn release<D: Disk, W: Window>(
     window: &W,
     whose: &Whose,
     limit: u16,
-) -> Result<Change, NoMemory>
+) -> Result<Option<Change>, NoMemory>
     requires sound { IsStoredLog log.now.batches }
     requires below { AreBelow (W.held window.now) }
-    ensures { IfOk result (IsChange limit (releasing (is_chosen whose.now) (W.held window.now)) log.now.batches
+    ensures { IfOk result (ReleasesTable limit (releasing (is_chosen whose.now) (W.held window.now)) log.now.batches
         (record { start = start; rows = stored.now; held = W.held window.now })) }
 {
     let mut rows = Runs::new(alloc);
     release_all(&mut rows, window, whose, limit)?;
-    Ok(change_of(log, start, stored, rows))
+    if rows.list().is_empty() {
+        return Ok(None);
+    }
+    Ok(Some(change_of(log, start, stored, rows)))
 }

@@ -1,4 +1,4 @@
-ghost use Rattle.std.specs.Prelude.{◌≡◌, ◌↔◌, ◌≤◌, ◌^◌, max, true, IfOk, IfErr, MatchResult, slice_get, ◌⊎◌};
+ghost use Rattle.std.specs.Prelude.{◌≡◌, ◌≢◌, ◌↔◌, ◌≤◌, ◌^◌, ℕ, max, true, IfOk, IfErr, MatchResult, slice_get, ◌⊎◌};
 ghost use Rattle.std.specs.List.{AllByRecursion};
 ghost use Rattle.std.specs.Map.{keys_of};
 ghost use Rattle.std.specs.Option.{option_copied, option_map};
@@ -11,9 +11,11 @@ ghost use Rattle.edge_io.specs.Moments.{LeavesOnly};
 ghost use Rattle.gate_journal.specs.Frames.{StandsAs};
 ghost use Rattle.share_part.specs.Opening.{IsOpened, IsNotOpened};
 ghost use Rattle.share_part.specs.Hosting.{key_of, states_of};
-ghost use Rattle.share_part.specs.Shards.{Carries, IsEmptyAnswer, PartShardState};
+ghost use Rattle.share_part.specs.Following.{IsEmptyAnswer};
+ghost use Rattle.share_part.specs.Shards.{Carries, PartShardState};
+ghost use Rattle.share_part.specs.Releasing.{ReleasesOnce};
 ghost use Rattle.share_part.specs.Walks.{IsSmallGrant};
-ghost use Rattle.share_part.specs.Once.{FollowsOnce, VisitsOnce, ProducesOnce};
+ghost use Rattle.share_part.specs.Once.{ExpiresOnce, FollowsOnce, VisitsOnce, ProducesOnce};
 
 use crate::acks::acknowledge_visit;
 use crate::conf::PartConf;
@@ -22,13 +24,15 @@ use crate::judge::are_hosted;
 use crate::limits::Limits;
 use crate::opening::{PartFault, PartOpen, fault_of_log, fault_of_states};
 use crate::plan::Plan;
-use crate::windows::{add_window, hold, set_aside};
+use crate::release::{Released, outcome_of, release_held};
+use crate::settle::Whose;
+use crate::windows::{add_window, due_groups, hold, set_aside};
 use edge_io::{Disk, DiskPlace, FaultMode};
 use flex_fields::Items;
 use part_log::PartLog;
 use share_coord::{Coord, StateView};
 use share_model::{
-    AckOutcome, LogFault, Name, NoMemory, Room, Then, ThenOutcome, Visit, VisitAnswer,
+    AckOutcome, ExpireAnswer, LogFault, Name, NoMemory, Room, Then, ThenOutcome, Visit, VisitAnswer,
 };
 use std::alloc::Global;
 use std::collections::BTreeMap;
@@ -194,6 +198,38 @@ impl<D: Disk, W: Window> PartShard<D, W> {
         })
     }
 
+    // Releases what a group holds, and raises the clock to a moment that isn't before it. After want of memory the clock is as it was.
+    fn release(&mut self, clock: u64, group: &Name, whose: &Whose) -> Result<Released, NoMemory>
+        requires clock { clock ≤ 2 ^ 62 }
+        ensures once { ReleasesOnce D.content D.image D.armed D.starved D.faults W.held clock group.now whose.now self.old self.new result }
+        ensures runs { RunsOn D.content D.losses D.arms D.armed D.starved D.faults self.old.states.journal.live.disk self.new.states.journal.live.disk }
+    {
+        let released = release_held(
+            self.alloc,
+            &self.conf,
+            &self.log,
+            &mut self.states,
+            &mut self.windows,
+            group,
+            whose,
+        )?;
+        self.clock = clock;
+        Ok(released)
+    }
+
+    // Releases all that the member of a visit holds.
+    fn let_go(&mut self, now: u64, visit: &Visit) -> Result<VisitAnswer, NoMemory>
+        requires now { now ≤ 2 ^ 62 }
+        requires release { visit.now.then ≡ Then.Release }
+        ensures once { FollowsOnce D.content D.image D.armed D.starved D.faults W.held now visit.now self.old self.new result }
+        ensures runs { RunsOn D.content D.losses D.arms D.armed D.starved D.faults self.old.states.journal.live.disk self.new.states.journal.live.disk }
+        ensures ranges { IfOk result (λ answer. AllByRecursion IsSmallGrant answer.grants) }
+    {
+        let clock = self.clock.max(now);
+        let released = self.release(clock, &visit.group, &Whose::Member(visit.member))?;
+        Ok(empty(self.alloc, outcome_of(released)))
+    }
+
     // Does what follows the acknowledgements of a visit.
     fn follow(&mut self, now: u64, visit: &Visit) -> Result<VisitAnswer, NoMemory>
         requires now { now ≤ 2 ^ 62 }
@@ -203,7 +239,7 @@ impl<D: Disk, W: Window> PartShard<D, W> {
     {
         match visit.then {
             Then::Nothing => Ok(self.pass(now)),
-            Then::Release => Ok(self.pass(now)),
+            Then::Release => self.let_go(now, visit),
             Then::Fetch {
                 records,
                 bytes,
@@ -257,10 +293,42 @@ impl<D: Disk, W: Window> PartShard<D, W> {
         })
     }
 
+    /// Gives back the records whose acquisition lock has ended. The clock is raised to `now` first, and a lock has ended that ends at the clock
+    /// or before.
+    ///
+    /// It goes over the groups in byte order. All that has ended of a group is released by one write, and counted once that is stored. The
+    /// first write that fails ends it, and the groups from that one on are as they were. Where nothing is due no memory is taken, nothing
+    /// is written and no window is walked. Where it finds no memory, the groups before are done, and no other has changed.
+    pub fn expire(&mut self, now: u64) -> Result<ExpireAnswer, NoMemory>
+        requires { now ≤ 2 ^ 62 }
+        ensures once { ExpiresOnce D.content D.image D.armed D.starved D.faults W.held now self.old self.new result }
+        ensures runs { RunsOn D.content D.losses D.arms D.armed D.starved D.faults self.old.states.journal.live.disk self.new.states.journal.live.disk }
+    {
+        let clock = self.clock.max(now);
+        let due = due_groups(self.alloc, &self.windows, clock)?;
+        let mut freed: u64 = 0;
+        for group in &due {
+            match self.release(clock, group, &Whose::Due(clock))? {
+                Released::Done(count) => freed = freed.saturating_add(count),
+                Released::Store(fault) => {
+                    return Ok(ExpireAnswer::Store {
+                        freed,
+                        group: *group,
+                        fault,
+                    });
+                }
+            }
+        }
+        self.clock = clock;
+        Ok(ExpireAnswer::Done { freed })
+    }
+
     /// Adds a batch as a producer sends it, as `PartLog::append` does. The shard's clock is raised to `now`.
     pub fn produce(&mut self, now: u64, batch: &[u8]) -> Result<u64, LogFault>
         requires { now ≤ 2 ^ 62 }
         ensures once { ProducesOnce D.content D.image D.moment D.since D.armed D.starved D.faults W.held now batch.now self.old self.new result }
+        ensures below { IfOk result (λ base. base ≤ 2 ^ 62) }
+        ensures behind { (end : ℕ) → result ≢ Err (LogFault.Behind end) }
         ensures runs { RunsOn D.content D.losses D.arms D.armed D.starved D.faults self.old.log.journal.disk self.new.log.journal.disk }
     {
         let result = self.log.append(batch);
@@ -317,6 +385,7 @@ impl<D: Disk, W: Window> PartShard<D, W> {
             ArmsAlone D.content D.image D.losses D.arms D.armed D.starved D.faults after mode self.old.states.journal.idle self.new.states.journal.idle
             × (self.new.states.journal.live ≡ self.old.states.journal.live) × (self.new.log ≡ self.old.log) }
         ensures conf { self.new.conf ≡ self.old.conf }
+        ensures ends { (self.new.log.journal.end ≡ self.old.log.journal.end) × (self.new.states.journal.live.end ≡ self.old.states.journal.live.end) }
         ensures stays { (shard : PartShardState) → Carries D.image W.held self.old shard → Carries D.image W.held self.new shard }
     {
         match disk {

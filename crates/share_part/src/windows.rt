@@ -1,13 +1,17 @@
 // The windows of the groups of a partition.
-ghost use Rattle.std.specs.Prelude.{◌≡◌, ◌≤◌, ◌<◌, ◌+◌, ◌-◌, ◌^◌, ℕ, List, [], OnOk, IsSome, IfSome, IfOk, length, if◌then◌else◌};
+ghost use Rattle.std.specs.Prelude.{◌≡◌, ◌≤◌, ◌<◌, ◌+◌, ◌-◌, ◌^◌, ℕ, List, [], OnOk, OnErr, IsSome, IfSome, IfOk, length, if◌then◌else◌};
 ghost use Rattle.std.specs.BTreeMap.{is_at};
 ghost use Rattle.std.specs.Cmp.Lexicographic.{slice_cmp};
 ghost use Rattle.std.specs.List.{AllByRecursion};
-ghost use Rattle.std.specs.Map.{lookup};
+ghost use Rattle.std.specs.List.Sorted.{IsStrictlySortedBy};
+ghost use Rattle.std.specs.Map.{keys_of, lookup};
 ghost use Rattle.std.specs.Ordering.{nat_cmp};
+ghost use Rattle.share_part.specs.Once.{IsNothingDue};
+ghost use Rattle.share_part.specs.Releasing.{due_groups, has_due};
 ghost use Rattle.share_part.specs.Shards.{held_in, with_held};
 ghost use Rattle.share_part.specs.Tables.{with_holds};
 ghost use Rattle.share_part.specs.Walks.{AreApart, IsSmallGrant, offsets_with, written_out};
+ghost use Rattle.window_rows.specs.Windows.{IsRising};
 
 use share_model::{Grant, Hold, Name, NoMemory};
 use std::alloc::Global;
@@ -99,4 +103,34 @@ pub fn hold<W: Window>(
         Some(window) => hold_all(window, member, end, grants),
         None => unreachable!(),
     }
+}
+
+// Whether a lock of a window has ended.
+fn is_due<W: Window>(window: &W, clock: u64) -> bool
+    ensures due { result ≡ has_due clock (W.held window.now) }
+    ensures rising { IsRising (W.held window.now) }
+{
+    window.known();
+    window.due(clock).is_some()
+}
+
+/// The groups that hold something by a lock that has ended, in byte order. Where there are none, no memory is taken, and no window is
+/// walked.
+pub fn due_groups<W: Window>(
+    alloc: Global,
+    windows: &BTreeMap<Name, W>,
+    clock: u64,
+) -> Result<Vec<Name>, NoMemory>
+    ensures due { IfOk result (λ due. due.items ≡ due_groups W.held clock windows.now.entries) }
+    ensures some { OnErr result (IsNothingDue W.held windows.now.entries clock → ⊥) }
+    ensures rising { OnOk result (AllByRecursion (λ entry. IsRising (W.held entry.1)) windows.now.entries) }
+    ensures ordered { IsStrictlySortedBy (slice_cmp nat_cmp) (keys_of windows.now.entries) }
+{
+    let mut due = Vec::new(alloc);
+    for (group, window) in windows.iter() {
+        if is_due(window, clock) {
+            due.push(*group)?;
+        }
+    }
+    Ok(due)
 }

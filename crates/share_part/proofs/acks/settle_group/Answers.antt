@@ -1,37 +1,59 @@
-use Rattle.std.proofs.Common.{refl, subst, List, ◌≡◌, ℕ}
+use Rattle.std.proofs.Common.{inr, refl, subst, List, ◌≡◌, ℕ}
 use Rattle.ack_ranges.specs.Batches.{kind_at}
 use Rattle.coord_checkpoint.specs.Disks.{HasFailed}
+use Rattle.share_model.specs.ForeignRules.{share_state_at}
 use Rattle.share_model.specs.declared.ack.AckBatch.{AckBatch}
+use Rattle.share_part.specs.Hosting.{key_of, states_of}
 use Rattle.share_part.specs.Settling.{held_after}
 use Rattle.share_part.specs.Shards.{held_in, with_held}
-use Rattle.share_part.proofs.Settlement.{all_stored, few_there, granted_there, none_stored, start_within}
+use Rattle.share_part.proofs.Settlement.{all_stored, change_there, few_there, granted_there, none_stored, start_within, theirs_there}
 use Rattle.share_part.proofs.acks.settle_group.Goals as goal
 
 pub store_change-requires-clause-start : goal.store_change-requires-clause-start
-store_change-requires-clause-start g c = start_within c.args.conf.now c.args.log.now.batches c.args.visit.now.group c.args.visit.now.member (kind_at c.args.visit.now.acks) (held_in g.W.Window.held c.args.windows.now.entries c.args.visit.now.group) c.args.states.now
-    c.requires.sound c.requires.limit.few c.requires.hosted c.requires.well c.in_ok-judged.judged c.in-Changes.change c.in-Changes.is c.in_ok-judged.ensures
+store_change-requires-clause-start g c = start_within c.args.conf.now c.args.log.now.batches c.args.visit.now.group (kind_at c.args.visit.now.acks) (held_in g.W.Window.held c.args.windows.now.entries c.args.visit.now.group) c.args.states.now
+    c.requires.sound c.requires.limit.few c.requires.hosted c.requires.well c.in-Changes.change
+    (change_there c.args.conf.now.limit c.args.visit.now.member (kind_at c.args.visit.now.acks) c.args.log.now.batches (held_in g.W.Window.held c.args.windows.now.entries c.args.visit.now.group)
+    (share_state_at (states_of c.args.states.now.entries) (key_of c.args.conf.now c.args.visit.now.group)) c.in_ok-judged.judged c.in-Changes.change c.in-Changes.is c.in_ok-judged.ensures)
 
 pub store_change-requires-clause-granted : goal.store_change-requires-clause-granted
-store_change-requires-clause-granted g c = granted_there c.args.conf.now c.args.log.now.batches c.args.visit.now.group c.args.visit.now.member (kind_at c.args.visit.now.acks) (held_in g.W.Window.held c.args.windows.now.entries c.args.visit.now.group) c.args.states.now
-    c.requires.sound c.requires.limit.few c.requires.hosted c.requires.well c.in_ok-judged.judged c.in-Changes.change c.in-Changes.is c.in_ok-judged.ensures c.key-key.result c.deref.result.now c.key-key.ensures c.deref.ensures.value
+store_change-requires-clause-granted g c = granted_there c.args.conf.now c.args.log.now.batches c.args.visit.now.group (kind_at c.args.visit.now.acks) (held_in g.W.Window.held c.args.windows.now.entries c.args.visit.now.group) c.args.states.now
+    c.requires.sound c.requires.limit.few c.requires.hosted c.requires.well c.in-Changes.change
+    (change_there c.args.conf.now.limit c.args.visit.now.member (kind_at c.args.visit.now.acks) c.args.log.now.batches (held_in g.W.Window.held c.args.windows.now.entries c.args.visit.now.group)
+    (share_state_at (states_of c.args.states.now.entries) (key_of c.args.conf.now c.args.visit.now.group)) c.in_ok-judged.judged c.in-Changes.change c.in-Changes.is c.in_ok-judged.ensures) c.key-key.result c.deref.result.now c.key-key.ensures c.deref.ensures.value
 
 pub store_change-requires-clause-few : goal.store_change-requires-clause-few
-store_change-requires-clause-few g c = few_there c.args.conf.now c.args.log.now.batches c.args.visit.now.group c.args.visit.now.member (kind_at c.args.visit.now.acks) (held_in g.W.Window.held c.args.windows.now.entries c.args.visit.now.group) c.args.states.now
-    c.requires.sound c.requires.limit.few c.requires.hosted c.requires.well c.in_ok-judged.judged c.in-Changes.change c.in-Changes.is c.in_ok-judged.ensures c.key-key.result c.deref.result.now c.key-key.ensures c.deref.ensures.value
+store_change-requires-clause-few g c = few_there c.args.conf.now c.args.log.now.batches c.args.visit.now.group (kind_at c.args.visit.now.acks) (held_in g.W.Window.held c.args.windows.now.entries c.args.visit.now.group) c.args.states.now
+    c.requires.sound c.requires.limit.few c.requires.hosted c.requires.well c.in-Changes.change
+    (change_there c.args.conf.now.limit c.args.visit.now.member (kind_at c.args.visit.now.acks) c.args.log.now.batches (held_in g.W.Window.held c.args.windows.now.entries c.args.visit.now.group)
+    (share_state_at (states_of c.args.states.now.entries) (key_of c.args.conf.now c.args.visit.now.group)) c.in_ok-judged.judged c.in-Changes.change c.in-Changes.is c.in_ok-judged.ensures) c.key-key.result c.deref.result.now c.key-key.ensures c.deref.ensures.value
 
 pub returns-in-Some-clause-settles : goal.returns-in-Some-clause-settles
 returns-in-Some-clause-settles g c = (
-  none_stored c.args.conf.now c.args.log.now.batches c.args.visit.now.group c.args.visit.now.member (kind_at c.args.visit.now.acks) (held_in g.W.Window.held c.args.windows.now.entries c.args.visit.now.group) c.args.states.now
-      c.requires.sound c.requires.limit.few c.requires.hosted c.requires.well c.in_ok-judged.judged c.in-Changes.change c.in-Changes.is c.in_ok-judged.ensures c.key-key.result c.deref.result.now c.key-key.ensures c.deref.ensures.value
-      g.D.Disk.image g.D.Disk.moment g.D.Disk.since (HasFailed g.D.Disk.content g.D.Disk.armed g.D.Disk.starved g.D.Disk.faults) c.store_change.new.states c.in_ok-fault.fault c.in-Some.fault c.in-Some.is c.in_ok-fault.ensures.once,
-  λ other. refl,
+  (theirs_there c.args.conf.now.limit c.args.visit.now.member (kind_at c.args.visit.now.acks) c.args.log.now.batches (held_in g.W.Window.held c.args.windows.now.entries c.args.visit.now.group)
+      (share_state_at (states_of c.args.states.now.entries) (key_of c.args.conf.now c.args.visit.now.group)) c.in_ok-judged.judged c.in-Changes.change c.in-Changes.is c.in_ok-judged.ensures),
+  (
+    (c.args.first, c.requires.first.named),
+    none_stored c.args.conf.now c.args.log.now.batches c.args.visit.now.group (kind_at c.args.visit.now.acks) (held_in g.W.Window.held c.args.windows.now.entries c.args.visit.now.group) c.args.states.now
+        c.requires.sound c.requires.limit.few c.requires.hosted c.requires.well c.in-Changes.change
+        (change_there c.args.conf.now.limit c.args.visit.now.member (kind_at c.args.visit.now.acks) c.args.log.now.batches (held_in g.W.Window.held c.args.windows.now.entries c.args.visit.now.group)
+        (share_state_at (states_of c.args.states.now.entries) (key_of c.args.conf.now c.args.visit.now.group)) c.in_ok-judged.judged c.in-Changes.change c.in-Changes.is c.in_ok-judged.ensures) c.key-key.result c.deref.result.now c.key-key.ensures c.deref.ensures.value
+        g.D.Disk.image g.D.Disk.moment g.D.Disk.since (HasFailed g.D.Disk.content g.D.Disk.armed g.D.Disk.starved g.D.Disk.faults) c.store_change.new.states c.in_ok-fault.fault c.in-Some.fault c.in-Some.is c.in_ok-fault.ensures.once,
+    λ other. refl,
+  ),
 )
 
 pub returns-clause-settles : goal.returns-clause-settles
 returns-clause-settles g c = (
-  all_stored c.args.conf.now c.args.log.now.batches c.args.visit.now.group c.args.visit.now.member (kind_at c.args.visit.now.acks) (held_in g.W.Window.held c.args.windows.now.entries c.args.visit.now.group) c.args.states.now
-      c.requires.sound c.requires.limit.few c.requires.hosted c.requires.well c.in_ok-judged.judged c.in-Changes.change c.in-Changes.is c.in_ok-judged.ensures c.key-key.result c.deref.result.now c.key-key.ensures c.deref.ensures.value
-      g.D.Disk.image g.D.Disk.moment g.D.Disk.since (HasFailed g.D.Disk.content g.D.Disk.armed g.D.Disk.starved g.D.Disk.faults) c.store_change.new.states c.in_ok-fault.fault c.in_default.is c.in_ok-fault.ensures.once,
-  subst (λ (l : List AckBatch). (other : List ℕ) → held_in g.W.Window.held c.end_acknowledged.new.windows.entries other ≡ with_held (held_in g.W.Window.held c.args.windows.now.entries) c.args.visit.now.group
-      (held_after (kind_at l) (held_in g.W.Window.held c.args.windows.now.entries c.args.visit.now.group)) other) c.as_slice.ensures.items c.end_acknowledged.ensures,
+  (theirs_there c.args.conf.now.limit c.args.visit.now.member (kind_at c.args.visit.now.acks) c.args.log.now.batches (held_in g.W.Window.held c.args.windows.now.entries c.args.visit.now.group)
+      (share_state_at (states_of c.args.states.now.entries) (key_of c.args.conf.now c.args.visit.now.group)) c.in_ok-judged.judged c.in-Changes.change c.in-Changes.is c.in_ok-judged.ensures),
+  inr (
+    (c.args.first, c.requires.first.named),
+    all_stored c.args.conf.now c.args.log.now.batches c.args.visit.now.group (kind_at c.args.visit.now.acks) (held_in g.W.Window.held c.args.windows.now.entries c.args.visit.now.group) c.args.states.now
+        c.requires.sound c.requires.limit.few c.requires.hosted c.requires.well c.in-Changes.change
+        (change_there c.args.conf.now.limit c.args.visit.now.member (kind_at c.args.visit.now.acks) c.args.log.now.batches (held_in g.W.Window.held c.args.windows.now.entries c.args.visit.now.group)
+        (share_state_at (states_of c.args.states.now.entries) (key_of c.args.conf.now c.args.visit.now.group)) c.in_ok-judged.judged c.in-Changes.change c.in-Changes.is c.in_ok-judged.ensures) c.key-key.result c.deref.result.now c.key-key.ensures c.deref.ensures.value
+        g.D.Disk.image g.D.Disk.moment g.D.Disk.since (HasFailed g.D.Disk.content g.D.Disk.armed g.D.Disk.starved g.D.Disk.faults) c.store_change.new.states c.in_ok-fault.fault c.in_default.is c.in_ok-fault.ensures.once,
+    subst (λ (l : List AckBatch). (other : List ℕ) → held_in g.W.Window.held c.end_acknowledged.new.windows.entries other ≡ with_held (held_in g.W.Window.held c.args.windows.now.entries) c.args.visit.now.group
+        (held_after (kind_at l) (held_in g.W.Window.held c.args.windows.now.entries c.args.visit.now.group)) other) c.as_slice.ensures.items c.end_acknowledged.ensures,
+  ),
 )

@@ -1,3 +1,4 @@
+use Rattle.edge_io.proofs.Runs.{runs_then}
 use Rattle.share_part.proofs.Acked.{none_acked, stands, unfollowed, visited}
 use Rattle.share_part.proofs.shard.PartShard.visit.Goals as goal
 
@@ -34,3 +35,7 @@ returns-clause-once g c = rw (← c.self.view_is) (visited g.D.Disk.content g.D.
     c.acknowledge_visit.new.states c.acknowledge_visit.new.windows.entries c.self.invariant.log_is c.acknowledge_visit.ensures.range.few c.self.invariant.hosted c.self.invariant.holds g.D.Disk.losses g.D.Disk.arms c.args.now c.follow.new.self c.acknowledge_visit.result c.in_ok-ack.ack c.in_ok-ack.was
     c.acknowledge_visit.ensures.once c.acknowledge_visit.ensures.idle c.acknowledge_visit.ensures.runs c.follow.ensures.runs
     _ c.follow.result c.in_ok-then.was c.follow.ensures.once)
+
+pub returns-clause-runs : goal.returns-clause-runs
+returns-clause-runs g c = rw (← c.self.view_is) (runs_then g.D.Disk.content g.D.Disk.losses g.D.Disk.arms g.D.Disk.armed g.D.Disk.starved g.D.Disk.faults
+    c.self.inside.states.journal.live.disk c.acknowledge_visit.new.states.journal.live.disk c.follow.new.self.states.journal.live.disk c.acknowledge_visit.ensures.runs c.follow.ensures.runs)

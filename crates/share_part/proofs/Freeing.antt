@@ -1,0 +1,150 @@
+-- The releases of a group as a step of the shard.
+use Rattle.std.proofs.Common.{◌≡◌, ◌∙◌, refl, sym, ap, subst, ℕ, max, ◌≤◌, List, Option, Some, Bool}
+use Rattle.std.specs.Prelude.{Result, Ok, Err, IsErr}
+use Rattle.edge_io.specs.Causes.{Rose}
+use Rattle.edge_io.specs.declared.fault.Armed.{Armed}
+use Rattle.flex_fields.specs.declared.fault.NoMemory.{NoMemory as want}
+use Rattle.part_log.specs.Logs.{IsStoredLog}
+use Rattle.share_coord.specs.Parts.{StoreParts}
+use Rattle.share_model.specs.Held.{Held}
+use Rattle.share_model.specs.declared.fault.StoreFault.{StoreFault}
+use Rattle.share_model.specs.declared.fault.StoreFault.TheVariants.{Device}
+use Rattle.share_model.specs.declared.visit.AckOutcome.TheVariants.{Done as acknowledged}
+use Rattle.share_model.specs.declared.visit.Then.TheVariants.{Release}
+use Rattle.share_model.specs.declared.visit.ThenOutcome.{ThenOutcome}
+use Rattle.share_model.specs.declared.visit.Visit.{Visit}
+use Rattle.share_model.specs.declared.visit.VisitAnswer.{VisitAnswer}
+use Rattle.share_part.specs.Acknowledging.{StoresActs}
+use Rattle.share_part.specs.Following.{Does, IsEmptyAnswer, fault_of, releases_of}
+use Rattle.share_part.specs.Hosting.{AreHosted, states_of}
+use Rattle.share_part.specs.Once.{FollowsOnce}
+use Rattle.share_part.specs.Releasing.{Counts, ReleasesOnce, fault_in, told_in}
+use Rattle.share_part.specs.Settling.{Acts, is_chosen, releasing}
+use Rattle.share_part.specs.Shards.{PartParts, PartShardState, Carries, held_in}
+use Rattle.share_part.specs.declared.release.Released.{Released}
+use Rattle.share_part.specs.declared.release.Released.TheVariants.{Done, Store}
+use Rattle.share_part.specs.declared.settle.Whose.{Whose}
+use Rattle.share_part.specs.declared.settle.Whose.TheVariants.{Member}
+use Rattle.share_part.proofs.Holding.{AreKept}
+use Rattle.share_part.proofs.Storage.{Stores, same_carried, stands_stored, stored_device, stored_none, stored_steps}
+use Rattle.share_part.proofs.Visiting.{carried}
+
+is_store : (r : Released) (fault : StoreFault) → fault_in r ≡ Some fault → r ≡ Store fault
+is_store (Done count) fault e = absurd (let clash : ⊥ = cc in clash)
+is_store (Store its) fault e = ap (λ (f : StoreFault). Store f) (let same : its ≡ fault = cc in same)
+
+module _ {D W : Type 0} (content : D → Option (List ℕ)) (image : D → List ℕ → Type 0) (moment : D → ℕ) (since : D → ℕ → List ℕ → Type 0)
+    (armed : D → Armed) (starved : D → Bool) (faults : D → ℕ) (holding : W → Held) (group : List ℕ) (whose : Whose) (old : PartParts D W) (states : StoreParts D)
+    (windows : List (List ℕ × W)) (sound : IsStoredLog old.log.batches) (few : old.conf.limit ≤ 10)
+    (hosted : AreHosted old.conf old.log.batches (states_of old.states.entries))
+    (kept : AreKept old.conf old.log.batches (states_of old.states.entries) (held_in holding old.windows)) where
+  abbrev was : Held
+  was = held_in holding old.windows group
+
+  abbrev acts : Acts
+  acts = releasing (is_chosen whose) was
+
+  -- the shard behind the releases
+  abbrev pub then : ℕ → PartParts D W
+  then clock = record { conf = old.conf; log = old.log; states = states; windows = windows; clock = clock }
+
+  abbrev pub Told : Result Released want → Type 0
+  Told r = Stores content image moment since armed starved faults holding group acts old states windows old.clock sound few hosted kept (told_in r)
+
+  pub released_stand : (r : Result Released want) → Told r
+      → AreHosted old.conf old.log.batches (states_of states.entries) × AreKept old.conf old.log.batches (states_of states.entries) (held_in holding windows)
+  released_stand r h = stands_stored content image moment since armed starved faults holding group acts old states windows old.clock sound few hosted kept (told_in r) h
+
+  module _ (idle : states.journal.idle ≡ old.states.journal.idle) where
+    abbrev Rises : Type 0
+    Rises = Rose (faults old.states.journal.live.disk) (faults states.journal.live.disk)
+
+    pub released : (clock : ℕ) (result : Result Released want) (r : Released) → result ≡ Ok r → Told result → Counts whose was r
+        → ReleasesOnce content image armed starved faults holding clock group whose old (then clock) (Ok r)
+    released clock result r is told counts =
+        let h = subst Told is told in
+        record {
+          steps = λ s c.
+              let st = stored_steps content image moment since armed starved faults holding group acts old states windows clock sound few hosted kept (fault_in r) h s c in (
+                st.then,
+                st.carries,
+                record {
+                  log = st.log;
+                  clock_is = st.clock_is;
+                  stores = subst (λ (h : Held). StoresActs old.conf Rises old.states.journal.live.end s group (releasing (is_chosen whose) h) st.then (fault_in r)) (sym (c.held group)) st.does;
+                  counts = subst (λ (h : Held). Counts whose h r) (sym (c.held group)) counts;
+                },
+              );
+          unwritten = λ none. stored_none content image moment since armed starved faults holding group acts old states windows clock sound few hosted kept (fault_in r) h none;
+          memory = tt;
+          sound = λ fault. stored_device content image moment since armed starved faults holding group acts old states windows clock sound few hosted kept (fault_in r) h (ap fault_in fault);
+          log = refl;
+          idle = idle;
+          conf = refl;
+        }
+
+    pub unreleased : (clock : ℕ) (result : Result Released want) (e : want) → result ≡ Err e → Told result → (answer : Result Released want) → IsErr answer
+        → ReleasesOnce content image armed starved faults holding clock group whose old (then old.clock) answer
+    unreleased clock result e is told (Ok r) none = absurd (let clash : ⊥ = cc in clash)
+    unreleased clock result e is told (Err f) none =
+        let h = subst Told is told in
+        record {
+          steps = tt;
+          unwritten = tt;
+          memory = carried image holding old (λ s. Carries image holding (then old.clock) s) (λ batch pending k.
+              same_carried content image moment since armed starved faults holding group acts old states windows old.clock sound few hosted kept batch pending pending k h.0 (h.1 pending k.holds) k.pending_hosted h.2);
+          sound = tt;
+          log = refl;
+          idle = idle;
+          conf = refl;
+        }
+
+-- ---- as what follows acknowledgements
+
+module _ {D W : Type 0} (content : D → Option (List ℕ)) (image : D → List ℕ → Type 0) (armed : D → Armed) (starved : D → Bool) (faults : D → ℕ) (holding : W → Held)
+    (now clock : ℕ) (visit : Visit) (old new : PartParts D W) (is : visit.then ≡ Release) where
+  abbrev Rising : Type 0
+  Rising = Rose (faults old.states.journal.live.disk) (faults new.states.journal.live.disk)
+
+  abbrev Once : Result Released want → Type 0
+  Once result = ReleasesOnce content image armed starved faults holding clock visit.group (Member visit.member) old new result
+
+  told_as : (s t : PartShardState) (answer : VisitAnswer) (outcome : ThenOutcome) (r : Released) → IsEmptyAnswer outcome answer → fault_of outcome ≡ fault_in r
+      → StoresActs old.conf Rising old.states.journal.live.end s visit.group (releases_of visit.member (s.held visit.group)) t (fault_in r)
+      → Does old.conf Rising old.states.journal.live.end s visit answer t Release
+  told_as s t answer outcome r empty same stores = (
+    record { outcome_is = refl; grants = empty.grants; batches = empty.batches },
+    subst (λ (f : Option StoreFault). StoresActs old.conf Rising old.states.journal.live.end s visit.group (releases_of visit.member (s.held visit.group)) t f)
+        (sym (ap fault_of empty.outcome_is ∙ same)) stores,
+  )
+
+  pub let_go : (result : Result Released want) (r : Released) → result ≡ Ok r → clock ≡ max old.clock now → Once result → (answer : VisitAnswer) (outcome : ThenOutcome)
+      → answer.ack ≡ acknowledged → IsEmptyAnswer outcome answer → fault_of outcome ≡ fault_in r
+      → FollowsOnce content image armed starved faults holding now visit old new (Ok answer)
+  let_go result r done at once answer outcome ack empty same =
+      let o = subst Once done once in
+      record {
+        steps = λ s c.
+            let st = o.steps s c in (
+              st.0,
+              st.1,
+              record {
+                clock = st.2.clock_is ∙ at ∙ ap (λ (n : ℕ). max n now) (sym c.clock);
+                log = st.2.log;
+                ack = ack;
+                does = subst (Does old.conf Rising old.states.journal.live.end s visit answer st.0) (sym is) (told_as s st.0 answer outcome r empty same st.2.stores);
+              },
+            );
+        memory = tt;
+        sound = λ fault. o.sound (is_store r Device (sym same ∙ (ap fault_of (sym empty.outcome_is) ∙ ap fault_of fault)));
+        log = o.log;
+        idle = o.idle;
+        conf = o.conf;
+      }
+
+  pub kept_back : (result : Result Released want) (e : want) → result ≡ Err e → Once result → (answer : Result VisitAnswer want) → IsErr answer
+      → FollowsOnce content image armed starved faults holding now visit old new answer
+  kept_back result e none once (Ok answer) failed = absurd (let clash : ⊥ = cc in clash)
+  kept_back result e none once (Err f) failed =
+      let o = subst Once none once in
+      record { steps = tt; memory = o.memory; sound = tt; log = o.log; idle = o.idle; conf = o.conf }

@@ -1,0 +1,240 @@
+-- Acts on the table of a group, by what came of their write, as a step of the shard.
+use Rattle.std.proofs.Common.{◌≡◌, ⊎_elim, inl, inr, refl, sym, ap, subst, ℕ, ◌+◌, ◌^◌, ◌<◌, ◌≤◌, List, length, Option, Some, None, Bool}
+use Rattle.std.specs.Prelude.{Result, Ok, Err}
+use Rattle.std.specs.BTreeMap.{insert_entry}
+use Rattle.std.specs.Option.{option_map}
+use Rattle.coord_checkpoint.specs.Disks.{HasFailed}
+use Rattle.edge_io.specs.Armed.{StarvesUnarmed}
+use Rattle.edge_io.specs.Causes.{Rose}
+use Rattle.edge_io.specs.declared.fault.Armed.{Armed}
+use Rattle.flex_fields.specs.declared.fault.NoMemory.{NoMemory as want}
+use Rattle.share_model.specs.ForeignRules.{ShareStates}
+use Rattle.share_model.specs.Held.{Held}
+use Rattle.share_model.specs.Keys.{KeyParts, key_cmp}
+use Rattle.share_model.specs.Logs.{Batch}
+use Rattle.share_model.specs.ShareStates.{ShareState}
+use Rattle.share_model.specs.declared.fault.StoreFault.{StoreFault}
+use Rattle.share_model.specs.declared.fault.StoreFault.TheVariants.{Device, Full}
+use Rattle.part_log.specs.Logs.{IsStoredLog}
+use Rattle.share_coord.specs.Holding.{Holds}
+use Rattle.share_coord.specs.Parts.{StoreParts}
+use Rattle.share_coord.specs.Stored.{Entries}
+use Rattle.share_coord.specs.declared.fault.CoordFault.{CoordFault}
+use Rattle.share_coord.specs.declared.fault.CoordFault.TheVariants.{Store as coord_store}
+use Rattle.share_part.specs.Acknowledging.{AreSettled, NameNone, NameOne, StoresActs}
+use Rattle.share_part.specs.Hosting.{AreHosted, IsHosted, KeepsHolds, key_of, states_of}
+use Rattle.share_part.specs.Settling.{Acts, IsSettled, held_after}
+use Rattle.share_part.specs.Shards.{PartShardState, PartParts, Carries, IsPendingHosted, held_in, with_held}
+use Rattle.share_part.specs.Storing.{IsActsStored, IsStored, StoresGroup}
+use Rattle.share_part.specs.Tables.{table_of}
+use Rattle.share_part.proofs.Holding.{AreKept, kept_settled, same_kept, set_kept}
+use Rattle.share_part.proofs.Seeing.{hosted_more}
+use Rattle.share_part.proofs.Staying.{settled_hosted}
+use Rattle.share_part.proofs.Stepping.{next, now_settled, now_states}
+use Rattle.share_part.proofs.Visiting.{Keeping, carried, carries_with, shard_of}
+
+module _ {D W : Type 0} (content : D → Option (List ℕ)) (image : D → List ℕ → Type 0) (moment : D → ℕ) (since : D → ℕ → List ℕ → Type 0)
+    (armed : D → Armed) (starved : D → Bool) (faults : D → ℕ) (holding : W → Held) (group : List ℕ) (acts : Acts) (old : PartParts D W) (states : StoreParts D)
+    (windows : List (List ℕ × W)) (clock : ℕ) (sound : IsStoredLog old.log.batches) (few : old.conf.limit ≤ 10)
+    (hosted : AreHosted old.conf old.log.batches (states_of old.states.entries))
+    (kept : AreKept old.conf old.log.batches (states_of old.states.entries) (held_in holding old.windows)) where
+  -- the shard behind the write
+  abbrev pub behind : PartParts D W
+  behind = record { conf = old.conf; log = old.log; states = states; windows = windows; clock = clock }
+
+  abbrev was : Held
+  was = held_in holding old.windows group
+
+  abbrev key : KeyParts
+  key = key_of old.conf group
+
+  abbrev pub Rises : Type 0
+  Rises = Rose (faults old.states.journal.live.disk) (faults states.journal.live.disk)
+
+  abbrev pub Same : Type 0
+  Same = (other : List ℕ) → held_in holding windows other ≡ held_in holding old.windows other
+
+  abbrev pub Ends : Type 0
+  Ends = (other : List ℕ) → held_in holding windows other ≡ with_held (held_in holding old.windows) group (held_after acts was) other
+
+  abbrev Failed : D → D → Type 0
+  Failed = HasFailed content armed starved faults
+
+  abbrev pub Stores : Result (Option StoreFault) want → Type 0
+  Stores result = StoresGroup image moment since Failed old.conf old.log.batches group acts was old.states states Same Ends result
+
+  abbrev Stored : Result (Unit {0}) CoordFault → Type 0
+  Stored done = IsActsStored image moment since Failed old.conf old.log.batches group acts was old.states states done
+
+  -- ---- what is stored
+
+  module _ (done : Result (Unit {0}) CoordFault) (st : Stored done) (es : Entries) (w : IsStored old.states.entries key st.change.start st.change.runs.items es) where
+    its_hosted : IsHosted old.conf old.log.batches key st.state
+    its_hosted = hosted key st.state st.known
+
+    its_kept : KeepsHolds old.log.batches (Some st.state) was
+    its_kept = subst (λ (o : Option ShareState). KeepsHolds old.log.batches o was) st.known (kept group)
+
+    abbrev its_next : ShareState
+    its_next = next old.conf old.log.batches old.states.entries es group st.state was acts st.change its_hosted st.known st.is w
+
+    its_settled : IsSettled old.conf.limit acts old.log.batches (table_of st.state was) its_next
+    its_settled = now_settled old.conf old.log.batches old.states.entries es group st.state was acts st.change its_hosted st.known st.is w
+
+    its_states : states_of es ≡ insert_entry key_cmp (states_of old.states.entries) key its_next
+    its_states = now_states old.conf old.log.batches old.states.entries es group st.state was acts st.change its_hosted st.known st.is w
+
+    are_settled : (batch : Option Batch) (pending : Option Entries) → AreSettled old.conf (shard_of image holding old batch pending) group acts (states_of es)
+    are_settled batch pending = record { state = st.state; next = its_next; known = st.known; settled = its_settled; is = its_states }
+
+    set_hosted : AreHosted old.conf old.log.batches (states_of es)
+    set_hosted = subst (AreHosted old.conf old.log.batches) (sym its_states) (hosted_more old.conf old.log.batches (states_of old.states.entries) key its_next hosted
+        (settled_hosted old.conf old.log.batches group st.state was acts sound.rises few its_hosted its_kept.0 its_next its_settled))
+
+    set_well : AreKept old.conf old.log.batches (states_of es) (with_held (held_in holding old.windows) group (held_after acts was))
+    set_well = subst (λ (s : ShareStates). AreKept old.conf old.log.batches s (with_held (held_in holding old.windows) group (held_after acts was))) (sym its_states)
+        (set_kept old.conf old.log.batches (states_of old.states.entries) (held_in holding old.windows) group its_next (held_after acts was) kept
+        (kept_settled old.conf.limit acts old.log.batches st.state its_next was sound.rises its_settled its_kept))
+
+  -- ---- what the shard keeps
+
+  abbrev pub Stands : Type 0
+  Stands = AreHosted old.conf old.log.batches (states_of states.entries) × AreKept old.conf old.log.batches (states_of states.entries) (held_in holding windows)
+
+  pub stands_same : states_of states.entries ≡ states_of old.states.entries → Same → Stands
+  stands_same is same = (
+    subst (AreHosted old.conf old.log.batches) (sym is) hosted,
+    same_kept old.conf old.log.batches (states_of states.entries) (held_in holding old.windows) (held_in holding windows) same
+        (subst (λ (s : ShareStates). AreKept old.conf old.log.batches s (held_in holding old.windows)) (sym is) kept),
+  )
+
+  pub stands_stored : (r : Result (Option StoreFault) want) → Stores r → Stands
+  stands_stored (Ok None) (inl n) = stands_same (ap (λ (s : StoreParts D). states_of s.entries) n.1) n.2
+  stands_stored (Ok None) (inr h) = (
+    set_hosted (Ok tt) h.1 states.entries h.1.once.written,
+    same_kept old.conf old.log.batches (states_of states.entries) (with_held (held_in holding old.windows) group (held_after acts was)) (held_in holding windows) h.2
+        (set_well (Ok tt) h.1 states.entries h.1.once.written),
+  )
+  stands_stored (Ok (Some fault)) h = stands_same (ap states_of h.1.once.same) h.2
+  stands_stored (Err e) h = stands_same (ap states_of h.0) h.2
+
+  -- ---- the step
+
+  -- a step of the shard that leaves the log, and has this clock
+  pub record Steps (Does : PartShardState → PartShardState → Type 0) (s : PartShardState) : Type 0 where
+    pub then : PartShardState
+    pub carries : Carries image holding behind then
+    pub log : then.log ≡ s.log
+    pub clock_is : then.clock ≡ clock
+    pub does : Does s then
+
+  abbrev pub AllSteps : (PartShardState → PartShardState → Type 0) → Type 0
+  AllSteps Does = (s : PartShardState) → Carries image holding old s → Steps Does s
+
+  -- the same states and holds
+  abbrev shard_same : Option Batch → Option Entries → PartShardState
+  shard_same batch pending = record {
+    log = record { batches = old.log.batches; pending = batch };
+    states = states_of old.states.entries;
+    pending = option_map states_of pending;
+    held = held_in holding old.windows;
+    clock = clock;
+  }
+
+  pub same_carried : (batch : Option Batch) (was_pending pending : Option Entries) → Keeping image holding old batch was_pending → states.entries ≡ old.states.entries
+      → Holds image states pending → IsPendingHosted old.conf old.log.batches (option_map states_of pending) → Same → Carries image holding behind (shard_same batch pending)
+  same_carried batch was_pending pending k entries holds fine same =
+      carries_with image holding old behind batch was_pending pending (held_in holding old.windows) k refl refl entries holds fine (λ group. sym (same group))
+
+  pub still : (Does : PartShardState → PartShardState → Type 0) → states ≡ old.states → Same
+      → ((batch : Option Batch) (pending : Option Entries) → Does (shard_of image holding old batch pending) (shard_same batch pending)) → AllSteps Does
+  still Does is same does = carried image holding old (Steps Does) (λ batch pending k. record {
+    then = shard_same batch pending;
+    carries = same_carried batch pending pending k (ap (λ (s : StoreParts D). s.entries) is) (subst (λ (s : StoreParts D). Holds image s pending) (sym is) k.holds) k.pending_hosted same;
+    log = refl;
+    clock_is = refl;
+    does = does batch pending;
+  })
+
+  abbrev pub DoesActs : Option StoreFault → PartShardState → PartShardState → Type 0
+  DoesActs fault s t = StoresActs old.conf Rises old.states.journal.live.end s group acts t fault
+
+  pub stored_steps : (fault : Option StoreFault) → Stores (Ok fault) → AllSteps (DoesActs fault)
+  stored_steps None (inl n) = still (DoesActs None) n.1 n.2 (λ batch pending. inl (n.0, record { states = refl; pending = refl; held = refl }))
+  stored_steps None (inr h) = carried image holding old (Steps (DoesActs None)) (λ batch pending k. record {
+    then = record {
+      log = record { batches = old.log.batches; pending = batch };
+      states = states_of states.entries;
+      pending = None;
+      held = with_held (held_in holding old.windows) group (held_after acts was);
+      clock = clock;
+    };
+    carries = record {
+      log = k.log;
+      pending = None;
+      holds = h.1.once.kept pending k.holds;
+      states = refl;
+      pending_is = refl;
+      held = λ group. sym (h.2 group);
+      clock = refl;
+      hosted = set_hosted (Ok tt) h.1 states.entries h.1.once.written;
+      pending_hosted = tt;
+    };
+    log = refl;
+    clock_is = refl;
+    does = inr (h.0, record { states = are_settled (Ok tt) h.1 states.entries h.1.once.written batch pending; nothing = refl; held = refl });
+  })
+  stored_steps (Some Device) h = carried image holding old (Steps (DoesActs (Some Device))) (λ batch pending k.
+      let rises : Rises = (h.1.once.device refl).0.0 in
+      ⊎_elim
+      (λ holds. record {
+        then = shard_same batch pending;
+        carries = same_carried batch pending pending k h.1.once.same holds k.pending_hosted h.2;
+        log = refl;
+        clock_is = refl;
+        does = (h.0, rises, record { states = refl; held = refl; pending = inl refl });
+      })
+      (λ lost. record {
+        then = shard_same batch (Some lost.0);
+        carries = same_carried batch pending (Some lost.0) k h.1.once.same lost.2 (set_hosted (Err (coord_store Device)) h.1 lost.0 lost.1) h.2;
+        log = refl;
+        clock_is = refl;
+        does = (h.0, rises, record { states = refl; held = refl; pending = inr (states_of lost.0, refl, are_settled (Err (coord_store Device)) h.1 lost.0 lost.1 batch pending) });
+      })
+      (h.1.once.failed pending k.holds))
+  stored_steps (Some (Full at)) h = carried image holding old (Steps (DoesActs (Some (Full at)))) (λ batch pending k.
+      let full = h.1.once.full at refl in record {
+        then = shard_same batch pending;
+        carries = same_carried batch pending pending k h.1.once.same (h.1.once.stays (λ e. let never : ⊥ = cc in never) pending k.holds) k.pending_hosted h.2;
+        log = refl;
+        clock_is = refl;
+        does = (
+          h.0,
+          full.0,
+          record { states = refl; pending = refl; held = refl },
+          record {
+            before = old.states.entries;
+            after = full.1.1;
+            frame = full.1.0;
+            is_before = refl;
+            is_after = are_settled (Err (coord_store (Full at))) h.1 full.1.1 full.1.2 batch pending;
+            accepted = full.1.3;
+            past = subst (λ (n : ℕ). 2 ^ 62 < n + (length full.1.0 + 5)) full.0 full.1.4;
+          },
+        );
+      })
+
+  -- where nothing is named, the store is as it was
+  pub stored_none : (fault : Option StoreFault) → Stores (Ok fault) → NameNone acts → states ≡ old.states
+  stored_none None (inl n) nothing = n.1
+  stored_none None (inr h) nothing = absurd (clash_named h.0 nothing)
+    where
+      clash_named : NameOne acts → NameNone acts → ⊥
+      clash_named one none = let e = none one.0 in let some = one.1 in let clash : ⊥ = cc in clash
+  stored_none (Some fault) h nothing = absurd (let e = nothing h.0.0 in let some = h.0.1 in let clash : ⊥ = cc in clash)
+
+  -- a device fault
+  pub stored_device : (fault : Option StoreFault) → Stores (Ok fault) → fault ≡ Some Device → StarvesUnarmed content armed starved old.states.journal.live.disk states.journal.live.disk
+  stored_device None h is = absurd (let clash : ⊥ = cc in clash)
+  stored_device (Some Device) h is = (h.1.once.device refl).0.1
+  stored_device (Some (Full at)) h is = absurd (let clash : ⊥ = cc in clash)

@@ -1,0 +1,8 @@
+use Rattle.std.proofs.Common.{ap, subst, sym}
+use Rattle.share_model.specs.Held.{Held}
+use Rattle.share_part.specs.Settling.{AreBelow}
+use Rattle.share_part.specs.Shards.{held_of}
+use Rattle.share_part.proofs.release.end_released.Goals as goal
+
+pub end_chosen-requires : goal.end_chosen-requires
+end_chosen-requires g c = subst (λ (h : Held). AreBelow h) (sym (ap (held_of g.W.Window.held) c.in-Some.ensures.value)) c.requires.below

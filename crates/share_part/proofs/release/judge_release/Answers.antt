@@ -1,0 +1,42 @@
+use Rattle.std.proofs.Common.{◌≡◌, ap, subst, sym, Some, None, Option}
+use Rattle.std.specs.Option.{option_map}
+use Rattle.share_coord.specs.Stored.{kept_at}
+use Rattle.share_model.specs.ForeignRules.{share_state_at}
+use Rattle.share_model.specs.Held.{Held}
+use Rattle.share_model.specs.Keys.{KeyParts}
+use Rattle.share_model.specs.ShareStates.{ShareState}
+use Rattle.share_part.specs.Hosting.{HoldsWell, key_of, states_of}
+use Rattle.share_part.specs.Settling.{AreBelow, is_chosen}
+use Rattle.share_part.specs.Shards.{held_in, held_of}
+use Rattle.share_part.proofs.Releases.{none_released_of, released_there, well_below}
+use Rattle.share_part.proofs.Seeing.{view_of}
+use Rattle.share_part.proofs.Verdicts.{no_state}
+use Rattle.share_part.proofs.release.judge_release.Goals as goal
+
+pub release-requires-clause-below : goal.release-requires-clause-below
+release-requires-clause-below g c = subst (λ (h : Held). AreBelow h) (sym (ap (held_of g.W.Window.held) c.in-Some.ensures.value))
+    (well_below c.args.log.now.batches (share_state_at (states_of c.args.states.now.entries) (key_of c.args.conf.now c.args.group.now))
+    (held_in g.W.Window.held c.args.windows.now.entries c.args.group.now) c.requires.sound c.requires.well)
+
+pub returns-in-Some-look-clause-judged : goal.returns-in-Some-look-clause-judged
+returns-in-Some-look-clause-judged g c =
+    let there = subst (λ (k : KeyParts). Some c.in-Some-look.view.now ≡ option_map view_of (kept_at c.args.states.now.entries k)) c.key.ensures c.in-Some-look.ensures in
+    released_there g.W.Window.held c.args.states.now.entries c.args.windows.now.entries c.args.group.now (key_of c.args.conf.now c.args.group.now)
+    c.args.whose.now c.args.conf.now.limit c.args.log.now.batches c.in-Some-look.view.now there
+    c.in-Some.window.now c.in-Some.ensures.value c.start_of.result c.view.inside.runs c.start_of.ensures (ap (λ (s : ShareState). s.runs) c.view.view_is)
+    c.limit.result c.limit.ensures.same c.release.result c.release.ensures
+
+pub returns-in-Some-look-clause-below : goal.returns-in-Some-look-clause-below
+returns-in-Some-look-clause-below g c = well_below c.args.log.now.batches (share_state_at (states_of c.args.states.now.entries) (key_of c.args.conf.now c.args.group.now))
+    (held_in g.W.Window.held c.args.windows.now.entries c.args.group.now) c.requires.sound c.requires.well
+
+pub returns-in-None-clause-judged : goal.returns-in-None-clause-judged
+returns-in-None-clause-judged g c =
+    let absent = subst (λ (k : KeyParts). ◌≡◌ {A = Option ShareState} None (option_map view_of (kept_at c.args.states.now.entries k))) c.key.ensures c.in-None.ensures in
+    none_released_of (is_chosen c.args.whose.now) (held_in g.W.Window.held c.args.windows.now.entries c.args.group.now)
+    (subst (λ (o : Option ShareState). HoldsWell c.args.log.now.batches o (held_in g.W.Window.held c.args.windows.now.entries c.args.group.now))
+    (no_state g.W.Window.held c.args.states.now.entries c.args.windows.now.entries c.args.group.now (key_of c.args.conf.now c.args.group.now) absent) c.requires.well)
+
+pub returns-in-None-clause-below : goal.returns-in-None-clause-below
+returns-in-None-clause-below g c = well_below c.args.log.now.batches (share_state_at (states_of c.args.states.now.entries) (key_of c.args.conf.now c.args.group.now))
+    (held_in g.W.Window.held c.args.windows.now.entries c.args.group.now) c.requires.sound c.requires.well

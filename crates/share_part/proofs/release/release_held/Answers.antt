@@ -1,0 +1,57 @@
+use Rattle.std.proofs.Common.{inr, refl, sym}
+use Rattle.coord_checkpoint.specs.Disks.{HasFailed}
+use Rattle.share_model.specs.ForeignRules.{share_state_at}
+use Rattle.share_part.specs.Hosting.{key_of, states_of}
+use Rattle.share_part.specs.Settling.{is_chosen, releasing}
+use Rattle.share_part.specs.Shards.{held_in}
+use Rattle.share_part.proofs.Letting.{none_counted}
+use Rattle.share_part.proofs.Releases.{change_of_group, none_of_group, one_of_group}
+use Rattle.share_part.proofs.Settlement.{all_stored, few_there, granted_there, none_stored, start_within}
+use Rattle.share_part.proofs.release.release_held.Goals as goal
+
+pub returns-in_default-clause-count : goal.returns-in_default-clause-count
+returns-in_default-clause-count g c = sym (none_counted (is_chosen c.args.whose.now) (held_in g.W.Window.held c.args.windows.now.entries c.args.group.now) c.in_ok-judged.ensures.rising
+    (none_of_group c.args.conf.now.limit (is_chosen c.args.whose.now) c.args.log.now.batches (held_in g.W.Window.held c.args.windows.now.entries c.args.group.now)
+    (share_state_at (states_of c.args.states.now.entries) (key_of c.args.conf.now c.args.group.now)) c.in_ok-judged.judged c.in_default.is c.in_ok-judged.ensures.judged))
+
+pub store_change-requires-clause-start : goal.store_change-requires-clause-start
+store_change-requires-clause-start g c = start_within c.args.conf.now c.args.log.now.batches c.args.group.now (releasing (is_chosen c.args.whose.now) (held_in g.W.Window.held c.args.windows.now.entries c.args.group.now)) (held_in g.W.Window.held c.args.windows.now.entries c.args.group.now) c.args.states.now
+    c.requires.sound c.requires.limit.few c.requires.hosted c.requires.well c.in-Some.change
+    (change_of_group c.args.conf.now.limit (is_chosen c.args.whose.now) c.args.log.now.batches (held_in g.W.Window.held c.args.windows.now.entries c.args.group.now)
+    (share_state_at (states_of c.args.states.now.entries) (key_of c.args.conf.now c.args.group.now)) c.in_ok-judged.judged c.in-Some.change c.in-Some.is c.in_ok-judged.ensures.judged)
+
+pub store_change-requires-clause-granted : goal.store_change-requires-clause-granted
+store_change-requires-clause-granted g c = granted_there c.args.conf.now c.args.log.now.batches c.args.group.now (releasing (is_chosen c.args.whose.now) (held_in g.W.Window.held c.args.windows.now.entries c.args.group.now)) (held_in g.W.Window.held c.args.windows.now.entries c.args.group.now) c.args.states.now
+    c.requires.sound c.requires.limit.few c.requires.hosted c.requires.well c.in-Some.change
+    (change_of_group c.args.conf.now.limit (is_chosen c.args.whose.now) c.args.log.now.batches (held_in g.W.Window.held c.args.windows.now.entries c.args.group.now)
+    (share_state_at (states_of c.args.states.now.entries) (key_of c.args.conf.now c.args.group.now)) c.in_ok-judged.judged c.in-Some.change c.in-Some.is c.in_ok-judged.ensures.judged) c.key-key.result c.deref.result.now c.key-key.ensures c.deref.ensures.value
+
+pub store_change-requires-clause-few : goal.store_change-requires-clause-few
+store_change-requires-clause-few g c = few_there c.args.conf.now c.args.log.now.batches c.args.group.now (releasing (is_chosen c.args.whose.now) (held_in g.W.Window.held c.args.windows.now.entries c.args.group.now)) (held_in g.W.Window.held c.args.windows.now.entries c.args.group.now) c.args.states.now
+    c.requires.sound c.requires.limit.few c.requires.hosted c.requires.well c.in-Some.change
+    (change_of_group c.args.conf.now.limit (is_chosen c.args.whose.now) c.args.log.now.batches (held_in g.W.Window.held c.args.windows.now.entries c.args.group.now)
+    (share_state_at (states_of c.args.states.now.entries) (key_of c.args.conf.now c.args.group.now)) c.in_ok-judged.judged c.in-Some.change c.in-Some.is c.in_ok-judged.ensures.judged) c.key-key.result c.deref.result.now c.key-key.ensures c.deref.ensures.value
+
+pub returns-in-Some-fault-clause-once : goal.returns-in-Some-fault-clause-once
+returns-in-Some-fault-clause-once g c = (
+  one_of_group c.args.conf.now.limit (is_chosen c.args.whose.now) c.args.log.now.batches (held_in g.W.Window.held c.args.windows.now.entries c.args.group.now)
+      (share_state_at (states_of c.args.states.now.entries) (key_of c.args.conf.now c.args.group.now)) c.in_ok-judged.judged c.in-Some.change c.in-Some.is c.in_ok-judged.ensures.judged,
+  none_stored c.args.conf.now c.args.log.now.batches c.args.group.now (releasing (is_chosen c.args.whose.now) (held_in g.W.Window.held c.args.windows.now.entries c.args.group.now)) (held_in g.W.Window.held c.args.windows.now.entries c.args.group.now) c.args.states.now
+      c.requires.sound c.requires.limit.few c.requires.hosted c.requires.well c.in-Some.change
+      (change_of_group c.args.conf.now.limit (is_chosen c.args.whose.now) c.args.log.now.batches (held_in g.W.Window.held c.args.windows.now.entries c.args.group.now)
+      (share_state_at (states_of c.args.states.now.entries) (key_of c.args.conf.now c.args.group.now)) c.in_ok-judged.judged c.in-Some.change c.in-Some.is c.in_ok-judged.ensures.judged) c.key-key.result c.deref.result.now c.key-key.ensures c.deref.ensures.value
+      g.D.Disk.image g.D.Disk.moment g.D.Disk.since (HasFailed g.D.Disk.content g.D.Disk.armed g.D.Disk.starved g.D.Disk.faults) c.store_change.new.states c.in_ok-fault.fault c.in-Some-fault.fault c.in-Some-fault.is c.in_ok-fault.ensures.once,
+  λ other. refl,
+)
+
+pub returns-clause-once : goal.returns-clause-once
+returns-clause-once g c = inr (
+  one_of_group c.args.conf.now.limit (is_chosen c.args.whose.now) c.args.log.now.batches (held_in g.W.Window.held c.args.windows.now.entries c.args.group.now)
+      (share_state_at (states_of c.args.states.now.entries) (key_of c.args.conf.now c.args.group.now)) c.in_ok-judged.judged c.in-Some.change c.in-Some.is c.in_ok-judged.ensures.judged,
+  all_stored c.args.conf.now c.args.log.now.batches c.args.group.now (releasing (is_chosen c.args.whose.now) (held_in g.W.Window.held c.args.windows.now.entries c.args.group.now)) (held_in g.W.Window.held c.args.windows.now.entries c.args.group.now) c.args.states.now
+      c.requires.sound c.requires.limit.few c.requires.hosted c.requires.well c.in-Some.change
+      (change_of_group c.args.conf.now.limit (is_chosen c.args.whose.now) c.args.log.now.batches (held_in g.W.Window.held c.args.windows.now.entries c.args.group.now)
+      (share_state_at (states_of c.args.states.now.entries) (key_of c.args.conf.now c.args.group.now)) c.in_ok-judged.judged c.in-Some.change c.in-Some.is c.in_ok-judged.ensures.judged) c.key-key.result c.deref.result.now c.key-key.ensures c.deref.ensures.value
+      g.D.Disk.image g.D.Disk.moment g.D.Disk.since (HasFailed g.D.Disk.content g.D.Disk.armed g.D.Disk.starved g.D.Disk.faults) c.store_change.new.states c.in_ok-fault.fault c.in_default-fault.is c.in_ok-fault.ensures.once,
+  c.end_released.ensures.held,
+)

@@ -1,0 +1,120 @@
+-- What follows the acknowledgements of a visit, by what it asks for: nothing, a release of all that the member holds, or a fetch; and what
+-- that is answered and leaves of a shard (KIP-932; the pending writes and code 56 are this project's own).
+-- A group's table is made at its first fetch, with the log's end as its start or 0, and is stored before anything is acquired. A lock
+-- ends at the shard's clock plus the lock duration. A release is stored by one write, and there is none where the member holds nothing.
+-- Worked example: a log has one batch of three records from 0 to 2, `g` has no table, a new group begins at 0, locks last 30000. A fetch
+-- of 2 records by `a` at 5000 stores a table with start 0 and no rows, and acquires 0 and 1 with count 1 until 35000. A fetch by `b` at
+-- 1000 acquires 2, until 35000 as well. Each is answered with the whole batch. A release of `a` then stores 0 and 1 as available with
+-- count 1, and `b` still holds 2.
+use Rattle.std.specs.Prelude.{◌≡◌, ◌⊎◌, ◌+◌, ◌<◌, ◌^◌, max, ℕ, List, [], length, Option, Some, None}
+use Rattle.share_model.specs.ForeignRules.{share_state_at}
+use Rattle.share_model.specs.Held.{Held}
+use Rattle.share_model.specs.Logs.{end_of}
+use Rattle.share_model.specs.ShareStates.{ShareState}
+use Rattle.share_model.specs.declared.fault.StoreFault.{StoreFault}
+use Rattle.share_model.specs.declared.fault.StoreFault.TheVariants.{Device, Full}
+use Rattle.share_model.specs.declared.visit.Visit.{Visit}
+use Rattle.share_model.specs.declared.visit.VisitAnswer.{VisitAnswer}
+use Rattle.share_model.specs.declared.visit.AckOutcome.TheVariants.{Done as acknowledged}
+use Rattle.share_model.specs.declared.visit.Then.{Then}
+use Rattle.share_model.specs.declared.visit.Then.TheVariants.{Nothing, Release, Fetch}
+use Rattle.share_model.specs.declared.visit.ThenOutcome.{ThenOutcome}
+use Rattle.share_model.specs.declared.visit.ThenOutcome.TheVariants.{Done, Store}
+use Rattle.share_coord.specs.Stored.{Entries, Accepts}
+use Rattle.share_part.specs.Acknowledging.{StoresActs}
+use Rattle.share_part.specs.Hosting.{PartConfParts, key_of, states_of}
+use Rattle.share_part.specs.Settling.{Acts, is_chosen, releasing}
+use Rattle.share_part.specs.Shards.{PartShardState, IsStill, new_state, with_held, with_new}
+use Rattle.share_part.specs.Tables.{table_of, with_holds}
+use Rattle.share_part.specs.Walks.{acquired, AreRunsOf, bytes_in}
+use Rattle.share_part.specs.declared.limits.Limits.{Limits}
+use Rattle.share_part.specs.declared.settle.Whose.TheVariants.{Member}
+
+-- ---- a fetch
+
+-- no record is acquired, and no batch is answered
+pub record IsEmptyAnswer (outcome : ThenOutcome) (answer : VisitAnswer) : Type 0 where
+  pub outcome_is : answer.then ≡ outcome
+  pub grants : answer.grants ≡ []
+  pub batches : answer.batches ≡ []
+
+-- What the walk takes is held by the member until the clock's moment plus the lock duration; the answer tells its runs, and has its
+-- batches whole, in order.
+pub record Acquires (conf : PartConfParts) (old : PartShardState) (state : ShareState) (visit : Visit) (limits : Limits) (answer : VisitAnswer)
+    (new : PartShardState) : Type 0 where
+  pub outcome_is : answer.then ≡ Done
+  pub grants : AreRunsOf (acquired old.log.batches (table_of state (old.held visit.group)) limits).taken answer.grants
+  pub batches : answer.batches ≡ bytes_in (acquired old.log.batches (table_of state (old.held visit.group)) limits).batches
+  pub held : new.held ≡ with_held old.held visit.group (with_holds visit.member (new.clock + conf.lock_ms)
+      (acquired old.log.batches (table_of state (old.held visit.group)) limits).taken (old.held visit.group))
+
+-- a fetch of a group that has a table
+pub record FetchesThere (conf : PartConfParts) (old : PartShardState) (state : ShareState) (visit : Visit) (limits : Limits) (answer : VisitAnswer)
+    (new : PartShardState) : Type 0 where
+  pub acquires : Acquires conf old state visit limits answer new
+  pub states : new.states ≡ old.states
+  pub pending : new.pending ≡ old.pending
+
+-- the first fetch of a group: its table is stored, and then records are acquired
+pub record FetchesFirst (conf : PartConfParts) (old : PartShardState) (visit : Visit) (limits : Limits) (answer : VisitAnswer)
+    (new : PartShardState) : Type 0 where
+  pub acquires : Acquires conf old (new_state conf (end_of old.log.batches)) visit limits answer new
+  pub states : new.states ≡ with_new conf old visit.group
+  pub nothing : new.pending ≡ None
+
+-- the table couldn't be stored: nothing is acquired, and the pending write is the one from before or this one
+pub record IsUnmade (conf : PartConfParts) (old : PartShardState) (visit : Visit) (new : PartShardState) : Type 0 where
+  pub states : new.states ≡ old.states
+  pub pending : (new.pending ≡ old.pending) ⊎ (new.pending ≡ Some (with_new conf old visit.group))
+  pub held : new.held ≡ old.held
+
+-- the journal of the states, whose last gate ends at `end`, has no room for the record of the new table below 2^62
+pub record HasNoRoom (conf : PartConfParts) (end : ℕ) (old : PartShardState) (visit : Visit) : Type 0 where
+  pub before : Entries
+  pub after : Entries
+  pub frame : List ℕ
+  pub is_before : states_of before ≡ old.states
+  pub is_after : states_of after ≡ with_new conf old visit.group
+  pub accepted : Accepts before frame after
+  pub past : 2 ^ 62 < end + (length frame + 5)
+
+-- a first fetch, by what became of it
+abbrev pub MakesTable : PartConfParts → (rose : Type 0) → (end : ℕ) → PartShardState → Visit → Limits → VisitAnswer → PartShardState → ThenOutcome → Type 0
+MakesTable conf rose end old visit limits answer new Done = FetchesFirst conf old visit limits answer new
+MakesTable conf rose end old visit limits answer new (Store Device) = rose × IsEmptyAnswer (Store Device) answer × IsUnmade conf old visit new
+MakesTable conf rose end old visit limits answer new (Store (Full at)) =
+    (at ≡ end) × IsEmptyAnswer (Store (Full at)) answer × IsStill old new × HasNoRoom conf end old visit
+
+abbrev pub Fetches : PartConfParts → (rose : Type 0) → (end : ℕ) → PartShardState → Visit → Limits → VisitAnswer → PartShardState → Option ShareState → Type 0
+Fetches conf rose end old visit limits answer new (Some state) = FetchesThere conf old state visit limits answer new
+Fetches conf rose end old visit limits answer new None = MakesTable conf rose end old visit limits answer new answer.then
+
+-- ---- a release
+
+-- the releases of all that a member holds
+abbrev pub releases_of : (member : List ℕ) → Held → Acts
+releases_of member held = releasing (is_chosen (Member member)) held
+
+-- the fault that is told, if one is
+abbrev pub fault_of : ThenOutcome → Option StoreFault
+fault_of Done = None
+fault_of (Store fault) = Some fault
+
+-- ---- by what is asked for
+
+-- what follows the acknowledgements
+abbrev pub Does : PartConfParts → (rose : Type 0) → (end : ℕ) → PartShardState → Visit → VisitAnswer → PartShardState → Then → Type 0
+Does conf rose end old visit answer new Nothing = IsEmptyAnswer Done answer × IsStill old new
+Does conf rose end old visit answer new Release = IsEmptyAnswer answer.then answer
+    × StoresActs conf rose end old visit.group (releases_of visit.member (old.held visit.group)) new (fault_of answer.then)
+Does conf rose end old visit answer new (Fetch records bytes first) =
+    Fetches conf rose end old visit (record { records = records; bytes = bytes; first = first }) answer new (share_state_at old.states (key_of conf visit.group))
+
+-- What follows the acknowledgements, at the moment `now`. `rose` says that the count of faults of the first state disk rose, `end` is where
+-- its journal ends.
+pub record StepsThen (conf : PartConfParts) (rose : Type 0) (end : ℕ) (old : PartShardState) (now : ℕ) (visit : Visit) (answer : VisitAnswer)
+    (new : PartShardState) : Type 0 where
+  pub clock : new.clock ≡ max old.clock now
+  pub log : new.log ≡ old.log
+  pub ack : answer.ack ≡ acknowledged
+  pub does : Does conf rose end old visit answer new visit.then

@@ -1,0 +1,109 @@
+-- The releases of what a group holds, whether of a member or by lock end. Private clauses cite this alone.
+-- For example where `a` holds 0 to 2 and `b` holds 3, the releases of `a` are three, and where their write fails none of them is done.
+use Rattle.std.specs.Prelude.{◌≡◌, ◌≤◌, ◌<◌, ℕ, List, Bool, true, false, Option, Some, None, Result, Ok, Err, IfOk, OnErr, OnOk, not, nat_eq, map, filter}
+use Rattle.std.specs.List.{count_by}
+use Rattle.edge_io.specs.Armed.{StarvesUnarmed}
+use Rattle.edge_io.specs.Causes.{Rose}
+use Rattle.edge_io.specs.declared.fault.Armed.{Armed}
+use Rattle.flex_fields.specs.declared.fault.NoMemory.{NoMemory}
+use Rattle.share_model.specs.Held.{Held, hold_at}
+use Rattle.share_model.specs.Logs.{Batch}
+use Rattle.share_model.specs.ShareStates.{ShareState}
+use Rattle.share_model.specs.declared.fault.StoreFault.{StoreFault}
+use Rattle.share_model.specs.declared.fault.StoreFault.TheVariants.{Device}
+use Rattle.share_model.specs.declared.hold.Hold.{Hold}
+use Rattle.share_part.specs.Acknowledging.{NameNone, NameOne, StoresActs}
+use Rattle.share_part.specs.Expiring.{due_count}
+use Rattle.share_part.specs.Hosting.{PartConfParts}
+use Rattle.share_part.specs.Settling.{Acts, IsChange, is_chosen, releasing}
+use Rattle.share_part.specs.Shards.{Carries, PartParts, PartShardState, held_in}
+use Rattle.share_part.specs.Tables.{Table, table_of}
+use Rattle.share_part.specs.declared.release.Released.{Released}
+use Rattle.share_part.specs.declared.release.Released.TheVariants.{Done, Store}
+use Rattle.share_part.specs.declared.settle.Change.{Change}
+use Rattle.share_part.specs.declared.settle.Whose.{Whose}
+
+-- ---- what is stored
+
+-- acts that name no offset, or what is to be stored of them
+abbrev pub ReleasesTable : ℕ → Acts → List Batch → Table → Option Change → Type 0
+ReleasesTable limit acts log table None = NameNone acts
+ReleasesTable limit acts log table (Some change) = NameOne acts × IsChange limit acts log table change
+
+-- the same of a group that has this state, if it has one
+abbrev pub ReleasesGroup : ℕ → Acts → List Batch → Held → Option ShareState → Option Change → Type 0
+ReleasesGroup limit acts log held state None = NameNone acts
+ReleasesGroup limit acts log held None (Some change) = ⊥
+ReleasesGroup limit acts log held (Some state) (Some change) = NameOne acts × IsChange limit acts log (table_of state held) change
+
+-- ---- which holds end
+
+-- all that is held from an offset on, and below another, stays
+abbrev pub AreLeft : (Hold → Bool) → Held → ℕ → ℕ → Type 0
+AreLeft chosen held from to = (offset : ℕ) (hold : Hold) → from ≤ offset → offset < to → hold_at held offset ≡ Some hold → chosen hold ≡ false
+
+-- all that is held from one offset to another is chosen
+abbrev pub AreChosen : (Hold → Bool) → Held → ℕ → ℕ → Type 0
+AreChosen chosen held first last = (offset : ℕ) (hold : Hold) → first ≤ offset → offset ≤ last → hold_at held offset ≡ Some hold → chosen hold ≡ true
+
+-- the next that is chosen
+pub record IsNextChosen (chosen : Hold → Bool) (held : Held) (from offset : ℕ) : Type 0 where
+  pub behind : from ≤ offset
+  pub picked : AreChosen chosen held offset offset
+  pub left : AreLeft chosen held from offset
+
+abbrev pub chosen_count : Whose → Held → ℕ
+chosen_count whose held = count_by (λ entry. is_chosen whose entry.1) held
+
+-- ---- what is told
+
+-- the number of the records that are released
+abbrev pub Counts : Whose → Held → Released → Type 0
+Counts whose held (Done count) = count ≡ chosen_count whose held
+Counts whose held (Store fault) = Unit {0}
+
+abbrev pub fault_in : Released → Option StoreFault
+fault_in (Done count) = None
+fault_in (Store fault) = Some fault
+
+abbrev pub told_in : Result Released NoMemory → Result (Option StoreFault) NoMemory
+told_in (Ok released) = Ok (fault_in released)
+told_in (Err e) = Err e
+
+-- ---- on a shard
+
+-- The releases of a group, where the clock is raised to `clock`. `rose` says that the count of faults of the first state disk rose, `end` is
+-- where its journal ends.
+pub record StepsRelease (conf : PartConfParts) (rose : Type 0) (end : ℕ) (old : PartShardState) (clock : ℕ) (group : List ℕ) (whose : Whose) (released : Released)
+    (new : PartShardState) : Type 0 where
+  pub log : new.log ≡ old.log
+  pub clock_is : new.clock ≡ clock
+  pub stores : StoresActs conf rose end old group (releasing (is_chosen whose) (old.held group)) new (fault_in released)
+  pub counts : Counts whose (old.held group) released
+
+abbrev pub ReleasedSo : {D W : Type 0} → (D → List ℕ → Type 0) → (D → ℕ) → (W → Held) → ℕ → List ℕ → Whose → PartParts D W → PartParts D W → Released → Type 0
+ReleasedSo image faults holding clock group whose before after released = (old : PartShardState) → Carries image holding before old → (new : PartShardState)
+    × Carries image holding after new
+    × StepsRelease before.conf (Rose (faults before.states.journal.live.disk) (faults after.states.journal.live.disk)) before.states.journal.live.end old clock group whose released new
+
+-- The releases of a group on a shard in memory. The members of the disk come first.
+pub record ReleasesOnce {D W : Type 0} (content : D → Option (List ℕ)) (image : D → List ℕ → Type 0) (armed : D → Armed) (starved : D → Bool)
+    (faults : D → ℕ) (holding : W → Held) (clock : ℕ) (group : List ℕ) (whose : Whose) (before after : PartParts D W) (result : Result Released NoMemory) : Type 0 where
+  pub steps : IfOk result (ReleasedSo image faults holding clock group whose before after)
+  pub unwritten : OnOk result (NameNone (releasing (is_chosen whose) (held_in holding before.windows group)) → after.states ≡ before.states)
+  pub memory : OnErr result ((old : PartShardState) → Carries image holding before old → Carries image holding after old)
+  pub sound : IfOk result (λ released. released ≡ Store Device →
+      StarvesUnarmed content armed starved before.states.journal.live.disk after.states.journal.live.disk)
+  pub log : after.log ≡ before.log
+  pub idle : after.states.journal.idle ≡ before.states.journal.idle
+  pub conf : after.conf ≡ before.conf
+
+-- ---- which groups are due
+
+-- a group holds something by a lock that has ended
+abbrev pub has_due : ℕ → Held → Bool
+has_due clock held = not (nat_eq (due_count clock held) 0)
+
+-- the groups that do, in the order of their windows
+abbrev pub due_groups : {W : Type 0} → (W → Held) → ℕ → List (List ℕ × W) → List (List ℕ)
+due_groups holding clock windows = map (λ entry. entry.0) (filter (λ entry. has_due clock (holding entry.1)) windows)

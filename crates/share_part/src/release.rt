@@ -1,0 +1,191 @@
+// Releases records that are held: those of a member, and those whose lock has ended.
+ghost use Rattle.std.specs.Prelude.{◌≡◌, ◌≤◌, ◌<◌, ◌^◌, ℕ, List, IsSome, IfSome, IfNone, IfOk};
+ghost use Rattle.std.specs.BTreeMap.{is_at};
+ghost use Rattle.std.specs.Cmp.Lexicographic.{slice_cmp};
+ghost use Rattle.std.specs.Map.{lookup};
+ghost use Rattle.std.specs.Ordering.{nat_cmp};
+ghost use Rattle.coord_checkpoint.specs.Disks.{HasFailed};
+ghost use Rattle.edge_io.specs.Armed.{RunsOn};
+ghost use Rattle.topic_conf.specs.Configs.{IsLimit};
+ghost use Rattle.part_log.specs.Logs.{IsStoredLog};
+ghost use Rattle.share_model.specs.ForeignRules.{share_state_at};
+ghost use Rattle.share_part.specs.Following.{fault_of};
+ghost use Rattle.share_part.specs.Hosting.{AreHosted, HoldsWell, key_of, states_of};
+ghost use Rattle.share_part.specs.Releasing.{AreChosen, AreLeft, Counts, IsNextChosen, ReleasesGroup, chosen_count, fault_in, told_in};
+ghost use Rattle.share_part.specs.Settling.{AreBelow, held_after, is_chosen, releasing};
+ghost use Rattle.share_part.specs.Shards.{held_in, with_held};
+ghost use Rattle.share_part.specs.Storing.{StoresGroup};
+ghost use Rattle.window_rows.specs.Windows.{IsRising};
+
+use crate::conf::PartConf;
+use crate::fetch::start_of;
+use crate::settle::{Change, Whose, is_chosen, release};
+use crate::storing::store_change;
+use edge_io::Disk;
+use part_log::PartLog;
+use share_coord::Coord;
+use share_model::{Name, NoMemory, StoreFault, ThenOutcome};
+use std::alloc::Global;
+use std::collections::BTreeMap;
+use window_rows::Window;
+
+/// What became of the releases of a group.
+#[derive(Clone, Copy)]
+pub enum Released {
+    /// So many records were released, and that is stored. Where these are none, nothing was written.
+    Done(u64),
+    /// The releases couldn't be stored, and nothing was released.
+    Store(StoreFault),
+}
+
+/// What a visit is told of them.
+pub fn outcome_of(released: Released) -> ThenOutcome
+    ensures { fault_of result ≡ fault_in released }
+{
+    match released {
+        Released::Done(_) => ThenOutcome::Done,
+        Released::Store(fault) => ThenOutcome::Store(fault),
+    }
+}
+
+// The least held offset from `from` on that is released. `None` where there is none.
+fn next_chosen<W: Window>(window: &W, whose: &Whose, mut from: u64) -> Option<u64>
+    requires { AreBelow (W.held window.now) }
+    ensures some { IfSome result (IsNextChosen (is_chosen whose.now) (W.held window.now) from) }
+    ensures none { IfNone result ((to : ℕ) → AreLeft (is_chosen whose.now) (W.held window.now) from to) }
+    ensures below { IfSome result (λ offset. offset < 2 ^ 62) }
+{
+    while let Some((offset, hold)) = window.next_held(from) {
+        if is_chosen(whose, hold) {
+            return Some(offset);
+        }
+        from = offset + 1;
+    }
+    None
+}
+
+// How far all that is held from an offset on is released.
+fn last_chosen<W: Window>(window: &W, whose: &Whose, first: u64) -> u64
+    requires held { AreBelow (W.held window.now) }
+    requires below { first < 2 ^ 62 }
+    requires chosen { AreChosen (is_chosen whose.now) (W.held window.now) first first }
+    ensures from { first ≤ result }
+    ensures below { result < 2 ^ 62 }
+    ensures chosen { AreChosen (is_chosen whose.now) (W.held window.now) first result }
+{
+    let mut last = first;
+    while let Some((offset, hold)) = window.next_held(last + 1) {
+        if !is_chosen(whose, hold) {
+            return last;
+        }
+        last = offset;
+    }
+    last
+}
+
+// Ends the holds that are released, a stretch of held offsets at a time, and tells how many these are.
+fn end_chosen<W: Window>(window: &mut W, whose: &Whose) -> u64
+    requires { AreBelow (W.held window.old) }
+    ensures held { W.held window.new ≡ held_after (releasing (is_chosen whose.now) (W.held window.old)) (W.held window.old) }
+    ensures count { result ≡ chosen_count whose.now (W.held window.old) }
+{
+    window.known();
+    let before = window.count();
+    let mut from = 0;
+    while let Some(first) = next_chosen(window, whose, from) {
+        let last = last_chosen(window, whose, first);
+        window.end_hold(first, last);
+        from = last + 1;
+    }
+    before - window.count()
+}
+
+// Ends the holds that are released of a group whose window is there, and tells how many these are. It takes no memory.
+fn end_released<W: Window>(windows: &mut BTreeMap<Name, W>, group: &Name, whose: &Whose) -> u64
+    requires there { IsSome (lookup (is_at (slice_cmp nat_cmp group.now)) windows.old.entries) }
+    requires below { AreBelow (held_in W.held windows.old.entries group.now) }
+    ensures held { (other : List ℕ) → held_in W.held windows.new.entries other ≡ with_held (held_in W.held windows.old.entries) group.now
+        (held_after (releasing (is_chosen whose.now) (held_in W.held windows.old.entries group.now)) (held_in W.held windows.old.entries group.now)) other }
+    ensures count { result ≡ chosen_count whose.now (held_in W.held windows.old.entries group.now) }
+{
+    match windows.get_mut(group) {
+        Some(window) => end_chosen(window, whose),
+        None => unreachable!(),
+    }
+}
+
+// What the releases of a group store. `None` where there are none.
+fn judge_release<D: Disk, W: Window>(
+    alloc: Global,
+    conf: &PartConf,
+    log: &PartLog<D>,
+    states: &Coord<D>,
+    windows: &BTreeMap<Name, W>,
+    group: &Name,
+    whose: &Whose,
+) -> Result<Option<Change>, NoMemory>
+    requires sound { IsStoredLog log.now.batches }
+    requires well { HoldsWell log.now.batches (share_state_at (states_of states.now.entries) (key_of conf.now group.now))
+        (held_in W.held windows.now.entries group.now) }
+    ensures judged { IfOk result (ReleasesGroup conf.now.limit (releasing (is_chosen whose.now) (held_in W.held windows.now.entries group.now)) log.now.batches
+        (held_in W.held windows.now.entries group.now) (share_state_at (states_of states.now.entries) (key_of conf.now group.now))) }
+    ensures below { AreBelow (held_in W.held windows.now.entries group.now) }
+    ensures rising { IsRising (held_in W.held windows.now.entries group.now) }
+{
+    let Some(window) = windows.get(group) else {
+        return Ok(None);
+    };
+    window.known();
+    match states.look(&conf.key(group)) {
+        Some(view) => release(
+            alloc,
+            log,
+            start_of(view),
+            &view.runs,
+            window,
+            whose,
+            conf.limit(),
+        ),
+        None => Ok(None),
+    }
+}
+
+/// Releases records that a group holds: the releases are stored by one write, and then their holds end. Where there are none, nothing is
+/// written, and no memory is taken.
+///
+/// Nothing changes after want of memory; after a store fault the table is as it was.
+pub fn release_held<D: Disk, W: Window>(
+    alloc: Global,
+    conf: &PartConf,
+    log: &PartLog<D>,
+    states: &mut Coord<D>,
+    windows: &mut BTreeMap<Name, W>,
+    group: &Name,
+    whose: &Whose,
+) -> Result<Released, NoMemory>
+    requires sound { IsStoredLog log.now.batches }
+    requires limit { IsLimit conf.now.limit }
+    requires hosted { AreHosted conf.now log.now.batches (states_of states.old.entries) }
+    requires well { HoldsWell log.now.batches (share_state_at (states_of states.old.entries) (key_of conf.now group.now))
+        (held_in W.held windows.old.entries group.now) }
+    ensures once { StoresGroup D.image D.moment D.since (HasFailed D.content D.armed D.starved D.faults) conf.now log.now.batches
+        group.now (releasing (is_chosen whose.now) (held_in W.held windows.old.entries group.now)) (held_in W.held windows.old.entries group.now) states.old states.new
+        ((other : List ℕ) → held_in W.held windows.new.entries other ≡ held_in W.held windows.old.entries other)
+        ((other : List ℕ) → held_in W.held windows.new.entries other ≡ with_held (held_in W.held windows.old.entries) group.now
+        (held_after (releasing (is_chosen whose.now) (held_in W.held windows.old.entries group.now)) (held_in W.held windows.old.entries group.now)) other) (told_in result) }
+    ensures count { IfOk result (Counts whose.now (held_in W.held windows.old.entries group.now)) }
+    ensures runs { RunsOn D.content D.losses D.arms D.armed D.starved D.faults states.old.journal.live.disk states.new.journal.live.disk }
+    ensures idle { states.new.journal.idle ≡ states.old.journal.idle }
+    ensures range { IsLimit conf.now.limit }
+{
+    let judged = judge_release(alloc, conf, log, states, windows, group, whose)?;
+    let Some(change) = judged else {
+        return Ok(Released::Done(0));
+    };
+    let key = conf.key(group);
+    let fault = store_change(states, &key, change.start, &change.runs)?;
+    if let Some(fault) = fault {
+        return Ok(Released::Store(fault));
+    }
+    Ok(Released::Done(end_released(windows, group, whose)))
+}
