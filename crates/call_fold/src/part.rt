@@ -1,3 +1,4 @@
+use msgs_group::{HeartbeatReply, HeartbeatRequest};
 use share_model::{
     BatchFault, Blob, ForeignAnswer, ForeignOp, Name, RunList, StoreFault, Visit, VisitAnswer,
 };
@@ -13,6 +14,8 @@ pub enum Part {
     Visit { shard: u32, visit: Visit },
     /// The stored state of a group on a hosted partition.
     Look { shard: u32, group: Name },
+    /// A heartbeat of a member of a share group.
+    Heartbeat(HeartbeatRequest),
 }
 
 /// What a log says to a batch.
@@ -47,4 +50,5 @@ pub enum PartAnswer {
     Produce(Produced),
     Visit(VisitAnswer),
     Look(Looked),
+    Heartbeat(HeartbeatReply),
 }

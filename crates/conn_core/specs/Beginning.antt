@@ -1,7 +1,8 @@
--- With what a request begins: its first part, or its reply (KIP-932 and the Kafka protocol guide; see each call's own definition).
+-- With what a request begins: its first part, or its reply, and what it does to the share sessions of its connection (KIP-932 and the
+-- Kafka protocol guide; see each call's own definition).
 -- For example ApiVersions has its reply at once, a Read of a partition that isn't hosted a part (conn_rows, `a state is initialized
 -- and read`), and so has a Produce of a batch for one that is (`a batch is stored`).
-use Rattle.std.specs.Prelude.{Some}
+use Rattle.std.specs.Prelude.{List, Some, None}
 use Rattle.topic_conf.specs.Configs.{ConfigParts}
 use Rattle.msgs_base.specs.declared.metadata_request.MetadataRequest.{MetadataRequest}
 use Rattle.msgs_base.specs.declared.find_coordinator_request.FindCoordinatorRequest.{FindCoordinatorRequest}
@@ -10,6 +11,9 @@ use Rattle.msgs_base.specs.declared.produce_request.ProduceRequest.{ProduceReque
 use Rattle.msgs_base.specs.ApiVersionsReply.{api_versions_reply}
 use Rattle.msgs_base.specs.MetadataReply.{metadata_reply}
 use Rattle.msgs_base.specs.FindCoordinatorReply.{find_coordinator_reply}
+use Rattle.msgs_share.specs.declared.share_fetch_request.ShareFetchRequest.{ShareFetchRequest}
+use Rattle.msgs_share.specs.declared.share_ack_request.ShareAckRequest.{ShareAckRequest}
+use Rattle.msgs_group.specs.declared.heartbeat_request.HeartbeatRequest.{HeartbeatRequest}
 use Rattle.msgs_state.specs.declared.state_message.StateRequest.{StateRequest}
 use Rattle.msgs_state.specs.declared.initialize_request.InitializePartition.{InitializePartition}
 use Rattle.msgs_state.specs.declared.read_request.ReadPartition.{ReadPartition}
@@ -25,8 +29,13 @@ use Rattle.state_calls.specs.Read.{read_means}
 use Rattle.state_calls.specs.Write.{write_means}
 use Rattle.state_calls.specs.Delete.{delete_means}
 use Rattle.log_calls.specs.Produce.{produce_stage}
+use Rattle.share_session.specs.SessionParts.{SessionParts}
+use Rattle.share_calls.specs.Fetch.{fetch_begins as begun_fetch}
+use Rattle.share_calls.specs.Acknowledge.{ack_begins as begun_ack}
+use Rattle.share_calls.specs.Heartbeats.{heartbeat_stage}
 use Rattle.conn_core.specs.declared.hand.Hand.{Hand}
-use Rattle.conn_core.specs.declared.hand.Hand.TheVariants.{Produce, Initialize, Read, Write, Delete}
+use Rattle.conn_core.specs.declared.hand.Hand.TheVariants.{Produce, Fetch, Acknowledge, Heartbeat, Initialize, Read, Write, Delete}
+use Rattle.conn_core.specs.declared.begun.Begun.{Begun}
 use Rattle.conn_core.specs.Versions.{versions_answer}
 use Rattle.conn_core.specs.Metadata.{metadata_answer}
 use Rattle.conn_core.specs.Coordinators.{coordinator_answer}
@@ -34,28 +43,49 @@ use Rattle.conn_core.specs.Hands.{hand_stage}
 
 -- A is the request's message
 abbrev pub Begins : Type 0 → Type 0
-Begins A = ConfigParts → A → Stage Hand
+Begins A = ConfigParts → List SessionParts → A → Begun
+
+-- a call without sessions
+abbrev pub begun_at : Stage Hand → Begun
+begun_at stage = record { stage = stage; change = None }
 
 abbrev pub metadata_begins : Begins MetadataRequest
-metadata_begins conf m = Says (Some (metadata_reply.bytes (metadata_answer conf m)))
+metadata_begins conf sessions m = begun_at (Says (Some (metadata_reply.bytes (metadata_answer conf m))))
 
 abbrev pub coordinator_begins : Begins FindCoordinatorRequest
-coordinator_begins conf m = Says (Some (find_coordinator_reply.bytes (coordinator_answer conf m)))
+coordinator_begins conf sessions m = begun_at (Says (Some (find_coordinator_reply.bytes (coordinator_answer conf m))))
 
 abbrev pub versions_begins : Begins ApiVersionsRequest
-versions_begins conf m = Says (Some (api_versions_reply.bytes versions_answer))
+versions_begins conf sessions m = begun_at (Says (Some (api_versions_reply.bytes versions_answer)))
 
 abbrev pub produce_begins : Begins ProduceRequest
-produce_begins conf m = hand_stage (λ a. Produce a) (produce_stage conf.topics m)
+produce_begins conf sessions m = begun_at (hand_stage (λ a. Produce a) (produce_stage conf.topics m))
+
+-- a share request is judged by the sessions as they are, and changes one of them
+abbrev pub fetch_begins : Begins ShareFetchRequest
+fetch_begins conf sessions m = record {
+  stage = hand_stage (λ a. Fetch a) (begun_fetch conf sessions m).stage;
+  change = (begun_fetch conf sessions m).change;
+}
+
+abbrev pub acknowledge_begins : Begins ShareAckRequest
+acknowledge_begins conf sessions m = record {
+  stage = hand_stage (λ a. Acknowledge a) (begun_ack conf.topics sessions m).stage;
+  change = (begun_ack conf.topics sessions m).change;
+}
+
+abbrev pub heartbeat_begins : Begins HeartbeatRequest
+heartbeat_begins conf sessions m = begun_at (hand_stage (λ a. Heartbeat a) (heartbeat_stage m))
 
 abbrev pub initialize_begins : Begins (StateRequest InitializePartition)
-initialize_begins conf m = hand_stage (λ a. Initialize a) (state_stage initialize_means partition_result conf.topics (record {}) m)
+initialize_begins conf sessions m =
+    begun_at (hand_stage (λ a. Initialize a) (state_stage initialize_means partition_result conf.topics (record {}) m))
 
 abbrev pub read_begins : Begins (StateRequest ReadPartition)
-read_begins conf m = hand_stage (λ a. Read a) (state_stage read_means read_partition_result conf.topics (record {}) m)
+read_begins conf sessions m = begun_at (hand_stage (λ a. Read a) (state_stage read_means read_partition_result conf.topics (record {}) m))
 
 abbrev pub write_begins : Begins (StateRequest WritePartition)
-write_begins conf m = hand_stage (λ a. Write a) (state_stage write_means partition_result conf.topics (record {}) m)
+write_begins conf sessions m = begun_at (hand_stage (λ a. Write a) (state_stage write_means partition_result conf.topics (record {}) m))
 
 abbrev pub delete_begins : Begins (StateRequest DeletePartition)
-delete_begins conf m = hand_stage (λ a. Delete a) (state_stage delete_means partition_result conf.topics (record {}) m)
+delete_begins conf sessions m = begun_at (hand_stage (λ a. Delete a) (state_stage delete_means partition_result conf.topics (record {}) m))

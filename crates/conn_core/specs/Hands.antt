@@ -13,12 +13,18 @@ use Rattle.state_calls.specs.Read.{read_means}
 use Rattle.state_calls.specs.Write.{write_means}
 use Rattle.state_calls.specs.Delete.{delete_means}
 use Rattle.log_calls.specs.Produce.{produce_acts}
+use Rattle.share_calls.specs.Fetch.{fetch_acts}
+use Rattle.share_calls.specs.Acknowledge.{ack_acts}
+use Rattle.share_calls.specs.Heartbeats.{heartbeat_acts}
 use Rattle.conn_core.specs.declared.hand.Hand.{Hand}
-use Rattle.conn_core.specs.declared.hand.Hand.TheVariants.{Produce, Initialize, Read, Write, Delete}
+use Rattle.conn_core.specs.declared.hand.Hand.TheVariants.{Produce, Fetch, Acknowledge, Heartbeat, Initialize, Read, Write, Delete}
 
 -- the part that is asked
 abbrev pub hand_part : Hand → Part
 hand_part (Produce a) = question_part produce_acts a
+hand_part (Fetch a) = question_part fetch_acts a
+hand_part (Acknowledge a) = question_part ack_acts a
+hand_part (Heartbeat a) = question_part heartbeat_acts a
 hand_part (Initialize a) = question_part (state_acts initialize_means partition_result) a
 hand_part (Read a) = question_part (state_acts read_means read_partition_result) a
 hand_part (Write a) = question_part (state_acts write_means partition_result) a
@@ -31,6 +37,9 @@ hand_stage hold (Says body) = Says body
 -- it has this answer
 abbrev pub hand_stage_after : Hand → PartAnswer → Stage Hand
 hand_stage_after (Produce a) answer = hand_stage (λ b. Produce b) (stage_after produce_acts a answer)
+hand_stage_after (Fetch a) answer = hand_stage (λ b. Fetch b) (stage_after fetch_acts a answer)
+hand_stage_after (Acknowledge a) answer = hand_stage (λ b. Acknowledge b) (stage_after ack_acts a answer)
+hand_stage_after (Heartbeat a) answer = hand_stage (λ b. Heartbeat b) (stage_after heartbeat_acts a answer)
 hand_stage_after (Initialize a) answer = hand_stage (λ b. Initialize b) (stage_after (state_acts initialize_means partition_result) a answer)
 hand_stage_after (Read a) answer = hand_stage (λ b. Read b) (stage_after (state_acts read_means read_partition_result) a answer)
 hand_stage_after (Write a) answer = hand_stage (λ b. Write b) (stage_after (state_acts write_means partition_result) a answer)

@@ -8,7 +8,9 @@ pub mod Hands
 pub mod Beginning
 pub mod Judging
 pub mod Conns
+pub mod Seen
 pub mod Turning
 pub mod Talking
 pub mod Streams
 pub mod Requests
+pub mod HostedShards

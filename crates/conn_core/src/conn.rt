@@ -1,9 +1,13 @@
 ghost use Rattle.std.specs.Prelude.{◌≡◌, ◌≤◌, ◌+◌, ◌∷◌, ◌↔◌, [], length, OnOk, OnErr, IfOk, IfSome, IfNone};
+ghost use Rattle.share_session.specs.Plans.{releases_of};
+ghost use Rattle.share_calls.specs.Changes.{Fits, changed};
 ghost use Rattle.conn_core.specs.Stream.{front_of, behind_frame, frame_at};
-ghost use Rattle.conn_core.specs.Conns.{new_conn, conn_after_bytes, conn_after_end, conn_after_reply, without_replies, is_gone};
+ghost use Rattle.conn_core.specs.Judging.{HasRoomFor};
+ghost use Rattle.conn_core.specs.Conns.{new_conn, conn_after_bytes, conn_after_end, conn_after_reply, without_replies, taken_up, has_no_release, is_gone};
 ghost use Rattle.conn_core.specs.Turning.{Tells, Waits, Awaits, FitsIn, awaited_part, turn, closing_turn, reply_turn, request_turn, verdict_turn, front_turn};
 ghost use Rattle.conn_core.specs.Turning.{next_release, conn_with_reply, conn_at_stage, conn_after_answer};
 
+use crate::begun::Begun;
 use crate::hand::Hand;
 use crate::judge::{Verdict, judge};
 use crate::next::Next;
@@ -11,33 +15,36 @@ use crate::sending::{ReplyFrame, frame_reply};
 use crate::stream::{Front, Stream, front_of};
 use crate::work::Work;
 use call_fold::{Part, PartAnswer, Stage};
-use share_model::{Blob, CloseCause, ForeignOp, Key, NoMemory};
+use flex_fields::Items;
+use share_model::{AckList, Blob, CloseCause, NoMemory, Then, Visit};
+use share_session::{SessionChange, Sessions};
 use std::alloc::Global;
 use std::collections::VecDeque;
 use std::marker::Model;
 use std::mem;
 use topic_conf::Config;
 
-/// One connection: what a client has sent, the request that is being answered, and the replies that are finished.
+/// One connection: what a client has sent, the request that is being answered, its share sessions, and the replies that are finished.
 ///
 /// Requests are answered in order, and the next frame is begun when the one before is answered. A request that wants no reply,
 /// a Produce with acks 0, has none. Bytes may come in any pieces. The calls of one connection that take a configuration are given
-/// the same one.
+/// the same one. A connection that closes asks the release of all that the members of its sessions hold, before it is gone.
 #[derive(Drop)]
 pub struct Conn {
     alloc: Global,
     stream: Stream,
     work: Work,
-    releases: VecDeque<Key>,
+    sessions: Sessions,
     replies: VecDeque<Blob>,
 }
 
 impl Model for Conn {
     ghost use Rattle.conn_core.specs.Conns.{ConnParts};
+    ghost use Rattle.conn_core.specs.Seen.{seen};
 
     ghost Value = { ConnParts };
 
-    ghost view = { λ c. record { unread = c.stream; work = c.work; releases = c.releases.items; replies = c.replies.items } };
+    ghost view = { λ c. seen c.stream c.work c.sessions c.replies.items };
 }
 
 // A frame of so many bytes, without its size.
@@ -50,6 +57,42 @@ fn frame(size: u32, stream: &[u8]) -> &[u8]
     frame
 }
 
+// What a request does to the sessions.
+fn apply(sessions: &mut Sessions, change: Option<SessionChange>) -> Result<(), NoMemory>
+    requires fits { Fits change sessions.old }
+    ensures done { OnOk result (sessions.new ≡ changed change sessions.old) }
+    ensures kept { OnErr result (sessions.new ≡ sessions.old) }
+{
+    match change {
+        Some(change) => sessions.apply(change),
+        None => Ok(()),
+    }
+}
+
+// The next release of a connection that is closing. It takes no memory.
+fn next_release(alloc: Global, sessions: &Sessions) -> Next
+    ensures { result ≡ next_release (releases_of sessions.now) }
+{
+    match sessions.next_release() {
+        Some(step) => Next::Ask(Part::Visit {
+            shard: step.shard,
+            visit: Visit {
+                group: step.group,
+                member: step.member,
+                acks: AckList::new(Items::new(Vec::new(alloc))),
+                then: Then::Release,
+            },
+        }),
+        None => Next::Gone,
+    }
+}
+
+fn has_no_release(sessions: &Sessions) -> bool
+    ensures { result ≡ has_no_release (releases_of sessions.now) }
+{
+    sessions.next_release().is_none()
+}
+
 impl Conn {
     /// A connection that has come.
     pub fn open(alloc: Global) -> Conn
@@ -59,7 +102,7 @@ impl Conn {
             alloc,
             stream: Stream::new(alloc),
             work: Work::Free,
-            releases: VecDeque::new(alloc),
+            sessions: Sessions::new(alloc),
             replies: VecDeque::new(alloc),
         }
     }
@@ -75,8 +118,9 @@ impl Conn {
         }
     }
 
-    /// The connection is closed, by either side. Bytes that no request took and the request in hand go; replies that are
-    /// finished can still be taken. What is to be released is asked next.
+    /// The connection is closed, by either side. Bytes that no request took, the request in hand and the sessions go; replies that are
+    /// finished can still be taken. What the members of the sessions hold is released next: sessions in the order in which they were
+    /// opened, and the partitions of each in the order in which they joined. It takes no memory.
     pub fn end(&mut self)
         ensures { self.new ≡ conn_after_end self.old }
     {
@@ -96,38 +140,79 @@ impl Conn {
         Next::Closed(cause)
     }
 
-    // A frame of so many bytes is answered by this.
-    fn send(&mut self, size: u32, reply: ReplyFrame) -> Result<Next, NoMemory>
+    // A reply is finished to a frame of so many bytes, whose request does this to the sessions.
+    fn finish_first(
+        &mut self,
+        size: u32,
+        change: Option<SessionChange>,
+        frame: Blob,
+    ) -> Result<Next, NoMemory>
         requires whole { 4 + size ≤ length self.old.unread }
         requires idle { self.old.work ≡ Work.Free }
-        ensures next { IfOk result (λ next. Tells (reply_turn self.old (behind_frame size self.old.unread) reply) next self.new) }
+        requires fits { Fits change self.old.sessions }
+        ensures next { IfOk result (λ next. Tells (reply_turn (taken_up (behind_frame size self.old.unread) change self.old) (ReplyFrame.Frame frame)) next self.new) }
         ensures kept { OnErr result (self.new ≡ self.old) }
     {
-        match reply {
-            ReplyFrame::TooLong => return Ok(self.close(CloseCause::LongReply)),
-            ReplyFrame::Nothing => {}
-            ReplyFrame::Frame(frame) => self.replies.push_back(frame)?,
-        }
+        self.replies.reserve(1)?;
+        apply(&mut self.sessions, change)?;
+        self.replies.push_back(frame)?;
         self.stream.take(4 + size as usize);
         Ok(Next::Ready)
     }
 
-    // A frame of so many bytes begins this request.
-    fn begin(&mut self, size: u32, correlation: i32, hand: Hand) -> Result<Next, NoMemory>
+    // A frame of so many bytes is answered by this, and its request does this to the sessions.
+    fn send(
+        &mut self,
+        size: u32,
+        change: Option<SessionChange>,
+        reply: ReplyFrame,
+    ) -> Result<Next, NoMemory>
         requires whole { 4 + size ≤ length self.old.unread }
-        ensures next { IfOk result (λ next. Tells (request_turn self.old (behind_frame size self.old.unread) correlation hand) next self.new) }
+        requires idle { self.old.work ≡ Work.Free }
+        requires fits { Fits change self.old.sessions }
+        ensures next { IfOk result (λ next. Tells (reply_turn (taken_up (behind_frame size self.old.unread) change self.old) reply) next self.new) }
         ensures kept { OnErr result (self.new ≡ self.old) }
     {
-        let part = hand.part(self.alloc)?;
+        match reply {
+            ReplyFrame::Frame(frame) => self.finish_first(size, change, frame),
+            ReplyFrame::Nothing => {
+                apply(&mut self.sessions, change)?;
+                self.stream.take(4 + size as usize);
+                Ok(Next::Ready)
+            }
+            ReplyFrame::TooLong => {
+                apply(&mut self.sessions, change)?;
+                Ok(self.close(CloseCause::LongReply))
+            }
+        }
+    }
+
+    // A frame of so many bytes begins this request, which does this to the sessions.
+    fn begin(
+        &mut self,
+        size: u32,
+        change: Option<SessionChange>,
+        correlation: i32,
+        hand: Hand,
+    ) -> Result<Next, NoMemory>
+        requires whole { 4 + size ≤ length self.old.unread }
+        requires idle { self.old.work ≡ Work.Free }
+        requires fits { Fits change self.old.sessions }
+        ensures next { IfOk result (λ next. Tells (request_turn (taken_up (behind_frame size self.old.unread) change self.old) correlation hand) next self.new) }
+        ensures kept { OnErr result (self.new ≡ self.old) }
+    {
+        let first = hand.part(self.alloc)?;
+        apply(&mut self.sessions, change)?;
         self.stream.take(4 + size as usize);
         self.work = Work::Busy { correlation, hand };
-        Ok(Next::Ask(part))
+        Ok(Next::Ask(first))
     }
 
     // A frame of so many bytes was judged.
     fn take_up(&mut self, size: u32, verdict: Verdict) -> Result<Next, NoMemory>
         requires whole { 4 + size ≤ length self.old.unread }
         requires idle { self.old.work ≡ Work.Free }
+        requires room { HasRoomFor verdict self.old.sessions }
         ensures next { IfOk result (λ next. Tells (verdict_turn self.old (behind_frame size self.old.unread) verdict) next self.new) }
         ensures kept { OnErr result (self.new ≡ self.old) }
     {
@@ -136,14 +221,17 @@ impl Conn {
             Verdict::Taken {
                 tags,
                 correlation,
-                stage,
-            } => match stage {
-                Stage::Says(body) => {
-                    let reply = frame_reply(self.alloc, tags, correlation, body)?;
-                    self.send(size, reply)
+                begun,
+            } => {
+                let Begun { stage, change } = begun;
+                match stage {
+                    Stage::Says(body) => {
+                        let reply = frame_reply(self.alloc, tags, correlation, body)?;
+                        self.send(size, change, reply)
+                    }
+                    Stage::Asks(hand) => self.begin(size, change, correlation, hand),
                 }
-                Stage::Asks(hand) => self.begin(size, correlation, hand),
-            },
+            }
         }
     }
 
@@ -157,19 +245,10 @@ impl Conn {
             Front::Partial => Ok(Next::Idle),
             Front::TooLong { size } => Ok(self.close(CloseCause::TooLong { size })),
             Front::Whole { size } => {
-                let verdict = judge(self.alloc, conf, frame(size, self.stream.as_slice()))?;
+                let frame = frame(size, self.stream.as_slice());
+                let verdict = judge(self.alloc, conf, &self.sessions, frame)?;
                 self.take_up(size, verdict)
             }
-        }
-    }
-
-    // The next release of a connection that is closing.
-    fn release(&self) -> Next
-        ensures { result ≡ next_release self.now.releases }
-    {
-        match self.releases.front() {
-            Some(key) => Next::Ask(Part::Foreign(ForeignOp::Delete { key: *key })),
-            None => Next::Gone,
         }
     }
 
@@ -184,12 +263,12 @@ impl Conn {
                 Ok(Next::Ask(part))
             }
             Work::Overlong => Ok(self.close(CloseCause::LongReply)),
-            Work::Closing => Ok(self.release()),
+            Work::Closing => Ok(next_release(self.alloc, &self.sessions)),
         }
     }
 
     /// What the connection does next: it waits, asks a part, has answered a request that needs no further part, closes, or
-    /// is gone. It waits exactly where it isn't closing, no request is in hand, and what is unread begins with neither a whole
+    /// is gone. What a request does to the sessions is done when its frame is taken up. It waits exactly where it isn't closing, no request is in hand, and what is unread begins with neither a whole
     /// frame nor the size of one that is too long. Until a `give` or an `end` it answers the same part. After want of memory
     /// all is as before.
     pub fn next_part(&mut self, conf: &Config) -> Result<Next, NoMemory>
@@ -244,7 +323,7 @@ impl Conn {
                 self.settle(correlation, stage)
             }
             Work::Closing => {
-                let _ = self.releases.pop_front();
+                self.sessions.release_done();
                 self.work = Work::Closing;
                 Ok(())
             }
@@ -258,7 +337,7 @@ impl Conn {
 
     /// The answer to the part that `next_part` asked: of its kind, each offset at most 2^63 - 1 and each count at most 32767.
     /// With the last answer the reply, if there is one, is finished, unless it is too long: then `next_part` closes the connection.
-    /// Where no part is asked nothing changes. Want of memory ends the connection as `end` does.
+    /// Where no part is asked nothing changes. The answer to a release takes it off, whatever it is. Want of memory ends the connection as `end` does.
     pub fn give(&mut self, _conf: &Config, answer: PartAnswer) -> Result<(), NoMemory>
         requires fits { FitsIn (awaited_part self.old) answer }
         ensures answer { OnOk result (self.new ≡ conn_after_answer answer self.old) }
@@ -278,7 +357,7 @@ impl Conn {
         ensures { result ≡ is_gone self.now }
     {
         match &self.work {
-            Work::Closing => self.releases.is_empty(),
+            Work::Closing => has_no_release(&self.sessions),
             _ => false,
         }
     }

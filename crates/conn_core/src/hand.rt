@@ -6,10 +6,13 @@ ghost use Rattle.conn_core.specs.Hands.{hand_part, hand_stage_after};
 use call_fold::{Asking, Part, PartAnswer, Stage, part_of, take};
 use log_calls::{Offer, ProduceHand};
 use msgs_base::ProducePartitionReply;
+use msgs_group::{HeartbeatReply, HeartbeatRequest};
+use msgs_share::AcknowledgedPartition;
 use msgs_state::{PartitionResult, ReadPartitionResult};
+use share_calls::{AckHand, FetchHand, FetchRow, HeartbeatHand, Visiting};
 use share_model::NoMemory;
 use state_calls::{
-    Beginning, Delete, Deleting, Initialize, Read, Reading, StateHand, Wished, Write, Writing,
+    Beginning, Delete, Deleting, Initialize, Question, Read, Reading, StateHand, Write, Writing,
 };
 use std::alloc::Global;
 
@@ -17,10 +20,13 @@ use std::alloc::Global;
 #[derive(Drop)]
 pub enum Hand {
     Produce(Asking<ProduceHand, Offer, ProducePartitionReply>),
-    Initialize(Asking<StateHand<Initialize>, Wished<Beginning>, PartitionResult>),
-    Read(Asking<StateHand<Read>, Wished<Reading>, ReadPartitionResult>),
-    Write(Asking<StateHand<Write>, Wished<Writing>, PartitionResult>),
-    Delete(Asking<StateHand<Delete>, Wished<Deleting>, PartitionResult>),
+    Fetch(Asking<FetchHand, Visiting, Option<FetchRow>>),
+    Acknowledge(Asking<AckHand, Visiting, Option<AcknowledgedPartition>>),
+    Heartbeat(Asking<HeartbeatHand, HeartbeatRequest, HeartbeatReply>),
+    Initialize(Asking<StateHand<Initialize>, Question<Beginning>, PartitionResult>),
+    Read(Asking<StateHand<Read>, Question<Reading>, ReadPartitionResult>),
+    Write(Asking<StateHand<Write>, Question<Writing>, PartitionResult>),
+    Delete(Asking<StateHand<Delete>, Question<Deleting>, PartitionResult>),
 }
 
 // A call's stage, under its name in hand.
@@ -33,8 +39,6 @@ macro_rules! under_name {
     };
 }
 
-pub(crate) use under_name;
-
 impl Hand {
     /// The part that is asked.
     pub fn part(&self, alloc: Global) -> Result<Part, NoMemory>
@@ -42,6 +46,9 @@ impl Hand {
     {
         match self {
             Hand::Produce(asking) => part_of(alloc, asking),
+            Hand::Fetch(asking) => part_of(alloc, asking),
+            Hand::Acknowledge(asking) => part_of(alloc, asking),
+            Hand::Heartbeat(asking) => part_of(alloc, asking),
             Hand::Initialize(asking) => part_of(alloc, asking),
             Hand::Read(asking) => part_of(alloc, asking),
             Hand::Write(asking) => part_of(alloc, asking),
@@ -56,6 +63,9 @@ impl Hand {
     {
         match self {
             Hand::Produce(asking) => under_name!(Produce, take(alloc, asking, answer)?),
+            Hand::Fetch(asking) => under_name!(Fetch, take(alloc, asking, answer)?),
+            Hand::Acknowledge(asking) => under_name!(Acknowledge, take(alloc, asking, answer)?),
+            Hand::Heartbeat(asking) => under_name!(Heartbeat, take(alloc, asking, answer)?),
             Hand::Initialize(asking) => under_name!(Initialize, take(alloc, asking, answer)?),
             Hand::Read(asking) => under_name!(Read, take(alloc, asking, answer)?),
             Hand::Write(asking) => under_name!(Write, take(alloc, asking, answer)?),

@@ -3,6 +3,7 @@
 #![tactic(auto)]
 
 mod api;
+mod begun;
 mod conn;
 mod coordinators;
 mod hand;
@@ -16,10 +17,10 @@ mod stream;
 mod versions;
 mod work;
 
-pub use call_fold::{Part, PartAnswer, Produced};
+pub use call_fold::{Looked, Part, PartAnswer, Produced};
 pub use conn::Conn;
 pub use law::{
-    connections_depend_on_the_stream, each_request_is_taken_for_what_it_says,
-    requests_keep_to_their_talk,
+    connections_ask_hosted_shards, connections_depend_on_the_stream,
+    each_request_is_taken_for_what_it_says, requests_keep_to_their_talk,
 };
 pub use next::Next;

@@ -1,9 +1,12 @@
 //! The requests that are served: with what each begins.
-ghost use Rattle.std.specs.Prelude.{◌≡◌, IfOk};
-ghost use Rattle.conn_core.specs.Beginning.{Begins, metadata_begins, coordinator_begins, versions_begins, produce_begins, initialize_begins, read_begins, write_begins, delete_begins};
+ghost use Rattle.std.specs.Prelude.{◌≡◌, List, IfOk};
+ghost use Rattle.share_calls.specs.Changes.{Fits};
+ghost use Rattle.conn_core.specs.Beginning.{Begins, metadata_begins, coordinator_begins, versions_begins, produce_begins, fetch_begins, acknowledge_begins};
+ghost use Rattle.conn_core.specs.Beginning.{heartbeat_begins, initialize_begins, read_begins, write_begins, delete_begins};
 
+use crate::begun::Begun;
 use crate::coordinators::coordinator_reply;
-use crate::hand::{Hand, under_name};
+use crate::hand::Hand;
 use crate::metadata::metadata_reply;
 use crate::versions::versions_reply;
 use call_fold::Stage;
@@ -12,90 +15,148 @@ use msgs_base::{
     ApiVersionsRequest, FindCoordinatorRequest, MetadataRequest, ProduceRequest,
     write_api_versions_reply, write_find_coordinator_reply, write_metadata_reply,
 };
+use msgs_group::HeartbeatRequest;
+use msgs_share::{ShareAckRequest, ShareFetchRequest};
 use msgs_state::{
     DeleteShareGroupStateRequest, InitializeShareGroupStateRequest, ReadShareGroupStateRequest,
     WriteShareGroupStateRequest,
 };
+use share_calls::{ack_call, fetch_call, heartbeat_call};
 use share_model::NoMemory;
+use share_session::Sessions;
 use state_calls::{Delete, Initialize, Read, Write, state_call};
 use std::alloc::Global;
 use topic_conf::Config;
 
 /// A message that asks for a served call.
 pub trait Request: Sized + Drop {
-    /// With what the call begins: its first part, or its reply.
+    /// With what the call begins, by the share sessions of its connection.
     ghost begins: { Begins Self };
 
-    fn begin(self, alloc: Global, conf: &Config) -> Result<Stage<Hand>, NoMemory>
-        ensures { IfOk result (λ stage. stage ≡ begins conf.now self) };
+    /// It begins. The sessions aren't changed yet; the connection has room for the change.
+    fn begin(self, alloc: Global, conf: &Config, sessions: &Sessions) -> Result<Begun, NoMemory>
+        ensures begun { IfOk result (λ begun. begun ≡ begins conf.now sessions.now self) }
+        ensures fits { IfOk result (λ begun. Fits begun.change sessions.now) };
+}
+
+// What a call begins with, under its name in hand.
+macro_rules! begun {
+    ($name:ident, $stage:expr, $change:expr) => {
+        match $stage {
+            Stage::Asks(asking) => Ok(Begun {
+                stage: Stage::Asks(Hand::$name(asking)),
+                change: $change,
+            }),
+            Stage::Says(body) => Ok(Begun {
+                stage: Stage::Says(body),
+                change: $change,
+            }),
+        }
+    };
+}
+
+// A call that has its reply at once, and no sessions.
+macro_rules! replied {
+    ($body:expr) => {
+        Ok(Begun {
+            stage: Stage::Says(Some($body)),
+            change: None,
+        })
+    };
 }
 
 impl Request for MetadataRequest {
     ghost begins = { metadata_begins };
 
-    fn begin(self, alloc: Global, conf: &Config) -> Result<Stage<Hand>, NoMemory> {
+    fn begin(self, alloc: Global, conf: &Config, _: &Sessions) -> Result<Begun, NoMemory> {
         let reply = metadata_reply(alloc, conf, &self)?;
         let body = write_metadata_reply(alloc, &reply)?;
-        Ok(Stage::Says(Some(body)))
+        replied!(body)
     }
 }
 
 impl Request for FindCoordinatorRequest {
     ghost begins = { coordinator_begins };
 
-    fn begin(self, alloc: Global, conf: &Config) -> Result<Stage<Hand>, NoMemory> {
+    fn begin(self, alloc: Global, conf: &Config, _: &Sessions) -> Result<Begun, NoMemory> {
         let reply = coordinator_reply(alloc, conf, self)?;
         let body = write_find_coordinator_reply(alloc, &reply)?;
-        Ok(Stage::Says(Some(body)))
+        replied!(body)
     }
 }
 
 impl Request for ApiVersionsRequest {
     ghost begins = { versions_begins };
 
-    fn begin(self, alloc: Global, _: &Config) -> Result<Stage<Hand>, NoMemory> {
+    fn begin(self, alloc: Global, _: &Config, _: &Sessions) -> Result<Begun, NoMemory> {
         let reply = versions_reply(alloc)?;
         let body = write_api_versions_reply(alloc, &reply)?;
-        Ok(Stage::Says(Some(body)))
+        replied!(body)
     }
 }
 
 impl Request for ProduceRequest {
     ghost begins = { produce_begins };
 
-    fn begin(self, alloc: Global, conf: &Config) -> Result<Stage<Hand>, NoMemory> {
-        under_name!(Produce, produce_call(alloc, conf, self)?)
+    fn begin(self, alloc: Global, conf: &Config, _: &Sessions) -> Result<Begun, NoMemory> {
+        begun!(Produce, produce_call(alloc, conf, self)?, None)
+    }
+}
+
+impl Request for ShareFetchRequest {
+    ghost begins = { fetch_begins };
+
+    fn begin(self, alloc: Global, conf: &Config, sessions: &Sessions) -> Result<Begun, NoMemory> {
+        let (stage, change) = fetch_call(alloc, conf, sessions, &self)?;
+        begun!(Fetch, stage, change)
+    }
+}
+
+impl Request for ShareAckRequest {
+    ghost begins = { acknowledge_begins };
+
+    fn begin(self, alloc: Global, conf: &Config, sessions: &Sessions) -> Result<Begun, NoMemory> {
+        let (stage, change) = ack_call(alloc, conf, sessions, &self)?;
+        begun!(Acknowledge, stage, change)
+    }
+}
+
+impl Request for HeartbeatRequest {
+    ghost begins = { heartbeat_begins };
+
+    fn begin(self, alloc: Global, _: &Config, _: &Sessions) -> Result<Begun, NoMemory> {
+        begun!(Heartbeat, heartbeat_call(alloc, self)?, None)
     }
 }
 
 impl Request for InitializeShareGroupStateRequest {
     ghost begins = { initialize_begins };
 
-    fn begin(self, alloc: Global, conf: &Config) -> Result<Stage<Hand>, NoMemory> {
-        under_name!(Initialize, state_call(alloc, conf, Initialize, self)?)
+    fn begin(self, alloc: Global, conf: &Config, _: &Sessions) -> Result<Begun, NoMemory> {
+        begun!(Initialize, state_call(alloc, conf, Initialize, self)?, None)
     }
 }
 
 impl Request for ReadShareGroupStateRequest {
     ghost begins = { read_begins };
 
-    fn begin(self, alloc: Global, conf: &Config) -> Result<Stage<Hand>, NoMemory> {
-        under_name!(Read, state_call(alloc, conf, Read, self)?)
+    fn begin(self, alloc: Global, conf: &Config, _: &Sessions) -> Result<Begun, NoMemory> {
+        begun!(Read, state_call(alloc, conf, Read, self)?, None)
     }
 }
 
 impl Request for WriteShareGroupStateRequest {
     ghost begins = { write_begins };
 
-    fn begin(self, alloc: Global, conf: &Config) -> Result<Stage<Hand>, NoMemory> {
-        under_name!(Write, state_call(alloc, conf, Write, self)?)
+    fn begin(self, alloc: Global, conf: &Config, _: &Sessions) -> Result<Begun, NoMemory> {
+        begun!(Write, state_call(alloc, conf, Write, self)?, None)
     }
 }
 
 impl Request for DeleteShareGroupStateRequest {
     ghost begins = { delete_begins };
 
-    fn begin(self, alloc: Global, conf: &Config) -> Result<Stage<Hand>, NoMemory> {
-        under_name!(Delete, state_call(alloc, conf, Delete, self)?)
+    fn begin(self, alloc: Global, conf: &Config, _: &Sessions) -> Result<Begun, NoMemory> {
+        begun!(Delete, state_call(alloc, conf, Delete, self)?, None)
     }
 }

@@ -44,7 +44,10 @@ impl Call for ProduceHand {
     ) -> Result<ProducePartitionReply, NoMemory> {
         match answer {
             PartAnswer::Produce(produced) => Ok(log_row(alloc, question.index, produced)),
-            PartAnswer::Foreign(_) | PartAnswer::Visit(_) | PartAnswer::Look(_) => unreachable!(),
+            PartAnswer::Foreign(_)
+            | PartAnswer::Visit(_)
+            | PartAnswer::Look(_)
+            | PartAnswer::Heartbeat(_) => unreachable!(),
         }
     }
 

@@ -81,7 +81,7 @@ next_part hand [] rows answers = refl
 next_part hand (Known row ∷ es) rows answers = next_part hand es (rows ++ row ∷ []) answers
 next_part hand (Ask q ∷ es) rows [] = ap (λ h. Some (visit_part h q.step)) (sym (no_limits hand))
 next_part hand (Ask q ∷ es) rows (a ∷ answers) =
-    next_part (hand_after hand a) es (rows ++ row_for q.told a ∷ []) answers
+    next_part (hand_after hand a) es (rows ++ row_for q.step.purpose q.told a ∷ []) answers
     ∙ ap (λ h. option_map (visit_part h) (slice_get (asked es) (length answers))) (more_limits hand a answers)
 
 asked_untold : (steps : List PlanStep) (es : List FetchEntry) → asked (map untold steps ++ es) ≡ steps ++ asked es
@@ -112,13 +112,13 @@ abbrev told_in : List FetchEntry → List PartAnswer → List FetchRow
 told_in [] answers = []
 told_in (Known row ∷ es) answers = cons_option row (told_in es answers)
 told_in (Ask q ∷ es) [] = []
-told_in (Ask q ∷ es) (a ∷ answers) = cons_option (row_for q.told (visit_answer a)) (told_in es answers)
+told_in (Ask q ∷ es) (a ∷ answers) = cons_option (row_for q.step.purpose q.told (visit_answer a)) (told_in es answers)
 
 rows_told : (hand : FetchHand) (es : List FetchEntry) (answers : List PartAnswer) → told_rows (entry_rows fetch_acts hand es answers) ≡ told_in es answers
 rows_told hand [] answers = refl
 rows_told hand (Known row ∷ es) answers = ap (cons_option row) (rows_told hand es answers)
 rows_told hand (Ask q ∷ es) [] = refl
-rows_told hand (Ask q ∷ es) (a ∷ answers) = ap (cons_option (row_for q.told (visit_answer a))) (rows_told (hand_after hand (visit_answer a)) es answers)
+rows_told hand (Ask q ∷ es) (a ∷ answers) = ap (cons_option (row_for q.step.purpose q.told (visit_answer a))) (rows_told (hand_after hand (visit_answer a)) es answers)
 
 lock_kept : (hand : FetchHand) (es : List FetchEntry) (answers : List PartAnswer) → (last_call fetch_acts hand es answers).lock_ms ≡ hand.lock_ms
 lock_kept hand [] answers = refl

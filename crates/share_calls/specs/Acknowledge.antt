@@ -29,11 +29,11 @@ use Rattle.share_session.specs.declared.step.PlanStep.{PlanStep}
 use Rattle.share_session.specs.declared.step.Purpose.{Purpose}
 use Rattle.share_session.specs.declared.step.Purpose.TheVariants.{Nothing, Release, Fetch}
 use Rattle.share_session.specs.declared.fault.SessionFault.{SessionFault}
+use Rattle.share_session.specs.declared.change.SessionChange.{SessionChange}
 use Rattle.share_session.specs.PlanParts.{PlanParts}
 use Rattle.share_session.specs.Plans.{ack_plan, ack_refusal}
 use Rattle.share_session.specs.Refusals.{code_of}
 use Rattle.share_session.specs.SessionParts.{SessionParts}
-use Rattle.share_session.specs.Sessions.{applied}
 use Rattle.share_session.specs.Requests.{entries}
 use Rattle.share_calls.specs.declared.partition.PartitionId.{PartitionId}
 use Rattle.share_calls.specs.declared.visiting.Visiting.{Visiting}
@@ -131,22 +131,22 @@ ack_stage topics r plan = stage_of ack_acts (ack_hand r) (ack_entries topics r p
 
 -- ---- with what a request begins
 
--- the stage of a request, and the sessions then
+-- the stage of a request, and what becomes of its session
 pub record AckBegun : Type 0 where
   pub stage : Stage (AskingParts AckHand Visiting (Option AcknowledgedPartition))
-  pub sessions : List SessionParts
+  pub change : Option SessionChange
 
-abbrev pub ack_begun : List Topic → List SessionParts → ShareAckRequest → PlanParts → AckBegun
-ack_begun topics sessions r plan = record { stage = ack_stage topics r plan; sessions = applied plan.change sessions }
+abbrev pub ack_begun : List Topic → ShareAckRequest → PlanParts → AckBegun
+ack_begun topics r plan = record { stage = ack_stage topics r plan; change = Some plan.change }
 
 -- a request that is refused tells its code, and no topic
-abbrev pub ack_refused : List SessionParts → Option Code → AckBegun
-ack_refused sessions None = record { stage = Says None; sessions = sessions }
-ack_refused sessions (Some code) = record { stage = Says (Some (ack_body code.0 [])); sessions = sessions }
+abbrev pub ack_refused : Option Code → AckBegun
+ack_refused None = record { stage = Says None; change = None }
+ack_refused (Some code) = record { stage = Says (Some (ack_body code.0 [])); change = None }
 
 abbrev pub ack_begins_by : List Topic → List SessionParts → ShareAckRequest → Option SessionFault → AckBegun
-ack_begins_by topics sessions r None = ack_begun topics sessions r (ack_plan sessions topics r)
-ack_begins_by topics sessions r (Some fault) = ack_refused sessions (code_of fault)
+ack_begins_by topics sessions r None = ack_begun topics r (ack_plan sessions topics r)
+ack_begins_by topics sessions r (Some fault) = ack_refused (code_of fault)
 
 abbrev pub ack_begins : List Topic → List SessionParts → ShareAckRequest → AckBegun
 ack_begins topics sessions r = ack_begins_by topics sessions r (ack_refusal sessions r)

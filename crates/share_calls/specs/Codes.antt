@@ -10,6 +10,8 @@ use Rattle.share_model.specs.declared.visit.AckOutcome.TheVariants.{Done, Malfor
 use Rattle.share_model.specs.declared.visit.ThenOutcome.{ThenOutcome}
 use Rattle.share_model.specs.declared.visit.ThenOutcome.TheVariants.{Done as then_done, Store as then_store}
 use Rattle.topic_conf.specs.declared.topic.Topic.{Topic}
+use Rattle.share_session.specs.declared.step.Purpose.{Purpose}
+use Rattle.share_session.specs.declared.step.Purpose.TheVariants.{Nothing, Release, Fetch}
 use Rattle.topic_conf.specs.Topics.{place_by_id}
 
 -- what became of the acknowledgements of a partition
@@ -23,6 +25,12 @@ ack_code (Store fault) = KAFKA_STORAGE_ERROR
 abbrev pub then_code : ThenOutcome → Code
 then_code then_done = NONE
 then_code (then_store fault) = KAFKA_STORAGE_ERROR
+
+-- the error code of a visit; a release that couldn't be stored isn't told by the reply
+abbrev pub fetch_code : Purpose → ThenOutcome → Code
+fetch_code Nothing outcome = NONE
+fetch_code Release outcome = NONE
+fetch_code Fetch outcome = then_code outcome
 
 -- a partition that isn't hosted: its topic isn't, or it alone
 abbrev pub unhosted_code : List Topic → List ℕ → Code

@@ -35,17 +35,17 @@ use Rattle.share_session.specs.declared.step.PlanStep.{PlanStep}
 use Rattle.share_session.specs.declared.step.Purpose.{Purpose}
 use Rattle.share_session.specs.declared.step.Purpose.TheVariants.{Nothing, Release, Fetch}
 use Rattle.share_session.specs.declared.fault.SessionFault.{SessionFault}
+use Rattle.share_session.specs.declared.change.SessionChange.{SessionChange}
 use Rattle.share_session.specs.PlanParts.{PlanParts}
 use Rattle.share_session.specs.Plans.{fetch_plan, fetch_refusal}
 use Rattle.share_session.specs.Refusals.{code_of}
 use Rattle.share_session.specs.SessionParts.{SessionParts}
-use Rattle.share_session.specs.Sessions.{applied}
 use Rattle.share_session.specs.Requests.{entries}
 use Rattle.share_calls.specs.declared.partition.PartitionId.{PartitionId}
 use Rattle.share_calls.specs.declared.visiting.Visiting.{Visiting}
 use Rattle.share_calls.specs.declared.fetch.FetchHand.{FetchHand}
 use Rattle.share_calls.specs.declared.fetch_rows.FetchRow.{FetchRow}
-use Rattle.share_calls.specs.Codes.{ack_code, then_code, unhosted_code}
+use Rattle.share_calls.specs.Codes.{ack_code, fetch_code, unhosted_code}
 use Rattle.share_calls.specs.Partitions.{partition_of}
 use Rattle.share_calls.specs.Rows.{grouped, topics_of}
 use Rattle.share_calls.specs.Visits.{visit_of, untold, told_rows}
@@ -103,10 +103,10 @@ fetched index code ack batches grants = record {
   acquired_records = map acquired grants;
 }
 
-abbrev pub fetch_row : VisitAnswer → PartitionId → FetchRow
-fetch_row answer id = record {
+abbrev pub fetch_row : Purpose → VisitAnswer → PartitionId → FetchRow
+fetch_row purpose answer id = record {
   topic_id = id.topic_id;
-  partition = fetched id.index (then_code answer.«then») (ack_code answer.ack) answer.batches answer.grants;
+  partition = fetched id.index (fetch_code purpose answer.«then») (ack_code answer.ack) answer.batches answer.grants;
 }
 
 -- a partition that isn't hosted; its code stands for its acknowledgements too, where there are some
@@ -130,8 +130,8 @@ unhosted topics r = filter_map (unhosted_of topics) (entries r.topics)
 -- ---- the call
 
 -- an answer that isn't told has no row
-abbrev pub row_for : Option PartitionId → VisitAnswer → Option FetchRow
-row_for told answer = option_map (fetch_row answer) told
+abbrev pub row_for : Purpose → Option PartitionId → VisitAnswer → Option FetchRow
+row_for purpose told answer = option_map (fetch_row purpose answer) told
 
 abbrev pub row_of_topic : FetchRow → List ℕ × FetchedPartition
 row_of_topic row = (row.topic_id, row.partition)
@@ -152,7 +152,7 @@ fetch_body lock_ms code rows = fetch_reply lock_ms code (topics_of (grouped (map
 abbrev pub fetch_acts : Acts FetchHand Visiting (Option FetchRow)
 fetch_acts = record {
   part = λ hand q. PartVisit q.step.shard (visit_of q.step (then_of hand q.step.purpose));
-  row = λ hand q answer. row_for q.told (visit_answer answer);
+  row = λ hand q answer. row_for q.step.purpose q.told (visit_answer answer);
   next = λ hand q answer. hand_after hand (visit_answer answer);
   body = λ hand rows. Some (fetch_body hand.lock_ms (pos 0) (told_rows rows));
 }
@@ -182,22 +182,22 @@ fetch_stage conf r plan = stage_of fetch_acts (fetch_hand conf r) (fetch_entries
 
 -- ---- with what a request begins
 
--- the stage of a request, and the sessions then
+-- the stage of a request, and what becomes of its session
 pub record Begun : Type 0 where
   pub stage : Stage (AskingParts FetchHand Visiting (Option FetchRow))
-  pub sessions : List SessionParts
+  pub change : Option SessionChange
 
-abbrev pub begun_with : ConfigParts → List SessionParts → ShareFetchRequest → PlanParts → Begun
-begun_with conf sessions r plan = record { stage = fetch_stage conf r plan; sessions = applied plan.change sessions }
+abbrev pub begun_with : ConfigParts → ShareFetchRequest → PlanParts → Begun
+begun_with conf r plan = record { stage = fetch_stage conf r plan; change = Some plan.change }
 
 -- a request that is refused tells its code, and no partition
-abbrev pub refused_with : ConfigParts → List SessionParts → Option Code → Begun
-refused_with conf sessions None = record { stage = Says None; sessions = sessions }
-refused_with conf sessions (Some code) = record { stage = Says (Some (fetch_body (pos conf.lock_ms) code.0 [])); sessions = sessions }
+abbrev pub refused_with : ConfigParts → Option Code → Begun
+refused_with conf None = record { stage = Says None; change = None }
+refused_with conf (Some code) = record { stage = Says (Some (fetch_body (pos conf.lock_ms) code.0 [])); change = None }
 
 abbrev pub fetch_begins_by : ConfigParts → List SessionParts → ShareFetchRequest → Option SessionFault → Begun
-fetch_begins_by conf sessions r None = begun_with conf sessions r (fetch_plan sessions conf.topics r)
-fetch_begins_by conf sessions r (Some fault) = refused_with conf sessions (code_of fault)
+fetch_begins_by conf sessions r None = begun_with conf r (fetch_plan sessions conf.topics r)
+fetch_begins_by conf sessions r (Some fault) = refused_with conf (code_of fault)
 
 abbrev pub fetch_begins : ConfigParts → List SessionParts → ShareFetchRequest → Begun
 fetch_begins conf sessions r = fetch_begins_by conf sessions r (fetch_refusal sessions r)

@@ -18,9 +18,10 @@ use Rattle.share_session.specs.declared.step.PlanStep.{PlanStep}
 use Rattle.share_session.specs.declared.change.SessionChange.{SessionChange}
 use Rattle.share_session.specs.PlanParts.{PlanParts}
 use Rattle.share_session.specs.Plans.{steps_of}
+use Rattle.share_session.specs.SessionParts.{SessionParts}
 use Rattle.share_calls.specs.declared.fetch.FetchHand.{FetchHand}
 use Rattle.share_calls.specs.declared.fetch_rows.FetchRow.{FetchRow}
-use Rattle.share_calls.specs.Fetch.{granted, then_of, row_for, unhosted, fetch_acts, fetch_body, fetch_hand, fetch_stage}
+use Rattle.share_calls.specs.Fetch.{granted, then_of, row_for, unhosted, fetch_acts, fetch_body, fetch_hand, fetch_stage, fetch_begins}
 use Rattle.share_calls.specs.Partitions.{partition_of}
 use Rattle.share_calls.specs.Visits.{visit_of}
 
@@ -65,13 +66,17 @@ abbrev pub plan_in : PlanBeside → SessionChange → PlanParts
 plan_in b change = record { released = steps_in b.released; told = steps_in b.told; closed = steps_in b.closed; change = change }
 
 abbrev pub own_row : List Topic → Answered → Option FetchRow
-own_row topics x = row_for (partition_of topics x.0.shard) x.1
+own_row topics x = row_for x.0.purpose (partition_of topics x.0.shard) x.1
 
 -- ---- the law
 
 -- what a request asks and says as it is done
 abbrev pub fetch_talk : ConfigParts → ShareFetchRequest → PlanParts → Talk
 fetch_talk conf r plan = stage_talk (talk_of fetch_acts) (fetch_stage conf r plan)
+
+-- the same by the sessions of its connection, where it may be refused
+abbrev pub request_talk : ConfigParts → List SessionParts → ShareFetchRequest → Talk
+request_talk conf sessions r = stage_talk (talk_of fetch_acts) (fetch_begins conf sessions r).stage
 
 pub record TellsByItsVisit : Type 0 where
   -- once these answers have come, the next step of the plan is visited, with the limits that they leave

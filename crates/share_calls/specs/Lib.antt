@@ -1,6 +1,8 @@
 pub mod Partitions
 pub mod Codes
 pub mod Visits
+pub mod Changes
+pub mod Heartbeats
 pub mod Rows
 pub mod Fetch
 pub mod Shapes

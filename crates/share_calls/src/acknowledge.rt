@@ -2,6 +2,7 @@
 ghost use Rattle.std.specs.Prelude.{◌≡◌, pos, Some, IfOk, OnOk, OnErr};
 ghost use Rattle.share_session.specs.Plans.{plan_of};
 ghost use Rattle.share_calls.specs.Visits.{told_rows};
+ghost use Rattle.share_calls.specs.Changes.{Fits};
 ghost use Rattle.share_calls.specs.Acknowledge.{ack_then, ack_acts, ack_body, ack_stage, ack_begins, rows_by_topic};
 
 use crate::ack_entries::place_all;
@@ -65,7 +66,10 @@ impl Call for AckHand {
                 Some(id) => Ok(Some(acknowledged(id.index, ack_code(answer.ack)))),
                 None => Ok(None),
             },
-            PartAnswer::Foreign(_) | PartAnswer::Produce(_) | PartAnswer::Look(_) => unreachable!(),
+            PartAnswer::Foreign(_)
+            | PartAnswer::Produce(_)
+            | PartAnswer::Look(_)
+            | PartAnswer::Heartbeat(_) => unreachable!(),
         }
     }
 
@@ -134,30 +138,29 @@ fn ack_stage(
     Ok((stage, change))
 }
 
-/// A ShareAcknowledge begins: with its first visit, or its reply. The session of its member is what it leaves. Where there is no memory,
-/// the sessions are as they were.
+/// A ShareAcknowledge begins: with its first visit, or its reply. Behind it stands what it does to the session of its member, `None` where
+/// it is refused; the connection has room for that. The sessions aren't changed yet.
 pub fn ack_call(
     alloc: Global,
     conf: &Config,
-    sessions: &mut Sessions,
+    sessions: &Sessions,
     request: &ShareAckRequest,
-) -> Result<AckStage, NoMemory>
-    ensures stage { IfOk result (λ stage. stage ≡ (ack_begins conf.now.topics sessions.old request.now).stage) }
-    ensures sessions { OnOk result (sessions.new ≡ (ack_begins conf.now.topics sessions.old request.now).sessions) }
-    ensures kept { OnErr result (sessions.new ≡ sessions.old) }
+) -> Result<(AckStage, Option<SessionChange>), NoMemory>
+    ensures stage { IfOk result (λ r. r.0 ≡ (ack_begins conf.now.topics sessions.now request.now).stage) }
+    ensures change { IfOk result (λ r. r.1 ≡ (ack_begins conf.now.topics sessions.now request.now).change) }
+    ensures fits { IfOk result (λ r. Fits r.1 sessions.now) }
 {
     match sessions.plan_ack(request, conf) {
         Ok(plan) => {
             let (stage, change) = ack_stage(alloc, conf, request, plan)?;
-            sessions.apply(change)?;
-            Ok(stage)
+            Ok((stage, Some(change)))
         }
         Err(fault) => {
             let Some(code) = fault.code() else {
                 return Err(NoMemory);
             };
             let body = reply_with(alloc, code, Items::new(Vec::new(alloc)))?;
-            Ok(Stage::Says(Some(body)))
+            Ok((Stage::Says(Some(body)), None))
         }
     }
 }

@@ -1,8 +1,9 @@
 // The error codes of share requests.
 ghost use Rattle.std.specs.Prelude.{◌≡◌};
-ghost use Rattle.share_calls.specs.Codes.{ack_code, then_code, unhosted_code};
+ghost use Rattle.share_calls.specs.Codes.{ack_code, then_code, fetch_code, unhosted_code};
 
 use share_model::{AckOutcome, Code, ThenOutcome};
+use share_session::Purpose;
 use topic_conf::Config;
 use uuid::Uuid;
 
@@ -18,13 +19,23 @@ pub fn ack_code(outcome: AckOutcome) -> Code
     }
 }
 
-/// The code of what followed them.
-pub fn then_code(outcome: ThenOutcome) -> Code
+// The code of a fetch behind them.
+fn then_code(outcome: ThenOutcome) -> Code
     ensures { result ≡ then_code outcome }
 {
     match outcome {
         ThenOutcome::Done => Code::NONE,
         ThenOutcome::Store(_) => Code::KAFKA_STORAGE_ERROR,
+    }
+}
+
+/// The error code of a visit. A release that couldn't be stored isn't told by the reply.
+pub fn fetch_code(purpose: Purpose, outcome: ThenOutcome) -> Code
+    ensures { result ≡ fetch_code purpose outcome }
+{
+    match purpose {
+        Purpose::Fetch => then_code(outcome),
+        Purpose::Nothing | Purpose::Release => Code::NONE,
     }
 }
 

@@ -4,6 +4,7 @@ ghost use Rattle.share_session.specs.Plans.{plan_of};
 ghost use Rattle.share_calls.specs.Fetch.{at_least_0, offsets, granted, hand_after, then_of, told};
 ghost use Rattle.share_calls.specs.Fetch.{fetch_acts, fetch_reply, fetch_body, fetch_stage, fetch_begins};
 ghost use Rattle.share_calls.specs.Visits.{told_rows};
+ghost use Rattle.share_calls.specs.Changes.{Fits};
 
 use crate::fetch_rows::{FetchRow, fetch_row, push_all_unhosted};
 use crate::groups::topics_of;
@@ -119,16 +120,19 @@ impl Call for FetchHand {
         question: Visiting,
         answer: PartAnswer,
     ) -> Result<Option<FetchRow>, NoMemory> {
-        let Visiting { told, .. } = question;
+        let Visiting { step, told } = question;
         match answer {
             PartAnswer::Visit(answer) => {
                 self.count(&answer);
                 match told {
-                    Some(id) => Ok(Some(fetch_row(alloc, id, answer)?)),
+                    Some(id) => Ok(Some(fetch_row(alloc, step.purpose, id, answer)?)),
                     None => Ok(None),
                 }
             }
-            PartAnswer::Foreign(_) | PartAnswer::Produce(_) | PartAnswer::Look(_) => unreachable!(),
+            PartAnswer::Foreign(_)
+            | PartAnswer::Produce(_)
+            | PartAnswer::Look(_)
+            | PartAnswer::Heartbeat(_) => unreachable!(),
         }
     }
 
@@ -232,30 +236,29 @@ fn fetch_stage(
     Ok((stage, change))
 }
 
-/// A ShareFetch begins: with its first visit, or its reply. The session of its member is what it leaves. Where there is no memory, the
-/// sessions are as they were.
+/// A ShareFetch begins: with its first visit, or its reply. Behind it stands what it does to the session of its member, `None` where it is
+/// refused; the connection has room for that. The sessions aren't changed yet.
 pub fn fetch_call(
     alloc: Global,
     conf: &Config,
-    sessions: &mut Sessions,
+    sessions: &Sessions,
     request: &ShareFetchRequest,
-) -> Result<FetchStage, NoMemory>
-    ensures stage { IfOk result (λ stage. stage ≡ (fetch_begins conf.now sessions.old request.now).stage) }
-    ensures sessions { OnOk result (sessions.new ≡ (fetch_begins conf.now sessions.old request.now).sessions) }
-    ensures kept { OnErr result (sessions.new ≡ sessions.old) }
+) -> Result<(FetchStage, Option<SessionChange>), NoMemory>
+    ensures stage { IfOk result (λ r. r.0 ≡ (fetch_begins conf.now sessions.now request.now).stage) }
+    ensures change { IfOk result (λ r. r.1 ≡ (fetch_begins conf.now sessions.now request.now).change) }
+    ensures fits { IfOk result (λ r. Fits r.1 sessions.now) }
 {
     match sessions.plan_fetch(request, conf) {
         Ok(plan) => {
             let (stage, change) = fetch_stage(alloc, conf, request, plan)?;
-            sessions.apply(change)?;
-            Ok(stage)
+            Ok((stage, Some(change)))
         }
         Err(fault) => {
             let Some(code) = fault.code() else {
                 return Err(NoMemory);
             };
             let body = refused_fetch(alloc, conf, code)?;
-            Ok(Stage::Says(Some(body)))
+            Ok((Stage::Says(Some(body)), None))
         }
     }
 }

@@ -5,13 +5,14 @@ ghost use Rattle.call_fold.specs.Parts.{IsTellableGrant, IsTellableVisit};
 ghost use Rattle.share_session.specs.Requests.{topic_entries, entries};
 ghost use Rattle.share_calls.specs.Fetch.{leader, acquired, fetch_row, unhosted_row, unhosted_of, known};
 
-use crate::codes::{ack_code, then_code, unhosted_code};
+use crate::codes::{ack_code, fetch_code, unhosted_code};
 use crate::partition::PartitionId;
 use crate::visiting::Visiting;
 use call_fold::Entry;
 use flex_fields::Items;
 use msgs_share::{AcquiredRecords, CurrentLeader, FetchedPartition, SharePartition, ShareTopic};
 use share_model::{Code, Grant, NoMemory, VisitAnswer};
+use share_session::Purpose;
 use std::alloc::Global;
 use std::collections::VecDeque;
 use topic_conf::Config;
@@ -58,9 +59,14 @@ pub fn leader() -> CurrentLeader
 }
 
 /// The row of a visited partition.
-pub fn fetch_row(alloc: Global, id: PartitionId, answer: VisitAnswer) -> Result<FetchRow, NoMemory>
+pub fn fetch_row(
+    alloc: Global,
+    purpose: Purpose,
+    id: PartitionId,
+    answer: VisitAnswer,
+) -> Result<FetchRow, NoMemory>
     requires { IsTellableVisit answer }
-    ensures { IfOk result (λ row. row ≡ fetch_row answer id) }
+    ensures { IfOk result (λ row. row ≡ fetch_row purpose answer id) }
 {
     let acquired_records = all_acquired(alloc, answer.grants.as_slice())?;
     let VisitAnswer {
@@ -73,7 +79,7 @@ pub fn fetch_row(alloc: Global, id: PartitionId, answer: VisitAnswer) -> Result<
         topic_id: id.topic_id,
         partition: FetchedPartition {
             partition_index: id.index,
-            error_code: then_code(then).0,
+            error_code: fetch_code(purpose, then).0,
             error_message: None,
             acknowledge_error_code: ack_code(ack).0,
             acknowledge_error_message: None,

@@ -6,6 +6,7 @@ ghost use Rattle.share_calls.specs.Partitions.{partition_of};
 ghost use Rattle.share_calls.specs.FetchTalks.{TellsByItsVisit};
 ghost use Rattle.share_calls.specs.AckTalks.{TellsByItsAck};
 ghost use Rattle.share_calls.specs.TopicRows.{HasOneOfEachTopic};
+ghost use Rattle.share_calls.specs.Heartbeats.{TellsItsHeartbeat};
 ghost use Rattle.msgs_share.specs.declared.share_fetch_reply.FetchedPartition.{FetchedPartition};
 
 /// A reply tells the partition of a shard by the id and the number by which the configuration finds the shard.
@@ -24,6 +25,11 @@ pub fn each_fetched_partition_is_told_by_its_own_visit()
 /// told by the answer to its own visit, or by its code where it isn't hosted.
 pub fn each_acknowledged_partition_is_told_by_its_own_visit()
     ensures { TellsByItsAck }
+{}
+
+/// A ShareGroupHeartbeat asks its own heartbeat and nothing more, and its reply is what was answered.
+pub fn a_heartbeat_is_told_by_its_own_answer()
+    ensures { TellsItsHeartbeat }
 {}
 
 /// The reply to a ShareFetch has one element for each topic that has rows, with all of them in their order, and the elements stand in the

@@ -1,5 +1,6 @@
-//! ShareFetch and ShareAcknowledge in hand (KIP-932): the visits that each asks of the hosted partitions, those of a fetch with the
-//! limits that the visits before left, and the reply that their answers make.
+//! The calls of share consumers in hand (KIP-932): ShareFetch and ShareAcknowledge, with the visits that each asks of the hosted
+//! partitions, those of a fetch with the limits that the visits before left; ShareGroupHeartbeat; and the replies that their answers
+//! make.
 #![tactic(auto)]
 
 mod ack_entries;
@@ -9,6 +10,7 @@ mod codes;
 mod fetch;
 mod fetch_rows;
 mod groups;
+mod heartbeat;
 mod law;
 mod partition;
 mod visiting;
@@ -17,8 +19,9 @@ pub use ack_rows::TopicShape;
 pub use acknowledge::{AckHand, AckStage, ack_call};
 pub use fetch::{FetchHand, FetchStage, fetch_call};
 pub use fetch_rows::FetchRow;
+pub use heartbeat::{HeartbeatHand, HeartbeatStage, heartbeat_call};
 pub use law::{
-    each_acknowledged_partition_is_told_by_its_own_visit,
+    a_heartbeat_is_told_by_its_own_answer, each_acknowledged_partition_is_told_by_its_own_visit,
     each_fetched_partition_is_told_by_its_own_visit, each_shard_is_told_by_its_partition,
     each_topic_has_one_element,
 };

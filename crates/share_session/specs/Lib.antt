@@ -5,3 +5,4 @@ pub mod Refusals
 pub mod PlanParts
 pub mod Plans
 pub mod Seen
+pub mod Undone

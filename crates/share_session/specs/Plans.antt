@@ -156,3 +156,7 @@ session_releases s = map (release (record { group = s.group; member = s.member }
 
 abbrev pub releases_of : List Session → List PlanStep
 releases_of sessions = flat_map session_releases sessions
+
+-- a list without its first
+abbrev pub others_of : {X : Type 0} → List X → List X
+others_of xs = drop 1 xs

@@ -1,6 +1,7 @@
 ghost use Rattle.std.specs.Prelude.{◌≡◌, IfOk};
 ghost use Rattle.std.specs.HashSet.{keys};
 
+use crate::step::Caller;
 use indexmap::IndexSet;
 use share_model::{Name, NoMemory};
 use std::marker::Model;
@@ -25,6 +26,7 @@ impl Model for Session {
 
 impl Session {
     ghost use Rattle.share_session.specs.Sessions.{is_of};
+    ghost use Rattle.share_session.specs.Undone.{has_partition, without_first};
 
     /// The session of these parts. It takes no memory.
     pub fn new(group: Name, member: Name, epoch: i32, partitions: IndexSet<u32>) -> Session
@@ -71,6 +73,30 @@ impl Session {
         ensures { IfOk result (λ list. list.keys ≡ self.now.partitions) }
     {
         Ok(self.partitions.clone()?)
+    }
+
+    /// The member that it is of.
+    pub fn caller(&self) -> Caller
+        ensures { result ≡ record { group = self.now.group; member = self.now.member } }
+    {
+        Caller {
+            group: self.group,
+            member: self.member,
+        }
+    }
+
+    /// Whether it has a partition.
+    pub fn has_partition(&self) -> bool
+        ensures { result ≡ has_partition self.now }
+    {
+        !self.partitions.as_slice().is_empty()
+    }
+
+    /// Its first partition goes, where it has one. It takes no memory.
+    pub fn leave_first(&mut self)
+        ensures { self.new ≡ without_first self.old }
+    {
+        let _ = self.partitions.shift_remove_index(0);
     }
 
     /// Whether it is that of this member of this group.

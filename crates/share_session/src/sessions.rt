@@ -1,7 +1,8 @@
-ghost use Rattle.std.specs.Prelude.{◌≡◌, ◌≤◌, ◌++◌, [], length, None, IfOk, IfErr, OnOk, OnErr};
+ghost use Rattle.std.specs.Prelude.{◌≡◌, ◌≤◌, ◌++◌, [], filter, length, slice_get, None, IfOk, IfErr, OnOk, OnErr};
 ghost use Rattle.share_session.specs.Refusals.{IsRefusedBy};
 ghost use Rattle.share_session.specs.Plans.{plan_of, fetch_refusal, fetch_plan, begun_fetch, ack_refusal, ack_plan, begun_ack};
-ghost use Rattle.share_session.specs.Plans.{session_releases, releases_of};
+ghost use Rattle.share_session.specs.Plans.{session_releases, releases_of, others_of};
+ghost use Rattle.share_session.specs.Undone.{has_partition, one_done};
 
 use crate::change::{SessionChange, apply};
 use crate::fault::SessionFault;
@@ -9,7 +10,7 @@ use crate::plan::{ack_by_epoch, fetch_by_epoch};
 use crate::planned::Planned;
 use crate::refusal::{admit, session_of};
 use crate::session::Session;
-use crate::step::{Caller, VisitPlan};
+use crate::step::{PlanStep, VisitPlan};
 use crate::visits::{append, releases};
 use crate::wanted::{forgotten_in, wanted_once};
 use msgs_share::{ShareAckRequest, ShareFetchRequest};
@@ -39,10 +40,7 @@ impl Model for Sessions {
 fn release_session(session: &Session, steps: &mut VisitPlan) -> Result<(), NoMemory>
     ensures { OnOk result (steps.new.items ≡ steps.old.items ++ session_releases session.now) }
 {
-    let caller = Caller {
-        group: *session.group(),
-        member: *session.member(),
-    };
+    let caller = session.caller();
     let more = releases(*steps.allocator(), &caller, session.partitions())?;
     append(steps, more)
 }
@@ -56,6 +54,35 @@ fn releases_of(alloc: Global, sessions: &[Session]) -> Result<VisitPlan, NoMemor
         release_session(session, &mut steps)?;
     }
     Ok(steps)
+}
+
+// The first release of these sessions, where one has a partition.
+fn first_release(alloc: Global, sessions: &[Session]) -> Option<PlanStep>
+    ensures { result ≡ slice_get (releases_of sessions.now) 0 }
+{
+    for session in sessions {
+        if let Some(shard) = session.partitions().first() {
+            return Some(session.caller().release(alloc, *shard));
+        }
+    }
+    None
+}
+
+// Sessions without a partition go.
+fn drop_done(sessions: &mut Vec<Session>)
+    ensures { sessions.new.items ≡ filter has_partition sessions.old.items }
+{
+    sessions.retain(|session| session.has_partition());
+}
+
+// The first release is done.
+fn release_first(sessions: &mut Vec<Session>)
+    ensures { sessions.new.items ≡ one_done sessions.old.items }
+{
+    drop_done(sessions);
+    if let Some(first) = sessions.first_mut() {
+        first.leave_first();
+    }
 }
 
 // What a ShareFetch asks for.
@@ -198,6 +225,21 @@ impl Sessions {
         let (steps, change) = self.plan_ack(request, conf)?.into_parts()?;
         self.apply(change)?;
         Ok(steps)
+    }
+
+    /// The first of the releases on the partitions of all sessions, in the order in which they were opened. `None` where there is none.
+    /// It takes no memory.
+    pub fn next_release(&self) -> Option<PlanStep>
+        ensures { result ≡ slice_get (releases_of self.now) 0 }
+    {
+        first_release(*self.list.allocator(), &self.list)
+    }
+
+    /// The first of these releases is done, where there is one: the sessions are such that the others are left. It takes no memory.
+    pub fn release_done(&mut self)
+        ensures { releases_of self.new ≡ others_of (releases_of self.old) }
+    {
+        release_first(&mut self.list);
     }
 
     /// Closes all sessions: the releases on the partitions of each. Where there is no memory, the sessions are as they were.

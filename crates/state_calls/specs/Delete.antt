@@ -5,13 +5,14 @@ use Rattle.share_model.specs.declared.fault.TheConstants.Code.{INVALID_REQUEST}
 use Rattle.msgs_state.specs.declared.delete_request.DeletePartition.{DeletePartition}
 use Rattle.msgs_state.specs.declared.state_reply.PartitionResult.{PartitionResult}
 use Rattle.state_calls.specs.declared.delete.Deleting.{Deleting}
+use Rattle.state_calls.specs.declared.hosting.Hosting.TheVariants.{Refuses}
 use Rattle.state_calls.specs.States.{StateMeans}
 use Rattle.state_calls.specs.Told.{code_row}
 
 abbrev pub delete_means : StateMeans DeletePartition Deleting PartitionResult
 delete_means = record {
   wish = λ p. (p.partition, record {});
-  hosted = INVALID_REQUEST;
+  hosted = Refuses INVALID_REQUEST;
   op = λ key wish. ForeignDelete key;
   row = λ partition answer. code_row partition answer.code;
 }

@@ -6,6 +6,7 @@ use Rattle.share_model.specs.declared.fault.TheConstants.Code.{INVALID_REQUEST}
 use Rattle.msgs_state.specs.declared.write_request.WritePartition.{WritePartition}
 use Rattle.msgs_state.specs.declared.state_reply.PartitionResult.{PartitionResult}
 use Rattle.state_calls.specs.declared.write.Writing.{Writing}
+use Rattle.state_calls.specs.declared.hosting.Hosting.TheVariants.{Refuses}
 use Rattle.state_calls.specs.States.{StateMeans}
 use Rattle.state_calls.specs.Told.{batch_in, code_row}
 
@@ -15,7 +16,7 @@ write_means = record {
     p.partition,
     record { state_epoch = p.state_epoch; leader_epoch = p.leader_epoch; start = p.start_offset; batches = p.state_batches },
   );
-  hosted = INVALID_REQUEST;
+  hosted = Refuses INVALID_REQUEST;
   op = λ key wish. ForeignWrite key wish.state_epoch wish.leader_epoch wish.start (map batch_in wish.batches);
   row = λ partition answer. code_row partition answer.code;
 }

@@ -2,6 +2,7 @@
 ghost use Rattle.std.specs.Prelude.{◌≡◌};
 ghost use Rattle.state_calls.specs.Delete.{delete_means};
 
+use crate::hosting::Hosting;
 use crate::state::StateCall;
 use crate::told::code_row;
 use msgs_state::{DeletePartition, PartitionResult};
@@ -29,8 +30,8 @@ impl StateCall for Delete {
         (partition.partition, Deleting)
     }
 
-    fn hosted() -> Code {
-        Code::INVALID_REQUEST
+    fn hosted() -> Hosting {
+        Hosting::Refuses(Code::INVALID_REQUEST)
     }
 
     fn op(_: Global, key: Key, _: &Deleting) -> Result<ForeignOp, NoMemory> {

@@ -2,6 +2,7 @@
 ghost use Rattle.std.specs.Prelude.{◌≡◌};
 ghost use Rattle.state_calls.specs.Initialize.{initialize_means};
 
+use crate::hosting::Hosting;
 use crate::state::StateCall;
 use crate::told::code_row;
 use msgs_state::{InitializePartition, PartitionResult};
@@ -36,8 +37,8 @@ impl StateCall for Initialize {
         (partition.partition, wish)
     }
 
-    fn hosted() -> Code {
-        Code::INVALID_REQUEST
+    fn hosted() -> Hosting {
+        Hosting::Refuses(Code::INVALID_REQUEST)
     }
 
     fn op(_: Global, key: Key, wish: &Beginning) -> Result<ForeignOp, NoMemory> {

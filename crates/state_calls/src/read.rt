@@ -2,10 +2,11 @@
 ghost use Rattle.std.specs.Prelude.{◌≡◌};
 ghost use Rattle.state_calls.specs.Read.{read_means};
 
+use crate::hosting::Hosting;
 use crate::state::StateCall;
 use crate::told::batches_of;
 use msgs_state::{ReadPartition, ReadPartitionResult};
-use share_model::{Code, ForeignAnswer, ForeignOp, Key, NoMemory};
+use share_model::{ForeignAnswer, ForeignOp, Key, NoMemory};
 use std::alloc::Global;
 
 /// ReadShareGroupState: the state is told.
@@ -34,8 +35,8 @@ impl StateCall for Read {
         (partition.partition, wish)
     }
 
-    fn hosted() -> Code {
-        Code::UNKNOWN_TOPIC_OR_PARTITION
+    fn hosted() -> Hosting {
+        Hosting::Looks
     }
 
     fn op(_: Global, key: Key, wish: &Reading) -> Result<ForeignOp, NoMemory> {

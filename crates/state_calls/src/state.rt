@@ -1,12 +1,13 @@
-ghost use Rattle.std.specs.Prelude.{◌≡◌, All, IfOk};
-ghost use Rattle.call_fold.specs.Parts.{IsTellable};
-ghost use Rattle.state_calls.specs.States.{StateMeans};
+ghost use Rattle.std.specs.Prelude.{◌≡◌, All, IfOk, pos};
+ghost use Rattle.call_fold.specs.Parts.{IsTellable, IsTellableLook, IsForeignAnswer, IsLookAnswer, foreign_answer, look_answer};
+ghost use Rattle.state_calls.specs.States.{StateMeans, stored_answer};
 ghost use Rattle.state_calls.specs.StateCalls.{state_acts, state_body, state_stage};
 
+use crate::hosting::Hosting;
 use crate::place::Shape;
-use crate::plan::{Plan, Wished, plan_topics};
+use crate::plan::{Plan, Question, Wished, code_alone, plan_topics};
 use crate::reply::state_body;
-use call_fold::{Asking, Call, Part, PartAnswer, Stage, go_on, known_rows};
+use call_fold::{Asking, Call, Looked, Part, PartAnswer, Stage, go_on, known_rows};
 use flex_fields::{Bytes, Items, Wire};
 use msgs_state::StateRequest;
 use share_model::{Code, ForeignAnswer, ForeignOp, Key, Name, NoMemory};
@@ -30,8 +31,8 @@ pub trait StateCall: Sized + Drop {
     fn wish(partition: Self::Partition) -> (i32, Self::Wish)
         ensures { result ≡ means.wish partition };
 
-    /// The code for a partition of a hosted topic.
-    fn hosted() -> Code
+    /// What is done at a partition of a hosted topic.
+    fn hosted() -> Hosting
         ensures { result ≡ means.hosted };
 
     /// The operation on the state of this key.
@@ -52,27 +53,93 @@ pub struct StateHand<S> {
     shape: Items<Shape>,
 }
 
+// What is stored, as a Read tells it: 3 where the group has no table.
+fn stored_answer(alloc: Global, looked: Looked) -> ForeignAnswer
+    requires { IsTellableLook looked }
+    ensures answer { result ≡ stored_answer looked }
+    ensures tellable { All IsTellable result.runs }
+{
+    match looked {
+        Looked::Absent => code_alone(alloc, Code::UNKNOWN_TOPIC_OR_PARTITION),
+        Looked::There {
+            state_epoch,
+            start,
+            runs,
+            ..
+        } => ForeignAnswer {
+            code: Code::NONE,
+            state_epoch,
+            start,
+            runs,
+        },
+    }
+}
+
+// The row of a partition that isn't hosted.
+fn foreign_row<S: StateCall>(
+    alloc: Global,
+    wished: Wished<S::Wish>,
+    answer: PartAnswer,
+) -> Result<S::Row, NoMemory>
+    requires { IsForeignAnswer answer }
+    ensures { IfOk result (λ row. row ≡ S.means.row (pos wished.place.part) (foreign_answer answer)) }
+{
+    match answer {
+        PartAnswer::Foreign(answer) => S::row(alloc, wished.place.partition(), answer),
+        PartAnswer::Produce(_)
+        | PartAnswer::Visit(_)
+        | PartAnswer::Look(_)
+        | PartAnswer::Heartbeat(_) => unreachable!(),
+    }
+}
+
+// The row of a hosted partition.
+fn stored_row<S: StateCall>(
+    alloc: Global,
+    partition: i32,
+    answer: PartAnswer,
+) -> Result<S::Row, NoMemory>
+    requires { IsLookAnswer answer }
+    ensures { IfOk result (λ row. row ≡ S.means.row partition (stored_answer (look_answer answer))) }
+{
+    match answer {
+        PartAnswer::Look(looked) => S::row(alloc, partition, stored_answer(alloc, looked)),
+        PartAnswer::Foreign(_)
+        | PartAnswer::Produce(_)
+        | PartAnswer::Visit(_)
+        | PartAnswer::Heartbeat(_) => unreachable!(),
+    }
+}
+
 impl<S: StateCall> Call for StateHand<S> {
-    type Question = Wished<S::Wish>;
+    type Question = Question<S::Wish>;
 
     type Row = S::Row;
 
     ghost acts = { state_acts S.means S.Row.format };
 
-    fn part(&self, alloc: Global, question: &Wished<S::Wish>) -> Result<Part, NoMemory> {
-        let op = S::op(alloc, question.place.key(&self.group), &question.wish)?;
-        Ok(Part::Foreign(op))
+    fn part(&self, alloc: Global, question: &Question<S::Wish>) -> Result<Part, NoMemory> {
+        match question {
+            Question::Foreign(wished) => {
+                let op = S::op(alloc, wished.place.key(&self.group), &wished.wish)?;
+                Ok(Part::Foreign(op))
+            }
+            Question::Hosted { shard, .. } => Ok(Part::Look {
+                shard: *shard,
+                group: self.group,
+            }),
+        }
     }
 
     fn row(
         &mut self,
         alloc: Global,
-        question: Wished<S::Wish>,
+        question: Question<S::Wish>,
         answer: PartAnswer,
     ) -> Result<S::Row, NoMemory> {
-        match answer {
-            PartAnswer::Foreign(answer) => S::row(alloc, question.place.partition(), answer),
-            PartAnswer::Produce(_) | PartAnswer::Visit(_) | PartAnswer::Look(_) => unreachable!(),
+        match question {
+            Question::Foreign(wished) => foreign_row::<S>(alloc, wished, answer),
+            Question::Hosted { partition, .. } => stored_row::<S>(alloc, partition, answer),
         }
     }
 
@@ -89,7 +156,7 @@ pub fn state_call<S: StateCall>(
     conf: &Config,
     call: S,
     request: StateRequest<S::Partition>,
-) -> Result<Stage<Asking<StateHand<S>, Wished<S::Wish>, S::Row>>, NoMemory>
+) -> Result<Stage<Asking<StateHand<S>, Question<S::Wish>, S::Row>>, NoMemory>
     ensures { IfOk result (λ stage. stage ≡ state_stage S.means S.Row.format conf.now.topics call request) }
 {
     let StateRequest { group_id, topics } = request;

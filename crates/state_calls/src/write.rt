@@ -2,6 +2,7 @@
 ghost use Rattle.std.specs.Prelude.{◌≡◌};
 ghost use Rattle.state_calls.specs.Write.{write_means};
 
+use crate::hosting::Hosting;
 use crate::state::StateCall;
 use crate::told::{batches_in, code_row};
 use flex_fields::Items;
@@ -41,8 +42,8 @@ impl StateCall for Write {
         (partition.partition, wish)
     }
 
-    fn hosted() -> Code {
-        Code::INVALID_REQUEST
+    fn hosted() -> Hosting {
+        Hosting::Refuses(Code::INVALID_REQUEST)
     }
 
     fn op(alloc: Global, key: Key, wish: &Writing) -> Result<ForeignOp, NoMemory> {
