@@ -3,7 +3,7 @@ use Rattle.std.proofs.Common.{◌≡◌, inl, inr, ⊎_elim, ℕ, ℤ, Bool, tru
 use Rattle.std.proofs.lemmas.Bool.{true≢false}
 use Rattle.std.specs.Prelude.{is_some}
 use Rattle.session_script.specs.declared.event.Event.{Event}
-use Rattle.session_script.specs.declared.event.Event.TheVariants.{Open, Bytes, Close, Step as StepOf, Arm, Power}
+use Rattle.session_script.specs.declared.event.Event.TheVariants.{Open, Bytes, Close, Step as StepOf, Expire, Tick, Arm, Power}
 use Rattle.share_model.specs.ForeignRules.{code_alone}
 use Rattle.share_model.specs.Pending.{WithPending}
 use Rattle.share_model.specs.ForeignRules.{ShareStates, Does, Initialises, WritesBatches, share_state_at, runs_of}
@@ -17,18 +17,17 @@ use Rattle.share_model.specs.declared.run.Run.{Run}
 use Rattle.share_model.specs.Keys.{KeyParts, key_cmp}
 use Rattle.foreign_coord.specs.Shards.{ForeignShardState, IsDone, StepsForeign, is_granted, writes}
 use Rattle.topic_conf.specs.Configs.{ConfigParts}
-use Rattle.broker_model.specs.Hosted.{state_a}
-use Rattle.broker_model.specs.Shards.{Shards, ShardCall, StepsShards}
-use Rattle.broker_model.specs.Shards.ShardCall.{CallForeign, CallLog}
-use Rattle.call_fold.specs.declared.part.Produced.{Produced}
+use Rattle.broker_model.specs.Hosted.{Hosted, state_a}
+use Rattle.broker_model.specs.Shards.{Counts, MembersCall, PartCall, Shards, ShardCall, StepsShards, rose_at}
+use Rattle.broker_model.specs.Shards.ShardCall.{CallForeign, CallPart, CallMembers}
 use Rattle.broker_model.specs.Machine.{Lands}
 use Rattle.broker_model.specs.Steps.{IsRestart, StepsTo}
-use Rattle.broker_model.specs.States.{State, IsStep}
+use Rattle.broker_model.specs.States.{State, IsStep, counts_of}
 use Rattle.broker_model.specs.Runs.{Step, IsRun}
 use Rattle.broker_model.specs.Laws.{NoPower}
 use Rattle.broker_model.specs.History.{Call, AreDone}
 use Rattle.broker_model.specs.Completed.{foreign_of, CompletesCall, MayLand, Completes, AreCompleted, IsPending, EndsAsCompleted}
-use Rattle.broker_model.proofs.Acts.{Acts, rose_in, step_acts, power_or_not}
+use Rattle.broker_model.proofs.Acts.{Acts, step_acts, power_or_not}
 use Rattle.broker_model.proofs.Maps.{removed_none}
 use Rattle.broker_model.proofs.Histories.{keys_total, keys_exact}
 
@@ -120,9 +119,18 @@ module _ (unfinished : Option ForeignOp) (old new : ForeignShardState) (tied : I
     tied = subst (IsTied unfinished) (sym p.2) tied;
   }
 
-  log_completes : (shard : ℕ) (disk batch : List ℕ) (produced : Produced) → new ≡ old
-      → IsCompleted (CompletesCall old.states unfinished (Some (CallLog shard disk batch produced))) old new
-  log_completes shard disk batch produced is = record {
+  part_completes : (shard : ℕ) (hosted : Hosted) (did : PartCall) → new ≡ old
+      → IsCompleted (CompletesCall old.states unfinished (Some (CallPart shard hosted did))) old new
+  part_completes shard hosted did is = record {
+    calls = [];
+    unfinished = unfinished;
+    by = (refl, refl);
+    done = ap (λ (s : ForeignShardState). s.states) is;
+    tied = subst (IsTied unfinished) (sym is) tied;
+  }
+
+  members_complete : (did : MembersCall) → new ≡ old → IsCompleted (CompletesCall old.states unfinished (Some (CallMembers did))) old new
+  members_complete did is = record {
     calls = [];
     unfinished = unfinished;
     by = (refl, refl);
@@ -171,35 +179,38 @@ called_steps unfinished (Open conn) call old new free c = c
 called_steps unfinished (Bytes conn bytes) call old new free c = c
 called_steps unfinished (Close conn) call old new free c = c
 called_steps unfinished (StepOf conn now) call old new free c = c
+called_steps unfinished (Expire topic part now) call old new free c = c
+called_steps unfinished (Tick now) call old new free c = c
 called_steps unfinished (Arm disk after mode) call old new free c = c
 called_steps unfinished (Power choice) call old new free c = absurd free
 
-module _ (rose : List ℕ → Type 0) (ends : List ℕ → ℕ) (unfinished : Option ForeignOp) (old new : Shards) (tied : IsTied unfinished old.foreign) where
-  shard_completes : (did : ShardCall) → StepsShards rose ends old did new
+module _ (counts : Counts) (ends : List ℕ → ℕ) (unfinished : Option ForeignOp) (old new : Shards) (tied : IsTied unfinished old.foreign) where
+  shard_completes : (now : ℕ) (did : ShardCall) → StepsShards counts ends now old did new
       → IsCompleted (CompletesCall old.foreign.states unfinished (Some did)) old.foreign new.foreign
-  shard_completes (CallForeign op answer fault) p =
-      did_completes unfinished old.foreign new.foreign tied (rose state_a) (ends state_a) op answer fault p.0
-  shard_completes (CallLog shard disk batch produced) p = log_completes unfinished old.foreign new.foreign tied shard disk batch produced p.1
+  shard_completes now (CallForeign op answer fault) p =
+      did_completes unfinished old.foreign new.foreign tied (rose_at counts state_a) (ends state_a) op answer fault p.0
+  shard_completes now (CallPart shard hosted did) p = part_completes unfinished old.foreign new.foreign tied shard hosted did p.2
+  shard_completes now (CallMembers did) p = members_complete unfinished old.foreign new.foreign tied did p.2
 
-  acts_complete : (call : Option ShardCall) → Acts rose ends old new call
+  acts_complete : (call : Option ShardCall) → Acts counts ends old new call
       → IsCompleted (CompletesCall old.foreign.states unfinished call) old.foreign new.foreign
   acts_complete call (inl quiet) =
       subst (λ (c : Option ShardCall). IsCompleted (CompletesCall old.foreign.states unfinished c) old.foreign new.foreign) (sym quiet.none)
       (same_completes unfinished old.foreign new.foreign tied (ap (λ (s : Shards). s.foreign) quiet.same))
   acts_complete call (inr d) =
       subst (λ (c : Option ShardCall). IsCompleted (CompletesCall old.foreign.states unfinished c) old.foreign new.foreign) (sym d.is)
-      (shard_completes d.did d.step)
+      (shard_completes d.now d.did d.step)
 
 module _ (conf : ConfigParts) where
   step_completes : (unfinished : Option ForeignOp) (s : Step) → IsStep conf s.before s.event s.call s.outcomes s.after
       → IsTied unfinished (foreign_of s.before) → Stepped unfinished s.event s.call (foreign_of s.before) (foreign_of s.after)
   step_completes unfinished s step tied = ⊎_elim
       (λ free. called_steps unfinished s.event s.call (foreign_of s.before) (foreign_of s.after) free
-      (acts_complete (rose_in s.before s.after) s.before.ends unfinished s.before.machine.shards s.after.machine.shards tied s.call
-      (step_acts (rose_in s.before s.after) s.before.ends conf s.before.machine s.after.machine s.call s.outcomes s.event free step.machine)))
+      (acts_complete (counts_of s.before s.after) s.before.ends unfinished s.before.machine.shards s.after.machine.shards tied s.call
+      (step_acts (counts_of s.before s.after) s.before.ends conf s.before.machine s.after.machine s.call s.outcomes s.event free step.machine)))
       (λ p.
       let restart : IsRestart s.before.machine s.call s.outcomes s.after.machine =
-      subst (λ (e : Event). StepsTo conf (rose_in s.before s.after) s.before.ends s.before.machine e s.call s.outcomes s.after.machine) p.1 step.machine in
+      subst (λ (e : Event). StepsTo conf (counts_of s.before s.after) s.before.ends s.before.machine e s.call s.outcomes s.after.machine) p.1 step.machine in
       subst (λ (e : Event). Stepped unfinished e s.call (foreign_of s.before) (foreign_of s.after)) (sym p.1)
       (loss_completes unfinished (foreign_of s.before) (foreign_of s.after) tied restart.lands.foreign))
       (power_or_not s.event)

@@ -1,69 +1,176 @@
--- A step in which a write fails on a disk is one in which the count of that disk rose.
-use Rattle.std.proofs.Common.{◌≡◌, ◌⊎◌, inl, inr, ⊎_elim, refl, sym, ap, subst, ℕ, List, Bool, true, false, cond, Option, Some, None}
+-- No more writes fail on a disk in a step than its count rises by.
+use Rattle.std.proofs.Common.{◌≡◌, ◌≤◌, ◌+◌, inl, inr, ⊎_elim, refl, sym, subst, arith, ℕ, List, [], ◌∷◌, Bool, true, false, cond, Option, Some, None}
 use Rattle.std.specs.Cmp.Lexicographic.{same_text}
+use Rattle.edge_io.specs.Causes.{Rose}
 use Rattle.session_script.specs.declared.event.Event.{Event}
 use Rattle.session_script.specs.declared.event.Outcome.{Outcome}
+use Rattle.share_model.specs.ForeignRules.{share_state_at}
+use Rattle.share_model.specs.ShareStates.{ShareState}
 use Rattle.share_model.specs.declared.fault.StoreFault.{StoreFault}
 use Rattle.share_model.specs.declared.fault.StoreFault.TheVariants.{Device, Full}
-use Rattle.topic_conf.specs.Configs.{ConfigParts}
-use Rattle.foreign_coord.specs.Shards.{ForeignShardState, StepsForeign}
 use Rattle.share_model.specs.declared.foreign.ForeignOp.{ForeignOp}
 use Rattle.share_model.specs.declared.foreign.ForeignAnswer.{ForeignAnswer}
+use Rattle.share_model.specs.declared.visit.AckOutcome.{AckOutcome}
+use Rattle.share_model.specs.declared.visit.AckOutcome.TheVariants.{Done as acknowledged, Malformed, NotHeld, Store as ack_store}
+use Rattle.share_model.specs.declared.visit.ExpireAnswer.{ExpireAnswer}
+use Rattle.share_model.specs.declared.visit.Then.{Then}
+use Rattle.share_model.specs.declared.visit.Then.TheVariants.{Nothing, Release, Fetch}
+use Rattle.share_model.specs.declared.visit.ThenOutcome.{ThenOutcome}
+use Rattle.share_model.specs.declared.visit.ThenOutcome.TheVariants.{Done as followed, Store as then_store}
+use Rattle.share_model.specs.declared.visit.Visit.{Visit}
+use Rattle.share_model.specs.declared.visit.VisitAnswer.{VisitAnswer}
+use Rattle.topic_conf.specs.Configs.{ConfigParts}
+use Rattle.foreign_coord.specs.Shards.{ForeignShardState, StepsForeign}
 use Rattle.part_log.specs.Shards.{LogShardState, StepsLog}
+use Rattle.share_part.specs.Acknowledging.{Acknowledges, StoresActs}
+use Rattle.share_part.specs.Expiring.{StepsGroups}
+use Rattle.share_part.specs.Following.{Does, Fetches, MakesTable, fault_of, releases_of}
+use Rattle.share_part.specs.Hosting.{PartConfParts, key_of}
+use Rattle.share_part.specs.Settling.{Acts as ShareActs}
+use Rattle.share_part.specs.Shards.{PartShardState}
+use Rattle.share_part.specs.Visits.{StepsVisit}
+use Rattle.share_part.specs.declared.limits.Limits.{Limits}
 use Rattle.call_fold.specs.declared.part.Produced.{Produced}
 use Rattle.call_fold.specs.declared.part.Produced.TheVariants.{Base, Batch, Store}
-use Rattle.broker_model.specs.Hosted.{state_a, same_name}
-use Rattle.broker_model.specs.Shards.{Shards, ShardCall, StepsNamed, StepsShards, faults_met, faults_told, failures_in, result_of}
-use Rattle.broker_model.specs.Shards.ShardCall.{CallForeign, CallLog}
+use Rattle.broker_model.specs.Hosted.{Hosted, first_of, log_of, same_name, state_a}
+use Rattle.broker_model.specs.Shards.{Counts, PartCall, Shards, ShardCall, StepsHosted, StepsPart, StepsShards, faults_met, failures_in, part_faults_met, result_of, store_fault_of_ack, store_fault_of_expiry, store_fault_of_log, store_fault_of_then}
+use Rattle.broker_model.specs.Shards.ShardCall.{CallForeign, CallPart, CallMembers}
+use Rattle.broker_model.specs.Shards.PartCall.{Visits, Produces, Looks, Expires}
 use Rattle.broker_model.specs.Machine.{Machine}
 use Rattle.broker_model.specs.Steps.{IsRestart, StepsTo}
+use Rattle.broker_model.specs.Disks.{Covers}
 use Rattle.broker_model.proofs.Lists.{change_of}
 use Rattle.broker_model.proofs.Acts.{Acts, step_acts, power_or_not}
 
--- one write failed at most, and where one did its shard says that the count rose
-foreign_met : (rose : Type 0) (end : ℕ) (old new : ForeignShardState) (op : ForeignOp) (answer : ForeignAnswer) (fault : Option StoreFault)
-    → StepsForeign rose end old op answer fault new → (faults_met fault ≡ 0) ⊎ ((faults_met fault ≡ 1) × rose)
-foreign_met rose end old new op answer None step = inl refl
-foreign_met rose end old new op answer (Some Device) step = inr (refl, step.1)
-foreign_met rose end old new op answer (Some (Full at)) step = inl refl
+pub covers_none : (a b : ℕ) → a ≤ b → Covers a b 0
+covers_none a b le = omega (arith, le)
 
-log_met : (rose : Type 0) (end : ℕ) (old new : LogShardState) (batch : List ℕ) (produced : Produced)
-    → StepsLog rose end old batch (result_of produced) new → (faults_told produced ≡ 0) ⊎ ((faults_told produced ≡ 1) × rose)
-log_met rose end old new batch (Base base) step = inl refl
-log_met rose end old new batch (Batch fault) step = inl refl
-log_met rose end old new batch (Store Device) step = inr (refl, step.0)
-log_met rose end old new batch (Store (Full at)) step = inl refl
+pub covers_both : (a b c n m : ℕ) → Covers a b n → Covers b c m → Covers a c (n + m)
+covers_both a b c n m p q = omega (arith, p, q)
 
-module _ (rose : List ℕ → Type 0) (ends : List ℕ → ℕ) (name : List ℕ) where
-  -- no write failed on the disk, or one did and its count rose
-  abbrev Counts : ℕ → Type 0
-  Counts n = (n ≡ 0) ⊎ ((n ≡ 1) × rose name)
+covers_late : (a b c n : ℕ) → a ≤ b → Covers b c n → Covers a c n
+covers_late a b c n le p = omega (arith, le, p)
+
+covers_one : (a b : ℕ) → Rose a b → Covers a b 1
+covers_one a b rose = omega (arith, rose)
+
+module _ (a b : ℕ) (le : a ≤ b) where
+  foreign_met : (end : ℕ) (old new : ForeignShardState) (op : ForeignOp) (answer : ForeignAnswer) (fault : Option StoreFault)
+      → StepsForeign (Rose a b) end old op answer fault new → Covers a b (faults_met fault)
+  foreign_met end old new op answer None step = covers_none a b le
+  foreign_met end old new op answer (Some Device) step = covers_one a b step.1
+  foreign_met end old new op answer (Some (Full at)) step = covers_none a b le
+
+  log_met : (end : ℕ) (old new : LogShardState) (batch : List ℕ) (produced : Produced)
+      → StepsLog (Rose a b) end old batch (result_of produced) new → Covers a b (faults_met (store_fault_of_log produced))
+  log_met end old new batch (Base base) step = covers_none a b le
+  log_met end old new batch (Batch fault) step = covers_none a b le
+  log_met end old new batch (Store Device) step = covers_one a b step.0
+  log_met end old new batch (Store (Full at)) step = covers_none a b le
+
+  module _ (conf : PartConfParts) (end : ℕ) (old new : PartShardState) where
+    acts_met : (group : List ℕ) (acts : ShareActs) (fault : Option StoreFault) → StoresActs conf (Rose a b) end old group acts new fault → Covers a b (faults_met fault)
+    acts_met group acts None stores = covers_none a b le
+    acts_met group acts (Some Device) stores = covers_one a b stores.1
+    acts_met group acts (Some (Full at)) stores = covers_none a b le
+
+    acks_met : (visit : Visit) (ack : AckOutcome) → Acknowledges conf (Rose a b) end old visit new ack → Covers a b (faults_met (store_fault_of_ack ack))
+    acks_met visit acknowledged p = covers_none a b le
+    acks_met visit (Malformed fault) p = covers_none a b le
+    acks_met visit (NotHeld offset) p = covers_none a b le
+    acks_met visit (ack_store Device) p = covers_one a b p.1.1
+    acks_met visit (ack_store (Full at)) p = covers_none a b le
+
+    abbrev Met : ThenOutcome → Type 0
+    Met o = Covers a b (faults_met (store_fault_of_then o))
+
+    told_met : (answer o : ThenOutcome) → answer ≡ o → Met o → Met answer
+    told_met answer o is met = subst Met (sym is) met
+
+    release_met : (group : List ℕ) (acts : ShareActs) (o : ThenOutcome) → StoresActs conf (Rose a b) end old group acts new (fault_of o) → Met o
+    release_met group acts followed stores = covers_none a b le
+    release_met group acts (then_store Device) stores = covers_one a b stores.1
+    release_met group acts (then_store (Full at)) stores = covers_none a b le
+
+    made_met : (visit : Visit) (limits : Limits) (answer : VisitAnswer) (o : ThenOutcome) → MakesTable conf (Rose a b) end old visit limits answer new o → Met o
+    made_met visit limits answer followed p = covers_none a b le
+    made_met visit limits answer (then_store Device) p = covers_one a b p.0
+    made_met visit limits answer (then_store (Full at)) p = covers_none a b le
+
+    fetch_met : (visit : Visit) (limits : Limits) (answer : VisitAnswer) (o : Option ShareState) → Fetches conf (Rose a b) end old visit limits answer new o → Met answer.then
+    fetch_met visit limits answer None p = made_met visit limits answer answer.then p
+    fetch_met visit limits answer (Some state) p = told_met answer.then followed p.acquires.outcome_is (covers_none a b le)
+
+    then_met : (visit : Visit) (answer : VisitAnswer) (t : Then) → Does conf (Rose a b) end old visit answer new t → Met answer.then
+    then_met visit answer Nothing p = told_met answer.then followed p.0.outcome_is (covers_none a b le)
+    then_met visit answer Release p = release_met visit.group (releases_of visit.member (old.held visit.group)) answer.then p.1
+    then_met visit answer (Fetch records bytes first) p =
+        fetch_met visit (record { records = records; bytes = bytes; first = first }) answer (share_state_at old.states (key_of conf visit.group)) p
+
+visit_met : (conf : PartConfParts) (a b end : ℕ) (old new : PartShardState) (now : ℕ) (visit : Visit) (answer : VisitAnswer)
+    → StepsVisit conf a b end old now visit answer new
+    → Covers a b (faults_met (store_fault_of_ack answer.ack) + faults_met (store_fault_of_then answer.then))
+visit_met conf a b end old new now visit answer p =
+    covers_both a p.counted b (faults_met (store_fault_of_ack answer.ack)) (faults_met (store_fault_of_then answer.then))
+    (acks_met a p.counted p.counts.0 conf end old p.between visit answer.ack p.acks.does)
+    (then_met p.counted b p.counts.1 conf p.at p.between new visit answer visit.then p.does)
+
+groups_met : (conf : PartConfParts) (a b end : ℕ) (groups : List (List ℕ)) (freed : ℕ) (old : PartShardState) (answer : ExpireAnswer) (new : PartShardState)
+    → StepsGroups conf a b end groups freed old answer new → Covers a b (faults_met (store_fault_of_expiry answer))
+groups_met conf a b end [] freed old answer new p =
+    subst (λ (x : ExpireAnswer). Covers a b (faults_met (store_fault_of_expiry x))) (sym p.0) (covers_none a b p.2)
+groups_met conf a b end (group ∷ groups) freed old answer new (inl p) =
+    covers_late a p.1 b (faults_met (store_fault_of_expiry answer)) p.3.counts (groups_met conf p.1 b p.2 groups _ p.0 answer new p.5)
+groups_met conf a b end (group ∷ groups) freed old answer new (inr p) =
+    subst (λ (x : ExpireAnswer). Covers a b (faults_met (store_fault_of_expiry x))) (sym p.1)
+    (acts_met a b p.2.counts conf end old new group _ (Some p.0) p.2.stores)
+
+module _ (counts : Counts) (ends : List ℕ → ℕ) (name : List ℕ) (later : (counts name).0 ≤ (counts name).1) where
+  abbrev CoversAt : List ℕ → ℕ → Type 0
+  CoversAt disk n = Covers (counts disk).0 (counts disk).1 n
 
   -- those of a disk, where this is that disk
-  met_at : (disk : List ℕ) (n : ℕ) → (n ≡ 0) ⊎ ((n ≡ 1) × rose disk) → Counts (cond (same_name name disk) n 0)
-  met_at disk n met = go (same_name name disk) refl met where
-    go : (b : Bool) → same_name name disk ≡ b → (n ≡ 0) ⊎ ((n ≡ 1) × rose disk) → Counts (cond b n 0)
-    go true is (inl none) = inl none
-    go true is (inr one) = inr (one.0, subst rose (sym (same_text name disk (sym is))) one.1)
-    go false is met = inl refl
+  met_at : (disk : List ℕ) (n : ℕ) → ((counts disk).0 ≤ (counts disk).1 → CoversAt disk n) → CoversAt name (cond (same_name name disk) n 0)
+  met_at disk n met = go (same_name name disk) refl where
+    go : (b : Bool) → same_name name disk ≡ b → CoversAt name (cond b n 0)
+    go true is =
+        let one : name ≡ disk = same_text name disk (sym is) in
+        subst (λ (d : List ℕ). CoversAt d n) (sym one) (met (subst (λ (d : List ℕ). (counts d).0 ≤ (counts d).1) one later))
+    go false is = covers_none (counts name).0 (counts name).1 later
 
-  did_counts : (old new : Shards) (did : ShardCall) → StepsShards rose ends old did new → Counts (failures_in name (Some did))
-  did_counts old new (CallForeign op answer fault) step =
-      met_at state_a (faults_met fault) (foreign_met (rose state_a) (ends state_a) old.foreign new.foreign op answer fault step.0)
-  did_counts old new (CallLog shard disk batch produced) step =
-      met_at disk (faults_told produced)
-      (change_of shard (StepsNamed rose ends disk batch produced)
-      (λ e f s. log_met (rose disk) (ends disk) e.1 f.1 batch produced s.step) old.logs new.logs step.0)
+  part_met : (now : ℕ) (h : Hosted) (old new : PartShardState) (shard : ℕ) (did : PartCall) → StepsPart counts ends now h old did new
+      → CoversAt name (failures_in name (Some (CallPart shard h did)))
+  part_met now h old new shard (Visits visit answer) step =
+      met_at (first_of h) (part_faults_met (Visits visit answer))
+      (λ le. visit_met h.conf (counts (first_of h)).0 (counts (first_of h)).1 (ends (first_of h)) old new now visit answer step)
+  part_met now h old new shard (Produces batch produced) step =
+      met_at (log_of h) (part_faults_met (Produces batch produced))
+      (λ le. log_met (counts (log_of h)).0 (counts (log_of h)).1 le (ends (log_of h)) old.log new.log batch produced step.log)
+  part_met now h old new shard (Looks group looked) step = covers_none (counts name).0 (counts name).1 later
+  part_met now h old new shard (Expires answer) step =
+      met_at (first_of h) (part_faults_met (Expires answer))
+      (λ le. groups_met h.conf (counts (first_of h)).0 (counts (first_of h)).1 (ends (first_of h)) _ 0 _ answer new step.groups)
 
-  counts : (old new : Shards) (call : Option ShardCall) → Acts rose ends old new call → Counts (failures_in name call)
-  counts old new call (inl quiet) = inl (ap (failures_in name) quiet.none)
-  counts old new call (inr d) = subst (λ (c : Option ShardCall). Counts (failures_in name c)) (sym d.is) (did_counts old new d.did d.step)
+  did_counts : (now : ℕ) (old new : Shards) (did : ShardCall) → StepsShards counts ends now old did new → CoversAt name (failures_in name (Some did))
+  did_counts now old new (CallForeign op answer fault) step =
+      met_at state_a (faults_met fault)
+      (λ le. foreign_met (counts state_a).0 (counts state_a).1 le (ends state_a) old.foreign new.foreign op answer fault step.0)
+  did_counts now old new (CallPart shard hosted did) step =
+      change_of shard (StepsHosted counts ends now hosted did)
+      (λ e f s. part_met now hosted e.shard f.shard shard did s.step) old.parts new.parts step.0
+  did_counts now old new (CallMembers did) step = covers_none (counts name).0 (counts name).1 later
+
+  counted : (old new : Shards) (call : Option ShardCall) → Acts counts ends old new call → CoversAt name (failures_in name call)
+  counted old new call (inl quiet) =
+      subst (λ (c : Option ShardCall). CoversAt name (failures_in name c)) (sym quiet.none) (covers_none (counts name).0 (counts name).1 later)
+  counted old new call (inr d) =
+      subst (λ (c : Option ShardCall). CoversAt name (failures_in name c)) (sym d.is) (did_counts d.now old new d.did d.step)
 
   pub step_counts : (conf : ConfigParts) (old : Machine) (event : Event) (call : Option ShardCall) (outcomes : List Outcome) (new : Machine)
-      → StepsTo conf rose ends old event call outcomes new → Counts (failures_in name call)
+      → StepsTo conf counts ends old event call outcomes new → CoversAt name (failures_in name call)
   step_counts conf old event call outcomes new does = ⊎_elim
-      (λ free. counts old.shards new.shards call (step_acts rose ends conf old new call outcomes event free does))
+      (λ free. counted old.shards new.shards call (step_acts counts ends conf old new call outcomes event free does))
       (λ p.
-      let restart : IsRestart old call outcomes new = subst (λ (e : Event). StepsTo conf rose ends old e call outcomes new) p.1 does in
-      inl (ap (failures_in name) restart.none))
+      let restart : IsRestart old call outcomes new = subst (λ (e : Event). StepsTo conf counts ends old e call outcomes new) p.1 does in
+      subst (λ (c : Option ShardCall). CoversAt name (failures_in name c)) (sym restart.none) (covers_none (counts name).0 (counts name).1 later))
       (power_or_not event)

@@ -1,24 +1,25 @@
 -- What holds of each run: its losses, its arms and its counts.
-use Rattle.std.proofs.Common.{◌≡◌, ◌≢◌, ◌⊎◌, ◌<◌, ◌≤◌, ◌+◌, ◌-◌, ◌^◌, inl, inr, ⊎_elim, refl, sym, ap, ◌∙◌, subst, arith, ℕ, List, [], ◌∷◌, ◌++◌, append_assoc, append-nil, Option}
+use Rattle.std.proofs.Common.{◌≡◌, ◌≢◌, ◌<◌, ◌≤◌, ◌+◌, ◌-◌, ◌^◌, inl, inr, ⊎_elim, refl, sym, ap, ◌∙◌, subst, arith, ℕ, zero, suc, List, [], ◌∷◌, ◌++◌, append_assoc, append-nil, Option}
 use Rattle.std.specs.List.{AllByRecursion}
 use Rattle.edge_io.specs.declared.fault.Armed.{Armed}
 use Rattle.edge_io.specs.declared.fault.Armed.TheVariants.{Nothing}
 use Rattle.edge_io.specs.Armed.{IsOneShot}
-use Rattle.edge_io.specs.Causes.{Rose}
 use Rattle.session_script.specs.declared.event.Event.{Event}
-use Rattle.session_script.specs.declared.event.Event.TheVariants.{Open, Bytes, Close, Step as StepOf, Arm, Power}
+use Rattle.session_script.specs.declared.event.Event.TheVariants.{Open, Bytes, Close, Step as StepOf, Expire, Tick, Arm, Power}
 use Rattle.topic_conf.specs.Configs.{ConfigParts}
 use Rattle.broker_model.specs.Hosted.{IsTaken}
 use Rattle.broker_model.specs.Shards.{ShardCall, failures_in}
 use Rattle.broker_model.specs.Machine.{Machine}
 use Rattle.broker_model.specs.Disks.{Disks, OnDisk, Covers}
-use Rattle.broker_model.specs.States.{State, IsStep, OnLosses, faults_of}
+use Rattle.broker_model.specs.States.{State, IsStep, OnLosses, counts_of, faults_of}
 use Rattle.broker_model.specs.Runs.{Step, IsRun, events_of, calls_of}
 use Rattle.broker_model.specs.Laws.{Loss, losses_on, TakesLoss, AreLosses, NoPower, NoArm, ArmsOne, arms_by, arms_after, HasArm, Rises, IsQuiet, RisesOnce, failures, HoldsOfRun}
 use Rattle.broker_model.proofs.Uses.{Kind, IsCalm, kind_of, same_losses, arms_step, quiet_step, still_none, calm_step, shot, armed_one}
 use Rattle.broker_model.proofs.Chains.{run_parts}
-use Rattle.broker_model.proofs.Acts.{rose_in}
-use Rattle.broker_model.proofs.Fails.{step_counts}
+use Rattle.broker_model.proofs.Exclusive.{exclusive}
+use Rattle.broker_model.proofs.Taken.{all_taken}
+use Rattle.broker_model.proofs.Passing.{passes_closed}
+use Rattle.broker_model.proofs.Fails.{covers_both, step_counts}
 
 -- ---- losses
 
@@ -41,6 +42,8 @@ module _ (conf : ConfigParts) (call : Option ShardCall) (machine : Machine) (old
   take_loss (Bytes conn bytes) disks lost r = (rest, kept (Bytes conn bytes) tt disks, r)
   take_loss (Close conn) disks lost r = (rest, kept (Close conn) tt disks, r)
   take_loss (StepOf conn now) disks lost r = (rest, kept (StepOf conn now) tt disks, r)
+  take_loss (Expire topic part now) disks lost r = (rest, kept (Expire topic part now) tt disks, r)
+  take_loss (Tick now) disks lost r = (rest, kept (Tick now) tt disks, r)
   take_loss (Arm disk after mode) disks lost r = (rest, kept (Arm disk after mode) tt disks, r)
   take_loss (Power choice) disks lost r = (
     (choice, lost.contents) ∷ rest,
@@ -61,15 +64,11 @@ module _ (conf : ConfigParts) where
 
   -- ---- failed writes
 
-  counted : (name : List ℕ) (s : Step) → IsStep conf s.before s.event s.call s.outcomes s.after
-      → (failures_in name s.call ≡ 0) ⊎ ((failures_in name s.call ≡ 1) × Rose (faults_of s.before name) (faults_of s.after name))
-  counted name s step =
-      step_counts (rose_in s.before s.after) s.before.ends name conf s.before.machine s.event s.call s.outcomes
+  counted : (name : List ℕ) → IsTaken conf name → (s : Step) → IsStep conf s.before s.event s.call s.outcomes s.after
+      → Covers (faults_of s.before name) (faults_of s.after name) (failures_in name s.call)
+  counted name taken s step =
+      step_counts (counts_of s.before s.after) s.before.ends name (step.later name taken) conf s.before.machine s.event s.call s.outcomes
       s.after.machine step.machine
-
-  more_covered : (a b c n m : ℕ) → a ≤ b → (n ≡ 0) ⊎ ((n ≡ 1) × Rose a b) → b ≤ c → Covers b c m → Covers a c (n + m)
-  more_covered a b c n m le (inl none) later covers = omega arith
-  more_covered a b c n m le (inr one) later covers = let rose = one.1 in let is = one.0 in omega arith
 
   covered : (name : List ℕ) → IsTaken conf name → (first last : State) (steps : List Step) → IsRun conf first steps last
       → (faults_of first name ≤ faults_of last name) × Covers (faults_of first name) (faults_of last name) (failures name (calls_of steps))
@@ -80,9 +79,13 @@ module _ (conf : ConfigParts) where
       subst (λ (x : State). (faults_of x name ≤ faults_of last name)
       × Covers (faults_of x name) (faults_of last name) (failures_in name s.call + failures name (calls_of steps))) run.0 (
         (let a = more.0 in omega (arith, later, a)),
-        more_covered (faults_of s.before name) (faults_of s.after name) (faults_of last name) (failures_in name s.call) (failures name (calls_of steps))
-            later (counted name s run.1) more.0 more.1,
+        covers_both (faults_of s.before name) (faults_of s.after name) (faults_of last name) (failures_in name s.call) (failures name (calls_of steps))
+            (counted name taken s run.1) more.1,
       )
+
+risen : (a b n : ℕ) → a < 2 ^ 64 - 1 → n ≢ 0 → Covers a b n → a < b
+risen a b zero room some covers = absurd (some refl)
+risen a b (suc k) room some covers = omega (arith, room, covers)
 
 -- ---- one disk
 
@@ -152,7 +155,7 @@ module _ (conf : ConfigParts) (first last : State) (steps : List Step) (run : Is
       let parted = subst (λ (l : List Step). IsRun conf first l last) split run in
       let p = run_parts conf first last before (s ∷ after) parted in
       rises conf name taken first last before after s parted none
-      (⊎_elim (λ zero. absurd (some zero)) (λ one. let rose = one.1 in omega (arith, rose, room)) (counted conf name s p.2.1))
+      (risen (faults_of s.before name) (faults_of s.after name) (failures_in name s.call) room some (counted conf name taken s p.2.1))
 
   pub holds : HoldsOfRun conf first steps last
   holds =
@@ -170,4 +173,7 @@ module _ (conf : ConfigParts) (first last : State) (steps : List Step) (run : Is
           covered = (covered conf name taken first last steps run).1;
           fails = fails name taken;
         };
+        exclusive = exclusive conf first last steps run;
+        starts = passes_closed conf first last steps run;
+        taken = all_taken conf first last steps run;
       }

@@ -3,51 +3,57 @@ use Rattle.std.proofs.Common.{◌≡◌, inl, inr, ⊎_elim, refl, sym, ap, ◌�
 use Rattle.std.specs.List.{AllZip}
 use Rattle.session_script.specs.declared.event.Event.{Event}
 use Rattle.share_model.specs.Logs.{Batch as LogBatch}
-use Rattle.share_model.specs.Pending.{WithPending}
 use Rattle.share_model.specs.declared.fault.StoreFault.TheVariants.{Device, Full}
 use Rattle.rec_batch.specs.Placing.{placed}
 use Rattle.part_log.specs.Batches.{batch_in}
 use Rattle.part_log.specs.Logs.{and_pending}
 use Rattle.part_log.specs.Shards.{LogShardState, StepsLog}
+use Rattle.share_part.specs.Leaving.{IsOneOf}
+use Rattle.share_part.specs.Shards.{PartShardState}
 use Rattle.topic_conf.specs.Configs.{ConfigParts}
 use Rattle.call_fold.specs.declared.part.Produced.{Produced}
 use Rattle.call_fold.specs.declared.part.Produced.TheVariants.{Base, Batch, Store}
-use Rattle.broker_model.specs.Hosted.{ChangesAt, HoldsAt}
-use Rattle.broker_model.specs.Shards.{Shards, ShardCall, NamedLog, StepsNamed, StepsShards, result_of}
-use Rattle.broker_model.specs.Shards.ShardCall.{CallForeign, CallLog}
-use Rattle.broker_model.specs.Machine.{LandsLog}
+use Rattle.broker_model.specs.Hosted.{ChangesAt, HoldsAt, Hosted, log_of}
+use Rattle.broker_model.specs.Shards.{Counts, HostedPart, PartCall, Shards, ShardCall, StepsHosted, StepsPart, StepsShards, result_of, rose_at}
+use Rattle.broker_model.specs.Shards.ShardCall.{CallForeign, CallPart, CallMembers}
+use Rattle.broker_model.specs.Shards.PartCall.{Visits, Produces, Looks, Expires}
+use Rattle.broker_model.specs.Machine.{LandsPart}
 use Rattle.broker_model.specs.Steps.{IsRestart, StepsTo}
-use Rattle.broker_model.specs.States.{State, IsStep}
+use Rattle.broker_model.specs.States.{State, IsStep, counts_of}
 use Rattle.broker_model.specs.Runs.{Step, IsRun}
 use Rattle.broker_model.specs.Keeping.{GoesOnAs, IsIn, KeepsBatches}
 use Rattle.broker_model.proofs.Chains.{run_parts}
-use Rattle.broker_model.proofs.Acts.{Acts, rose_in, step_acts, power_or_not}
+use Rattle.broker_model.proofs.Acts.{Acts, step_acts, power_or_not}
 
-abbrev Grow : List NamedLog → List NamedLog → Type 0
+abbrev Grow : List HostedPart → List HostedPart → Type 0
 Grow old new = AllZip GoesOnAs old new
 
-same : (log new : NamedLog) → new ≡ log → GoesOnAs log new
-same log new is = record {
+-- a log goes on as another one
+abbrev Longer : PartShardState → PartShardState → Type 0
+Longer old new = (more : List LogBatch) × (new.log.batches ≡ old.log.batches ++ more)
+
+same : (old new : HostedPart) → new ≡ old → GoesOnAs old new
+same old new is = record {
   more = [];
-  name = ap (λ (e : NamedLog). e.0) is;
-  batches = ap (λ (e : NamedLog). e.1.batches) is ∙ sym (append-nil log.1.batches);
+  hosted = ap (λ (p : HostedPart). p.hosted) is;
+  batches = ap (λ (p : HostedPart). p.shard.log.batches) is ∙ sym (append-nil old.shard.log.batches);
 }
 
-all_same : (logs : List NamedLog) → Grow logs logs
+all_same : (parts : List HostedPart) → Grow parts parts
 all_same [] = tt
-all_same (log ∷ logs) = (same log log refl, all_same logs)
+all_same (p ∷ parts) = (same p p refl, all_same parts)
 
-all_as : (old new : List NamedLog) → new ≡ old → Grow old new
-all_as old new is = subst (λ (l : List NamedLog). Grow old l) (sym is) (all_same old)
+all_as : (old new : List HostedPart) → new ≡ old → Grow old new
+all_as old new is = subst (λ (l : List HostedPart). Grow old l) (sym is) (all_same old)
 
-then_one : (a b c : NamedLog) → GoesOnAs a b → GoesOnAs b c → GoesOnAs a c
+then_one : (a b c : HostedPart) → GoesOnAs a b → GoesOnAs b c → GoesOnAs a c
 then_one a b c p q = record {
   more = p.more ++ q.more;
-  name = q.name ∙ p.name;
-  batches = q.batches ∙ ap (λ (l : List LogBatch). l ++ q.more) p.batches ∙ append_assoc a.1.batches p.more q.more;
+  hosted = q.hosted ∙ p.hosted;
+  batches = q.batches ∙ ap (λ (l : List LogBatch). l ++ q.more) p.batches ∙ append_assoc a.shard.log.batches p.more q.more;
 }
 
-then_all : (xs ys zs : List NamedLog) → Grow xs ys → Grow ys zs → Grow xs zs
+then_all : (xs ys zs : List HostedPart) → Grow xs ys → Grow ys zs → Grow xs zs
 then_all [] [] zs p q = q
 then_all [] (y ∷ ys) zs p q = absurd p
 then_all (x ∷ xs) [] zs p q = absurd p
@@ -63,115 +69,134 @@ log_grows rose end old new batch (Batch fault) p = ([], ap (λ (s : LogShardStat
 log_grows rose end old new batch (Store Device) p = ([], p.1.same ∙ sym (append-nil old.batches))
 log_grows rose end old new batch (Store (Full at)) p = ([], ap (λ (s : LogShardState). s.batches) p.1 ∙ sym (append-nil old.batches))
 
-module _ (rose : List ℕ → Type 0) (ends : List ℕ → ℕ) where
-  changed_grows : (shard : ℕ) (disk batch : List ℕ) (produced : Produced) (old new : List NamedLog)
-      → ChangesAt shard (StepsNamed rose ends disk batch produced) old new → Grow old new
-  changed_grows shard disk batch produced [] new c = absurd c
-  changed_grows zero disk batch produced (x ∷ xs) [] c = absurd c
-  changed_grows zero disk batch produced (x ∷ xs) (y ∷ ys) c =
-      let g = log_grows (rose disk) (ends disk) x.1 y.1 batch produced c.0.step in
-      (record { more = g.0; name = c.0.is ∙ sym c.0.was; batches = g.1 }, all_as xs ys c.1)
-  changed_grows (suc n) disk batch produced (x ∷ xs) [] c = absurd c
-  changed_grows (suc n) disk batch produced (x ∷ xs) (y ∷ ys) c = (same x y c.0, changed_grows n disk batch produced xs ys c.1)
+log_same : (old new : PartShardState) → new.log ≡ old.log → Longer old new
+log_same old new is = ([], ap (λ (l : LogShardState). l.batches) is ∙ sym (append-nil old.log.batches))
 
-  did_grows : (old new : Shards) (did : ShardCall) → StepsShards rose ends old did new → Grow old.logs new.logs
-  did_grows old new (CallForeign op answer fault) p = all_as old.logs new.logs p.1
-  did_grows old new (CallLog shard disk batch produced) p = changed_grows shard disk batch produced old.logs new.logs p.0
+module _ (counts : Counts) (ends : List ℕ → ℕ) where
+  part_grows : (now : ℕ) (h : Hosted) (old new : PartShardState) (did : PartCall) → StepsPart counts ends now h old did new → Longer old new
+  part_grows now h old new (Visits visit answer) p = log_same old new p.log
+  part_grows now h old new (Produces batch produced) p = log_grows _ _ old.log new.log batch produced p.log
+  part_grows now h old new (Looks group looked) p = log_same old new (ap (λ (s : PartShardState). s.log) p.1)
+  part_grows now h old new (Expires answer) p = log_same old new p.log
 
-  acts_grow : (old new : Shards) (call : Option ShardCall) → Acts rose ends old new call → Grow old.logs new.logs
-  acts_grow old new call (inl quiet) = all_as old.logs new.logs (ap (λ (s : Shards). s.logs) quiet.same)
-  acts_grow old new call (inr d) = did_grows old new d.did d.step
+  changed_grows : (shard now : ℕ) (hosted : Hosted) (did : PartCall) (old new : List HostedPart)
+      → ChangesAt shard (StepsHosted counts ends now hosted did) old new → Grow old new
+  changed_grows shard now hosted did [] new c = absurd c
+  changed_grows zero now hosted did (x ∷ xs) [] c = absurd c
+  changed_grows zero now hosted did (x ∷ xs) (y ∷ ys) c =
+      let g = part_grows now hosted x.shard y.shard did c.0.step in
+      (record { more = g.0; hosted = c.0.is ∙ sym c.0.was; batches = g.1 }, all_as xs ys c.1)
+  changed_grows (suc n) now hosted did (x ∷ xs) [] c = absurd c
+  changed_grows (suc n) now hosted did (x ∷ xs) (y ∷ ys) c = (same x y c.0, changed_grows n now hosted did xs ys c.1)
 
-landed : (log : List LogBatch) (pending : Option LogBatch) (new : List LogBatch)
-    → WithPending (λ (l : List LogBatch). new ≡ l) log (and_pending log pending) → (more : List LogBatch) × (new ≡ log ++ more)
-landed log None new is = ([], is ∙ sym (append-nil log))
-landed log (Some b) new (inl is) = ([], is ∙ sym (append-nil log))
-landed log (Some b) new (inr is) = (b ∷ [], is)
+  did_grows : (now : ℕ) (old new : Shards) (did : ShardCall) → StepsShards counts ends now old did new → Grow old.parts new.parts
+  did_grows now old new (CallForeign op answer fault) p = all_as old.parts new.parts p.1
+  did_grows now old new (CallPart shard hosted did) p = changed_grows shard now hosted did old.parts new.parts p.0
+  did_grows now old new (CallMembers did) p = all_as old.parts new.parts p.1
 
-lands_grow : (old new : List NamedLog) → AllZip LandsLog old new → Grow old new
+  acts_grow : (old new : Shards) (call : Option ShardCall) → Acts counts ends old new call → Grow old.parts new.parts
+  acts_grow old new call (inl quiet) = all_as old.parts new.parts (ap (λ (s : Shards). s.parts) quiet.same)
+  acts_grow old new call (inr d) = did_grows d.now old new d.did d.step
+
+some_is : {A : Type 0} (a b : A) → ◌≡◌ {A = Option A} (Some a) (Some b) → a ≡ b
+some_is a b e = cc
+
+landed : (log : List LogBatch) (pending : Option LogBatch) (new : List LogBatch) → IsOneOf log (and_pending log pending) new
+    → (more : List LogBatch) × (new ≡ log ++ more)
+landed log pending new (inl is) = ([], is ∙ sym (append-nil log))
+landed log None new (inr is) = absurd (let clash : ⊥ = cc in clash)
+landed log (Some b) new (inr is) = (b ∷ [], sym (some_is (log ++ b ∷ []) new is))
+
+lands_one : (x y : HostedPart) → LandsPart x y → GoesOnAs x y
+lands_one x y p =
+    let g = landed x.shard.log.batches x.shard.log.pending p.batches p.log_is in
+    record { more = g.0; hosted = p.hosted; batches = ap (λ (s : PartShardState). s.log.batches) p.shard ∙ g.1 }
+
+lands_grow : (old new : List HostedPart) → AllZip LandsPart old new → Grow old new
 lands_grow [] [] p = tt
 lands_grow [] (y ∷ ys) p = absurd p
 lands_grow (x ∷ xs) [] p = absurd p
-lands_grow (x ∷ xs) (y ∷ ys) p =
-    let g = landed x.1.batches x.1.pending y.1.batches p.0.batches in
-    (record { more = g.0; name = p.0.name; batches = g.1 }, lands_grow xs ys p.1)
+lands_grow (x ∷ xs) (y ∷ ys) p = (lands_one x y p.0, lands_grow xs ys p.1)
 
-abbrev logs_of : State → List NamedLog
-logs_of s = s.machine.shards.logs
+abbrev parts_of : State → List HostedPart
+parts_of s = s.machine.shards.parts
 
 module _ (conf : ConfigParts) where
-  step_grows : (s : Step) → IsStep conf s.before s.event s.call s.outcomes s.after → Grow (logs_of s.before) (logs_of s.after)
+  step_grows : (s : Step) → IsStep conf s.before s.event s.call s.outcomes s.after → Grow (parts_of s.before) (parts_of s.after)
   step_grows s step = ⊎_elim
-      (λ free. acts_grow (rose_in s.before s.after) s.before.ends s.before.machine.shards s.after.machine.shards s.call
-      (step_acts (rose_in s.before s.after) s.before.ends conf s.before.machine s.after.machine s.call s.outcomes s.event free step.machine))
+      (λ free. acts_grow (counts_of s.before s.after) s.before.ends s.before.machine.shards s.after.machine.shards s.call
+      (step_acts (counts_of s.before s.after) s.before.ends conf s.before.machine s.after.machine s.call s.outcomes s.event free step.machine))
       (λ p.
       let restart : IsRestart s.before.machine s.call s.outcomes s.after.machine =
-      subst (λ (e : Event). StepsTo conf (rose_in s.before s.after) s.before.ends s.before.machine e s.call s.outcomes s.after.machine) p.1 step.machine in
-      lands_grow (logs_of s.before) (logs_of s.after) restart.lands.logs)
+      subst (λ (e : Event). StepsTo conf (counts_of s.before s.after) s.before.ends s.before.machine e s.call s.outcomes s.after.machine) p.1 step.machine in
+      lands_grow (parts_of s.before) (parts_of s.after) restart.lands.parts)
       (power_or_not s.event)
 
-  run_grows : (first last : State) (steps : List Step) → IsRun conf first steps last → Grow (logs_of first) (logs_of last)
-  run_grows first last [] run = all_as (logs_of first) (logs_of last) (ap logs_of run)
+  run_grows : (first last : State) (steps : List Step) → IsRun conf first steps last → Grow (parts_of first) (parts_of last)
+  run_grows first last [] run = all_as (parts_of first) (parts_of last) (ap parts_of run)
   run_grows first last (s ∷ steps) run =
-      subst (λ (x : State). Grow (logs_of x) (logs_of last)) run.0
-      (then_all (logs_of s.before) (logs_of s.after) (logs_of last) (step_grows s run.1) (run_grows s.after last steps run.2))
+      subst (λ (x : State). Grow (parts_of x) (parts_of last)) run.0
+      (then_all (parts_of s.before) (parts_of s.after) (parts_of last) (step_grows s run.1) (run_grows s.after last steps run.2))
 
 -- ---- a batch that was answered with a base
 
-abbrev Has : LogBatch → NamedLog → Type 0
-Has b log = IsIn b log.1.batches
+abbrev Has : LogBatch → HostedPart → Type 0
+Has b p = IsIn b p.shard.log.batches
 
 stored_in : (rose : Type 0) (end : ℕ) (old new : LogShardState) (batch : List ℕ) (base : ℕ) → StepsLog rose end old batch (result_of (Base base)) new
     → IsIn (batch_in (placed base batch)) new.batches
 stored_in rose end old new batch base p =
     subst (λ (n : ℕ). IsIn (batch_in (placed n batch)) new.batches) (sym p.base_is) (old.batches, [], p.batches)
 
-module _ (rose : List ℕ → Type 0) (ends : List ℕ → ℕ) (disk batch : List ℕ) (base : ℕ) where
-  has_stored : (shard : ℕ) (old new : List NamedLog) → ChangesAt shard (StepsNamed rose ends disk batch (Base base)) old new
+module _ (counts : Counts) (ends : List ℕ → ℕ) (hosted : Hosted) (batch : List ℕ) (base : ℕ) where
+  abbrev asked : PartCall
+  asked = Produces batch (Base base)
+
+  has_stored : (shard now : ℕ) (old new : List HostedPart) → ChangesAt shard (StepsHosted counts ends now hosted asked) old new
       → HoldsAt shard (Has (batch_in (placed base batch))) new
-  has_stored shard [] new c = absurd c
-  has_stored zero (x ∷ xs) [] c = absurd c
-  has_stored zero (x ∷ xs) (y ∷ ys) c = stored_in (rose disk) (ends disk) x.1 y.1 batch base c.0.step
-  has_stored (suc n) (x ∷ xs) [] c = absurd c
-  has_stored (suc n) (x ∷ xs) (y ∷ ys) c = has_stored n xs ys c.1
+  has_stored shard now [] new c = absurd c
+  has_stored zero now (x ∷ xs) [] c = absurd c
+  has_stored zero now (x ∷ xs) (y ∷ ys) c = stored_in (rose_at counts (log_of hosted)) (ends (log_of hosted)) x.shard.log y.shard.log batch base c.0.step.log
+  has_stored (suc n) now (x ∷ xs) [] c = absurd c
+  has_stored (suc n) now (x ∷ xs) (y ∷ ys) c = has_stored n now xs ys c.1
 
-  same_call : (did : ShardCall) (shard : ℕ) (call : Option ShardCall) → call ≡ Some did → call ≡ Some (CallLog shard disk batch (Base base))
-      → did ≡ CallLog shard disk batch (Base base)
-  same_call did shard call is also_is = let e : Some did ≡ Some (CallLog shard disk batch (Base base)) = sym is ∙ also_is in cc
+  same_call : (did : ShardCall) (shard : ℕ) (call : Option ShardCall) → call ≡ Some did → call ≡ Some (CallPart shard hosted asked)
+      → did ≡ CallPart shard hosted asked
+  same_call did shard call is also_is = some_is did (CallPart shard hosted asked) (sym is ∙ also_is)
 
-  some_none : (shard : ℕ) (call : Option ShardCall) → call ≡ Some (CallLog shard disk batch (Base base)) → call ≡ None → ⊥
+  some_none : (shard : ℕ) (call : Option ShardCall) → call ≡ Some (CallPart shard hosted asked) → call ≡ None → ⊥
   some_none shard call is none = cc
 
-  acts_store : (shard : ℕ) (old new : Shards) (call : Option ShardCall) → call ≡ Some (CallLog shard disk batch (Base base)) → Acts rose ends old new call
-      → HoldsAt shard (Has (batch_in (placed base batch))) new.logs
+  acts_store : (shard : ℕ) (old new : Shards) (call : Option ShardCall) → call ≡ Some (CallPart shard hosted asked) → Acts counts ends old new call
+      → HoldsAt shard (Has (batch_in (placed base batch))) new.parts
   acts_store shard old new call is (inl quiet) = absurd (some_none shard call is quiet.none)
   acts_store shard old new call is (inr d) =
-      has_stored shard old.logs new.logs (subst (λ (c : ShardCall). StepsShards rose ends old c new) (same_call d.did shard call d.is is) d.step).0
+      has_stored shard d.now old.parts new.parts (subst (λ (c : ShardCall). StepsShards counts ends d.now old c new) (same_call d.did shard call d.is is) d.step).0
 
 in_more : (b : LogBatch) (old more new : List LogBatch) → new ≡ old ++ more → IsIn b old → IsIn b new
 in_more b old more new is p = (p.0, p.1 ++ more, is ∙ ap (λ (l : List LogBatch). l ++ more) p.2 ∙ append_assoc p.0 (b ∷ p.1) more)
 
-has_more : (b : LogBatch) (shard : ℕ) (old new : List NamedLog) → Grow old new → HoldsAt shard (Has b) old → HoldsAt shard (Has b) new
+has_more : (b : LogBatch) (shard : ℕ) (old new : List HostedPart) → Grow old new → HoldsAt shard (Has b) old → HoldsAt shard (Has b) new
 has_more b shard [] new g h = absurd h
 has_more b zero (x ∷ xs) [] g h = absurd g
-has_more b zero (x ∷ xs) (y ∷ ys) g h = in_more b x.1.batches g.0.more y.1.batches g.0.batches h
+has_more b zero (x ∷ xs) (y ∷ ys) g h = in_more b x.shard.log.batches g.0.more y.shard.log.batches g.0.batches h
 has_more b (suc n) (x ∷ xs) [] g h = absurd g
 has_more b (suc n) (x ∷ xs) (y ∷ ys) g h = has_more b n xs ys g.1 h
 
 module _ (conf : ConfigParts) (first last : State) (steps : List Step) (run : IsRun conf first steps last) where
-  answered : (before after : List Step) (s : Step) → steps ≡ before ++ (s ∷ after) → (shard base : ℕ) (disk batch : List ℕ)
-      → s.call ≡ Some (CallLog shard disk batch (Base base)) → HoldsAt shard (Has (batch_in (placed base batch))) (logs_of last)
-  answered before after s split shard base disk batch is =
+  answered : (before after : List Step) (s : Step) → steps ≡ before ++ (s ∷ after) → (shard base : ℕ) (hosted : Hosted) (batch : List ℕ)
+      → s.call ≡ Some (CallPart shard hosted (Produces batch (Base base))) → HoldsAt shard (Has (batch_in (placed base batch))) (parts_of last)
+  answered before after s split shard base hosted batch is =
       let p = run_parts conf first last before (s ∷ after) (subst (λ (l : List Step). IsRun conf first l last) split run) in
       let step = p.2.1 in
-      has_more (batch_in (placed base batch)) shard (logs_of s.after) (logs_of last) (run_grows conf s.after last after p.2.2)
+      has_more (batch_in (placed base batch)) shard (parts_of s.after) (parts_of last) (run_grows conf s.after last after p.2.2)
       (⊎_elim
-      (λ free. acts_store (rose_in s.before s.after) s.before.ends disk batch base shard s.before.machine.shards s.after.machine.shards s.call is
-      (step_acts (rose_in s.before s.after) s.before.ends conf s.before.machine s.after.machine s.call s.outcomes s.event free step.machine))
+      (λ free. acts_store (counts_of s.before s.after) s.before.ends hosted batch base shard s.before.machine.shards s.after.machine.shards s.call is
+      (step_acts (counts_of s.before s.after) s.before.ends conf s.before.machine s.after.machine s.call s.outcomes s.event free step.machine))
       (λ q.
       let restart : IsRestart s.before.machine s.call s.outcomes s.after.machine =
-      subst (λ (e : Event). StepsTo conf (rose_in s.before s.after) s.before.ends s.before.machine e s.call s.outcomes s.after.machine) q.1 step.machine in
-      absurd (some_none (rose_in s.before s.after) s.before.ends disk batch base shard s.call is restart.none))
+      subst (λ (e : Event). StepsTo conf (counts_of s.before s.after) s.before.ends s.before.machine e s.call s.outcomes s.after.machine) q.1 step.machine in
+      absurd (some_none (counts_of s.before s.after) s.before.ends hosted batch base shard s.call is restart.none))
       (power_or_not s.event))
 
   keeps_batches : KeepsBatches first steps last

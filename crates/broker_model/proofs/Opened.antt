@@ -20,7 +20,7 @@ use Rattle.state_records.specs.declared.record.StateRecord.TheVariants.{Snapshot
 use Rattle.share_coord.specs.Stored.{Entries, AreAccepted, Follows as FollowsRecord, snapshot_of, update_of}
 use Rattle.share_coord.specs.declared.view.Kept.{Kept}
 use Rattle.share_coord.proofs.Keys.{all_with, all_without}
-use Rattle.foreign_coord.specs.Acts.{states_of}
+use Rattle.share_coord.specs.States.{states_of}
 use Rattle.broker_model.specs.Machine.{StandForStates}
 use Rattle.broker_model.specs.History.{history_after, history_read, batch_of, row_given, StatesTellHistories}
 use Rattle.broker_model.proofs.Maps.{Rises, rises_set, rises_removed}

@@ -8,7 +8,7 @@ use Rattle.edge_io.specs.declared.fault.Armed.TheVariants.{Nothing}
 use Rattle.edge_io.specs.Armed.{IsOneShot}
 use Rattle.edge_io.specs.Causes.{raised}
 use Rattle.session_script.specs.declared.event.Event.{Event}
-use Rattle.session_script.specs.declared.event.Event.TheVariants.{Open, Bytes, Close, Step as StepOf, Arm, Power}
+use Rattle.session_script.specs.declared.event.Event.TheVariants.{Open, Bytes, Close, Step as StepOf, Expire, Tick, Arm, Power}
 use Rattle.broker_model.specs.Hosted.{same_name}
 use Rattle.broker_model.specs.Shards.{ShardCall, calls}
 use Rattle.broker_model.specs.Disks.{Facts, IsUsed, IsRestarted, OnCalled, OnDisk, with_arm}
@@ -56,6 +56,8 @@ module _ (name : List ℕ) (call : Option ShardCall) (old new : Facts) where
   kind_of (Bytes conn bytes) d = inl (record { used = stays old new d; unarmed = tt; powered = tt })
   kind_of (Close conn) d = inl (record { used = stays old new d; unarmed = tt; powered = tt })
   kind_of (StepOf conn now) d = inl (record { used = called (calls call name) old new d; unarmed = tt; powered = tt })
+  kind_of (Expire topic part now) d = inl (record { used = called (calls call name) old new d; unarmed = tt; powered = tt })
+  kind_of (Tick now) d = inl (record { used = stays old new d; unarmed = tt; powered = tt })
   kind_of (Arm disk after mode) d = ⊎_elim
       (λ yes. inr (inl (record {
         disk = disk;
@@ -84,6 +86,8 @@ not_both name (Open conn) free one = one
 not_both name (Bytes conn bytes) free one = one
 not_both name (Close conn) free one = one
 not_both name (StepOf conn now) free one = one
+not_both name (Expire topic part now) free one = one
+not_both name (Tick now) free one = one
 not_both name (Arm disk after mode) free one = true≢false (sym one.0 ∙ free)
 not_both name (Power choice) free one = one
 
@@ -92,6 +96,8 @@ same_arms name (Open conn) n free = refl
 same_arms name (Bytes conn bytes) n free = refl
 same_arms name (Close conn) n free = refl
 same_arms name (StepOf conn now) n free = refl
+same_arms name (Expire topic part now) n free = refl
+same_arms name (Tick now) n free = refl
 same_arms name (Arm disk after mode) n free = ap (λ (t : Bool). if t then raised n else n) free
 same_arms name (Power choice) n free = refl
 

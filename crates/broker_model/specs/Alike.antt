@@ -4,10 +4,9 @@ use Rattle.std.specs.Prelude.{◌≡◌, List, Option, None, Some}
 use Rattle.std.specs.List.{AllByRecursion}
 use Rattle.session_script.specs.declared.event.Event.{Event}
 use Rattle.topic_conf.specs.Configs.{ConfigParts}
-use Rattle.call_fold.specs.declared.part.Produced.{Produced}
-use Rattle.call_fold.specs.declared.part.Produced.TheVariants.{Base, Batch, Store}
-use Rattle.broker_model.specs.Shards.{ShardCall}
-use Rattle.broker_model.specs.Shards.ShardCall.{CallForeign, CallLog}
+use Rattle.broker_model.specs.Shards.{PartCall, ShardCall, store_fault_of_ack, store_fault_of_expiry, store_fault_of_log, store_fault_of_then}
+use Rattle.broker_model.specs.Shards.PartCall.{Visits, Produces, Looks, Expires}
+use Rattle.broker_model.specs.Shards.ShardCall.{CallForeign, CallPart, CallMembers}
 use Rattle.broker_model.specs.States.{State}
 use Rattle.broker_model.specs.Runs.{Step, IsRun, events_of, outcomes_of, calls_of, calls_made}
 use Rattle.broker_model.specs.Laws.{NoPower}
@@ -26,17 +25,19 @@ abbrev pub HasCutRuns : ConfigParts → List Event → List Event → Type 0
 HasCutRuns conf events others = (first last : State) (steps : List Step) → AreRecut events others →
     IsRun conf first steps last → events_of steps ≡ events → IsLike conf first steps last others
 
--- the log's store met no fault
-abbrev pub IsStoredOrJudged : Produced → Type 0
-IsStoredOrJudged (Base base) = Unit {0}
-IsStoredOrJudged (Batch fault) = Unit {0}
-IsStoredOrJudged (Store fault) = ⊥
+-- no store of the partition met a fault
+abbrev pub PartMetNoFault : PartCall → Type 0
+PartMetNoFault (Visits visit answer) = (store_fault_of_ack answer.ack ≡ None) × (store_fault_of_then answer.then ≡ None)
+PartMetNoFault (Produces batch produced) = store_fault_of_log produced ≡ None
+PartMetNoFault (Looks group looked) = Unit {0}
+PartMetNoFault (Expires answer) = store_fault_of_expiry answer ≡ None
 
 -- no shard's store met a fault
 abbrev pub MetNoFault : Option ShardCall → Type 0
 MetNoFault None = Unit {0}
 MetNoFault (Some (CallForeign op answer fault)) = fault ≡ None
-MetNoFault (Some (CallLog shard disk batch produced)) = IsStoredOrJudged produced
+MetNoFault (Some (CallPart shard hosted did)) = PartMetNoFault did
+MetNoFault (Some (CallMembers did)) = Unit {0}
 
 -- a run that makes none of the choices of a step
 pub record HasNoChoice (steps : List Step) : Type 0 where

@@ -4,7 +4,7 @@
 -- none, or that initialisation. Where a write of `g2` was answered with code 0 in between, it alone was completed.
 use Rattle.std.specs.Prelude.{◌≡◌, ◌⊎◌, List, [], ◌∷◌, ◌++◌, Option, None, Some, if◌then◌else◌}
 use Rattle.session_script.specs.declared.event.Event.{Event}
-use Rattle.session_script.specs.declared.event.Event.TheVariants.{Open, Bytes, Close, Step as StepOf, Arm, Power}
+use Rattle.session_script.specs.declared.event.Event.TheVariants.{Open, Bytes, Close, Step as StepOf, Expire, Tick, Arm, Power}
 use Rattle.share_model.specs.ForeignRules.{code_alone}
 use Rattle.share_model.specs.ForeignRules.{ShareStates}
 use Rattle.share_model.specs.declared.fault.StoreFault.TheVariants.{Device, Full}
@@ -12,7 +12,7 @@ use Rattle.share_model.specs.declared.fault.TheConstants.Code.{NONE}
 use Rattle.share_model.specs.declared.foreign.ForeignOp.{ForeignOp}
 use Rattle.foreign_coord.specs.Shards.{ForeignShardState, Grants, writes}
 use Rattle.broker_model.specs.Shards.{ShardCall}
-use Rattle.broker_model.specs.Shards.ShardCall.{CallForeign, CallLog}
+use Rattle.broker_model.specs.Shards.ShardCall.{CallForeign, CallPart, CallMembers}
 use Rattle.broker_model.specs.States.{State}
 use Rattle.broker_model.specs.Runs.{Step}
 use Rattle.broker_model.specs.History.{Call, AreDone}
@@ -24,7 +24,8 @@ foreign_of state = state.machine.shards.foreign
 abbrev pub without_fault : ShardCall → List Call
 without_fault (CallForeign op answer None) = record { op = op; answer = answer } ∷ []
 without_fault (CallForeign op answer (Some fault)) = []
-without_fault (CallLog shard disk batch produced) = []
+without_fault (CallPart shard hosted did) = []
+without_fault (CallMembers did) = []
 
 -- Which write is unfinished behind a call on these states: none where the call wrote; where it failed on a device, the one from before
 -- or its own.
@@ -32,7 +33,8 @@ abbrev pub Leaves : ShareStates → Option ForeignOp → ShardCall → Option Fo
 Leaves states old (CallForeign op answer None) new = new ≡ (if writes states op answer then None else old)
 Leaves states old (CallForeign op answer (Some Device)) new = (new ≡ old) ⊎ (new ≡ Some op)
 Leaves states old (CallForeign op answer (Some (Full end))) new = new ≡ old
-Leaves states old (CallLog shard disk batch produced) new = new ≡ old
+Leaves states old (CallPart shard hosted did) new = new ≡ old
+Leaves states old (CallMembers did) new = new ≡ old
 
 abbrev pub CompletesCall : ShareStates → Option ForeignOp → Option ShardCall → List Call → Option ForeignOp → Type 0
 CompletesCall states old None calls new = (calls ≡ []) × (new ≡ old)
@@ -49,6 +51,8 @@ Completes states old (Open conn) call calls new = CompletesCall states old call 
 Completes states old (Bytes conn bytes) call calls new = CompletesCall states old call calls new
 Completes states old (Close conn) call calls new = CompletesCall states old call calls new
 Completes states old (StepOf conn now) call calls new = CompletesCall states old call calls new
+Completes states old (Expire topic part now) call calls new = CompletesCall states old call calls new
+Completes states old (Tick now) call calls new = CompletesCall states old call calls new
 Completes states old (Arm disk after mode) call calls new = CompletesCall states old call calls new
 Completes states old (Power choice) call calls new = MayLand old calls × (new ≡ None)
 

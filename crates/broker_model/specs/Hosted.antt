@@ -1,14 +1,56 @@
--- The disks of a broker by their names, and lists of which one entry changes. This project's own.
--- For example a broker of two partitions of `orders` takes `orders/0/log`, `orders/1/log`, `foreign/state-a` and `foreign/state-b`, in
--- this order, and a batch for shard 1 changes the second log alone.
+-- The hosted partitions of a broker, the disks of a broker by their names, and lists of which one entry changes. This project's own.
+-- For example a broker of two partitions of `orders` takes `orders/0/log`, `orders/0/state-a`, `orders/0/state-b`, the same of
+-- `orders/1`, `foreign/state-a` and `foreign/state-b`, in this order, and a batch for shard 1 changes the second partition alone.
 use Rattle.std.specs.Prelude.{◌≡◌, ◌⊎◌, ℕ, zero, suc, List, [], ◌∷◌, ◌++◌, Bool, nat_eq, codes}
+use Rattle.std.specs.List.{flat_map}
 use Rattle.std.specs.Cmp.Lexicographic.{pointwise}
 use Rattle.edge_io.specs.Names.{hosted_name}
-use Rattle.edge_io.specs.declared.name.DiskPlace.TheVariants.{Log}
+use Rattle.edge_io.specs.declared.name.DiskPlace.TheVariants.{Log, StateA, StateB}
 use Rattle.topic_conf.specs.declared.topic.Topic.{Topic}
 use Rattle.topic_conf.specs.Configs.{ConfigParts}
+use Rattle.share_part.specs.Hosting.{PartConfParts}
 
--- ---- names
+-- ---- hosted partitions
+
+-- its topic's name, and what its shard is configured with
+pub record Hosted : Type 0 where
+  pub topic : List ℕ
+  pub conf : PartConfParts
+
+-- what the shard of a topic's partition is configured with
+abbrev pub part_conf : ConfigParts → Topic → ℕ → PartConfParts
+part_conf conf topic part = record { topic = topic.id; part = part; reset = conf.reset; lock_ms = conf.lock_ms; limit = conf.limit }
+
+-- so many partitions of a topic, from this one on
+abbrev pub hosted_from : ConfigParts → Topic → ℕ → ℕ → List Hosted
+hosted_from conf topic part zero = []
+hosted_from conf topic part (suc more) = record { topic = topic.name; conf = part_conf conf topic part } ∷ hosted_from conf topic (suc part) more
+
+-- those of these topics, in the order of their shards: topic by topic and partition by partition
+abbrev pub hosted_in : ConfigParts → List Topic → List Hosted
+hosted_in conf [] = []
+hosted_in conf (topic ∷ topics) = hosted_from conf topic 0 topic.parts ++ hosted_in conf topics
+
+abbrev pub hosted_of : ConfigParts → List Hosted
+hosted_of conf = hosted_in conf conf.topics
+
+-- ---- names of disks
+
+abbrev pub log_of : Hosted → List ℕ
+log_of h = hosted_name h.topic h.conf.part Log
+
+abbrev pub first_of : Hosted → List ℕ
+first_of h = hosted_name h.topic h.conf.part StateA
+
+abbrev pub second_of : Hosted → List ℕ
+second_of h = hosted_name h.topic h.conf.part StateB
+
+-- the three disks of a partition: that of its log, and the two of its states
+abbrev pub disks_of : Hosted → List (List ℕ)
+disks_of h = log_of h ∷ first_of h ∷ second_of h ∷ []
+
+abbrev pub part_disks : List Hosted → List (List ℕ)
+part_disks hosted = flat_map disks_of hosted
 
 abbrev pub state_a : List ℕ
 state_a = codes "foreign/state-a"
@@ -19,23 +61,13 @@ state_b = codes "foreign/state-b"
 abbrev pub same_name : List ℕ → List ℕ → Bool
 same_name a b = pointwise nat_eq a b
 
--- the disks of so many logs of a topic, from this partition on
-abbrev pub logs_from : List ℕ → ℕ → ℕ → List (List ℕ)
-logs_from topic part zero = []
-logs_from topic part (suc more) = hosted_name topic part Log ∷ logs_from topic (suc part) more
-
--- the disks of the logs of these topics, in the order of their shards: topic by topic and partition by partition
-abbrev pub log_names : List Topic → List (List ℕ)
-log_names [] = []
-log_names (topic ∷ topics) = logs_from topic.name 0 topic.parts ++ log_names topics
-
 abbrev pub IsOneOf : List (List ℕ) → List ℕ → Type 0
 IsOneOf [] name = ⊥
 IsOneOf (n ∷ names) name = (name ≡ n) ⊎ IsOneOf names name
 
 -- the broker takes the disk of this name
 abbrev pub IsTaken : ConfigParts → List ℕ → Type 0
-IsTaken conf name = IsOneOf (log_names conf.topics) name ⊎ ((name ≡ state_a) ⊎ (name ≡ state_b))
+IsTaken conf name = IsOneOf (part_disks (hosted_of conf)) name ⊎ ((name ≡ state_a) ⊎ (name ≡ state_b))
 
 -- ---- lists
 

@@ -1,22 +1,40 @@
--- What the logs of a run keep: each batch that was ever answered with a base (this project's own).
--- For example a batch that is answered with base 3 stands in its log, at offset 3, at each later time, also behind a power loss.
-use Rattle.std.specs.Prelude.{◌≡◌, ℕ, List, ◌∷◌, ◌++◌, Some}
-use Rattle.std.specs.List.{AllZip}
+-- What a run keeps: each batch that was ever answered with a base, and each record whose acknowledgement was answered as done (this project's
+-- own).
+-- For example a batch that is answered with base 3 stands in its log, at offset 3, at each later time, also behind a power loss. A record of
+-- it that is accepted at its first delivery is stored as acknowledged with count 1 from then on, or lies below the start.
+use Rattle.std.specs.Prelude.{◌≡◌, ◌≢◌, ◌⊎◌, ◌<◌, ℕ, List, ◌∷◌, ◌++◌, Option, Some, None}
+use Rattle.std.specs.List.{AllByRecursion, AllZip}
+use Rattle.ack_ranges.specs.Batches.{kind_at}
 use Rattle.rec_batch.specs.Placing.{placed}
+use Rattle.share_model.specs.ForeignRules.{size_of}
+use Rattle.share_model.specs.Held.{hold_at}
 use Rattle.share_model.specs.Logs.{Batch}
+use Rattle.share_model.specs.Runs.{row_at}
+use Rattle.share_model.specs.ShareStates.{ShareState}
+use Rattle.share_model.specs.declared.ack.AckKind.{AckKind}
+use Rattle.share_model.specs.declared.ack.AckKind.TheVariants.{Release}
+use Rattle.share_model.specs.declared.hold.Hold.{Hold}
+use Rattle.share_model.specs.declared.row.Row.{Row}
+use Rattle.share_model.specs.declared.visit.AckOutcome.TheVariants.{Done}
+use Rattle.share_model.specs.declared.visit.Visit.{Visit}
+use Rattle.share_model.specs.declared.visit.VisitAnswer.{VisitAnswer}
+use Rattle.share_part.specs.Settling.{settled}
 use Rattle.part_log.specs.Batches.{batch_in}
 use Rattle.call_fold.specs.declared.part.Produced.TheVariants.{Base}
-use Rattle.broker_model.specs.Hosted.{HoldsAt}
-use Rattle.broker_model.specs.Shards.{NamedLog}
-use Rattle.broker_model.specs.Shards.ShardCall.{CallLog}
+use Rattle.broker_model.specs.Hosted.{Hosted, HoldsAt}
+use Rattle.broker_model.specs.Shards.{HostedPart}
+use Rattle.broker_model.specs.Shards.ShardCall.{CallPart}
+use Rattle.broker_model.specs.Shards.PartCall.{Produces, Visits}
+use Rattle.broker_model.specs.Locks.{Record}
+use Rattle.broker_model.specs.Starts.{IsWell, table_in}
 use Rattle.broker_model.specs.States.{State}
 use Rattle.broker_model.specs.Runs.{Step}
 
 -- a log has the batches that it had, in their order, and may have more behind them
-pub record GoesOnAs (old new : NamedLog) : Type 0 where
+pub record GoesOnAs (old new : HostedPart) : Type 0 where
   pub more : List Batch
-  pub name : new.0 ≡ old.0
-  pub batches : new.1.batches ≡ old.1.batches ++ more
+  pub hosted : new.hosted ≡ old.hosted
+  pub batches : new.shard.log.batches ≡ old.shard.log.batches ++ more
 
 -- the batch is one of the log's
 abbrev pub IsIn : Batch → List Batch → Type 0
@@ -24,7 +42,39 @@ IsIn b log = (before after : List Batch) × (log ≡ before ++ (b ∷ after))
 
 -- No log loses a batch, and each batch that was answered with a base stands in its log in the end, at that base and with leader epoch 0.
 pub record KeepsBatches (first : State) (steps : List Step) (last : State) : Type 0 where
-  pub logs : AllZip GoesOnAs first.machine.shards.logs last.machine.shards.logs
-  pub answered : (before after : List Step) (s : Step) → steps ≡ before ++ (s ∷ after) → (shard base : ℕ) (disk batch : List ℕ)
-      → s.call ≡ Some (CallLog shard disk batch (Base base))
-      → HoldsAt shard (λ (log : NamedLog). IsIn (batch_in (placed base batch)) log.1.batches) last.machine.shards.logs
+  pub logs : AllZip GoesOnAs first.machine.shards.parts last.machine.shards.parts
+  pub answered : (before after : List Step) (s : Step) → steps ≡ before ++ (s ∷ after) → (shard base : ℕ) (hosted : Hosted) (batch : List ℕ)
+      → s.call ≡ Some (CallPart shard hosted (Produces batch (Base base)))
+      → HoldsAt shard (λ (p : HostedPart). IsIn (batch_in (placed base batch)) p.shard.log.batches) last.machine.shards.parts
+
+-- ---- acknowledgements
+
+-- an accept, a reject or a gap of the record was answered as done
+pub record IsClosedIn (r : Record) (s : Step) : Type 0 where
+  pub hosted : Hosted
+  pub visit : Visit
+  pub answer : VisitAnswer
+  pub kind : AckKind
+  pub call : s.call ≡ Some (CallPart r.shard hosted (Visits visit answer))
+  pub group : visit.group ≡ r.group
+  pub named : kind_at visit.acks r.offset ≡ Some kind
+  pub final : kind ≢ Release
+  pub done : answer.ack ≡ Done
+
+-- the record has this row, or lies below the start
+abbrev pub HasKept : ℕ → Row → Option ShareState → Type 0
+HasKept offset row None = ⊥
+HasKept offset row (Some state) = (offset < size_of state.start) ⊎ (row_at state.runs offset ≡ Some row)
+
+-- it was held then, and has in the end the row that the act gives it, with the count of that delivery, or lies below the start
+pub record IsKept (r : Record) (s : Step) (c : IsClosedIn r s) (last : State) : Type 0 where
+  pub hold : Hold
+  pub held : HoldsAt r.shard (λ (p : HostedPart). hold_at (p.shard.held r.group) r.offset ≡ Some hold) s.before.machine.shards.parts
+  pub row : HoldsAt r.shard (λ (p : HostedPart). HasKept r.offset (settled c.hosted.conf.limit c.kind hold.count) (table_in p r.group))
+      last.machine.shards.parts
+
+-- Where each partition was well at first, as behind an opening, no acknowledgement that was answered as done is lost, whatever fails and however
+-- often power is lost.
+abbrev pub KeepsAcknowledgements : State → List Step → State → Type 0
+KeepsAcknowledgements first steps last = AllByRecursion IsWell first.machine.shards.parts → (before after : List Step) (s : Step) →
+    steps ≡ before ++ (s ∷ after) → (r : Record) (c : IsClosedIn r s) → IsKept r s c last

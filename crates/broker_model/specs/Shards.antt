@@ -1,49 +1,116 @@
--- The shards of a broker as one state, and the calls on them: the log of each hosted partition, and the shard of foreign state. Each
--- shard's own crate has its states, calls and steps. This project's own.
--- For example a read of foreign state leaves all shards as they are, and a batch that is produced to `orders` 0 leaves all but that log.
-use Rattle.std.specs.Prelude.{◌≡◌, ℕ, List, Option, Some, None, Bool, false, map, Result, Ok, Err, if◌then◌else◌}
+-- The shards of a broker as one state, and the calls on them: one for each hosted partition, one of all group memberships, and one of
+-- foreign state. Each shard's own crate has its states, calls and steps. This project's own.
+-- For example a read of foreign state leaves all shards as they are, and a batch that is produced to `orders` 0 leaves all but that
+-- partition.
+use Rattle.std.specs.Prelude.{◌≡◌, ◌+◌, ℕ, List, [], ◌∷◌, Option, Some, None, Bool, false, map, Result, Ok, Err, if◌then◌else◌}
+use Rattle.edge_io.specs.Causes.{Rose}
+use Rattle.share_model.specs.ForeignRules.{share_state_at}
+use Rattle.share_model.specs.ShareStates.{ShareState}
 use Rattle.share_model.specs.declared.fault.LogFault.{LogFault}
 use Rattle.share_model.specs.declared.fault.LogFault.TheVariants.{Batch as BadBatch, Store as Unstored}
 use Rattle.share_model.specs.declared.fault.StoreFault.{StoreFault}
 use Rattle.share_model.specs.declared.fault.StoreFault.TheVariants.{Device, Full}
 use Rattle.share_model.specs.declared.foreign.ForeignOp.{ForeignOp}
 use Rattle.share_model.specs.declared.foreign.ForeignAnswer.{ForeignAnswer}
+use Rattle.share_model.specs.declared.visit.AckOutcome.{AckOutcome}
+use Rattle.share_model.specs.declared.visit.AckOutcome.TheVariants.{Done as acknowledged, Malformed, NotHeld, Store as ack_store}
+use Rattle.share_model.specs.declared.visit.ExpireAnswer.{ExpireAnswer}
+use Rattle.share_model.specs.declared.visit.ExpireAnswer.TheVariants.{Done as freed_all, Store as freed_some}
+use Rattle.share_model.specs.declared.visit.ShardId.TheVariants.{Part as OfPart}
+use Rattle.share_model.specs.declared.visit.Then.{Then}
+use Rattle.share_model.specs.declared.visit.Then.TheVariants.{Nothing, Release, Fetch}
+use Rattle.share_model.specs.declared.visit.ThenOutcome.{ThenOutcome}
+use Rattle.share_model.specs.declared.visit.ThenOutcome.TheVariants.{Done as followed, Store as then_store}
+use Rattle.share_model.specs.declared.visit.Visit.{Visit}
+use Rattle.share_model.specs.declared.visit.VisitAnswer.{VisitAnswer}
+use Rattle.msgs_group.specs.declared.heartbeat_request.HeartbeatRequest.{HeartbeatRequest}
+use Rattle.msgs_group.specs.declared.heartbeat_reply.HeartbeatReply.{HeartbeatReply}
+use Rattle.session_script.specs.declared.event.Outcome.{Outcome}
+use Rattle.session_script.specs.declared.event.Outcome.TheVariants.{Fault}
 use Rattle.call_fold.specs.declared.part.Part.{Part}
-use Rattle.call_fold.specs.declared.part.Part.TheVariants.{Foreign, Produce}
+use Rattle.call_fold.specs.declared.part.Part.TheVariants.{Foreign, Produce, Visit as PartVisit, Look, Heartbeat}
 use Rattle.call_fold.specs.declared.part.Produced.{Produced}
 use Rattle.call_fold.specs.declared.part.Produced.TheVariants.{Base, Batch, Store}
+use Rattle.call_fold.specs.declared.part.Looked.{Looked}
+use Rattle.call_fold.specs.declared.part.Looked.TheVariants.{Absent, There}
 use Rattle.call_fold.specs.declared.part.PartAnswer.{PartAnswer}
-use Rattle.call_fold.specs.declared.part.PartAnswer.TheVariants.{Foreign as AnswerForeign, Produce as AnswerProduce}
+use Rattle.call_fold.specs.declared.part.PartAnswer.TheVariants.{Foreign as AnswerForeign, Produce as AnswerProduce, Visit as AnswerVisit, Look as AnswerLook, Heartbeat as AnswerHeartbeat}
 use Rattle.foreign_coord.specs.Shards.{ForeignShardState, StepsForeign}
-use Rattle.part_log.specs.Shards.{LogShardState, StepsLog}
-use Rattle.broker_model.specs.Hosted.{state_a, same_name, ChangesAt}
+use Rattle.share_members.specs.Groups.{Memberships}
+use Rattle.share_members.specs.Heartbeats.{heartbeat_step}
+use Rattle.share_members.specs.Expiry.{expire_step}
+use Rattle.share_part.specs.Hosting.{key_of}
+use Rattle.share_part.specs.Shards.{PartShardState, StepsProduce}
+use Rattle.share_part.specs.Visits.{StepsVisit}
+use Rattle.share_part.specs.Expiring.{StepsExpire}
+use Rattle.broker_model.specs.Hosted.{Hosted, ChangesAt, first_of, log_of, same_name, state_a}
 
--- a log under the name of its disk
-abbrev pub NamedLog : Type 0
-NamedLog = List ℕ × LogShardState
+-- ---- the shards
 
-abbrev pub names_of : List NamedLog → List (List ℕ)
-names_of logs = map (λ (e : NamedLog). e.0) logs
+-- a hosted partition, and its shard
+pub record HostedPart : Type 0 where
+  pub hosted : Hosted
+  pub shard : PartShardState
 
--- the logs of the hosted partitions, in the order of their shards' numbers, and foreign state
+abbrev pub hosted_by : List HostedPart → List Hosted
+hosted_by parts = map (λ (p : HostedPart). p.hosted) parts
+
+-- the hosted partitions, in the order of their shards' numbers; the memberships of all groups; foreign state
 pub record Shards : Type 0 where
-  pub logs : List NamedLog
+  pub parts : List HostedPart
+  pub members : Memberships
   pub foreign : ForeignShardState
 
--- A call on a shard: what was called, what it answered, and the fault that its store met, if it met one. A log has the number of its
--- shard and the name of its disk.
+-- ---- calls
+
+-- what was called of a hosted partition, and what it answered
+pub data PartCall : Type 0 where
+  Visits : (visit : Visit) (answer : VisitAnswer) → PartCall
+  Produces : (batch : List ℕ) (produced : Produced) → PartCall
+  Looks : (group : List ℕ) (looked : Looked) → PartCall
+  Expires : (answer : ExpireAnswer) → PartCall
+
+-- what was called of the memberships
+pub data MembersCall : Type 0 where
+  Beats : (request : HeartbeatRequest) (reply : HeartbeatReply) → MembersCall
+  Ticks : MembersCall
+
+-- A call on a shard: what was called and what it answered. One on foreign state has the fault that its store met, if it met one; one on a
+-- partition the shard's number, and the partition.
 pub data ShardCall : Type 0 where
   CallForeign : (op : ForeignOp) (answer : ForeignAnswer) (fault : Option StoreFault) → ShardCall
-  CallLog : (shard : ℕ) (disk : List ℕ) (batch : List ℕ) (produced : Produced) → ShardCall
+  CallPart : (shard : ℕ) (hosted : Hosted) (did : PartCall) → ShardCall
+  CallMembers : (did : MembersCall) → ShardCall
 
--- the part that it does, and the answer to that
-abbrev pub part_of : ShardCall → Part
-part_of (CallForeign op answer fault) = Foreign op
-part_of (CallLog shard disk batch produced) = Produce shard batch
+-- a part of a request, and its answer
+pub record Answered : Type 0 where
+  pub part : Part
+  pub answer : PartAnswer
 
-abbrev pub answer_of : ShardCall → PartAnswer
-answer_of (CallForeign op answer fault) = AnswerForeign answer
-answer_of (CallLog shard disk batch produced) = AnswerProduce produced
+abbrev pub answered_by_part : ℕ → PartCall → Option Answered
+answered_by_part shard (Visits visit answer) = Some (record { part = PartVisit shard visit; answer = AnswerVisit answer })
+answered_by_part shard (Produces batch produced) = Some (record { part = Produce shard batch; answer = AnswerProduce produced })
+answered_by_part shard (Looks group looked) = Some (record { part = Look shard group; answer = AnswerLook looked })
+answered_by_part shard (Expires answer) = None
+
+abbrev pub answered_by_members : MembersCall → Option Answered
+answered_by_members (Beats request reply) = Some (record { part = Heartbeat request; answer = AnswerHeartbeat reply })
+answered_by_members Ticks = None
+
+-- the part that a call does, and the answer to that; an expiry and a tick of the members do none
+abbrev pub answered_by : ShardCall → Option Answered
+answered_by (CallForeign op answer fault) = Some (record { part = Foreign op; answer = AnswerForeign answer })
+answered_by (CallPart shard hosted did) = answered_by_part shard did
+answered_by (CallMembers did) = answered_by_members did
+
+-- ---- steps
+
+-- of each disk, by its name, its count of faults at entry of a step and behind it
+abbrev pub Counts : Type 0
+Counts = List ℕ → ℕ × ℕ
+
+abbrev pub rose_at : Counts → List ℕ → Type 0
+rose_at counts name = Rose (counts name).0 (counts name).1
 
 -- an answer of a log as the result of its call
 abbrev pub result_of : Produced → Result ℕ LogFault
@@ -51,39 +118,119 @@ result_of (Base base) = Ok base
 result_of (Batch fault) = Err (BadBatch fault)
 result_of (Store fault) = Err (Unstored fault)
 
--- the log on this disk takes its step
-pub record StepsNamed (rose : List ℕ → Type 0) (ends : List ℕ → ℕ) (disk batch : List ℕ) (produced : Produced) (old new : NamedLog) : Type 0 where
-  pub was : old.0 ≡ disk
-  pub is : new.0 ≡ disk
-  pub step : StepsLog (rose disk) (ends disk) old.1 batch (result_of produced) new.1
+-- what is stored of a group, if it has a table
+abbrev pub look_at : Option ShareState → Looked
+look_at None = Absent
+look_at (Some state) = There state.state_epoch state.leader_epoch state.start state.runs
 
--- The shard that is called takes its step, and each other one stays. `rose` says of a disk, by its name, that its count of faults
--- rose; `ends` is where the journal on it ends.
-abbrev pub StepsShards : (List ℕ → Type 0) → (List ℕ → ℕ) → Shards → ShardCall → Shards → Type 0
-StepsShards rose ends old (CallForeign op answer fault) new =
-    StepsForeign (rose state_a) (ends state_a) old.foreign op answer fault new.foreign × (new.logs ≡ old.logs)
-StepsShards rose ends old (CallLog shard disk batch produced) new =
-    ChangesAt shard (StepsNamed rose ends disk batch produced) old.logs new.logs × (new.foreign ≡ old.foreign)
+-- A partition's shard takes its step at the moment `now`. `ends` is where the journal on each disk ends.
+abbrev pub StepsPart : Counts → (ends : List ℕ → ℕ) → (now : ℕ) → Hosted → PartShardState → PartCall → PartShardState → Type 0
+StepsPart counts ends now h old (Visits visit answer) new =
+    StepsVisit h.conf (counts (first_of h)).0 (counts (first_of h)).1 (ends (first_of h)) old now visit answer new
+StepsPart counts ends now h old (Produces batch produced) new =
+    StepsProduce (rose_at counts (log_of h)) (ends (log_of h)) old now batch (result_of produced) new
+StepsPart counts ends now h old (Looks group looked) new =
+    (looked ≡ look_at (share_state_at old.states (key_of h.conf group))) × (new ≡ old)
+StepsPart counts ends now h old (Expires answer) new =
+    StepsExpire h.conf (counts (first_of h)).0 (counts (first_of h)).1 (ends (first_of h)) old now answer new
 
--- the shard of this disk was called, and may have used it; the second disk of a store is used at its opening alone
+-- this partition's shard does
+pub record StepsHosted (counts : Counts) (ends : List ℕ → ℕ) (now : ℕ) (hosted : Hosted) (did : PartCall) (old new : HostedPart) : Type 0 where
+  pub was : old.hosted ≡ hosted
+  pub is : new.hosted ≡ hosted
+  pub step : StepsPart counts ends now hosted old.shard did new.shard
+
+abbrev pub StepsMembers : ℕ → Memberships → MembersCall → Memberships → Type 0
+StepsMembers now old (Beats request reply) new =
+    (reply ≡ (heartbeat_step now request old).reply) × (new ≡ (heartbeat_step now request old).after)
+StepsMembers now old Ticks new = new ≡ expire_step now old
+
+-- The shard that is called takes its step, and each other one stays.
+abbrev pub StepsShards : Counts → (ends : List ℕ → ℕ) → (now : ℕ) → Shards → ShardCall → Shards → Type 0
+StepsShards counts ends now old (CallForeign op answer fault) new =
+    StepsForeign (rose_at counts state_a) (ends state_a) old.foreign op answer fault new.foreign
+    × (new.parts ≡ old.parts) × (new.members ≡ old.members)
+StepsShards counts ends now old (CallPart shard hosted did) new =
+    ChangesAt shard (StepsHosted counts ends now hosted did) old.parts new.parts
+    × (new.members ≡ old.members) × (new.foreign ≡ old.foreign)
+StepsShards counts ends now old (CallMembers did) new =
+    StepsMembers now old.members did new.members × (new.parts ≡ old.parts) × (new.foreign ≡ old.foreign)
+
+-- ---- what is told of faults
+
+abbrev pub fault_of_release : ℕ → Then → ThenOutcome → List Outcome
+fault_of_release shard Nothing outcome = []
+fault_of_release shard (Fetch records bytes first) outcome = []
+fault_of_release shard Release followed = []
+fault_of_release shard Release (then_store fault) = Fault (OfPart shard) ∷ []
+
+abbrev pub fault_of_expiry : ℕ → ExpireAnswer → List Outcome
+fault_of_expiry shard (freed_all freed) = []
+fault_of_expiry shard (freed_some freed group fault) = Fault (OfPart shard) ∷ []
+
+abbrev pub faults_of_part : ℕ → PartCall → List Outcome
+faults_of_part shard (Visits visit answer) = fault_of_release shard visit.then answer.then
+faults_of_part shard (Produces batch produced) = []
+faults_of_part shard (Looks group looked) = []
+faults_of_part shard (Expires answer) = fault_of_expiry shard answer
+
+-- an expiry, or a release in a visit, that couldn't be stored is an outcome; a fault of anything else is told in a reply alone
+abbrev pub faults_told : ShardCall → List Outcome
+faults_told (CallForeign op answer fault) = []
+faults_told (CallPart shard hosted did) = faults_of_part shard did
+faults_told (CallMembers did) = []
+
+-- ---- which disks are called, and how many of their writes fail
+
+-- a partition's log is on its own disk; its tables are written on the first disk of its states, and the second is used at an opening alone
+abbrev pub part_calls : Hosted → PartCall → List ℕ → Bool
+part_calls h (Visits visit answer) name = same_name name (first_of h)
+part_calls h (Produces batch produced) name = same_name name (log_of h)
+part_calls h (Looks group looked) name = false
+part_calls h (Expires answer) name = same_name name (first_of h)
+
+-- the shard of this disk was called, and may have used it
 abbrev pub calls : Option ShardCall → List ℕ → Bool
 calls None name = false
 calls (Some (CallForeign op answer fault)) name = same_name name state_a
-calls (Some (CallLog shard disk batch produced)) name = same_name name disk
+calls (Some (CallPart shard hosted did)) name = part_calls hosted did name
+calls (Some (CallMembers did)) name = false
 
--- how many of its writes failed on a device
+-- how many writes failed on a device
 abbrev pub faults_met : Option StoreFault → ℕ
 faults_met None = 0
 faults_met (Some Device) = 1
 faults_met (Some (Full end)) = 0
 
-abbrev pub faults_told : Produced → ℕ
-faults_told (Base base) = 0
-faults_told (Batch fault) = 0
-faults_told (Store fault) = faults_met (Some fault)
+abbrev pub store_fault_of_ack : AckOutcome → Option StoreFault
+store_fault_of_ack acknowledged = None
+store_fault_of_ack (Malformed fault) = None
+store_fault_of_ack (NotHeld offset) = None
+store_fault_of_ack (ack_store fault) = Some fault
+
+abbrev pub store_fault_of_then : ThenOutcome → Option StoreFault
+store_fault_of_then followed = None
+store_fault_of_then (then_store fault) = Some fault
+
+abbrev pub store_fault_of_log : Produced → Option StoreFault
+store_fault_of_log (Base base) = None
+store_fault_of_log (Batch fault) = None
+store_fault_of_log (Store fault) = Some fault
+
+abbrev pub store_fault_of_expiry : ExpireAnswer → Option StoreFault
+store_fault_of_expiry (freed_all freed) = None
+store_fault_of_expiry (freed_some freed group fault) = Some fault
+
+-- of a visit its acknowledgements may fail, and what follows them; an expiry ends at the first write that fails
+abbrev pub part_faults_met : PartCall → ℕ
+part_faults_met (Visits visit answer) = faults_met (store_fault_of_ack answer.ack) + faults_met (store_fault_of_then answer.then)
+part_faults_met (Produces batch produced) = faults_met (store_fault_of_log produced)
+part_faults_met (Looks group looked) = 0
+part_faults_met (Expires answer) = faults_met (store_fault_of_expiry answer)
 
 -- how many writes of this call failed on the disk of this name
 abbrev pub failures_in : List ℕ → Option ShardCall → ℕ
 failures_in name None = 0
 failures_in name (Some (CallForeign op answer fault)) = if same_name name state_a then faults_met fault else 0
-failures_in name (Some (CallLog shard disk batch produced)) = if same_name name disk then faults_told produced else 0
+failures_in name (Some (CallPart shard hosted did)) = if part_calls hosted did name then part_faults_met did else 0
+failures_in name (Some (CallMembers did)) = 0

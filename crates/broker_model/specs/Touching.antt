@@ -1,13 +1,13 @@
 -- What a step leaves alone (this project's own).
--- For example a step of connection 2 leaves connection 1 as it was, and where it produces to `orders` 0 it leaves foreign state and the
--- log of `orders` 1.
+-- For example a step of connection 2 leaves connection 1 as it was, and where it produces to `orders` 0 it leaves foreign state, all
+-- memberships, and `orders` 1.
 use Rattle.std.specs.Prelude.{◌≡◌, ℕ, List, Option, None, Some, false}
 use Rattle.session_script.specs.declared.event.Event.{Event}
 use Rattle.session_script.specs.declared.event.Outcome.{Outcome}
 use Rattle.topic_conf.specs.Configs.{ConfigParts}
 use Rattle.broker_model.specs.Hosted.{IsTaken, ChangesAt}
-use Rattle.broker_model.specs.Shards.{Shards, ShardCall, NamedLog, calls}
-use Rattle.broker_model.specs.Shards.ShardCall.{CallForeign, CallLog}
+use Rattle.broker_model.specs.Shards.{Shards, ShardCall, HostedPart, calls}
+use Rattle.broker_model.specs.Shards.ShardCall.{CallForeign, CallPart, CallMembers}
 use Rattle.broker_model.specs.Machine.{conn_at}
 use Rattle.broker_model.specs.Cutting.{Spares}
 use Rattle.broker_model.specs.Laws.{NoPower, NoArm}
@@ -15,9 +15,10 @@ use Rattle.broker_model.specs.States.{State, IsStep}
 
 -- the shards that this call doesn't call stay
 abbrev pub KeepsOthers : ShardCall → Shards → Shards → Type 0
-KeepsOthers (CallForeign op answer fault) old new = new.logs ≡ old.logs
-KeepsOthers (CallLog shard disk batch produced) old new =
-    ChangesAt shard (λ (log also : NamedLog). also.0 ≡ log.0) old.logs new.logs × (new.foreign ≡ old.foreign)
+KeepsOthers (CallForeign op answer fault) old new = (new.parts ≡ old.parts) × (new.members ≡ old.members)
+KeepsOthers (CallPart shard hosted did) old new =
+    ChangesAt shard (λ (p q : HostedPart). q.hosted ≡ p.hosted) old.parts new.parts × (new.members ≡ old.members) × (new.foreign ≡ old.foreign)
+KeepsOthers (CallMembers did) old new = (new.parts ≡ old.parts) × (new.foreign ≡ old.foreign)
 
 -- A step touches its connection, the shard that it calls, and that shard's disks, and nothing else.
 pub record TouchesItsOwn (conf : ConfigParts) (event : Event) (call : Option ShardCall) (old new : State) : Type 0 where

@@ -1,0 +1,644 @@
+-- No start passes a record that isn't acknowledged or archived.
+use Rattle.std.proofs.Common.{◌≡◌, ◌≢◌, ◌⊎◌, ◌≤◌, ◌<◌, ◌+◌, inl, inr, ⊎_elim, refl, sym, ap, ◌∙◌, subst, arith, ℕ, List, [], ◌∷◌, ◌++◌, Bool, true, false, Option, Some, None, if◌then◌else◌}
+use Rattle.std.proofs.lemmas.Bool.Decides.{nat_tests}
+use Rattle.std.proofs.lemmas.Bool.{true≢false}
+use Rattle.std.specs.Prelude.{IsSome, nat_le, nat_lt}
+use Rattle.std.specs.Option.{option_or}
+use Rattle.std.specs.BTreeMap.{insert_entry, is_at}
+use Rattle.std.specs.Cmp.Lexicographic.{slice_cmp}
+use Rattle.std.specs.List.{AllByRecursion, Contains}
+use Rattle.std.specs.Ordering.{nat_cmp}
+use Rattle.edge_io.specs.Causes.{Rose}
+use Rattle.ack_ranges.specs.Batches.{kind_at}
+use Rattle.share_model.specs.ForeignRules.{ShareStates, share_state_at, size_of}
+use Rattle.share_model.specs.Held.{Held, hold_at}
+use Rattle.share_model.specs.Keys.{KeyParts, key_cmp}
+use Rattle.share_model.specs.Logs.{Batch as LogBatch, Covers, IsLog, IsSlot, RisesFrom, end_of}
+use Rattle.share_model.specs.Runs.{row_at}
+use Rattle.share_model.specs.ShareStates.{ShareState}
+use Rattle.share_model.specs.declared.ack.AckKind.{AckKind}
+use Rattle.share_model.specs.declared.ack.AckKind.TheVariants.{Release as ReleaseAct}
+use Rattle.share_model.specs.declared.fault.StoreFault.{StoreFault}
+use Rattle.share_model.specs.declared.fault.StoreFault.TheVariants.{Device, Full}
+use Rattle.share_model.specs.declared.hold.Hold.{Hold}
+use Rattle.share_model.specs.declared.row.Row.{Row}
+use Rattle.share_model.specs.declared.visit.AckOutcome.{AckOutcome}
+use Rattle.share_model.specs.declared.visit.AckOutcome.TheVariants.{Done as acknowledged, Malformed, NotHeld, Store as ack_store}
+use Rattle.share_model.specs.declared.visit.ExpireAnswer.{ExpireAnswer}
+use Rattle.share_model.specs.declared.visit.Then.{Then}
+use Rattle.share_model.specs.declared.visit.Then.TheVariants.{Nothing, Release, Fetch}
+use Rattle.share_model.specs.declared.visit.ThenOutcome.{ThenOutcome}
+use Rattle.share_model.specs.declared.visit.ThenOutcome.TheVariants.{Done as followed, Store as then_store}
+use Rattle.share_model.specs.declared.visit.Visit.{Visit}
+use Rattle.share_model.specs.declared.visit.VisitAnswer.{VisitAnswer}
+use Rattle.part_log.specs.Logs.{and_pending}
+use Rattle.part_log.specs.Shards.{LogShardState, StepsLog}
+use Rattle.part_log.proofs.Frames.{bounds}
+use Rattle.part_log.proofs.Rising.{end_from, end_more, rises_more}
+use Rattle.share_part.specs.Acknowledging.{Acknowledges, AreSettled, StoresActs}
+use Rattle.share_part.specs.Expiring.{StepsGroups, ending}
+use Rattle.share_part.specs.Following.{Does as Follows, Fetches, MakesTable, fault_of, releases_of}
+use Rattle.share_part.specs.Hosting.{PartConfParts, key_of}
+use Rattle.share_part.specs.Leaving.{IsOneOf}
+use Rattle.share_part.specs.Settling.{Acts, AreHeldBy, IsHeldBy, IsSettled, act_row, is_chosen, is_closed, is_closed_state, release_of, releases_if, settled, stored_after}
+use Rattle.share_part.specs.Shards.{PartShardState, new_state, raised_to}
+use Rattle.share_part.specs.Tables.{Table, table_of}
+use Rattle.share_part.specs.declared.limits.Limits.{Limits}
+use Rattle.share_part.specs.declared.settle.Whose.TheVariants.{Member, Due}
+use Rattle.call_fold.specs.declared.part.Produced.{Produced}
+use Rattle.call_fold.specs.declared.part.Produced.TheVariants.{Base, Batch, Store}
+use Rattle.topic_conf.specs.Configs.{ConfigParts}
+use Rattle.broker_model.specs.Hosted.{Hosted, HoldsAt, first_of}
+use Rattle.broker_model.specs.Shards.{HostedPart, PartCall, StepsPart, result_of}
+use Rattle.broker_model.specs.Shards.ShardCall.{CallPart}
+use Rattle.broker_model.specs.Shards.PartCall.{Visits, Produces, Looks, Expires}
+use Rattle.broker_model.specs.Machine.{OpensPart}
+use Rattle.broker_model.specs.Locks.{Record}
+use Rattle.broker_model.specs.Starts.{Closes, Does, IsBelow, IsClosedRow, IsMadeBehind, IsWell, OpeningsAreWell, StartsPassClosedRecords, table_in}
+use Rattle.broker_model.specs.Runs.{Step, IsRun}
+use Rattle.broker_model.specs.States.{State, counts_of}
+use Rattle.broker_model.proofs.Exclusive.{chosen_held}
+use Rattle.broker_model.proofs.Goes.{Goes, IsLostIn, came, parts_of, went}
+use Rattle.broker_model.proofs.Histories.{keys_exact, keys_total}
+use Rattle.broker_model.proofs.Holding.{group_is, group_self, hold_in, stores_hold}
+use Rattle.broker_model.proofs.Lists.{all_entry, contains_front, contains_rest, entry_at, entry_holds, holds_entry, none_not, some_same}
+use Rattle.broker_model.proofs.Maps.{set_found, set_other}
+
+-- ---- logs
+
+pub lt_or_le : (a b : ℕ) → (a < b) ⊎ (b ≤ a)
+lt_or_le a b = by_test (nat_lt a b) refl where
+  less : nat_lt a b ≡ true → a < b
+  less e = grind (arith, nat_tests)
+
+  more : nat_lt a b ≡ false → b ≤ a
+  more e = grind (arith, nat_tests)
+
+  by_test : (t : Bool) → nat_lt a b ≡ t → (a < b) ⊎ (b ≤ a)
+  by_test true e = inl (less e)
+  by_test false e = inr (more e)
+
+-- a slot is below the end
+pub slot_below : (e : ℕ) (log : List LogBatch) (o : ℕ) → RisesFrom e log → IsSlot log o → o < end_of log
+slot_below e [] o rises slot = absurd slot
+slot_below e (b ∷ []) o rises (inl covers) = let le = covers.1 in omega (arith, le)
+slot_below e (b ∷ []) o rises (inr slot) = absurd slot
+slot_below e (b ∷ c ∷ log) o rises (inl covers) = let le = covers.1 in let lt = end_from (b.last + 1) c log rises.2 in omega (arith, le, lt)
+slot_below e (b ∷ c ∷ log) o rises (inr slot) = slot_below (b.last + 1) (c ∷ log) o rises.2 slot
+
+slot_more : (log : List LogBatch) (b : LogBatch) (o : ℕ) → IsSlot (log ++ b ∷ []) o → IsSlot log o ⊎ Covers b o
+slot_more [] b o (inl covers) = inr covers
+slot_more [] b o (inr slot) = absurd slot
+slot_more (c ∷ log) b o (inl covers) = inl (inl covers)
+slot_more (c ∷ log) b o (inr slot) = ⊎_elim (λ there. inl (inr there)) (λ covers. inr covers) (slot_more log b o slot)
+
+pub rises_back : (e : ℕ) (log : List LogBatch) (b : LogBatch) → RisesFrom e (log ++ b ∷ []) → (end_of log ≤ b.base) × (b.base ≤ b.last)
+rises_back e [] b rises = (omega arith, rises.1)
+rises_back e (c ∷ []) b rises = (rises.2.0, rises.2.1)
+rises_back e (c ∷ d ∷ log) b rises = rises_back (c.last + 1) (d ∷ log) b rises.2
+
+-- the offset is a slot, or not yet one
+abbrev IsSlotYet : ℕ → List LogBatch → Type 0
+IsSlotYet o log = IsSlot log o ⊎ (end_of log ≤ o)
+
+slot_before : (o : ℕ) (log : List LogBatch) (b : LogBatch) → IsLog (log ++ b ∷ []) → IsSlotYet o (log ++ b ∷ []) → IsSlotYet o log
+slot_before o log b is_log (inl slot) = ⊎_elim
+    (λ there. inl there)
+    (λ (covers : Covers b o). let r = rises_back 0 log b is_log in let le = r.0 in let ge = covers.0 in inr (omega (arith, le, ge)))
+    (slot_more log b o slot)
+slot_before o log b is_log (inr past) =
+    let r = rises_back 0 log b is_log in let le = r.0 in let ge = r.1 in let end = end_more log b in inr (omega (arith, le, ge, end, past))
+
+-- a log stays, or has one batch more
+pub record LogGoes (old new : List LogBatch) : Type 0 where
+  pub same_or_more : (new ≡ old) ⊎ ((b : LogBatch) × (new ≡ old ++ b ∷ []))
+  pub still : IsLog old → IsLog new
+
+before_it : (o : ℕ) (old new : List LogBatch) → IsLog old → LogGoes old new → IsSlotYet o new → IsSlotYet o old
+before_it o old new is_log g slot = ⊎_elim
+    (λ same. subst (IsSlotYet o) same slot)
+    (λ (more : (b : LogBatch) × (new ≡ old ++ b ∷ [])).
+    slot_before o old more.0 (subst IsLog more.1 (g.still is_log)) (subst (IsSlotYet o) more.1 slot))
+    g.same_or_more
+
+log_stays : (old new : List LogBatch) → new ≡ old → LogGoes old new
+log_stays old new is = record { same_or_more = inl is; still = λ is_log. subst IsLog (sym is) is_log }
+
+log_goes : (rose : Type 0) (end : ℕ) (old new : LogShardState) (batch : List ℕ) (produced : Produced) → StepsLog rose end old batch (result_of produced) new
+    → LogGoes old.batches new.batches
+log_goes rose end old new batch (Base base) p = record {
+  same_or_more = inr (_, p.batches);
+  still = λ is_log. subst IsLog (sym p.batches)
+      (rises_more 0 old.batches _ is_log (omega arith) p.follows.behind (bounds _ p.follows.stored).order);
+}
+log_goes rose end old new batch (Batch fault) p = log_stays old.batches new.batches (ap (λ (s : LogShardState). s.batches) p.1)
+log_goes rose end old new batch (Store Device) p = log_stays old.batches new.batches p.1.same
+log_goes rose end old new batch (Store (Full at)) p = log_stays old.batches new.batches (ap (λ (s : LogShardState). s.batches) p.1)
+
+log_same : (old new : PartShardState) → new.log ≡ old.log → LogGoes old.log.batches new.log.batches
+log_same old new is = log_stays old.log.batches new.log.batches (ap (λ (l : LogShardState). l.batches) is)
+
+landed_log : (log : List LogBatch) (pending : Option LogBatch) (new : List LogBatch) → IsOneOf log (and_pending log pending) new
+    → (new ≡ log) ⊎ ((b : LogBatch) × (new ≡ log ++ b ∷ []))
+landed_log log pending new (inl is) = inl is
+landed_log log None new (inr is) = absurd (none_not new is)
+landed_log log (Some b) new (inr is) = inr (b, sym (some_same (log ++ b ∷ []) new is))
+
+-- ---- the table of a group
+
+abbrev pub table_at : PartConfParts → ShareStates → List ℕ → Option ShareState
+table_at conf states group = share_state_at states (key_of conf group)
+
+-- one state is set: it is that of the group, or of another one
+pub table_set : (conf : PartConfParts) (states : ShareStates) (of group : List ℕ) (next : ShareState)
+    → ((of ≡ group) × (table_at conf (insert_entry key_cmp states (key_of conf of) next) group ≡ Some next))
+    ⊎ (table_at conf (insert_entry key_cmp states (key_of conf of) next) group ≡ table_at conf states group)
+table_set conf states of group next = go (is_at (slice_cmp nat_cmp of) group) refl where
+  apart : is_at (slice_cmp nat_cmp of) group ≡ false → key_of conf group ≢ key_of conf of
+  apart away e =
+      let one : group ≡ of = ap (λ (k : KeyParts). k.group) e in
+      true≢false (sym (group_self of) ∙ ap (is_at (slice_cmp nat_cmp of)) (sym one) ∙ away)
+
+  go : (b : Bool) → is_at (slice_cmp nat_cmp of) group ≡ b
+      → ((of ≡ group) × (table_at conf (insert_entry key_cmp states (key_of conf of) next) group ≡ Some next))
+      ⊎ (table_at conf (insert_entry key_cmp states (key_of conf of) next) group ≡ table_at conf states group)
+  go true same =
+      let one : of ≡ group = group_is of group same in
+      inl (
+        one,
+        subst (λ (g : List ℕ). table_at conf (insert_entry key_cmp states (key_of conf of) next) g ≡ Some next) one
+            (set_found key_cmp keys_total keys_exact (key_of conf of) next states),
+      )
+  go false away = inr (set_other key_cmp keys_total keys_exact (key_of conf of) next (key_of conf group) (apart away) states)
+
+-- ---- acts on a table
+
+module _ (o : ℕ) where
+  -- the start has passed the record, or it is stored as acknowledged or archived
+  abbrev Passed : Option ShareState → Type 0
+  Passed t = IsBelow o t ⊎ IsClosedRow o t
+
+  -- an act of a holder that closes the record
+  record IsClosedBy (limit : ℕ) (acts : Acts) (held : Held) : Type 0 where
+    hold : Hold
+    kind : AckKind
+    named : acts o ≡ Some kind
+    at : hold_at held o ≡ Some hold
+    closes : is_closed_state (settled limit kind hold.count).state ≡ true
+
+  by_act : (limit : ℕ) (acts : Acts) (held : Held) (stored : Option Row) (k : Option AckKind) → acts o ≡ k → (h : Option Hold) → hold_at held o ≡ h
+      → is_closed (option_or (act_row limit k h) stored) ≡ true → (is_closed stored ≡ true) ⊎ IsClosedBy limit acts held
+  by_act limit acts held stored None named h at closed = inl closed
+  by_act limit acts held stored (Some kind) named None at closed = inl closed
+  by_act limit acts held stored (Some kind) named (Some hold) at closed =
+      inr (record { hold = hold; kind = kind; named = named; at = at; closes = closed })
+
+  none_closed : (row : Option Row) → row ≡ None → is_closed row ≡ true → ⊥
+  none_closed row none closed = true≢false (sym closed ∙ ap is_closed none)
+
+  row_closed : (row stored : Option Row) (t : Bool) → row ≡ (if t then None else stored) → is_closed row ≡ true → is_closed stored ≡ true
+  row_closed row stored true is closed = absurd (none_closed row is closed)
+  row_closed row stored false is closed = sym (ap is_closed is) ∙ closed
+
+  module _ (limit : ℕ) (acts : Acts) (log : List LogBatch) (table : Table) (next : ShareState) (s : IsSettled limit acts log table next)
+      (is_log : IsLog log) (slot : IsSlotYet o log) where
+    -- what the new start has passed, the old one had passed, or it is closed
+    below_then : o < s.start → (o < table.start) ⊎ (is_closed (stored_after limit acts table o) ≡ true)
+    below_then lt = by_closed (is_closed (stored_after limit acts table o)) refl (lt_or_le o table.start) where
+      by_start : is_closed (stored_after limit acts table o) ≡ false → table.start ≤ o → ⊥
+      by_start free from = ⊎_elim
+          (λ least. ⊎_elim
+          (λ there. let le : s.start ≤ o = least.2 o from (record { slot = there; open_is = free }) in omega (arith, lt, le))
+          (λ past. let up = slot_below 0 log s.start is_log least.0.slot in omega (arith, lt, past, up))
+          slot)
+          (λ none. ⊎_elim
+          (λ there. none.1 o from (record { slot = there; open_is = free }))
+          (λ past. let is : s.start ≡ end_of log = none.0 in omega (arith, lt, past, is))
+          slot)
+          s.start_is
+
+      by_closed : (b : Bool) → is_closed (stored_after limit acts table o) ≡ b → (o < table.start) ⊎ (table.start ≤ o)
+          → (o < table.start) ⊎ (is_closed (stored_after limit acts table o) ≡ true)
+      by_closed true closed at = inr closed
+      by_closed false free (inl low) = inl low
+      by_closed false free (inr from) = absurd (by_start free from)
+
+    passed_then : Passed (Some next) → (o < table.start) ⊎ (is_closed (stored_after limit acts table o) ≡ true)
+    passed_then (inl below) = below_then (subst (λ (n : ℕ). o < n) (ap size_of s.start_told) below)
+    passed_then (inr closed) = inr (row_closed (row_at next.runs o) (stored_after limit acts table o) (nat_lt o s.start) (s.rows o) closed)
+
+  module _ (conf : PartConfParts) (group : List ℕ) (a : PartShardState) (is_log : IsLog a.log.batches) (slot : IsSlotYet o a.log.batches) where
+    -- what states have passed once acts are stored
+    settled_passes : (of : List ℕ) (acts : Acts) (states : ShareStates) → AreSettled conf a of acts states → Passed (table_at conf states group)
+        → Passed (table_at conf a.states group) ⊎ ((of ≡ group) × IsClosedBy conf.limit acts (a.held of))
+    settled_passes of acts states p passed = ⊎_elim
+        (λ one. go one.0 (subst Passed (ap (λ (x : ShareStates). table_at conf x group) p.is ∙ one.1) passed))
+        (λ other. inl (subst Passed (ap (λ (x : ShareStates). table_at conf x group) p.is ∙ other) passed))
+        (table_set conf a.states of group p.next)
+      where
+        known : of ≡ group → table_at conf a.states group ≡ Some p.state
+        known one = ap (λ (g : List ℕ). table_at conf a.states g) (sym one) ∙ p.known
+
+        go : of ≡ group → Passed (Some p.next) → Passed (table_at conf a.states group) ⊎ ((of ≡ group) × IsClosedBy conf.limit acts (a.held of))
+        go one passed = ⊎_elim
+            (λ low. inl (subst Passed (sym (known one)) (inl low)))
+            (λ closed. ⊎_elim
+            (λ row. inl (subst Passed (sym (known one)) (inr row)))
+            (λ act. inr (one, act))
+            (by_act conf.limit acts (a.held of) (row_at p.state.runs o) (acts o) refl (hold_at (a.held of) o) refl closed))
+            (passed_then conf.limit acts a.log.batches (table_of p.state (a.held of)) p.next p.settled is_log slot passed)
+
+  -- ---- what is kept from step to step
+
+  -- a record that is passed, now or by the write that is pending, was so for a reason
+  record HasReason (Reason : Type 0) (conf : PartConfParts) (group : List ℕ) (p : PartShardState) : Type 0 where
+    now : Passed (table_at conf p.states group) → Reason
+    lost : (states : ShareStates) → p.pending ≡ Some states → Passed (table_at conf states group)
+        → Reason ⊎ ((table_at conf p.states group ≡ None) × IsBelow o (table_at conf states group))
+
+  module _ (Reason : Type 0) (conf : PartConfParts) (group : List ℕ) where
+    abbrev Reasoned : PartShardState → Type 0
+    Reasoned p = HasReason Reason conf group p
+
+    still : (a b : PartShardState) → b.states ≡ a.states → b.pending ≡ a.pending → Reasoned a → Reasoned b
+    still a b states pending r = record {
+      now = λ passed. r.now (subst (λ (x : ShareStates). Passed (table_at conf x group)) states passed);
+      lost = λ found at passed. subst (λ (x : ShareStates). Reason ⊎ ((table_at conf x group ≡ None) × IsBelow o (table_at conf found group))) (sym states)
+          (r.lost found (sym pending ∙ at) passed);
+    }
+
+    -- nothing is pending
+    nothing_lost : (b : PartShardState) → b.pending ≡ None → (states : ShareStates) → b.pending ≡ Some states → Passed (table_at conf states group)
+        → Reason ⊎ ((table_at conf b.states group ≡ None) × IsBelow o (table_at conf states group))
+    nothing_lost b none states at passed = absurd (none_not states (sym none ∙ at))
+
+    abbrev Caused : Option StoreFault → List ℕ → Acts → PartShardState → Type 0
+    Caused fault of acts a = ((fault ≡ None) ⊎ (fault ≡ Some Device)) → of ≡ group → IsClosedBy conf.limit acts (a.held of) → Reason
+
+    stored_so : (rose : Type 0) (end : ℕ) (a : PartShardState) (of : List ℕ) (acts : Acts) (b : PartShardState) (fault : Option StoreFault)
+        → IsLog a.log.batches → IsSlotYet o a.log.batches → Caused fault of acts a → StoresActs conf rose end a of acts b fault → Reasoned a → Reasoned b
+    stored_so rose end a of acts b (Some (Full at)) is_log slot cause p r = still a b p.2.states p.2.pending r
+    stored_so rose end a of acts b None is_log slot cause (inl p) r = still a b p.1.states p.1.pending r
+    stored_so rose end a of acts b None is_log slot cause (inr p) r = record {
+      now = λ passed. ⊎_elim
+          (λ old. r.now old)
+          (λ act. cause (inl refl) act.0 act.1)
+          (settled_passes conf group a is_log slot of acts b.states p.1.states passed);
+      lost = nothing_lost b p.1.nothing;
+    }
+    stored_so rose end a of acts b (Some Device) is_log slot cause p r = ⊎_elim
+        (λ same. still a b p.2.states same r)
+        (λ own. record {
+          now = λ passed. r.now (subst (λ (x : ShareStates). Passed (table_at conf x group)) p.2.states passed);
+          lost = λ found at passed.
+              let is : own.0 ≡ found = some_same own.0 found (sym own.1 ∙ at) in
+              ⊎_elim
+              (λ old. inl (r.now old))
+              (λ act. inl (cause (inr refl) act.0 act.1))
+              (settled_passes conf group a is_log slot of acts found (subst (AreSettled conf a of acts) is own.2) passed);
+        })
+        p.2.pending
+
+    -- a new table begins at its start
+    no_row : (conf_of : PartConfParts) (end : ℕ) → IsClosedRow o (Some (new_state conf_of end)) → ⊥
+    no_row conf_of end closed = true≢false (sym closed)
+
+    made_so : (rose : Type 0) (end : ℕ) (a : PartShardState) (visit : Visit) (limits : Limits) (answer : VisitAnswer) (b : PartShardState) (t : ThenOutcome)
+        → table_at conf a.states visit.group ≡ None → (table_at conf a.states group ≡ None → IsBelow o (table_at conf b.states group) → Reason)
+        → MakesTable conf rose end a visit limits answer b t → Reasoned a → Reasoned b
+    made_so rose end a visit limits answer b followed none cause p r = record {
+      now = λ passed. ⊎_elim
+          (λ one.
+          let fresh : table_at conf b.states group ≡ Some (new_state conf (end_of a.log.batches)) = ap (λ (x : ShareStates). table_at conf x group) p.states ∙ one.1 in
+          ⊎_elim
+          (λ below. cause (ap (λ (g : List ℕ). table_at conf a.states g) (sym one.0) ∙ none) below)
+          (λ closed. absurd (no_row conf (end_of a.log.batches) (subst (IsClosedRow o) fresh closed)))
+          passed)
+          (λ other. r.now (subst Passed (ap (λ (x : ShareStates). table_at conf x group) p.states ∙ other) passed))
+          (table_set conf a.states visit.group group (new_state conf (end_of a.log.batches)));
+      lost = nothing_lost b p.nothing;
+    }
+    made_so rose end a visit limits answer b (then_store (Full at)) none cause p r = still a b p.2.states p.2.pending r
+    made_so rose end a visit limits answer b (then_store Device) none cause p r = ⊎_elim
+        (λ same. still a b p.2.states same r)
+        (λ own. record {
+          now = λ passed. r.now (subst (λ (x : ShareStates). Passed (table_at conf x group)) p.2.states passed);
+          lost = λ found at passed.
+              let is : _ ≡ found = some_same _ found (sym own ∙ at) in
+              ⊎_elim
+              (λ one.
+              let fresh : table_at conf found group ≡ Some (new_state conf (end_of a.log.batches)) =
+              sym (ap (λ (x : ShareStates). table_at conf x group) is) ∙ one.1 in
+              ⊎_elim
+              (λ below. inr (
+                ap (λ (x : ShareStates). table_at conf x group) p.2.states ∙ ap (λ (g : List ℕ). table_at conf a.states g) (sym one.0) ∙ none,
+                below,
+              ))
+              (λ closed. absurd (no_row conf (end_of a.log.batches) (subst (IsClosedRow o) fresh closed)))
+              passed)
+              (λ other. inl (r.now (subst Passed (sym (ap (λ (x : ShareStates). table_at conf x group) is) ∙ other) passed)))
+              (table_set conf a.states visit.group group (new_state conf (end_of a.log.batches)));
+        })
+        p.2.pending
+
+    fetched_so : (rose : Type 0) (end : ℕ) (a : PartShardState) (visit : Visit) (limits : Limits) (answer : VisitAnswer) (b : PartShardState)
+        (t : Option ShareState) → table_at conf a.states visit.group ≡ t
+        → (table_at conf a.states group ≡ None → IsBelow o (table_at conf b.states group) → Reason)
+        → Fetches conf rose end a visit limits answer b t → Reasoned a → Reasoned b
+    fetched_so rose end a visit limits answer b None there cause p r = made_so rose end a visit limits answer b answer.then there cause p r
+    fetched_so rose end a visit limits answer b (Some state) there cause p r = still a b p.states p.pending r
+
+-- ---- what stands before acknowledgements
+
+hold_back : (conf : PartConfParts) (rose : Type 0) (end : ℕ) (a : PartShardState) (of : List ℕ) (acts : Acts) (b : PartShardState) (fault : Option StoreFault)
+    → StoresActs conf rose end a of acts b fault → (group : List ℕ) (o : ℕ) (hold : Hold) → hold_in b group o ≡ Some hold → hold_in a group o ≡ Some hold
+hold_back conf rose end a of acts b fault p group o hold at = ⊎_elim
+    (λ same. sym same ∙ at)
+    (λ e. absurd (none_not hold (sym e.free ∙ at)))
+    (stores_hold conf rose end a of acts b fault p group o)
+
+same_hold : (a b : PartShardState) → b.held ≡ a.held → (group : List ℕ) (o : ℕ) (hold : Hold) → hold_in b group o ≡ Some hold → hold_in a group o ≡ Some hold
+same_hold a b same group o hold at = sym (ap (λ (h : List ℕ → Held). hold_at (h group) o) same) ∙ at
+
+same_table : (conf : PartConfParts) (a b : PartShardState) → b.states ≡ a.states → (group : List ℕ) → table_at conf b.states group ≡ None
+    → table_at conf a.states group ≡ None
+same_table conf a b same group none = sym (ap (λ (x : ShareStates). table_at conf x group) same) ∙ none
+
+stores_none : (conf : PartConfParts) (rose : Type 0) (end : ℕ) (a : PartShardState) (of : List ℕ) (acts : Acts) (b : PartShardState) (fault : Option StoreFault)
+    → StoresActs conf rose end a of acts b fault → (group : List ℕ) → table_at conf b.states group ≡ None → table_at conf a.states group ≡ None
+stores_none conf rose end a of acts b (Some Device) p group none = same_table conf a b p.2.states group none
+stores_none conf rose end a of acts b (Some (Full at)) p group none = same_table conf a b p.2.states group none
+stores_none conf rose end a of acts b None (inl p) group none = same_table conf a b p.1.states group none
+stores_none conf rose end a of acts b None (inr p) group none = ⊎_elim
+    (λ one. absurd (none_not p.1.states.next (sym none ∙ ap (λ (x : ShareStates). table_at conf x group) p.1.states.is ∙ one.1)))
+    (λ other. sym (ap (λ (x : ShareStates). table_at conf x group) p.1.states.is ∙ other) ∙ none)
+    (table_set conf a.states of group p.1.states.next)
+
+module _ (conf : PartConfParts) (rose : Type 0) (end : ℕ) (a : PartShardState) (visit : Visit) (b : PartShardState) where
+  acks_hold_back : (ack : AckOutcome) → Acknowledges conf rose end a visit b ack → (group : List ℕ) (o : ℕ) (hold : Hold) → hold_in b group o ≡ Some hold
+      → hold_in a group o ≡ Some hold
+  acks_hold_back acknowledged p group o hold at = hold_back conf rose end a visit.group (kind_at visit.acks) b None p.1 group o hold at
+  acks_hold_back (Malformed fault) p group o hold at = same_hold a b p.1.held group o hold at
+  acks_hold_back (NotHeld offset) p group o hold at = same_hold a b p.2.held group o hold at
+  acks_hold_back (ack_store fault) p group o hold at = hold_back conf rose end a visit.group (kind_at visit.acks) b (Some fault) p.1 group o hold at
+
+  acks_none : (ack : AckOutcome) → Acknowledges conf rose end a visit b ack → (group : List ℕ) → table_at conf b.states group ≡ None
+      → table_at conf a.states group ≡ None
+  acks_none acknowledged p group none = stores_none conf rose end a visit.group (kind_at visit.acks) b None p.1 group none
+  acks_none (Malformed fault) p group none = same_table conf a b p.1.states group none
+  acks_none (NotHeld offset) p group none = same_table conf a b p.2.states group none
+  acks_none (ack_store fault) p group none = stores_none conf rose end a visit.group (kind_at visit.acks) b (Some fault) p.1 group none
+
+released_kind : (chosen : Hold → Bool) (h : Option Hold) (kind : AckKind) → releases_if chosen h ≡ Some kind → kind ≡ ReleaseAct
+released_kind chosen None kind named = absurd (none_not kind named)
+released_kind chosen (Some hold) kind named = go (chosen hold) named where
+  go : (b : Bool) → release_of b ≡ Some kind → kind ≡ ReleaseAct
+  go true named = sym (some_same ReleaseAct kind named)
+  go false named = absurd (none_not kind named)
+
+due_end : (end clock : ℕ) → nat_le end clock ≡ true → end ≤ clock
+due_end end clock e = grind (arith, nat_tests)
+
+told_so : (t : ThenOutcome) → (fault_of t ≡ None) ⊎ (fault_of t ≡ Some Device) → (t ≡ followed) ⊎ (t ≡ then_store Device)
+told_so followed f = inl refl
+told_so (then_store fault) (inl none) = absurd (none_not fault (sym none))
+told_so (then_store fault) (inr some) = inr (ap (λ (f : StoreFault). then_store f) (some_same fault Device some))
+
+-- ---- a call on the partition
+
+module _ (r : Record) (s : Step) (Reason : Type 0) (cause : Closes r s ⊎ IsMadeBehind r s → Reason) where
+  module _ (x y : HostedPart) (was : entry_at r.shard (parts_of s.before) ≡ Some x) (is : entry_at r.shard (parts_of s.after) ≡ Some y)
+      (is_log : IsLog x.shard.log.batches) (slot : IsSlotYet r.offset x.shard.log.batches) where
+    made_behind : table_in x r.group ≡ None → IsBelow r.offset (table_in y r.group) → Reason
+    made_behind none below = cause (inr (record {
+      none = entry_holds r.shard (λ (p : HostedPart). table_in p r.group ≡ None) (parts_of s.before) x was none;
+      behind = entry_holds r.shard (λ (p : HostedPart). IsBelow r.offset (table_in p r.group)) (parts_of s.after) y is below;
+    }))
+
+    module _ (hosted : Hosted) (its : x.hosted ≡ hosted) (also : y.hosted ≡ hosted) where
+      abbrev Kept : PartShardState → Type 0
+      Kept p = HasReason r.offset Reason hosted.conf r.group p
+
+      made_there : table_at hosted.conf x.shard.states r.group ≡ None → IsBelow r.offset (table_at hosted.conf y.shard.states r.group) → Reason
+      made_there none below = made_behind
+          (subst (λ (h : Hosted). table_at h.conf x.shard.states r.group ≡ None) (sym its) none)
+          (subst (λ (h : Hosted). IsBelow r.offset (table_at h.conf y.shard.states r.group)) (sym also) below)
+
+      closed_by : (did : PartCall) → s.call ≡ Some (CallPart r.shard hosted did) → (hold : Hold) (kind : AckKind) → hold_in x.shard r.group r.offset ≡ Some hold
+          → Does did y.shard.clock r.group r.offset hold kind → is_closed_state (settled hosted.conf.limit kind hold.count).state ≡ true → Reason
+      closed_by did call hold kind at does closed = cause (inl (record {
+        hosted = hosted;
+        did = did;
+        hold = hold;
+        kind = kind;
+        call = call;
+        held = entry_holds r.shard (λ (p : HostedPart). hold_at (p.shard.held r.group) r.offset ≡ Some hold) (parts_of s.before) x was at;
+        does = entry_holds r.shard (λ (p : HostedPart). Does did p.shard.clock r.group r.offset hold kind) (parts_of s.after) y is does;
+        closes = closed;
+      }))
+
+      module _ (visit : Visit) (answer : VisitAnswer) (call : s.call ≡ Some (CallPart r.shard hosted (Visits visit answer))) where
+        acted_on : (answer.ack ≡ acknowledged) ⊎ (answer.ack ≡ ack_store Device) → AreHeldBy visit.member (kind_at visit.acks) (x.shard.held visit.group)
+            → visit.group ≡ r.group → IsClosedBy r.offset hosted.conf.limit (kind_at visit.acks) (x.shard.held visit.group) → Reason
+        acted_on told theirs one act =
+            let member : act.hold.member ≡ visit.member =
+            subst (IsHeldBy visit.member) act.at (theirs r.offset (subst IsSome (sym act.named) refl)) in
+            closed_by (Visits visit answer) call act.hold act.kind (ap (λ (g : List ℕ). hold_in x.shard g r.offset) (sym one) ∙ act.at)
+            (one, member, inl (act.named, told)) act.closes
+
+        acks_keep : (rose : Type 0) (end : ℕ) (b : PartShardState) (ack : AckOutcome) → answer.ack ≡ ack → Acknowledges hosted.conf rose end x.shard visit b ack
+            → Kept x.shard → Kept b
+        acks_keep rose end b acknowledged told p k =
+            stored_so r.offset Reason hosted.conf r.group rose end x.shard visit.group (kind_at visit.acks) b None is_log slot
+            (λ f one act. acted_on (inl told) p.0.1 one act) p.1 k
+        acks_keep rose end b (Malformed fault) told p k = still r.offset Reason hosted.conf r.group x.shard b p.1.states p.1.pending k
+        acks_keep rose end b (NotHeld offset) told p k = still r.offset Reason hosted.conf r.group x.shard b p.2.states p.2.pending k
+        acks_keep rose end b (ack_store fault) told p k =
+            stored_so r.offset Reason hosted.conf r.group rose end x.shard visit.group (kind_at visit.acks) b (Some fault) is_log slot
+            (λ f one act. ⊎_elim
+            (λ none. absurd (none_not fault (sym none)))
+            (λ some. acted_on (inr (told ∙ ap (λ (e : StoreFault). ack_store e) (some_same fault Device some))) p.0.1 one act)
+            f) p.1 k
+
+        then_keeps : (rose : Type 0) (end : ℕ) (a : PartShardState) → IsLog a.log.batches → IsSlotYet r.offset a.log.batches
+            → ((hold : Hold) → hold_in a r.group r.offset ≡ Some hold → hold_in x.shard r.group r.offset ≡ Some hold)
+            → (table_at hosted.conf a.states r.group ≡ None → table_at hosted.conf x.shard.states r.group ≡ None)
+            → (t : Then) → visit.then ≡ t → Follows hosted.conf rose end a visit answer y.shard t → Kept a → Kept y.shard
+        then_keeps rose end a log_of slot_of holds tables Nothing asked p k = still r.offset Reason hosted.conf r.group a y.shard p.1.states p.1.pending k
+        then_keeps rose end a log_of slot_of holds tables Release asked p k =
+            stored_so r.offset Reason hosted.conf r.group rose end a visit.group (releases_of visit.member (a.held visit.group)) y.shard (fault_of answer.then) log_of slot_of
+            (λ f one act.
+            let chosen = chosen_held (is_chosen (Member visit.member)) (a.held visit.group) r.offset act.hold act.kind act.at act.named in
+            let kind : act.kind ≡ ReleaseAct = released_kind (is_chosen (Member visit.member)) (hold_at (a.held visit.group) r.offset) act.kind act.named in
+            closed_by (Visits visit answer) call act.hold act.kind
+            (holds act.hold (ap (λ (g : List ℕ). hold_in a g r.offset) (sym one) ∙ act.at))
+            (one, sym (group_is visit.member act.hold.member chosen), inr (asked, kind, told_so answer.then f)) act.closes) p.1 k
+        then_keeps rose end a log_of slot_of holds tables (Fetch records bytes first) asked p k =
+            fetched_so r.offset Reason hosted.conf r.group rose end a visit (record { records = records; bytes = bytes; first = first }) answer y.shard
+            (table_at hosted.conf a.states visit.group) refl (λ none below. made_there (tables none) below) p k
+
+      -- an expiry
+      expired : (old : PartShardState) (group : List ℕ) → ((hold : Hold) → hold_in old r.group r.offset ≡ Some hold → hold.end ≤ old.clock
+          → is_closed_state (settled hosted.conf.limit ReleaseAct hold.count).state ≡ true → Reason) → group ≡ r.group
+          → IsClosedBy r.offset hosted.conf.limit (ending old.clock (old.held group)) (old.held group) → Reason
+      expired old group ended one act =
+          let due = chosen_held (is_chosen (Due old.clock)) (old.held group) r.offset act.hold act.kind act.at act.named in
+          let kind : act.kind ≡ ReleaseAct = released_kind (is_chosen (Due old.clock)) (hold_at (old.held group) r.offset) act.kind act.named in
+          ended act.hold (ap (λ (g : List ℕ). hold_in old g r.offset) (sym one) ∙ act.at) (due_end act.hold.end old.clock due)
+          (subst (λ (k : AckKind). is_closed_state (settled hosted.conf.limit k act.hold.count).state ≡ true) kind act.closes)
+
+      groups_keep : (a later end : ℕ) (groups : List (List ℕ)) (freed : ℕ) (old new : PartShardState) (answer : ExpireAnswer)
+          → StepsGroups hosted.conf a later end groups freed old answer new → IsLog old.log.batches → IsSlotYet r.offset old.log.batches
+          → ((hold : Hold) → hold_in old r.group r.offset ≡ Some hold → hold.end ≤ old.clock
+          → is_closed_state (settled hosted.conf.limit ReleaseAct hold.count).state ≡ true → Reason) → Kept old → Kept new
+      groups_keep a later end [] freed old new answer p log_of slot_of ended k =
+          still r.offset Reason hosted.conf r.group old new (ap (λ (z : PartShardState). z.states) p.1) (ap (λ (z : PartShardState). z.pending) p.1) k
+      groups_keep a later end (group ∷ groups) freed old new answer (inr p) log_of slot_of ended k =
+          stored_so r.offset Reason hosted.conf r.group (Rose a later) end old group (ending old.clock (old.held group)) new (Some p.0) log_of slot_of
+          (λ f one act. expired old group ended one act) p.2.stores k
+      groups_keep a later end (group ∷ groups) freed old new answer (inl p) log_of slot_of ended k =
+          let same_log : p.0.log.batches ≡ old.log.batches = ap (λ (l : LogShardState). l.batches) p.3.log in
+          groups_keep p.1 later p.2 groups _ p.0 new answer p.5 (subst IsLog (sym same_log) log_of) (subst (IsSlotYet r.offset) (sym same_log) slot_of)
+          (λ hold at due closed. ended hold
+          (hold_back hosted.conf (Rose a p.1) end old group (ending old.clock (old.held group)) p.0 None p.3.stores r.group r.offset hold at)
+          (subst (λ (c : ℕ). hold.end ≤ c) p.3.clock due) closed)
+          (stored_so r.offset Reason hosted.conf r.group (Rose a p.1) end old group (ending old.clock (old.held group)) p.0 None log_of slot_of
+          (λ f one act. expired old group ended one act) p.3.stores k)
+
+      part_keeps : (now : ℕ) (did : PartCall) → s.call ≡ Some (CallPart r.shard hosted did)
+          → StepsPart (counts_of s.before s.after) s.before.ends now hosted x.shard did y.shard → Kept x.shard → Kept y.shard
+      part_keeps now (Visits visit answer) call p k =
+          let c = (counts_of s.before s.after (first_of hosted)).0 in
+          let l = (counts_of s.before s.after (first_of hosted)).1 in
+          let same_log : p.between.log.batches ≡ x.shard.log.batches = ap (λ (l : LogShardState). l.batches) p.acks.log in
+          then_keeps visit answer call (Rose p.counted l) p.at p.between (subst IsLog (sym same_log) is_log) (subst (IsSlotYet r.offset) (sym same_log) slot)
+          (λ hold at. acks_hold_back hosted.conf (Rose c p.counted) _ x.shard visit p.between answer.ack p.acks.does r.group r.offset hold at)
+          (λ none. acks_none hosted.conf (Rose c p.counted) _ x.shard visit p.between answer.ack p.acks.does r.group none)
+          visit.then refl p.does (acks_keep visit answer call (Rose c p.counted) _ p.between answer.ack refl p.acks.does k)
+      part_keeps now (Produces batch produced) call p k = still r.offset Reason hosted.conf r.group x.shard y.shard p.still.states p.still.pending k
+      part_keeps now (Looks group looked) call p k = still r.offset Reason hosted.conf r.group x.shard y.shard
+          (ap (λ (z : PartShardState). z.states) p.1) (ap (λ (z : PartShardState). z.pending) p.1) k
+      part_keeps now (Expires answer) call p k =
+          groups_keep _ _ _ _ 0 (raised_to now x.shard) y.shard answer p.groups is_log slot
+          (λ hold at due closed. closed_by (Expires answer) call hold ReleaseAct at (refl, subst (λ (c : ℕ). hold.end ≤ c) (sym p.clock) due) closed)
+          (still r.offset Reason hosted.conf r.group x.shard (raised_to now x.shard) refl refl k)
+
+    abbrev KeptIn : HostedPart → Type 0
+    KeptIn p = HasReason r.offset Reason p.hosted.conf r.group p.shard
+
+    -- a power loss
+    lost_keeps : IsLostIn s x y → KeptIn x → KeptIn y
+    lost_keeps lost k = subst (λ (h : Hosted). HasReason r.offset Reason h.conf r.group y.shard) (sym lost.lands.hosted) (record {
+      now = λ passed. ⊎_elim
+          (λ same. k.now (subst (λ (z : ShareStates). Passed r.offset (table_at x.hosted.conf z r.group)) (states ∙ same) passed))
+          (λ own. ⊎_elim
+          (λ reason. reason)
+          (λ made. made_behind made.0 (subst (λ (h : Hosted). IsBelow r.offset (table_at h.conf y.shard.states r.group)) (sym lost.lands.hosted)
+          (subst (λ (z : ShareStates). IsBelow r.offset (table_at x.hosted.conf z r.group)) (sym states) made.1)))
+          (k.lost lost.lands.states own (subst (λ (z : ShareStates). Passed r.offset (table_at x.hosted.conf z r.group)) states passed)))
+          lost.lands.states_are;
+      lost = nothing_lost r.offset Reason x.hosted.conf r.group y.shard (ap (λ (z : PartShardState). z.pending) lost.lands.shard);
+    }) where
+      states : y.shard.states ≡ lost.lands.states
+      states = ap (λ (z : PartShardState). z.states) lost.lands.shard
+
+    goes_keep : Goes r.shard s x y → KeptIn x → KeptIn y
+    goes_keep (inl same) k = subst KeptIn (sym same) k
+    goes_keep (inr (inr lost)) k = lost_keeps lost k
+    goes_keep (inr (inl c)) k =
+        subst (λ (h : Hosted). HasReason r.offset Reason h.conf r.group y.shard) (sym c.step.is)
+        (part_keeps c.hosted c.step.was c.step.is c.now c.did c.call c.step.step
+        (subst (λ (h : Hosted). HasReason r.offset Reason h.conf r.group x.shard) c.step.was k))
+
+-- ---- the logs of a run
+
+part_log : (s : Step) (now : ℕ) (h : Hosted) (old new : PartShardState) (did : PartCall)
+    → StepsPart (counts_of s.before s.after) s.before.ends now h old did new → LogGoes old.log.batches new.log.batches
+part_log s now h old new (Visits visit answer) p = log_same old new p.log
+part_log s now h old new (Produces batch produced) p = log_goes _ _ old.log new.log batch produced p.log
+part_log s now h old new (Looks group looked) p = log_same old new (ap (λ (z : PartShardState). z.log) p.1)
+part_log s now h old new (Expires answer) p = log_same old new p.log
+
+pub goes_log : (n : ℕ) (s : Step) (x y : HostedPart) → Goes n s x y → LogGoes x.shard.log.batches y.shard.log.batches
+goes_log n s x y (inl same) = log_stays x.shard.log.batches y.shard.log.batches (ap (λ (p : HostedPart). p.shard.log.batches) same)
+goes_log n s x y (inr (inl c)) = part_log s c.now c.hosted x.shard y.shard c.did c.step.step
+goes_log n s x y (inr (inr lost)) =
+    let is : y.shard.log.batches ≡ lost.lands.batches = ap (λ (z : PartShardState). z.log.batches) lost.lands.shard in
+    let opened : y.shard.log.batches ≡ lost.opens.batches = ap (λ (z : PartShardState). z.log.batches) lost.opens.shard in
+    record {
+      same_or_more = ⊎_elim (λ same. inl (is ∙ same)) (λ more. inr (more.0, is ∙ more.1))
+          (landed_log x.shard.log.batches x.shard.log.pending lost.lands.batches lost.lands.log_is);
+      still = λ was. subst IsLog (sym opened) lost.opens.stands.log_is.sound.rises;
+    }
+
+module _ (conf : ConfigParts) (n : ℕ) where
+  slots_back : (o : ℕ) (first last : State) (steps : List Step) → IsRun conf first steps last → (x y : HostedPart) → entry_at n (parts_of first) ≡ Some x
+      → entry_at n (parts_of last) ≡ Some y → IsLog x.shard.log.batches → IsSlotYet o y.shard.log.batches → IsSlotYet o x.shard.log.batches
+  slots_back o first last [] run x y at there is_log slot =
+      subst (λ (p : HostedPart). IsSlotYet o p.shard.log.batches)
+      (some_same y x (sym there ∙ ap (λ (s : State). entry_at n (parts_of s)) run ∙ at)) slot
+  slots_back o first last (s ∷ steps) run x y at there is_log slot =
+      let w = went conf s run.1 n x (ap (λ (z : State). entry_at n (parts_of z)) run.0 ∙ at) in
+      let g = goes_log n s x w.0 w.2 in
+      before_it o x.shard.log.batches w.0.shard.log.batches is_log g
+      (slots_back o s.after last steps run.2 w.0 y w.1 there (g.still is_log) slot)
+
+  -- each partition was there at first
+  pub first_entry : (first last : State) (steps : List Step) → IsRun conf first steps last → (y : HostedPart) → entry_at n (parts_of last) ≡ Some y
+      → (x : HostedPart) × (entry_at n (parts_of first) ≡ Some x)
+  first_entry first last [] run y there = (y, ap (λ (s : State). entry_at n (parts_of s)) (sym run) ∙ there)
+  first_entry first last (s ∷ steps) run y there =
+      let m = first_entry s.after last steps run.2 y there in
+      let w = came conf s run.1 n m.0 m.1 in
+      (w.0, ap (λ (z : State). entry_at n (parts_of z)) (sym run.0) ∙ w.1)
+
+module _ (conf : ConfigParts) (r : Record) (Reason : Type 0) where
+  abbrev Reasons : HostedPart → Type 0
+  Reasons p = HasReason r.offset Reason p.hosted.conf r.group p.shard
+
+  run_keeps : (first last : State) (steps : List Step) → IsRun conf first steps last
+      → ((s : Step) → Contains steps s → Closes r s ⊎ IsMadeBehind r s → Reason) → (x y : HostedPart) → entry_at r.shard (parts_of first) ≡ Some x
+      → entry_at r.shard (parts_of last) ≡ Some y → IsLog x.shard.log.batches → IsSlotYet r.offset y.shard.log.batches → Reasons x → Reasons y
+  run_keeps first last [] run cause x y at there is_log slot k =
+      subst Reasons (some_same x y (sym at ∙ ap (λ (s : State). entry_at r.shard (parts_of s)) (sym run) ∙ there)) k
+  run_keeps first last (s ∷ steps) run cause x y at there is_log slot k =
+      let was = ap (λ (z : State). entry_at r.shard (parts_of z)) run.0 ∙ at in
+      let w = went conf s run.1 r.shard x was in
+      let g = goes_log r.shard s x w.0 w.2 in
+      let mid = slots_back conf r.shard r.offset s.after last steps run.2 w.0 y w.1 there (g.still is_log) slot in
+      run_keeps s.after last steps run.2 (λ u c why. cause u (contains_rest s u steps c) why) w.0 y w.1 there (g.still is_log) slot
+      (goes_keep r s Reason (λ why. cause s (contains_front s s steps refl) why) x w.0 was w.1 is_log
+      (before_it r.offset x.shard.log.batches w.0.shard.log.batches is_log g mid) w.2 k)
+
+abbrev Because : State → List Step → Record → Type 0
+Because first steps r =
+    HoldsAt r.shard (λ (p : HostedPart). IsBelow r.offset (table_in p r.group) ⊎ IsClosedRow r.offset (table_in p r.group)) (parts_of first)
+    ⊎ ((s : Step) × Contains steps s × (Closes r s ⊎ IsMadeBehind r s))
+
+pub passes_closed : (conf : ConfigParts) (first last : State) (steps : List Step) → IsRun conf first steps last → StartsPassClosedRecords first steps last
+passes_closed conf first last steps run well r ends =
+    let y = holds_entry r.shard (λ (q : HostedPart). IsSlot q.shard.log.batches r.offset × IsBelow r.offset (table_in q r.group)) (parts_of last) ends in
+    let x = first_entry conf r.shard first last steps run y.0 y.1 in
+    let begins = all_entry r.shard IsWell (parts_of first) x.0 x.1 well in
+    (run_keeps conf r (Because first steps r) first last steps run
+    (λ s c why. inr (s, c, why)) x.0 y.0 x.1 y.1 begins.0 (inl y.2.0)
+    (record {
+      now = λ passed. inl (entry_holds r.shard
+          (λ (p : HostedPart). IsBelow r.offset (table_in p r.group) ⊎ IsClosedRow r.offset (table_in p r.group)) (parts_of first) x.0 x.1 passed);
+      lost = nothing_lost r.offset (Because first steps r) x.0.hosted.conf r.group x.0.shard begins.1;
+    })).now (inl y.2.1)
+
+-- ---- an opening
+
+opened_well : (contents : List ℕ → List ℕ) (parts : List HostedPart) → AllByRecursion (OpensPart contents) parts → AllByRecursion IsWell parts
+opened_well contents [] all = tt
+opened_well contents (p ∷ parts) all = (
+  (
+    subst IsLog (sym (ap (λ (z : PartShardState). z.log.batches) all.0.shard)) all.0.stands.log_is.sound.rises,
+    ap (λ (z : PartShardState). z.pending) all.0.shard,
+  ),
+  opened_well contents parts all.1,
+)
+
+pub openings_well : (conf : ConfigParts) → OpeningsAreWell conf
+openings_well conf contents machine opening = opened_well contents machine.shards.parts opening.parts
