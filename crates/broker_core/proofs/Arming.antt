@@ -1,27 +1,74 @@
 -- An armed fault, seen by the names of the disks.
-use Rattle.std.proofs.Common.{◌≡◌, ◌≤◌, ◌⊎◌, arith, ◌∷◌, [], inl, inr, refl, sym, ap, ◌∙◌, subst, ℕ, List, map, Bool, true, false, cond, Some, is_some, if◌then◌else◌}
-use Rattle.std.specs.List.{AllZip}
+use Rattle.std.proofs.Common.{◌≡◌, ◌≢◌, ◌≤◌, ◌+◌, ◌⊎◌, arith, ◌∷◌, [], inl, inr, refl, sym, ap, ◌∙◌, subst, ℕ, zero, suc, List, length, Bool, true, false, cond, Some, is_some, if◌then◌else◌}
+use Rattle.std.specs.List.{AllByRecursion, AllZip, flat_map}
 use Rattle.std.specs.declared.option.Option.{Option}
 use Rattle.edge_io.specs.declared.fault.Armed.{Armed}
 use Rattle.edge_io.specs.declared.fault.FaultMode.{FaultMode}
+use Rattle.edge_io.specs.declared.name.DiskPlace.{DiskPlace}
+use Rattle.edge_io.specs.declared.name.DiskPlace.TheVariants.{Log, StateA, StateB}
 use Rattle.edge_io.specs.Armed.{ArmsAlone}
 use Rattle.edge_io.specs.Disk.{IsTold}
+use Rattle.edge_io.specs.Names.{hosted_name}
 use Rattle.share_coord.specs.Parts.{StoreParts}
 use Rattle.gate_journal.specs.declared.writer.Writer.{Writer}
 use Rattle.foreign_coord.specs.Shards.{ForeignShardState, Carries}
-use Rattle.broker_model.specs.Hosted.{ChangesAt, HoldsAt, IsOneOf, same_name, state_a, state_b}
-use Rattle.broker_model.specs.Shards.{Shards, NamedLog}
+use Rattle.part_log.specs.Logs.{LogParts}
+use Rattle.share_part.specs.Hosting.{PartConfParts}
+use Rattle.share_part.specs.Shards.{Carries as CarriesPart, PartShardState}
+use Rattle.broker_model.specs.Hosted.{ChangesAt, HoldsAt, Hosted, IsOneOf, disks_of, first_of, log_of, part_disks, same_name, second_of, state_a, state_b}
+use Rattle.broker_model.specs.Shards.{HostedPart, Shards}
 use Rattle.broker_model.specs.Disks.{Facts, facts_of, with_arm}
 use Rattle.broker_model.proofs.Lists.{change_of, changes_so}
 use Rattle.broker_core.specs.declared.slot.ForeignSlot.{ForeignSlot}
-use Rattle.broker_core.specs.declared.slot.LogState.{LogState}
-use Rattle.broker_core.specs.declared.slot.LogSlot.{LogSlot}
-use Rattle.broker_core.specs.Carried.{IsCarried, GoesOn}
+use Rattle.broker_core.specs.declared.slot.PartState.{PartState}
+use Rattle.broker_core.specs.declared.slot.PartSlot.{PartSlot}
+use Rattle.broker_core.specs.Carried.{GoesOn, IsCarried, IsFed, IsPartCarried, OpenPart, PartGoesOn, holding}
 use Rattle.broker_core.specs.Foreign.{ArmsForeign, ArmsEither}
-use Rattle.broker_core.specs.Hosts.{AreApart, AreCarried, ArmsSlot, BothGoOn, GoesOnIf, GoOn, HostsParts, IsLogSlot, IsLogState, IsSlot, LogGoesOn, NotIn, among, disks_in, ends_in, facts_at, facts_in, foreign_disks, foreign_end, foreign_facts, log_disk, log_disks, log_end, slot_names}
+use Rattle.broker_core.specs.Hosts.{AreApart, AreCarried, AreDistinct, AreNamed, ArmsPlace, ArmsSlot, BothGoOn, DiskGoesOn, GoOn, HostsParts, IsPartSlot, IsPartState, IsSlot, NotIn, among, disks_in, ends_in, facts_at, facts_in, foreign_disks, foreign_end, foreign_facts, hosted_slot, hosted_slots, open_disk, open_end, part_disk, part_end, slot_disks, slot_ends, slots_disks}
 use Rattle.broker_core.specs.Cores.{IsArmed}
-use Rattle.broker_core.proofs.Places.{Changed, changed, changes_map, changes_not, changes_zip, zip_same, among_past, among_zip, differs, holds_both, is_same, not_both, one_in_either, same_self}
-use Rattle.broker_core.proofs.Leading.{ends_is, ends_other, ends_was, facts_is, facts_other, facts_was, least_on, not_a_log, not_a_log_too, same_both, same_goes}
+use Rattle.broker_core.proofs.Calling.{Turned, with_parts}
+use Rattle.broker_core.proofs.Flats.{among_changed}
+use Rattle.broker_core.proofs.Places.{Changed, changed, changes_not, changes_same, zip_same, among_past, among_zip, differs, holds_both, is_same, not_both, one_in_either, same_self}
+use Rattle.broker_core.proofs.Leading.{least_on, not_a_part, not_a_part_too, parts_apart, same_both, same_goes}
+use Rattle.broker_core.proofs.Slots.{Turns, disk_names, known_at, three}
+
+-- ---- a look-up of a disk by its name
+
+-- the slots from this number on have not been looked at
+pub record LooksIn {D : Type 0} (disk : List ℕ) (all : List (PartSlot D)) (number : ℕ) (rest : List (PartSlot D)) : Type 0 where
+  pub at : (place : DiskPlace) (k : ℕ) → HoldsAt k (λ (s : PartSlot D). hosted_name s.topic s.conf.part place ≡ disk) rest
+      → HoldsAt (k + number) (λ (s : PartSlot D). hosted_name s.topic s.conf.part place ≡ disk) all
+  pub past : NotIn (part_disks (hosted_slots rest)) disk → NotIn (part_disks (hosted_slots all)) disk
+  pub named : AreNamed (hosted_slots rest)
+  pub counted : number + length rest ≡ length all
+
+module _ {D : Type 0} (disk : List ℕ) (all : List (PartSlot D)) where
+  abbrev Has : DiskPlace → PartSlot D → Type 0
+  Has place s = hosted_name s.topic s.conf.part place ≡ disk
+
+  pub looks_first : AreNamed (hosted_slots all) → LooksIn disk all 0 all
+  looks_first named = record {
+    at = λ place k h. subst (λ (n : ℕ). HoldsAt n (Has place) all) (let e : k ≡ k + 0 = omega arith in e) h;
+    past = λ n. n;
+    named = named;
+    counted = omega arith;
+  }
+
+  pub looks_on : (number : ℕ) (x : PartSlot D) (rest : List (PartSlot D)) → LooksIn disk all number (x ∷ rest) → NotIn (disks_of (hosted_slot x)) disk
+      → LooksIn disk all (number + 1) rest
+  looks_on number x rest l n = record {
+    at = λ place k h. subst (λ (n : ℕ). HoldsAt n (Has place) all) (let e : suc k + number ≡ k + (number + 1) = omega arith in e) (l.at place (suc k) h);
+    past = λ m. l.past (n.0, (n.1.0, (n.1.1.0, m)));
+    named = l.named.1;
+    counted = (let e = l.counted in omega (arith, e));
+  }
+
+  pub looks_found : (number : ℕ) (x : PartSlot D) (rest : List (PartSlot D)) (place : DiskPlace) → LooksIn disk all number (x ∷ rest) → Has place x
+      → HoldsAt number (Has place) all
+  looks_found number x rest place l is = subst (λ (n : ℕ). HoldsAt n (Has place) all) (let e : 0 + number ≡ number = omega arith in e) (l.at place 0 is)
+
+  pub looks_none : (number : ℕ) → LooksIn disk all number [] → NotIn (part_disks (hosted_slots all)) disk
+  looks_none number l = l.past tt
 
 module _ {D : Type 0} (content : D → Option (List ℕ)) (image : D → List ℕ → Type 0) (starved : D → Bool) (faults : D → ℕ)
     (losses : D → List (ℕ × List ℕ)) (arms : D → ℕ) (armed : D → Armed) where
@@ -31,8 +78,11 @@ module _ {D : Type 0} (content : D → Option (List ℕ)) (image : D → List �
   abbrev F : HostsParts D → List ℕ → Facts
   F hosts name = facts_in faults losses arms armed (disks_in hosts) name
 
-  abbrev slot_facts : LogSlot D → Facts
-  slot_facts slot = facts_at faults losses arms armed (log_disk slot.state)
+  abbrev entry_facts : List ℕ × Option D → Facts
+  entry_facts e = facts_at faults losses arms armed e.1
+
+  abbrev slot_facts : PartSlot D → DiskPlace → Facts
+  slot_facts slot place = facts_at faults losses arms armed (part_disk slot.state place)
 
   abbrev Arms : ℕ → FaultMode → D → D → Type 0
   Arms after mode old new = ArmsAlone content image losses arms armed starved faults after mode old new
@@ -47,115 +97,262 @@ module _ {D : Type 0} (content : D → Option (List ℕ)) (image : D → List �
       least : (n : ℕ) → n ≤ n
       least n = omega arith
 
-  -- ---- a log's disk
+  -- ---- a disk of a partition
 
-  record ArmsLog (after : ℕ) (mode : FaultMode) (x y : LogSlot D) (e f : NamedLog) : Type 0 where
+  abbrev ArmsP : ℕ → FaultMode → OpenPart D → OpenPart D → DiskPlace → Type 0
+  ArmsP after mode was is place = ArmsPlace content image losses arms armed starved faults after mode was is place
+
+  pub place_of_arm : (after : ℕ) (mode : FaultMode) (was is : OpenPart D) (place : DiskPlace) → (place ≡ Log → ArmsP after mode was is Log)
+      → (place ≡ StateA → ArmsP after mode was is StateA) → (place ≡ StateB → ArmsP after mode was is StateB) → ArmsP after mode was is place
+  place_of_arm after mode was is Log on_log on_first on_second = on_log refl
+  place_of_arm after mode was is StateA on_log on_first on_second = on_first refl
+  place_of_arm after mode was is StateB on_log on_first on_second = on_second refl
+
+  abbrev Fed : D → Type 0
+  Fed d = IsFed content starved d
+
+  arms_fed : (after : ℕ) (mode : FaultMode) (old new : D) → Arms after mode old new → Fed old → Fed new
+  arms_fed after mode old new a f = record { told = ap is_some a.same_content ∙ f.told; fed = a.same_starved ∙ f.fed }
+
+  part_armed : (after : ℕ) (mode : FaultMode) (conf : PartConfParts) (was is : OpenPart D) (place : DiskPlace) (s : PartShardState)
+      → ArmsP after mode was is place → is.conf ≡ was.conf → (CarriesPart image holding was s → CarriesPart image holding is s)
+      → IsPartCarried content image starved conf was s → IsPartCarried content image starved conf is s
+  part_armed after mode conf was is Log s a same stays k = record {
+    conf_is = same ∙ k.conf_is;
+    carries = stays k.carries;
+    log = arms_fed after mode was.log.journal.disk is.log.journal.disk a.0 k.log;
+    first = subst (λ (t : StoreParts D). Fed t.journal.live.disk) (sym a.1) k.first;
+    second = subst (λ (t : StoreParts D). Fed t.journal.idle) (sym a.1) k.second;
+  }
+  part_armed after mode conf was is StateA s a same stays k = record {
+    conf_is = same ∙ k.conf_is;
+    carries = stays k.carries;
+    log = subst (λ (t : LogParts D). Fed t.journal.disk) (sym a.2) k.log;
+    first = arms_fed after mode was.states.journal.live.disk is.states.journal.live.disk a.0 k.first;
+    second = subst Fed (sym a.1) k.second;
+  }
+  part_armed after mode conf was is StateB s a same stays k = record {
+    conf_is = same ∙ k.conf_is;
+    carries = stays k.carries;
+    log = subst (λ (t : LogParts D). Fed t.journal.disk) (sym a.2) k.log;
+    first = subst (λ (w : Writer D). Fed w.disk) (sym a.1) k.first;
+    second = arms_fed after mode was.states.journal.idle is.states.journal.idle a.0 k.second;
+  }
+
+  part_goes : (after : ℕ) (mode : FaultMode) (was is : OpenPart D) (place : DiskPlace) → ArmsP after mode was is place → PartGoesOn content faults was is
+  part_goes after mode was is Log a = record {
+    log = arms_go_on after mode was.log.journal.disk is.log.journal.disk a.0;
+    first = subst (λ (t : StoreParts D). GoesOn content faults was.states.journal.live.disk t.journal.live.disk) (sym a.1)
+        (least_on content image starved faults losses arms armed was.states.journal.live.disk);
+    second = subst (λ (t : StoreParts D). GoesOn content faults was.states.journal.idle t.journal.idle) (sym a.1)
+        (least_on content image starved faults losses arms armed was.states.journal.idle);
+  }
+  part_goes after mode was is StateA a = record {
+    log = subst (λ (t : LogParts D). GoesOn content faults was.log.journal.disk t.journal.disk) (sym a.2)
+        (least_on content image starved faults losses arms armed was.log.journal.disk);
+    first = arms_go_on after mode was.states.journal.live.disk is.states.journal.live.disk a.0;
+    second = subst (λ (d : D). GoesOn content faults was.states.journal.idle d) (sym a.1)
+        (least_on content image starved faults losses arms armed was.states.journal.idle);
+  }
+  part_goes after mode was is StateB a = record {
+    log = subst (λ (t : LogParts D). GoesOn content faults was.log.journal.disk t.journal.disk) (sym a.2)
+        (least_on content image starved faults losses arms armed was.log.journal.disk);
+    first = subst (λ (w : Writer D). GoesOn content faults was.states.journal.live.disk w.disk) (sym a.1)
+        (least_on content image starved faults losses arms armed was.states.journal.live.disk);
+    second = arms_go_on after mode was.states.journal.idle is.states.journal.idle a.0;
+  }
+
+  abbrev told_at : DiskPlace → OpenPart D → Type 0
+  told_at place p = IsTold (content (open_disk p place))
+
+  told_of_part : (conf : PartConfParts) (p : OpenPart D) (s : PartShardState) (place : DiskPlace) → IsPartCarried content image starved conf p s → told_at place p
+  told_of_part conf p s Log k = k.log.told
+  told_of_part conf p s StateA k = k.first.told
+  told_of_part conf p s StateB k = k.second.told
+
+  -- the disk at the place is armed
+  place_armed : (after : ℕ) (mode : FaultMode) (was is : OpenPart D) (place : DiskPlace) → told_at place was → ArmsP after mode was is place
+      → facts (open_disk is place) ≡ with_arm after mode (facts (open_disk was place))
+  place_armed after mode was is Log told a = armed_facts after mode was.log.journal.disk is.log.journal.disk told a.0
+  place_armed after mode was is StateA told a = armed_facts after mode was.states.journal.live.disk is.states.journal.live.disk told a.0
+  place_armed after mode was is StateB told a = armed_facts after mode was.states.journal.idle is.states.journal.idle told a.0
+
+  abbrev Three : Hosted → OpenPart D → Facts → List ℕ → Facts
+  Three h p o name = three h (facts (open_disk p Log)) (facts (open_disk p StateA)) (facts (open_disk p StateB)) o name
+
+  past_one : {A : Type 0} (b : Bool) (a c o : A) → b ≡ false → cond b a o ≡ cond b c o
+  past_one true a c o is = absurd (let bad : true ≡ false = is in cc)
+  past_one false a c o is = refl
+
+  -- each other name finds what it found
+  place_past : (h : Hosted) (after : ℕ) (mode : FaultMode) (was is : OpenPart D) (place : DiskPlace) (o : Facts) (name : List ℕ)
+      → same_name name (hosted_name h.topic h.conf.part place) ≡ false → ArmsP after mode was is place → Three h is o name ≡ Three h was o name
+  place_past h after mode was is Log o name away a =
+      ap (λ (t : StoreParts D). three h (facts (open_disk is Log)) (facts t.journal.live.disk) (facts t.journal.idle) o name) a.1
+      ∙ past_one (same_name name (log_of h)) (facts (open_disk is Log)) (facts (open_disk was Log))
+      (cond (same_name name (first_of h)) (facts (open_disk was StateA)) (cond (same_name name (second_of h)) (facts (open_disk was StateB)) o)) away
+  place_past h after mode was is StateA o name away a =
+      ap (λ (t : LogParts D). three h (facts t.journal.disk) (facts (open_disk is StateA)) (facts (open_disk is StateB)) o name) a.2
+      ∙ ap (λ (d : D). three h (facts (open_disk was Log)) (facts (open_disk is StateA)) (facts d) o name) a.1
+      ∙ ap (cond (same_name name (log_of h)) (facts (open_disk was Log)))
+      (past_one (same_name name (first_of h)) (facts (open_disk is StateA)) (facts (open_disk was StateA))
+      (cond (same_name name (second_of h)) (facts (open_disk was StateB)) o) away)
+  place_past h after mode was is StateB o name away a =
+      ap (λ (t : LogParts D). three h (facts t.journal.disk) (facts (open_disk is StateA)) (facts (open_disk is StateB)) o name) a.2
+      ∙ ap (λ (w : Writer D). three h (facts (open_disk was Log)) (facts w.disk) (facts (open_disk is StateB)) o name) a.1
+      ∙ ap (λ (f : Facts). cond (same_name name (log_of h)) (facts (open_disk was Log)) (cond (same_name name (first_of h)) (facts (open_disk was StateA)) f))
+      (past_one (same_name name (second_of h)) (facts (open_disk is StateB)) (facts (open_disk was StateB)) o away)
+
+  -- ---- a slot of a partition
+
+  abbrev ArmsS : DiskPlace → ℕ → FaultMode → PartSlot D → PartSlot D → Type 0
+  ArmsS place after mode x y = ArmsSlot content image losses arms armed starved faults place after mode x y
+
+  pub turned_arms : (place : DiskPlace) (after : ℕ) (mode : FaultMode) (x y : PartSlot D) → ArmsS place after mode x y
+      → Turned content image starved faults losses arms armed x y
+  turned_arms place after mode x y p = record {
+    was = p.was;
+    is = p.is;
+    turns = record { old_is = p.old_is; new_is = p.new_is; hosted = λ i. record { topic = p.topic i; conf = p.conf i } };
+    goes = part_goes after mode p.was p.is place p.arms_disk;
+  }
+
+  record ArmsPart (place : DiskPlace) (after : ℕ) (mode : FaultMode) (x y : PartSlot D) (e f : HostedPart) : Type 0 where
     same : f ≡ e
-    armed_is : slot_facts y ≡ with_arm after mode (slot_facts x)
+    armed_is : slot_facts y place ≡ with_arm after mode (slot_facts x place)
 
-  abbrev ArmsS : ℕ → FaultMode → LogSlot D → LogSlot D → Type 0
-  ArmsS after mode x y = ArmsSlot content image losses arms armed starved faults after mode x y
-
-  slot_arms : (after : ℕ) (mode : FaultMode) (x y : LogSlot D) (e : NamedLog) → ArmsS after mode x y → IsLogSlot content image starved x e
-      → (f : NamedLog) × IsLogSlot content image starved y f × ArmsLog after mode x y e f
-  slot_arms after mode x y e p k =
-      let i = subst (λ (s : LogState D). IsLogState content image starved s e.1) p.old_is k.state in (
+  slot_arms : (place : DiskPlace) (after : ℕ) (mode : FaultMode) (x y : PartSlot D) (e : HostedPart) → ArmsS place after mode x y
+      → IsPartSlot content image starved x e → (f : HostedPart) × IsPartSlot content image starved y f × ArmsPart place after mode x y e f
+  slot_arms place after mode x y e p k =
+      let i = subst (λ (s : PartState D). IsPartState content image starved x.conf s e.shard) p.old_is k.state in (
         e,
         record {
-          name = k.name ∙ sym p.name;
-          state = subst (λ (s : LogState D). IsLogState content image starved s e.1) (sym p.new_is) (record {
-            carries = p.stays e.1 i.carries;
-            told = ap is_some p.arms_disk.same_content ∙ i.told;
-            fed = p.arms_disk.same_starved ∙ i.fed;
-          });
+          hosted = k.hosted ∙ (λ i. record { topic = sym p.topic i; conf = sym p.conf i });
+          state =
+              subst (λ (c : PartConfParts). IsPartState content image starved c y.state e.shard) (sym p.conf)
+              (subst (λ (s : PartState D). IsPartState content image starved x.conf s e.shard) (sym p.new_is)
+              (part_armed after mode x.conf p.was p.is place e.shard p.arms_disk p.part_conf (p.stays e.shard) i));
         },
         record {
           same = refl;
           armed_is =
-              ap (λ (s : LogState D). facts_at faults losses arms armed (log_disk s)) p.new_is
-              ∙ armed_facts after mode p.was.journal.disk p.is.journal.disk i.told p.arms_disk
-              ∙ sym (ap (λ (s : LogState D). with_arm after mode (facts_at faults losses arms armed (log_disk s))) p.old_is);
+              ap (λ (s : PartState D). facts_at faults losses arms armed (part_disk s place)) p.new_is
+              ∙ place_armed after mode p.was p.is place (told_of_part x.conf p.was e.shard place i) p.arms_disk
+              ∙ sym (ap (λ (s : PartState D). with_arm after mode (facts_at faults losses arms armed (part_disk s place))) p.old_is);
         },
       )
 
-  keep_slot : (x : LogSlot D) (e : NamedLog) → IsLogSlot content image starved x e → IsLogSlot content image starved x e
+  keep_slot : (x : PartSlot D) (e : HostedPart) → IsPartSlot content image starved x e → IsPartSlot content image starved x e
   keep_slot x e k = k
 
-  module _ (old : HostsParts D) (ys : List (LogSlot D)) (n : ℕ) (disk : List ℕ) (after : ℕ) (mode : FaultMode)
-      (at : HoldsAt n (λ (z : LogSlot D). z.name ≡ disk) old.logs) (changes : ChangesAt n (ArmsS after mode) old.logs ys) (apart : AreApart old)
-      (s : Shards) (k : AreCarried content image starved old s) where
-    abbrev c : Changed (IsLogSlot content image starved) (IsLogSlot content image starved) keep_slot (ArmsS after mode) (ArmsLog after mode) (slot_arms after mode)
-        n old.logs ys s.logs
-    c = changed (IsLogSlot content image starved) (IsLogSlot content image starved) keep_slot (ArmsS after mode) (ArmsLog after mode) (slot_arms after mode)
-        n old.logs ys s.logs changes k.logs
+  abbrev Found : PartSlot D → Facts → List ℕ → Facts
+  Found x o name = among (λ (d : List ℕ × Option D). d.0) entry_facts (slot_disks x) o name
 
-    abbrev armed_hosts : HostsParts D
-    armed_hosts = record { logs = ys; foreign = old.foreign }
+  abbrev Of : Hosted → PartState D → Facts → List ℕ → Facts
+  Of h state o name = three h (facts_at faults losses arms armed (part_disk state Log)) (facts_at faults losses arms armed (part_disk state StateA))
+      (facts_at faults losses arms armed (part_disk state StateB)) o name
 
-    name_is : c.x.name ≡ disk
-    name_is = holds_both (λ (z : LogSlot D). z.name ≡ disk) n old.logs c.x at c.there
+  slot_past : (place : DiskPlace) (after : ℕ) (mode : FaultMode) (x y : PartSlot D) (name : List ℕ) (o : Facts) → ArmsS place after mode x y
+      → same_name name (hosted_name x.topic x.conf.part place) ≡ false → Found y o name ≡ Found x o name
+  slot_past place after mode x y name o p away =
+      ap (λ (h : Hosted). Of h y.state o name) (λ i. record { topic = p.topic i; conf = p.conf i })
+      ∙ ap (λ (s : PartState D). Of (hosted_slot x) s o name) p.new_is
+      ∙ place_past (hosted_slot x) after mode p.was p.is place o name away p.arms_disk
+      ∙ sym (ap (λ (s : PartState D). Of (hosted_slot x) s o name) p.old_is)
 
-    armed_now : slot_facts c.y ≡ with_arm after mode (slot_facts c.x)
-    armed_now = change_of n (ArmsLog after mode c.x c.y) (λ e f g. g.armed_is) s.logs c.after c.goes
+  abbrev EndOf : Hosted → PartState D → ℕ → List ℕ → ℕ
+  EndOf h state o name = three h (part_end state Log) (part_end state StateA) (part_end state StateB) o name
 
-    at_disk : F armed_hosts c.x.name ≡ with_arm after mode (F old c.x.name)
+  slot_ends_stay : (place : DiskPlace) (after : ℕ) (mode : FaultMode) (x y : PartSlot D) (name : List ℕ) (o : ℕ) → ArmsS place after mode x y
+      → EndOf (hosted_slot y) y.state o name ≡ EndOf (hosted_slot x) x.state o name
+  slot_ends_stay place after mode x y name o p =
+      ap (λ (h : Hosted). EndOf h y.state o name) (λ i. record { topic = p.topic i; conf = p.conf i })
+      ∙ ap (λ (s : PartState D). EndOf (hosted_slot x) s o name) p.new_is
+      ∙ (λ i. three (hosted_slot x) (p.ends.0 i) (p.ends.1 i) 0 o name)
+      ∙ sym (ap (λ (s : PartState D). EndOf (hosted_slot x) s o name) p.old_is)
+
+  known_place : (hosts : HostsParts D) (n : ℕ) (x : PartSlot D) → HoldsAt n (λ z. z ≡ x) hosts.parts → AreDistinct (part_disks (hosted_slots hosts.parts))
+      → (place : DiskPlace) → F hosts (hosted_name x.topic x.conf.part place) ≡ slot_facts x place
+  known_place hosts n x there apart Log = (known_at content image starved faults losses arms armed hosts n x there apart).0
+  known_place hosts n x there apart StateA = (known_at content image starved faults losses arms armed hosts n x there apart).1
+  known_place hosts n x there apart StateB = (known_at content image starved faults losses arms armed hosts n x there apart).2
+
+  module _ (old : HostsParts D) (ys : List (PartSlot D)) (n : ℕ) (place : DiskPlace) (disk : List ℕ) (after : ℕ) (mode : FaultMode)
+      (at : HoldsAt n (λ (z : PartSlot D). hosted_name z.topic z.conf.part place ≡ disk) old.parts)
+      (changes : ChangesAt n (ArmsS place after mode) old.parts ys) (apart : AreApart old) (s : Shards) (k : AreCarried content image starved old s) where
+    abbrev c : Changed (IsPartSlot content image starved) (IsPartSlot content image starved) keep_slot (ArmsS place after mode) (ArmsPart place after mode)
+        (slot_arms place after mode) n old.parts ys s.parts
+    c = changed (IsPartSlot content image starved) (IsPartSlot content image starved) keep_slot (ArmsS place after mode) (ArmsPart place after mode)
+        (slot_arms place after mode) n old.parts ys s.parts changes k.parts
+
+    abbrev new : HostsParts D
+    new = with_parts content image starved faults losses arms armed old ys
+
+    hosted_is : hosted_slot c.y ≡ hosted_slot c.x
+    hosted_is = λ i. record { topic = c.change.topic i; conf = c.change.conf i }
+
+    disk_is : hosted_name c.x.topic c.x.conf.part place ≡ disk
+    disk_is = holds_both (λ (z : PartSlot D). hosted_name z.topic z.conf.part place ≡ disk) n old.parts c.x at c.there
+
+    hosted_then : hosted_slots ys ≡ hosted_slots old.parts
+    hosted_then = changes_same hosted_slot (λ a b. (a ≡ c.x) × (b ≡ c.y)) (λ a b is. ap hosted_slot is.1 ∙ hosted_is ∙ sym (ap hosted_slot is.0)) n old.parts ys c.exact
+
+    apart_then : AreDistinct (part_disks (hosted_slots ys))
+    apart_then = subst (λ (hs : List Hosted). AreDistinct (part_disks hs)) (sym hosted_then) (parts_apart (hosted_slots old.parts) apart)
+
+    armed_now : slot_facts c.y place ≡ with_arm after mode (slot_facts c.x place)
+    armed_now = change_of n (ArmsPart place after mode c.x c.y) (λ e f g. g.armed_is) s.parts c.after c.goes
+
+    at_disk : F new disk ≡ with_arm after mode (F old disk)
     at_disk =
-        facts_is content image starved faults losses arms armed old ys n c.x c.y c.there c.here c.exact c.change.name apart ∙ armed_now
-        ∙ sym (ap (with_arm after mode) (facts_was content image starved faults losses arms armed old ys n c.x c.y c.there c.here c.exact c.change.name apart))
+        subst (λ (m : List ℕ). F new m ≡ with_arm after mode (F old m)) disk_is
+        (ap (λ (h : Hosted). F new (hosted_name h.topic h.conf.part place)) (sym hosted_is)
+        ∙ known_place new n c.y c.here apart_then place
+        ∙ armed_now
+        ∙ sym (ap (with_arm after mode) (known_place old n c.x c.there (parts_apart (hosted_slots old.parts) apart) place)))
 
     self : (a b : List ℕ) → a ≡ b → same_name a b ≡ true
     self a b e = subst (λ (m : List ℕ). same_name a m ≡ true) e (same_self a)
 
-    on_disk : (name : List ℕ) (b : Bool) → same_name disk name ≡ b → F armed_hosts name ≡ cond b (with_arm after mode (F old name)) (F old name)
-    on_disk name true is = subst (λ (m : List ℕ). F armed_hosts m ≡ with_arm after mode (F old m)) (name_is ∙ is_same disk name is) at_disk
-    on_disk name false is =
-        facts_other content image starved faults losses arms armed old ys n c.x c.y c.there c.here c.exact c.change.name apart name
-        (differs name c.x.name (λ e. let bad : true ≡ false = sym (self disk name (sym name_is ∙ sym e)) ∙ is in cc))
+    abbrev Is : PartSlot D → PartSlot D → Type 0
+    Is a b = (a ≡ c.x) × (b ≡ c.y)
 
-    on_end : (name : List ℕ) (b : Bool) → same_name name c.x.name ≡ b → ends_in armed_hosts name ≡ ends_in old name
-    on_end name true is =
-        subst (λ (m : List ℕ). ends_in armed_hosts m ≡ ends_in old m) (sym (is_same name c.x.name is))
-        (ends_is content image starved faults losses arms armed old ys n c.x c.y c.there c.here c.exact c.change.name apart
-        ∙ (ap (λ (s : LogState D). log_end s) c.change.new_is ∙ c.change.end ∙ sym (ap (λ (s : LogState D). log_end s) c.change.old_is))
-        ∙ sym (ends_was content image starved faults losses arms armed old ys n c.x c.y c.there c.here c.exact c.change.name apart))
-    on_end name false is = ends_other content image starved faults losses arms armed old ys n c.x c.y c.there c.here c.exact c.change.name apart name is
+    others : (name : List ℕ) → same_name disk name ≡ false → F new name ≡ F old name
+    others name away =
+        among_changed (λ (e : List ℕ × Option D). e.0) entry_facts slot_disks (λ (a b : Facts). b ≡ a) (λ a. refl) name n old.parts ys
+        (changes_so n Is (λ a b. (o : Facts) → Found b o name ≡ Found a o name)
+        (λ a b i o. ap (λ (x : PartSlot D). Found x o name) i.1
+        ∙ slot_past place after mode c.x c.y name o c.change (differs name (hosted_name c.x.topic c.x.conf.part place)
+        (λ e. let bad : true ≡ false = sym (self disk name (sym disk_is ∙ sym e)) ∙ away in cc))
+        ∙ sym (ap (λ (x : PartSlot D). Found x o name) i.0)) old.parts ys c.exact)
+        (foreign_facts faults losses arms armed (foreign_disks old.foreign) name)
 
-    log_armed : IsArmed content image starved faults losses arms armed disk after mode old s armed_hosts
-    log_armed = record {
+    on_disk : (name : List ℕ) (b : Bool) → same_name disk name ≡ b → F new name ≡ cond b (with_arm after mode (F old name)) (F old name)
+    on_disk name true is = subst (λ (m : List ℕ). F new m ≡ with_arm after mode (F old m)) (is_same disk name is) at_disk
+    on_disk name false is = others name is
+
+    ends_stay : (name : List ℕ) → ends_in new name ≡ ends_in old name
+    ends_stay name =
+        among_changed (λ (e : List ℕ × ℕ). e.0) (λ (e : List ℕ × ℕ). e.1) slot_ends (λ (a b : ℕ). b ≡ a) (λ a. refl) name n old.parts ys
+        (changes_so n Is (λ a b. (o : ℕ) → ended b o ≡ ended a o)
+        (λ a b i o. ap (λ (x : PartSlot D). ended x o) i.1 ∙ slot_ends_stay place after mode c.x c.y name o c.change
+        ∙ sym (ap (λ (x : PartSlot D). ended x o) i.0)) old.parts ys c.exact)
+        (foreign_end old.foreign name)
+      where
+        ended : PartSlot D → ℕ → ℕ
+        ended x o = EndOf (hosted_slot x) x.state o name
+
+    pub part_is_armed : IsArmed content image starved faults losses arms armed disk after mode old s new
+    part_is_armed = record {
       carried = record {
-        logs = subst (λ (l : List NamedLog). AllZip (IsLogSlot content image starved) ys l)
-            (changes_not n s.logs c.after (changes_so n (ArmsLog after mode c.x c.y) (λ e f. f ≡ e) (λ e f g. g.same) s.logs c.after c.goes)) c.zip;
+        parts = subst (λ (l : List HostedPart). AllZip (IsPartSlot content image starved) ys l)
+            (changes_not n s.parts c.after (changes_so n (ArmsPart place after mode c.x c.y) (λ e f. f ≡ e) (λ e f g. g.same) s.parts c.after c.goes)) c.zip;
+        members = k.members;
         foreign = k.foreign;
       };
       disks = λ name one. on_disk name (same_name disk name) refl;
-      ends = λ name. on_end name (same_name name c.x.name) refl;
+      ends = ends_stay;
     }
-
-  pub arms_log : (old new : HostsParts D) (n : ℕ) (disk : List ℕ) (after : ℕ) (mode : FaultMode) → HoldsAt n (λ (z : LogSlot D). z.name ≡ disk) old.logs
-      → ChangesAt n (ArmsS after mode) old.logs new.logs → new.foreign ≡ old.foreign → AreApart old
-      → (s : Shards) → AreCarried content image starved old s → IsArmed content image starved faults losses arms armed disk after mode old s new
-  arms_log old new n disk after mode at changes same apart s k =
-      subst (λ (f : ForeignSlot D). IsArmed content image starved faults losses arms armed disk after mode old s (record { logs = new.logs; foreign = f })) (sym same)
-      (log_armed old new.logs n disk after mode at changes apart s k)
-
-  pub arms_log_on : (old new : HostsParts D) (n : ℕ) (after : ℕ) (mode : FaultMode) → ChangesAt n (ArmsS after mode) old.logs new.logs
-      → new.foreign ≡ old.foreign → GoOn content faults (disks_in old) (disks_in new)
-  arms_log_on old new n after mode changes same = record {
-    logs = changes_zip (λ e f. LogGoesOn content faults e f) (LogGoesOn content faults)
-        (same_goes content image starved faults losses arms armed) (λ e f g. g) n (log_disks old.logs) (log_disks new.logs)
-        (changes_map (λ (s : LogSlot D). (s.name, log_disk s.state)) (ArmsS after mode) (LogGoesOn content faults) goes n old.logs new.logs changes);
-    foreign = subst (λ (f : ForeignSlot D). BothGoOn content faults (foreign_disks old.foreign) (foreign_disks f)) (sym same)
-        (same_both content image starved faults losses arms armed (foreign_disks old.foreign));
-  }
-    where
-      goes : (x y : LogSlot D) → ArmsS after mode x y → LogGoesOn content faults (x.name, log_disk x.state) (y.name, log_disk y.state)
-      goes x y p = record {
-        name = p.name;
-        goes =
-            subst (λ (s : LogState D). GoesOnIf content faults (log_disk s) (log_disk y.state)) (sym p.old_is)
-            (subst (λ (s : LogState D). GoesOnIf content faults (Some p.was.journal.disk) (log_disk s)) (sym p.new_is)
-            (arms_go_on after mode p.was.journal.disk p.is.journal.disk p.arms_disk));
-      }
 
   -- ---- a disk of foreign state
 
@@ -206,59 +403,58 @@ module _ {D : Type 0} (content : D → Option (List ℕ)) (image : D → List �
   abbrev ArmsF : List ℕ → ℕ → FaultMode → ForeignSlot D → ForeignSlot D → Type 0
   ArmsF disk after mode old new = ArmsForeign content image losses arms armed starved faults disk after mode old new
 
-  module _ (old new : HostsParts D) (disk : List ℕ) (after : ℕ) (mode : FaultMode) (no_log : NotIn (slot_names old.logs) disk)
-      (p : ArmsF disk after mode old.foreign new.foreign) (same : new.logs ≡ old.logs) (apart : AreApart old) where
+  module _ (old new : HostsParts D) (disk : List ℕ) (after : ℕ) (mode : FaultMode) (no_part : NotIn (part_disks (hosted_slots old.parts)) disk)
+      (p : ArmsF disk after mode old.foreign new.foreign) (same : new.parts ≡ old.parts) (same_members : new.members ≡ old.members) (apart : AreApart old) where
     abbrev then_hosts : HostsParts D
-    then_hosts = record { logs = old.logs; foreign = new.foreign }
+    then_hosts = record { parts = old.parts; members = old.members; foreign = new.foreign }
 
     abbrev pairs : List (List ℕ × Option D)
-    pairs = log_disks old.logs
+    pairs = slots_disks old.parts
 
-    abbrev in_logs : Facts → List ℕ → Facts
-    in_logs other name = among (λ (e : List ℕ × Option D). e.0) (λ e. facts_at faults losses arms armed e.1) pairs other name
+    abbrev in_parts : Facts → List ℕ → Facts
+    in_parts other name = among (λ (e : List ℕ × Option D). e.0) (λ e. facts_at faults losses arms armed e.1) pairs other name
 
-    pair_names : (slots : List (LogSlot D)) → map (λ (e : List ℕ × Option D). e.0) (log_disks slots) ≡ slot_names slots
-    pair_names [] = refl
-    pair_names (s ∷ slots) = ap (λ (l : List (List ℕ)). s.name ∷ l) (pair_names slots)
+    abbrev names : List (List ℕ)
+    names = part_disks (hosted_slots old.parts)
 
-    past : (other : Facts) (name : List ℕ) → NotIn (slot_names old.logs) name → in_logs other name ≡ other
+    past : (other : Facts) (name : List ℕ) → NotIn names name → in_parts other name ≡ other
     past other name n = among_past (λ (e : List ℕ × Option D). e.0) (λ e. facts_at faults losses arms armed e.1) pairs other name
-        (subst (λ (l : List (List ℕ)). NotIn l name) (sym (pair_names old.logs)) n)
+        (subst (λ (l : List (List ℕ)). NotIn l name) (sym (disk_names old.parts)) n)
 
     zip_refl : (es : List (List ℕ × Option D)) → AllZip (λ (e f : List ℕ × Option D). (f.0 ≡ e.0)
         × (facts_at faults losses arms armed f.1 ≡ facts_at faults losses arms armed e.1)) es es
     zip_refl es = zip_same (λ (e f : List ℕ × Option D). (f.0 ≡ e.0) × (facts_at faults losses arms armed f.1 ≡ facts_at faults losses arms armed e.1))
         (λ e. (refl, refl)) es
 
-    -- a log's disk stays
-    logs_stay : (name : List ℕ) → IsOneOf (slot_names old.logs) name → F then_hosts name ≡ F old name
-    logs_stay name one =
+    -- a partition's disk stays
+    parts_stay : (name : List ℕ) → IsOneOf names name → F then_hosts name ≡ F old name
+    parts_stay name one =
         among_zip (λ (e : List ℕ × Option D). e.0) (λ e. facts_at faults losses arms armed e.1) (λ (e : List ℕ × Option D). e.0)
         (λ e. facts_at faults losses arms armed e.1) (λ (a b : Facts). b ≡ a) pairs pairs (zip_refl pairs)
         (foreign_facts faults losses arms armed (foreign_disks old.foreign) name)
         (foreign_facts faults losses arms armed (foreign_disks new.foreign) name) name
-        (λ n. absurd (not_both (slot_names old.logs) name (subst (λ (l : List (List ℕ)). NotIn l name) (pair_names old.logs) n) one))
+        (λ n. absurd (not_both names name (subst (λ (l : List (List ℕ)). NotIn l name) (disk_names old.parts) n) one))
 
-    foreign_was : (name : List ℕ) → NotIn (slot_names old.logs) name → F old name ≡ G p.was name
+    foreign_was : (name : List ℕ) → NotIn names name → F old name ≡ G p.was name
     foreign_was name n = past (foreign_facts faults losses arms armed (foreign_disks old.foreign) name) name n
         ∙ ap (λ (f : ForeignSlot D). foreign_facts faults losses arms armed (foreign_disks f) name) p.old_is
 
-    foreign_is : (name : List ℕ) → NotIn (slot_names old.logs) name → F then_hosts name ≡ G p.is name
+    foreign_is : (name : List ℕ) → NotIn names name → F then_hosts name ≡ G p.is name
     foreign_is name n = past (foreign_facts faults losses arms armed (foreign_disks new.foreign) name) name n
         ∙ ap (λ (f : ForeignSlot D). foreign_facts faults losses arms armed (foreign_disks f) name) p.new_is
 
     abbrev Armed_at : List ℕ → Type 0
     Armed_at name = F then_hosts name ≡ (if same_name disk name then with_arm after mode (F old name) else F old name)
 
-    at_name : (name : List ℕ) → NotIn (slot_names old.logs) name
+    at_name : (name : List ℕ) → NotIn names name
         → G p.is name ≡ (if same_name disk name then with_arm after mode (G p.was name) else G p.was name) → Armed_at name
     at_name name n e = foreign_is name n ∙ e
         ∙ sym (ap (λ (f : Facts). if same_name disk name then with_arm after mode f else f) (foreign_was name n))
 
-    at_log : (name : List ℕ) → IsOneOf (slot_names old.logs) name → Armed_at name
-    at_log name one = logs_stay name one
+    at_part : (name : List ℕ) → IsOneOf names name → Armed_at name
+    at_part name one = parts_stay name one
         ∙ sym (ap (λ (t : Bool). if t then with_arm after mode (F old name) else F old name)
-        (differs disk name (λ e. not_both (slot_names old.logs) disk no_log (subst (λ (m : List ℕ). IsOneOf (slot_names old.logs) m) (sym e) one))))
+        (differs disk name (λ e. not_both names disk no_part (subst (λ (m : List ℕ). IsOneOf names m) (sym e) one))))
 
     module _ (s : Shards) (k : AreCarried content image starved old s) where
       was_carried : IsCarried content image starved p.was s.foreign
@@ -267,10 +463,10 @@ module _ {D : Type 0} (content : D → Option (List ℕ)) (image : D → List �
       both : BothArmed disk after mode p.was p.is
       both = foreign_armed disk after mode p.was p.is was_carried.told was_carried.second_told p.stays p.either
 
-      at_any : (name : List ℕ) → IsOneOf (slot_names old.logs) name ⊎ IsOneOf (state_a ∷ state_b ∷ []) name → Armed_at name
-      at_any name (inl one) = at_log name one
-      at_any name (inr (inl e)) = subst Armed_at (sym e) (at_name state_a (not_a_log (slot_names old.logs) apart) both.at_first)
-      at_any name (inr (inr (inl e))) = subst Armed_at (sym e) (at_name state_b (not_a_log_too (slot_names old.logs) apart) both.at_second)
+      at_any : (name : List ℕ) → IsOneOf names name ⊎ IsOneOf (state_a ∷ state_b ∷ []) name → Armed_at name
+      at_any name (inl one) = at_part name one
+      at_any name (inr (inl e)) = subst Armed_at (sym e) (at_name state_a (not_a_part (hosted_slots old.parts) apart) both.at_first)
+      at_any name (inr (inr (inl e))) = subst Armed_at (sym e) (at_name state_b (not_a_part_too (hosted_slots old.parts) apart) both.at_second)
       at_any name (inr (inr (inr never))) = absurd never
 
       end_same : (name : List ℕ) → foreign_end new.foreign name ≡ foreign_end old.foreign name
@@ -281,14 +477,16 @@ module _ {D : Type 0} (content : D → Option (List ℕ)) (image : D → List �
 
       pub arms_state : IsArmed content image starved faults losses arms armed disk after mode old s new
       arms_state =
-          subst (λ (l : List (LogSlot D)). IsArmed content image starved faults losses arms armed disk after mode old s (record { logs = l; foreign = new.foreign })) (sym same)
+          subst (λ (h : HostsParts D). IsArmed content image starved faults losses arms armed disk after mode old s h)
+          (λ i. record { parts = sym same i; members = sym same_members i; foreign = new.foreign })
           (record {
             carried = record {
-              logs = k.logs;
+              parts = k.parts;
+              members = k.members;
               foreign = subst (λ (f : ForeignSlot D). IsSlot content image starved f s.foreign) (sym p.new_is) (both.carried s.foreign was_carried);
             };
-            disks = λ name one. at_any name (one_in_either (slot_names old.logs) (state_a ∷ state_b ∷ []) name one);
-            ends = λ name. ap (λ (n : ℕ). among (λ (s : LogSlot D). s.name) (λ s. log_end s.state) old.logs n name) (end_same name);
+            disks = λ name one. at_any name (one_in_either names (state_a ∷ state_b ∷ []) name one);
+            ends = λ name. ap (λ (n : ℕ). among (λ (e : List ℕ × ℕ). e.0) (λ (e : List ℕ × ℕ). e.1) (flat_map slot_ends old.parts) n name) (end_same name);
           })
 
     either_on : ArmsEither content image losses arms armed starved faults disk after mode p.was p.is
@@ -310,8 +508,8 @@ module _ {D : Type 0} (content : D → Option (List ℕ)) (image : D → List �
 
     pub arms_state_on : GoOn content faults (disks_in old) (disks_in new)
     arms_state_on = record {
-      logs = subst (λ (l : List (LogSlot D)). AllZip (LogGoesOn content faults) (log_disks old.logs) (log_disks l)) (sym same)
-          (zip_same (LogGoesOn content faults) (same_goes content image starved faults losses arms armed) (log_disks old.logs));
+      parts = subst (λ (l : List (PartSlot D)). AllZip (DiskGoesOn content faults) (slots_disks old.parts) (slots_disks l)) (sym same)
+          (zip_same (DiskGoesOn content faults) (same_goes content image starved faults losses arms armed) (slots_disks old.parts));
       foreign =
           subst (λ (f : ForeignSlot D). BothGoOn content faults (foreign_disks f) (foreign_disks new.foreign)) (sym p.old_is)
           (subst (λ (f : ForeignSlot D). BothGoOn content faults (Some (p.was.journal.live.disk, p.was.journal.idle)) (foreign_disks f)) (sym p.new_is) (either_on p.either));

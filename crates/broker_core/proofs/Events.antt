@@ -1,43 +1,58 @@
 -- What each event makes of the machine.
-use Rattle.std.proofs.Common.{◌≡◌, ◌≤◌, ◌⊎◌, ◌∷◌, [], inl, inr, refl, sym, ap, ◌∙◌, subst, arith, ℕ, List, Bool, true, false, cond, Some, None, Result, Err, IfErr}
-use Rattle.std.specs.List.{AllZip}
+use Rattle.std.proofs.Common.{◌≡◌, ◌≤◌, ◌⊎◌, ◌∷◌, [], inl, inr, refl, sym, ap, ◌∙◌, subst, arith, ◌+◌, ℕ, zero, suc, List, length, Bool, true, false, cond, Some, None, Result, Err, IfErr}
+use Rattle.std.specs.List.{AllByRecursion, AllZip}
+use Rattle.std.specs.Prelude.{All}
+use Rattle.std.proofs.Common.{length-append}
 use Rattle.std.specs.declared.option.Option.{Option}
 use Rattle.edge_io.specs.declared.fault.Armed.{Armed}
 use Rattle.edge_io.specs.declared.fault.FaultMode.{FaultMode}
 use Rattle.session_script.specs.declared.event.Event.{Event}
-use Rattle.session_script.specs.declared.event.Event.TheVariants.{Open, Bytes, Close, Step, Arm, Power}
+use Rattle.session_script.specs.declared.event.Event.TheVariants.{Open, Bytes, Close, Step, Expire, Tick, Arm, Power}
 use Rattle.session_script.specs.declared.event.Outcome.{Outcome}
 use Rattle.session_script.specs.declared.event.Outcome.TheVariants.{Restarted}
+use Rattle.topic_conf.specs.declared.topic.Topic.{Topic}
 use Rattle.topic_conf.specs.Configs.{ConfigParts}
+use Rattle.topic_conf.specs.Topics.{partitions, shard_named}
+use Rattle.topic_conf.proofs.Lists.{partitions_cons}
+use Rattle.session_script.specs.Output.{IsTold}
 use Rattle.conn_core.specs.Conns.{ConnParts, conn_after_bytes}
-use Rattle.broker_model.specs.Hosted.{IsOneOf, IsTaken, log_names, same_name, state_a, state_b}
-use Rattle.broker_model.specs.Shards.{Shards, ShardCall, NamedLog, names_of}
-use Rattle.broker_model.specs.Machine.{Machine, LandsLog, conn_at, opened, at_connection, ended_in}
-use Rattle.broker_model.specs.Disks.{Facts}
-use Rattle.broker_model.specs.Steps.{StepsTo, Serves, DoesNothing}
+use Rattle.conn_core.specs.Turning.{turn}
+use Rattle.conn_core.specs.declared.next.Next.{Next}
+use Rattle.conn_core.specs.declared.next.Next.TheVariants.{Ask}
+use Rattle.call_fold.specs.declared.part.Part.{Part}
+use Rattle.call_fold.specs.declared.part.Part.TheVariants.{Foreign, Produce, Visit as PartVisit, Look, Heartbeat}
+use Rattle.share_members.specs.Groups.{Memberships}
+use Rattle.broker_model.specs.Hosted.{Hosted, IsOneOf, IsTaken, hosted_from, hosted_in, hosted_of, part_disks, same_name, state_a, state_b}
+use Rattle.broker_model.specs.Shards.{Counts, HostedPart, Shards, ShardCall, StepsShards, calls, hosted_by}
+use Rattle.broker_model.specs.Shards.ShardCall.{CallMembers}
+use Rattle.broker_model.specs.Shards.MembersCall.{Ticks}
+use Rattle.broker_model.specs.Machine.{Machine, LandsPart, no_members, conn_at, opened, at_connection, ended_in}
+use Rattle.broker_model.specs.Disks.{Facts, OnCalled}
+use Rattle.broker_model.specs.Steps.{StepsTo, StopsWithin, Serves, DoesNothing, ExpiresAt, IsLeftInVisit, IsLeftInExpiry}
 use Rattle.broker_model.specs.States.{State}
 use Rattle.broker_core.specs.declared.fault.CoreFault.{CoreFault}
 use Rattle.broker_core.specs.declared.fault.CoreFault.TheVariants.{NoMemory}
 use Rattle.broker_core.specs.declared.slot.ForeignSlot.{ForeignSlot}
 use Rattle.broker_core.specs.declared.slot.ForeignSlot.TheVariants as foreign
-use Rattle.broker_core.specs.declared.slot.LogState.{LogState}
-use Rattle.broker_core.specs.declared.slot.LogState.TheVariants as log
-use Rattle.broker_core.specs.declared.slot.LogSlot.{LogSlot}
-use Rattle.broker_core.specs.Hosts.{AreCarried, AreDistinct, AreHeld, AreHeldLogs, AreOpen, AreOpenLogs, BothGoOn, GoesOnIf, GoOn, Halts, HostsParts, IsHeld, IsHeldState, IsLogSlot, IsOpen, IsOpenState, Leads, LeftDisks, LogGoesOn, StandStill, all_names, disks_in, ends_in, facts_at, facts_in, foreign_facts, log_disks, rose_in, slot_names}
-use Rattle.broker_core.specs.Cores.{AreReopened, CoreParts, IsArmed, IsCore, IsWhole, StopsIn, Advances, state_of}
+use Rattle.broker_core.specs.declared.slot.PartState.{PartState}
+use Rattle.broker_core.specs.declared.slot.PartState.TheVariants as part
+use Rattle.broker_core.specs.declared.slot.PartSlot.{PartSlot}
+use Rattle.broker_core.specs.Hosts.{AreCarried, AreDistinct, AreHeld, AreHeldParts, AreNamed, AreOpen, AreOpenParts, BothGoOn, DiskGoesOn, GoesOnIf, GoOn, Halts, HalvesExpiry, HalvesNext, HalvesServe, HostsParts, IsHalfDone, IsHeld, IsHeldState, IsOpen, IsOpenState, IsPartSlot, Leads, LeftDisks, StandStill, StaysHosted, all_names, counts_in, disks_in, ends_in, facts_at, facts_in, foreign_facts, hosted_slots}
+use Rattle.broker_core.specs.Cores.{AreReopened, CoreParts, HasMoment, IsArmed, IsCore, IsWhole, StopsIn, Advances, state_of}
 use Rattle.broker_core.proofs.Places.{among_zip, zip_weaker, one_in_front, one_in_rest}
 use Rattle.broker_core.proofs.Leading.{still_all}
+use Rattle.broker_core.proofs.Telling.{all_told}
 
 -- ---- open and held
 
-held_state : {D : Type 0} (state : LogState D) → IsOpenState state → IsHeldState state
-held_state (log.Open parts) o = tt
-held_state (log.Shut disk) o = absurd o
-held_state log.Gone o = absurd o
+held_state : {D : Type 0} (state : PartState D) → IsOpenState state → IsHeldState state
+held_state (part.Open shard) o = tt
+held_state (part.Shut log first second) o = absurd o
+held_state part.Gone o = absurd o
 
-held_logs : {D : Type 0} (slots : List (LogSlot D)) → AreOpenLogs slots → AreHeldLogs slots
-held_logs [] o = tt
-held_logs (s ∷ slots) o = (held_state s.state o.0, held_logs slots o.1)
+held_parts : {D : Type 0} (slots : List (PartSlot D)) → AreOpenParts slots → AreHeldParts slots
+held_parts [] o = tt
+held_parts (s ∷ slots) o = (held_state s.state o.0, held_parts slots o.1)
 
 held_foreign : {D : Type 0} (slot : ForeignSlot D) → IsOpen slot → IsHeld slot
 held_foreign (foreign.Open store) o = tt
@@ -45,15 +60,44 @@ held_foreign (foreign.Shut first second) o = absurd o
 held_foreign foreign.Gone o = absurd o
 
 pub open_held : {D : Type 0} (hosts : HostsParts D) → AreOpen hosts → AreHeld hosts
-open_held hosts o = record { logs = held_logs hosts.logs o.logs; foreign = held_foreign hosts.foreign o.foreign }
+open_held hosts o = record { parts = held_parts hosts.parts o.parts; foreign = held_foreign hosts.foreign o.foreign }
 
--- ---- names
+-- ---- moments
 
-lands_names : (old new : List NamedLog) → AllZip LandsLog old new → names_of new ≡ names_of old
-lands_names [] [] z = refl
-lands_names [] (f ∷ new) z = absurd z
-lands_names (e ∷ old) [] z = absurd z
-lands_names (e ∷ old) (f ∷ new) z = λ i. z.0.name i ∷ lands_names old new z.1 i
+-- that of an event that is known by an equation
+pub moment_at : (event e : Event) → event ≡ e → HasMoment event → HasMoment e
+moment_at event e is moment = subst HasMoment is moment
+
+-- a restart is no fault
+pub restarted_told : (topics : List Topic) (outcomes : List Outcome) → outcomes ≡ Restarted ∷ [] → All (IsTold topics) outcomes
+restarted_told topics outcomes e = all_told topics outcomes (subst (λ (l : List Outcome). AllByRecursion (IsTold topics) l) (sym e) (tt, tt))
+
+-- ---- partitions
+
+-- as many as the topics have together
+from_many : (conf : ConfigParts) (topic : Topic) (part more : ℕ) → length (hosted_from conf topic part more) ≡ more
+from_many conf topic part zero = refl
+from_many conf topic part (suc more) = ap suc (from_many conf topic (suc part) more)
+
+pub hosted_many : (conf : ConfigParts) (topics : List Topic) → length (hosted_in conf topics) ≡ partitions topics
+hosted_many conf [] = refl
+hosted_many conf (topic ∷ topics) =
+    length-append (hosted_from conf topic 0 topic.parts) (hosted_in conf topics)
+    ∙ (λ i. from_many conf topic 0 topic.parts i + hosted_many conf topics i)
+    ∙ sym (partitions_cons topic topics)
+
+slots_many : {D : Type 0} (slots : List (PartSlot D)) → length slots ≡ length (hosted_slots slots)
+slots_many [] = refl
+slots_many (s ∷ slots) = ap suc (slots_many slots)
+
+pub parts_many : {D : Type 0} (core : CoreParts D) → IsWhole core → length core.hosts.parts ≡ partitions core.conf.topics
+parts_many core whole = slots_many core.hosts.parts ∙ ap length whole.hosts ∙ hosted_many core.conf core.conf.topics
+
+lands_hosted : (old new : List HostedPart) → AllZip LandsPart old new → hosted_by new ≡ hosted_by old
+lands_hosted [] [] z = refl
+lands_hosted [] (f ∷ new) z = absurd z
+lands_hosted (e ∷ old) [] z = absurd z
+lands_hosted (e ∷ old) (f ∷ new) z = λ i. z.0.hosted i ∷ lands_hosted old new z.1 i
 
 module _ {D : Type 0} (content : D → Option (List ℕ)) (image : D → List ℕ → Type 0) (starved : D → Bool) (faults : D → ℕ)
     (losses : D → List (ℕ × List ℕ)) (arms : D → ℕ) (armed : D → Armed) where
@@ -69,20 +113,24 @@ module _ {D : Type 0} (content : D → Option (List ℕ)) (image : D → List �
   abbrev F : LeftDisks D → List ℕ → Facts
   F left name = facts_in faults losses arms armed left name
 
-  carried_names : (slots : List (LogSlot D)) (logs : List NamedLog) → AllZip (IsLogSlot content image starved) slots logs → names_of logs ≡ slot_names slots
-  carried_names [] [] z = refl
-  carried_names [] (e ∷ logs) z = absurd z
-  carried_names (s ∷ slots) [] z = absurd z
-  carried_names (s ∷ slots) (e ∷ logs) z = λ i. z.0.name i ∷ carried_names slots logs z.1 i
+  carried_hosted : (slots : List (PartSlot D)) (ps : List HostedPart) → AllZip (IsPartSlot content image starved) slots ps → hosted_by ps ≡ hosted_slots slots
+  carried_hosted [] [] z = refl
+  carried_hosted [] (p ∷ ps) z = absurd z
+  carried_hosted (s ∷ slots) [] z = absurd z
+  carried_hosted (s ∷ slots) (p ∷ ps) z = λ i. z.0.hosted i ∷ carried_hosted slots ps z.1 i
 
-  hosts_are : (core : CoreParts D) (m : Machine) → IsWhole core → C core m → names_of m.shards.logs ≡ log_names core.conf.topics
-  hosts_are core m whole k = carried_names core.hosts.logs m.shards.logs k.shards.logs ∙ whole.hosts
+  hosts_are : (core : CoreParts D) (m : Machine) → IsWhole core → C core m → hosted_by m.shards.parts ≡ hosted_of core.conf
+  hosts_are core m whole k = carried_hosted core.hosts.parts m.shards.parts k.shards.parts ∙ whole.hosts
 
-  taken_one : (core : CoreParts D) (name : List ℕ) → IsWhole core → IsTaken core.conf name → IsOneOf (all_names (slot_names core.hosts.logs)) name
+  topics_are : (core : CoreParts D) (m : Machine) → IsWhole core → C core m → m.shards.members.topics ≡ core.conf.topics
+  topics_are core m whole k = ap (λ (g : Memberships). g.topics) k.shards.members ∙ whole.topics
+
+  taken_one : (core : CoreParts D) (name : List ℕ) → IsWhole core → IsTaken core.conf name → IsOneOf (all_names (hosted_slots core.hosts.parts)) name
   taken_one core name whole (inl one) =
-      one_in_front (slot_names core.hosts.logs) (state_a ∷ state_b ∷ []) name (subst (λ (l : List (List ℕ)). IsOneOf l name) (sym whole.hosts) one)
-  taken_one core name whole (inr (inl e)) = one_in_rest (slot_names core.hosts.logs) (state_a ∷ state_b ∷ []) name (inl e)
-  taken_one core name whole (inr (inr e)) = one_in_rest (slot_names core.hosts.logs) (state_a ∷ state_b ∷ []) name (inr (inl e))
+      one_in_front (part_disks (hosted_slots core.hosts.parts)) (state_a ∷ state_b ∷ []) name
+      (subst (λ (hs : List Hosted). IsOneOf (part_disks hs) name) (sym whole.hosts) one)
+  taken_one core name whole (inr (inl e)) = one_in_rest (part_disks (hosted_slots core.hosts.parts)) (state_a ∷ state_b ∷ []) name (inl e)
+  taken_one core name whole (inr (inr e)) = one_in_rest (part_disks (hosted_slots core.hosts.parts)) (state_a ∷ state_b ∷ []) name (inr (inl e))
 
   -- ---- counts
 
@@ -106,10 +154,10 @@ module _ {D : Type 0} (content : D → Option (List ℕ)) (image : D → List �
   pub later : (old new : LeftDisks D) → GoOn content faults old new → (name : List ℕ) → (F old name).faults ≤ (F new name).faults
   later old new g name =
       among_zip (λ (e : List ℕ × Option D). e.0) (λ e. facts_at faults losses arms armed e.1) (λ (e : List ℕ × Option D). e.0)
-      (λ e. facts_at faults losses arms armed e.1) (λ (a b : Facts). a.faults ≤ b.faults) old.logs new.logs
-      (zip_weaker (LogGoesOn content faults)
+      (λ e. facts_at faults losses arms armed e.1) (λ (a b : Facts). a.faults ≤ b.faults) old.parts new.parts
+      (zip_weaker (DiskGoesOn content faults)
       (λ (e f : List ℕ × Option D). (f.0 ≡ e.0) × ((facts_at faults losses arms armed e.1).faults ≤ (facts_at faults losses arms armed f.1).faults))
-      (λ e f h. (h.name, later_if e.1 f.1 h.goes)) old.logs new.logs g.logs)
+      (λ e f h. (h.name, later_if e.1 f.1 h.goes)) old.parts new.parts g.parts)
       (foreign_facts faults losses arms armed old.foreign name) (foreign_facts faults losses arms armed new.foreign name) name
       (λ n. later_both old.foreign new.foreign g.foreign name)
 
@@ -119,23 +167,16 @@ module _ {D : Type 0} (content : D → Option (List ℕ)) (image : D → List �
       least : (n : ℕ) → n ≤ n
       least n = omega arith
 
-  -- ---- the names of the disks stay
+  -- ---- the partitions stay
 
-  names_go_on : (old new : List (LogSlot D)) → AllZip (LogGoesOn content faults) (log_disks old) (log_disks new) → slot_names new ≡ slot_names old
-  names_go_on [] [] z = refl
-  names_go_on [] (t ∷ new) z = absurd z
-  names_go_on (s ∷ old) [] z = absurd z
-  names_go_on (s ∷ old) (t ∷ new) z = λ i. z.0.name i ∷ names_go_on old new z.1 i
-
-  pub still_whole : (old new : CoreParts D) → IsWhole old → new.conf ≡ old.conf → GoOn content faults (disks_in old.hosts) (disks_in new.hosts)
-      → AreHeld new.hosts → IsWhole new
-  still_whole old new whole same g held =
-      let names = names_go_on old.hosts.logs new.hosts.logs g.logs in
-      record {
-        held = held;
-        hosts = names ∙ whole.hosts ∙ ap (λ (c : ConfigParts). log_names c.topics) (sym same);
-        apart = subst (λ (l : List (List ℕ)). AreDistinct (all_names l)) (sym names) whole.apart;
-      }
+  pub still_whole : (old new : CoreParts D) → IsWhole old → new.conf ≡ old.conf → StaysHosted old.hosts new.hosts → AreHeld new.hosts → IsWhole new
+  still_whole old new whole same stays held = record {
+    held = held;
+    hosts = stays.hosted ∙ whole.hosts ∙ ap (λ (c : ConfigParts). hosted_of c) (sym same);
+    topics = stays.topics ∙ whole.topics ∙ ap (λ (c : ConfigParts). c.topics) (sym same);
+    apart = subst (λ (hs : List Hosted). AreDistinct (all_names hs)) (sym stays.hosted) whole.apart;
+    named = subst AreNamed (sym stays.hosted) whole.named;
+  }
 
   -- ---- connections alone
 
@@ -160,6 +201,7 @@ module _ {D : Type 0} (content : D → Option (List ℕ)) (image : D → List �
     connected old new before same k,
     record {
       hosts = hosts_are old before whole k;
+      topics = topics_are old before whole k;
       later = λ name taken. same_later old.hosts new.hosts same name;
       machine = does old new before (opened id) k e;
       disks = λ name taken. ap (λ (h : HostsParts D). F (disks_in h) name) same;
@@ -176,6 +218,7 @@ module _ {D : Type 0} (content : D → Option (List ℕ)) (image : D → List �
     connected old new before same k,
     record {
       hosts = hosts_are old before whole k;
+      topics = topics_are old before whole k;
       later = λ name taken. same_later old.hosts new.hosts same name;
       machine = does old new before (at_connection id (conn_after_bytes bytes)) k e;
       disks = λ name taken. ap (λ (h : HostsParts D). F (disks_in h) name) same;
@@ -192,6 +235,7 @@ module _ {D : Type 0} (content : D → Option (List ℕ)) (image : D → List �
     connected old new before same k,
     record {
       hosts = hosts_are old before whole k;
+      topics = topics_are old before whole k;
       later = λ name taken. same_later old.hosts new.hosts same name;
       machine = does old new before (λ cs. ended_in id (conn_at id cs) cs) k e;
       disks = λ name taken. ap (λ (h : HostsParts D). F (disks_in h) name) same;
@@ -209,23 +253,23 @@ module _ {D : Type 0} (content : D → Option (List ℕ)) (image : D → List �
   seen_is : (core : CoreParts D) (before : Machine) → C core before → seen core before.shards ≡ before
   seen_is core before k = λ i. record { connections = sym k.connections i; shards = before.shards }
 
-  abbrev R : HostsParts D → HostsParts D → List ℕ → Type 0
-  R old new name = rose_in faults losses arms armed (disks_in old) (disks_in new) name
+  abbrev N : HostsParts D → HostsParts D → Counts
+  N old new = counts_in faults losses arms armed (disks_in old) (disks_in new)
 
-  abbrev ServesIn : CoreParts D → ℕ → Option ShardCall → List Outcome → HostsParts D → Shards → Machine → Type 0
-  ServesIn old id call outcomes new a m = Serves old.conf (R old.hosts new) (ends_in old.hosts)
-      (record { connections = old.connections; shards = a }) id (conn_at id old.connections) call outcomes m
+  abbrev ServesIn : CoreParts D → (id now : ℕ) → Option ShardCall → List Outcome → HostsParts D → Shards → Machine → Type 0
+  ServesIn old id now call outcomes new a m = Serves old.conf (N old.hosts new) (ends_in old.hosts)
+      (record { connections = old.connections; shards = a }) id now (conn_at id old.connections) call outcomes m
 
   steps_from : (old : CoreParts D) (before after : Machine) (id now : ℕ) (call : Option ShardCall) (outcomes : List Outcome) (new : HostsParts D) → C old before
-      → ServesIn old id call outcomes new before.shards after
-      → StepsTo old.conf (R old.hosts new) (ends_in old.hosts) before (Step id now) call outcomes after
+      → ServesIn old id now call outcomes new before.shards after
+      → StepsTo old.conf (N old.hosts new) (ends_in old.hosts) before (Step id now) call outcomes after
   steps_from old before after id now call outcomes new k s =
-      subst (λ m. Serves old.conf (R old.hosts new) (ends_in old.hosts) m id (conn_at id m.connections) call outcomes after)
+      subst (λ m. Serves old.conf (N old.hosts new) (ends_in old.hosts) m id now (conn_at id m.connections) call outcomes after)
       (seen_is old before k) s
 
   pub steps : (old new : CoreParts D) (id now : ℕ) (outcomes : List Outcome) → IsWhole old → GoOn content faults (disks_in old.hosts) (disks_in new.hosts)
       → ((s : Shards) → AreCarried content image starved old.hosts s → Leads content image starved faults losses arms armed old.hosts s new.hosts
-      (λ a call b. ServesIn old id call outcomes new.hosts a (record { connections = new.connections; shards = b })))
+      (λ a call b. ServesIn old id now call outcomes new.hosts a (record { connections = new.connections; shards = b })))
       → A old (Step id now) outcomes new
   steps old new id now outcomes whole g served before k =
       let v = served before.shards k.shards in
@@ -235,11 +279,58 @@ module _ {D : Type 0} (content : D → Option (List ℕ)) (image : D → List �
         record { connections = refl; shards = v.carried },
         record {
           hosts = hosts_are old before whole k;
+          topics = topics_are old before whole k;
           later = λ name taken. later (disks_in old.hosts) (disks_in new.hosts) g name;
           machine = steps_from old before after id now v.call outcomes new.hosts k v.does;
           disks = λ name taken. v.disks name;
           losses = tt;
           ends = λ name taken. v.ends name;
+        },
+      )
+
+  abbrev ExpiresIn : CoreParts D → List ℕ → (part now : ℕ) → HostsParts D → Shards → Option ShardCall → List Outcome → Shards → Type 0
+  ExpiresIn old topic part now new a call outcomes b = (connections : List (ℕ × ConnParts)) → ExpiresAt (N old.hosts new) (ends_in old.hosts) now
+      (record { connections = connections; shards = a }) (shard_named topic part old.conf.topics) call outcomes (record { connections = connections; shards = b })
+
+  pub expires : (old new : CoreParts D) (topic : List ℕ) (part now : ℕ) (outcomes : List Outcome) → IsWhole old → new.connections ≡ old.connections
+      → GoOn content faults (disks_in old.hosts) (disks_in new.hosts)
+      → ((s : Shards) → AreCarried content image starved old.hosts s → Leads content image starved faults losses arms armed old.hosts s new.hosts
+      (λ a call b. ExpiresIn old topic part now new.hosts a call outcomes b))
+      → A old (Expire topic part now) outcomes new
+  expires old new topic part now outcomes whole same g expired before k =
+      let v = expired before.shards k.shards in (
+        record { connections = before.connections; shards = v.after },
+        v.call,
+        record { connections = k.connections ∙ sym same; shards = v.carried },
+        record {
+          hosts = hosts_are old before whole k;
+          topics = topics_are old before whole k;
+          later = λ name taken. later (disks_in old.hosts) (disks_in new.hosts) g name;
+          machine = v.does before.connections;
+          disks = λ name taken. v.disks name;
+          losses = tt;
+          ends = λ name taken. v.ends name;
+        },
+      )
+
+  pub ticks : (old new : CoreParts D) (now : ℕ) → IsWhole old → new.connections ≡ old.connections
+      → GoOn content faults (disks_in old.hosts) (disks_in new.hosts)
+      → ((s : Shards) → AreCarried content image starved old.hosts s → Leads content image starved faults losses arms armed old.hosts s new.hosts
+      (λ a call b. (call ≡ Some (CallMembers Ticks)) × StepsShards (N old.hosts new.hosts) (ends_in old.hosts) now a (CallMembers Ticks) b))
+      → A old (Tick now) [] new
+  ticks old new now whole same g ticked before k =
+      let v = ticked before.shards k.shards in (
+        record { connections = before.connections; shards = v.after },
+        v.call,
+        record { connections = k.connections ∙ sym same; shards = v.carried },
+        record {
+          hosts = hosts_are old before whole k;
+          topics = topics_are old before whole k;
+          later = λ name taken. later (disks_in old.hosts) (disks_in new.hosts) g name;
+          machine = record { did = CallMembers Ticks; is = v.does.0; kind = refl; shards = v.does.1; tells = refl; connections = refl };
+          disks = λ name taken. subst (λ (call : Option ShardCall). OnCalled (calls call name) (F (disks_in old.hosts) name) (F (disks_in new.hosts) name)) v.does.0 (v.disks name);
+          losses = tt;
+          ends = λ name taken. v.ends name (ap (λ (call : Option ShardCall). calls call name) v.does.0);
         },
       )
 
@@ -254,6 +345,7 @@ module _ {D : Type 0} (content : D → Option (List ℕ)) (image : D → List �
         record { connections = k.connections ∙ sym same; shards = v.carried },
         record {
           hosts = hosts_are old before whole k;
+          topics = topics_are old before whole k;
           later = λ name taken. later (disks_in old.hosts) (disks_in new.hosts) g name;
           machine = record { none = refl; tells = refl; same = refl };
           disks = λ name taken. v.disks name (taken_one old name whole taken);
@@ -274,6 +366,7 @@ module _ {D : Type 0} (content : D → Option (List ℕ)) (image : D → List �
         record { connections = sym nobody; shards = v.carried },
         record {
           hosts = hosts_are old before whole k;
+          topics = topics_are old before whole k;
           later = λ name taken. later (disks_in old.hosts) (disks_in new.hosts) g name;
           machine = record { none = refl; tells = tells; nobody = refl; lands = v.lands };
           disks = λ name taken. v.disks name (taken_one old name whole taken);
@@ -282,8 +375,9 @@ module _ {D : Type 0} (content : D → Option (List ℕ)) (image : D → List �
             losses = λ name taken. v.lost name (taken_one old name whole taken);
             opens = record {
               nobody = refl;
-              hosts = lands_names before.shards.logs v.after.logs v.lands.logs ∙ hosts_are old before whole k;
-              logs = v.logs;
+              hosts = lands_hosted before.shards.parts v.after.parts v.lands.parts ∙ hosts_are old before whole k;
+              parts = v.parts;
+              members = v.lands.members ∙ ap (λ (t : List Topic). no_members t) (topics_are old before whole k);
               foreign = v.states;
               nothing = v.lands.foreign.nothing;
             };
@@ -305,22 +399,88 @@ module _ {D : Type 0} (content : D → Option (List ℕ)) (image : D → List �
         (still_all content image starved faults losses arms armed old.hosts before.shards k.shards);
   }
 
+  -- a connection that is there is left in its visit
+  left_in : (old : CoreParts D) (new : HostsParts D) (before : Machine) (id now : ℕ) (asked : Part) (conn : ConnParts) (b : Shards)
+      → conn_at id before.connections ≡ Some conn → (turn old.conf conn).next ≡ Ask asked
+      → IsHalfDone (N old.hosts new) (ends_in old.hosts) asked before.shards b
+      → IsLeftInVisit old.conf (N old.hosts new) (ends_in old.hosts) id before (record { connections = before.connections; shards = b })
+  left_in old new before id now (Foreign op) conn b there asks half = absurd half
+  left_in old new before id now (Produce shard batch) conn b there asks half = absurd half
+  left_in old new before id now (PartVisit shard visit) conn b there asks half = record {
+    conn = conn;
+    shard = shard;
+    visit = visit;
+    there = there;
+    asks = asks;
+    half = record { connections = refl; parts = half.parts; members = half.members; foreign = half.foreign };
+  }
+  left_in old new before id now (Look shard group) conn b there asks half = absurd half
+  left_in old new before id now (Heartbeat request) conn b there asks half = absurd half
+
+  halved : (old : CoreParts D) (new : HostsParts D) (before : Machine) (id now : ℕ) (at : Option ConnParts) (b : Shards)
+      → conn_at id before.connections ≡ at → HalvesServe old.conf (N old.hosts new) (ends_in old.hosts) at before.shards b
+      → IsLeftInVisit old.conf (N old.hosts new) (ends_in old.hosts) id before (record { connections = before.connections; shards = b })
+  halved old new before id now None b there half = absurd half
+  halved old new before id now (Some conn) b there half = left_in old new before id now half.0 conn b there half.1 half.2
+
   pub stops_step : (old new : CoreParts D) (before : Machine) (id now : ℕ) → C old before
-      → Halts content image before.shards new.hosts (λ a call b. (outcomes : List Outcome) × (m : Machine) × (m.shards ≡ b) × ServesIn old id call outcomes new.hosts a m)
+      → Halts content image before.shards new.hosts
+      (λ a call b. (outcomes : List Outcome) × (m : Machine) × (m.shards ≡ b) × ServesIn old id now call outcomes new.hosts a m)
+      (HalvesServe old.conf (N old.hosts new.hosts) (ends_in old.hosts) (conn_at id old.connections))
       → S old before (Step id now) new
   stops_step old new before id now k h = go h.does
     where
-      go : (h.after ≡ before.shards) ⊎ ((call : Option ShardCall) × ((outcomes : List Outcome) × (m : Machine) × (m.shards ≡ h.after)
-          × ServesIn old id call outcomes new.hosts before.shards m)) → S old before (Step id now) new
+      go : (h.after ≡ before.shards) ⊎ (((call : Option ShardCall) × ((outcomes : List Outcome) × (m : Machine) × (m.shards ≡ h.after)
+          × ServesIn old id now call outcomes new.hosts before.shards m))
+          ⊎ HalvesServe old.conf (N old.hosts new.hosts) (ends_in old.hosts) (conn_at id old.connections) before.shards h.after)
+          → S old before (Step id now) new
       go (inl same) = record {
         after = before;
         reaches = inl refl;
         still = subst (λ (s : Shards). StandStill content image s (disks_in new.hosts)) same h.still;
       }
-      go (inr d) = record {
+      go (inr (inl d)) = record {
         after = d.1.1;
-        reaches = inr (d.0, d.1.0, steps_from old before d.1.1 id now d.0 d.1.0 new.hosts k d.1.3);
+        reaches = inr (inl (d.0, d.1.0, steps_from old before d.1.1 id now d.0 d.1.0 new.hosts k d.1.3));
         still = subst (λ (s : Shards). StandStill content image s (disks_in new.hosts)) (sym d.1.2) h.still;
+      }
+      go (inr (inr half)) = record {
+        after = record { connections = before.connections; shards = h.after };
+        reaches = inr (inr (halved old new.hosts before id now (conn_at id old.connections) h.after
+            (ap (λ (cs : List (ℕ × ConnParts)). conn_at id cs) k.connections) half));
+        still = h.still;
+      }
+
+  pub stops_expire : (old new : CoreParts D) (before : Machine) (topic : List ℕ) (part now : ℕ) → C old before
+      → Halts content image before.shards new.hosts
+      (λ a call b. (outcomes : List Outcome) × ExpiresIn old topic part now new.hosts a call outcomes b)
+      (λ a b. (shard : ℕ) × (shard_named topic part old.conf.topics ≡ Some shard) × HalvesExpiry (N old.hosts new.hosts) (ends_in old.hosts) now shard a b)
+      → S old before (Expire topic part now) new
+  stops_expire old new before topic part now k h = go h.does
+    where
+      go : (h.after ≡ before.shards) ⊎ (((call : Option ShardCall) × ((outcomes : List Outcome)
+          × ExpiresIn old topic part now new.hosts before.shards call outcomes h.after))
+          ⊎ ((shard : ℕ) × (shard_named topic part old.conf.topics ≡ Some shard)
+          × HalvesExpiry (N old.hosts new.hosts) (ends_in old.hosts) now shard before.shards h.after))
+          → S old before (Expire topic part now) new
+      go (inl same) = record {
+        after = before;
+        reaches = inl refl;
+        still = subst (λ (s : Shards). StandStill content image s (disks_in new.hosts)) same h.still;
+      }
+      go (inr (inl d)) = record {
+        after = record { connections = before.connections; shards = h.after };
+        reaches = inr (inl (d.0, d.1.0, d.1.1 before.connections));
+        still = h.still;
+      }
+      go (inr (inr half)) = record {
+        after = record { connections = before.connections; shards = h.after };
+        reaches = inr (inr (record {
+          shard = half.0;
+          found = half.1;
+          half = record { connections = refl; parts = half.2.parts; members = half.2.members; foreign = half.2.foreign };
+        }));
+        still = h.still;
       }
 
   pub stops_power : (old new : CoreParts D) (before : Machine) (choice : ℕ) → StandStill content image before.shards (disks_in new.hosts)

@@ -1,36 +1,46 @@
 -- Power losses of all shards, seen by the names of the disks.
 use Rattle.std.proofs.Common.{◌≡◌, ◌≢◌, ◌⊎◌, ◌<◌, ◌∷◌, ◌++◌, [], arith, inl, inr, refl, sym, ap, ◌∙◌, subst, ℕ, zero, suc, List, length, get_or, set, Bool, cond, Some, None}
-use Rattle.std.specs.List.{AllByRecursion, AllZip}
+use Rattle.std.specs.List.{AllByRecursion, AllZip, flat_map}
 use Rattle.std.specs.declared.option.Option.{Option}
 use Rattle.edge_io.specs.declared.fault.Armed.{Armed}
+use Rattle.edge_io.specs.declared.name.DiskPlace.{DiskPlace}
+use Rattle.edge_io.specs.declared.name.DiskPlace.TheVariants.{Log, StateA, StateB}
+use Rattle.edge_io.specs.Causes.{Rose}
+use Rattle.edge_io.specs.Names.{IsTopicName}
 use Rattle.share_model.specs.ForeignRules.{ShareStates}
 use Rattle.share_model.specs.Logs.{Batch as LogBatch}
 use Rattle.share_model.specs.Pending.{WithPending}
+use Rattle.share_members.specs.Groups.{Memberships}
 use Rattle.foreign_coord.specs.Shards.{ForeignShardState}
-use Rattle.part_log.specs.Logs.{IsLogText, LogParts, and_pending}
-use Rattle.part_log.specs.Shards.{LogShardState, IsLogOf}
-use Rattle.broker_model.specs.Hosted.{IsOneOf, same_name, state_a, state_b}
-use Rattle.broker_model.specs.Shards.{Shards, NamedLog}
-use Rattle.broker_model.specs.Machine.{Lands, LandsLog, OpensLog, StandForStates}
-use Rattle.broker_model.specs.Disks.{Facts, IsRestarted, facts_of}
+use Rattle.part_log.specs.Logs.{and_pending}
+use Rattle.share_part.specs.Hosting.{ArePartText, PartConfParts}
+use Rattle.share_part.specs.Leaving.{IsLeftOf, IsOneOf as IsDoneOr}
+use Rattle.share_part.specs.Shards.{PartShardState, shard_with}
+use Rattle.broker_model.specs.Hosted.{Hosted, IsOneOf, first_of, log_of, part_disks, same_name, second_of, state_a, state_b}
+use Rattle.broker_model.specs.Shards.{HostedPart, Shards}
+use Rattle.broker_model.specs.Machine.{Lands, LandsPart, OpensPart, StandForStates, no_members}
+use Rattle.broker_model.specs.Disks.{Facts, IsRestarted}
 use Rattle.broker_core.specs.declared.fault.CoreOpen.{CoreOpen}
 use Rattle.broker_core.specs.declared.fault.CoreOpen.TheVariants.{Device, Bay, NoMemory as want}
 use Rattle.broker_core.specs.declared.fault.CoreFault.{CoreFault}
 use Rattle.broker_core.specs.declared.fault.CoreFault.TheVariants.{NoMemory, Reopen}
 use Rattle.broker_core.specs.declared.slot.ForeignSlot.{ForeignSlot}
 use Rattle.broker_core.specs.declared.slot.ForeignSlot.TheVariants as foreign
-use Rattle.broker_core.specs.declared.slot.LogState.{LogState}
-use Rattle.broker_core.specs.declared.slot.LogState.TheVariants as log
-use Rattle.broker_core.specs.declared.slot.LogSlot.{LogSlot}
-use Rattle.broker_core.specs.Carried.{IsCarried, IsLogCarried}
-use Rattle.broker_core.specs.Restarts.{IsRestartedShard, LandsState, ReopensSlot, ShutsSlot, StopsAt}
+use Rattle.broker_core.specs.declared.slot.PartState.{PartState}
+use Rattle.broker_core.specs.declared.slot.PartState.TheVariants as part
+use Rattle.broker_core.specs.declared.slot.PartSlot.{PartSlot}
+use Rattle.broker_core.specs.Carried.{GoesOn, IsCarried, IsPartCarried, OpenPart, PartGoesOn}
+use Rattle.broker_core.specs.Restarts.{IsRestartedPart, IsRestartedShard, ReopensSlot, ShutsSlot, StopsAt}
 use Rattle.broker_core.specs.Foreign.{ReopensForeign, ShutsForeign}
-use Rattle.broker_core.specs.Hosts.{AreApart, AreCarried, AreDistinct, AreHeldLogs, AreOpenLogs, BothGoOn, BothRose, GoesOnIf, GoOn, HostsParts, IsHeld, IsHeldState, IsLogSlot, IsLogState, IsOpen, IsOpenState, IsSlot, LogGoesOn, LogRose, LogStill, NotIn, OneRose, RoseIf, StandStill, StateStill, ForeignStill, all_names, among, disks_in, facts_at, facts_in, foreign_disks, foreign_facts, log_disk, log_disks, slot_names}
+use Rattle.broker_core.specs.Hosts.{AreApart, AreCarried, AreDistinct, AreHeldParts, AreNamed, AreOpenParts, BothGoOn, BothRose, DiskGoesOn, ForeignStill, GoesOnIf, GoOn, HostsParts, IsHeld, IsHeldState, IsOpen, IsOpenState, IsPartSlot, IsPartState, IsSlot, NotIn, OneRose, PartRose, PartStandsAlone, PartStill, RoseIf, StandStill, all_names, among, disks_in, facts_at, facts_in, foreign_disks, foreign_facts, hosted_slot, hosted_slots, open_disk, part_disk, shut_disk, slot_disks, slots_disks}
 use Rattle.broker_core.specs.Cores.{AreReopened}
+use Rattle.broker_core.proofs.Calling.{Turned, slot_goes}
+use Rattle.broker_core.proofs.Flats.{all_pieces, zip_flat}
+use Rattle.broker_core.proofs.Leading.{StillSlot, not_a_part, not_a_part_too, open_still, parts_apart, parts_still, same_both, same_goes, slot_still, still_foreign}
 use Rattle.broker_core.proofs.Opening.{pending_map}
-use Rattle.broker_core.proofs.Places.{DoneTo, among_past, among_zip, distinct_front, each_found, not_both, one_in_either, zip_map, zip_maps, zip_same, zip_weaker}
-use Rattle.broker_core.proofs.Logs.{log_stands}
-use Rattle.broker_core.proofs.Leading.{not_a_log, not_a_log_too, same_both, same_goes, still_foreign}
+use Rattle.broker_core.proofs.Places.{DoneTo, among_past, among_zip, each_found, not_both, one_in_either, zip_same, zip_weaker}
+use Rattle.broker_core.proofs.Reopens.{part_left}
+use Rattle.broker_core.proofs.Slots.{disk_names}
 
 -- the content that the last loss left
 pub last_content : List (ℕ × List ℕ) → List ℕ
@@ -44,33 +54,41 @@ last_is [] choice c = refl
 last_is (l ∷ []) choice c = refl
 last_is (l ∷ m ∷ losses) choice c = last_is (m ∷ losses) choice c
 
+-- the topics of slots that are named
+pub slots_named : {D : Type 0} (slots : List (PartSlot D)) → AreNamed (hosted_slots slots) → AllByRecursion (λ s. IsTopicName s.topic) slots
+slots_named [] n = tt
+slots_named (s ∷ slots) n = (n.0.topic, slots_named slots n.1)
+
 module _ {D : Type 0} (content : D → Option (List ℕ)) (image : D → List ℕ → Type 0) (starved : D → Bool) (faults : D → ℕ)
     (losses : D → List (ℕ × List ℕ)) (arms : D → ℕ) (armed : D → Armed) where
   abbrev F : HostsParts D → List ℕ → Facts
   F hosts name = facts_in faults losses arms armed (disks_in hosts) name
 
-  abbrev slot_facts : LogSlot D → Facts
-  slot_facts slot = facts_at faults losses arms armed (log_disk slot.state)
+  abbrev entry_facts : List ℕ × Option D → Facts
+  entry_facts e = facts_at faults losses arms armed e.1
 
-  abbrev Opens : ℕ → LogSlot D → LogSlot D → Type 0
+  abbrev slot_facts : PartSlot D → DiskPlace → Facts
+  slot_facts slot place = facts_at faults losses arms armed (part_disk slot.state place)
+
+  abbrev Opens : ℕ → PartSlot D → PartSlot D → Type 0
   Opens choice x y = ReopensSlot content image starved faults losses arms armed choice x y
 
-  abbrev Shuts : CoreFault → LogSlot D → LogSlot D → Type 0
+  abbrev Shuts : CoreFault → PartSlot D → PartSlot D → Type 0
   Shuts fault x y = ShutsSlot content image starved faults fault x y
 
-  abbrev Stops : ℕ → CoreFault → List (LogSlot D) → List (LogSlot D) → Type 0
+  abbrev Stops : ℕ → CoreFault → List (PartSlot D) → List (PartSlot D) → Type 0
   Stops choice fault xs ys = StopsAt content image starved faults losses arms armed choice fault xs ys
 
-  abbrev In : LogSlot D → NamedLog → Type 0
-  In x e = IsLogSlot content image starved x e
+  abbrev In : PartSlot D → HostedPart → Type 0
+  In x e = IsPartSlot content image starved x e
 
-  abbrev Still : LogSlot D → NamedLog → Type 0
-  Still y e = LogStill content image (y.name, log_disk y.state) e
+  abbrev Still : PartSlot D → HostedPart → Type 0
+  Still y e = StillSlot content image starved faults losses arms armed y e
 
-  was_in : (x : LogSlot D) (was : LogParts D) (e : NamedLog) → x.state ≡ log.Open was → In x e → IsLogCarried content image starved was e.1
-  was_in x was e is k = subst (λ (s : LogState D). IsLogState content image starved s e.1) is k.state
+  was_in : (x : PartSlot D) (was : OpenPart D) (e : HostedPart) → x.state ≡ part.Open was → In x e → IsPartCarried content image starved x.conf was e.shard
+  was_in x was e is k = subst (λ (s : PartState D). IsPartState content image starved x.conf s e.shard) is k.state
 
-  -- ---- logs that were opened again
+  -- ---- partitions that were opened again
 
   -- a loss of a disk
   pub record IsLostFacts (choice : ℕ) (old new : Facts) : Type 0 where
@@ -78,22 +96,57 @@ module _ {D : Type 0} (content : D → Option (List ℕ)) (image : D → List �
     pub lost : new.losses ≡ old.losses ++ (choice, c) ∷ []
     pub restarted : IsRestarted old new
 
-  slot_lost : (choice : ℕ) (x y : LogSlot D) (e : NamedLog) → Opens choice x y → In x e → IsLostFacts choice (slot_facts x) (slot_facts y)
+  abbrev LostEntry : ℕ → List ℕ × Option D → List ℕ × Option D → Type 0
+  LostEntry choice e f = (f.0 ≡ e.0) × IsLostFacts choice (entry_facts e) (entry_facts f)
+
+  hosted_y : (choice : ℕ) (x y : PartSlot D) → Opens choice x y → hosted_slot y ≡ hosted_slot x
+  hosted_y choice x y p = λ i. record { topic = p.topic i; conf = p.conf i }
+
+  at_both : (choice : ℕ) (x y : PartSlot D) (place : DiskPlace) (p : Opens choice x y)
+      → IsLostFacts choice (facts_at faults losses arms armed (Some (open_disk p.was place))) (facts_at faults losses arms armed (Some (open_disk p.is place)))
+      → IsLostFacts choice (slot_facts x place) (slot_facts y place)
+  at_both choice x y place p l =
+      subst (λ (s : PartState D). IsLostFacts choice (facts_at faults losses arms armed (part_disk s place)) (slot_facts y place)) (sym p.old_is)
+      (subst (λ (s : PartState D). IsLostFacts choice (facts_at faults losses arms armed (Some (open_disk p.was place))) (facts_at faults losses arms armed (part_disk s place)))
+      (sym p.new_is) l)
+
+  slot_lost : (choice : ℕ) (x y : PartSlot D) (e : HostedPart) → Opens choice x y → In x e → AllZip (LostEntry choice) (slot_disks x) (slot_disks y)
   slot_lost choice x y e p k =
-      let r = p.reopens e.1 (was_in x p.was e p.old_is k) in
-      subst (λ (s : LogState D). IsLostFacts choice (facts_at faults losses arms armed (log_disk s)) (slot_facts y)) (sym p.old_is)
-      (subst (λ (s : LogState D). IsLostFacts choice (facts_of faults losses arms armed p.was.journal.disk) (facts_at faults losses arms armed (log_disk s))) (sym p.new_is)
-      (record { c = r.c; lost = r.lost; restarted = r.on_disk }))
+      let r = p.reopens e.shard (was_in x p.was e p.old_is k) in (
+        (ap (λ (h : Hosted). log_of h) (hosted_y choice x y p), at_both choice x y Log p (record { c = r.l; lost = r.log_lost; restarted = r.on_log })),
+        (
+          (ap (λ (h : Hosted). first_of h) (hosted_y choice x y p), at_both choice x y StateA p (record { c = r.a; lost = r.first_lost; restarted = r.on_first })),
+          (
+            (ap (λ (h : Hosted). second_of h) (hosted_y choice x y p), at_both choice x y StateB p (record { c = r.b; lost = r.second_lost; restarted = r.on_second })),
+            tt,
+          ),
+        ),
+      )
 
-  -- the machine's logs behind it
-  record Reopened (xs ys : List (LogSlot D)) (es : List NamedLog) (choice : ℕ) : Type 0 where
-    after : List NamedLog
+  -- a partition of which the last losses left this
+  pub record Stands (y : PartSlot D) (f : HostedPart) : Type 0 where
+    pub hosted : f.hosted ≡ hosted_slot y
+    pub batches : List LogBatch
+    pub states : ShareStates
+    pub shard : f.shard ≡ shard_with batches states
+    pub text : ArePartText f.hosted.conf (last_content (slot_facts y Log).losses) (last_content (slot_facts y StateA).losses)
+        (last_content (slot_facts y StateB).losses) batches states
+
+  last_of : (choice : ℕ) (x y : PartSlot D) (place : DiskPlace) (p : Opens choice x y) (c : List ℕ)
+      → losses (open_disk p.is place) ≡ losses (open_disk p.was place) ++ (choice, c) ∷ [] → last_content (slot_facts y place).losses ≡ c
+  last_of choice x y place p c e =
+      ap (λ (s : PartState D). last_content (facts_at faults losses arms armed (part_disk s place)).losses) p.new_is
+      ∙ ap last_content e ∙ last_is (losses (open_disk p.was place)) choice c
+
+  -- the machine's partitions behind it
+  record Reopened (xs ys : List (PartSlot D)) (es : List HostedPart) (choice : ℕ) : Type 0 where
+    after : List HostedPart
     zip : AllZip In ys after
-    lands : AllZip LandsLog es after
-    stands : AllZip (λ (y : LogSlot D) (f : NamedLog). (f.0 ≡ y.name) × IsLogText (last_content (slot_facts y).losses) f.1.batches × (f.1.pending ≡ None)) ys after
-    lost : AllZip (λ (x y : LogSlot D). (y.name ≡ x.name) × IsLostFacts choice (slot_facts x) (slot_facts y)) xs ys
+    lands : AllZip LandsPart es after
+    stands : AllZip Stands ys after
+    lost : AllZip (λ (x y : PartSlot D). AllZip (LostEntry choice) (slot_disks x) (slot_disks y)) xs ys
 
-  reopened : (choice : ℕ) (xs ys : List (LogSlot D)) (es : List NamedLog) → AllZip (Opens choice) xs ys → AllZip In xs es → Reopened xs ys es choice
+  reopened : (choice : ℕ) (xs ys : List (PartSlot D)) (es : List HostedPart) → AllZip (Opens choice) xs ys → AllZip In xs es → Reopened xs ys es choice
   reopened choice [] [] [] z k = record { after = []; zip = tt; lands = tt; stands = tt; lost = tt }
   reopened choice [] [] (e ∷ es) z k = absurd k
   reopened choice [] (y ∷ ys) es z k = absurd z
@@ -102,81 +155,99 @@ module _ {D : Type 0} (content : D → Option (List ℕ)) (image : D → List �
   reopened choice (x ∷ xs) (y ∷ ys) (e ∷ es) z k =
       let more = reopened choice xs ys es z.1 k.1 in
       let p = z.0 in
-      let r = p.reopens e.1 (was_in x p.was e p.old_is k.0) in
+      let r = p.reopens e.shard (was_in x p.was e p.old_is k.0) in
       record {
-        after = (x.name, r.after) ∷ more.after;
+        after = record { hosted = hosted_slot x; shard = shard_with r.batches r.states } ∷ more.after;
         zip = (
-          record { name = sym p.name; state = subst (λ (s : LogState D). IsLogState content image starved s r.after) (sym p.new_is) r.carried },
+          record {
+            hosted = sym (hosted_y choice x y p);
+            state =
+                subst (λ (c : PartConfParts). IsPartState content image starved c y.state (shard_with r.batches r.states)) (sym p.conf)
+                (subst (λ (s : PartState D). IsPartState content image starved x.conf s (shard_with r.batches r.states)) (sym p.new_is) r.carried);
+          },
           more.zip,
         );
-        lands = (record { name = sym k.0.name; batches = r.lands.batches; nothing = r.lands.nothing }, more.lands);
+        lands = (
+          record {
+            hosted = sym k.0.hosted;
+            batches = r.batches;
+            states = r.states;
+            log_is = r.log_is;
+            states_are = r.states_are;
+            shard = refl;
+          },
+          more.lands,
+        );
         stands = (
-          (
-            sym p.name,
-            subst (λ (s : LogState D). IsLogText (last_content (facts_at faults losses arms armed (log_disk s)).losses) r.after.batches) (sym p.new_is)
-                (subst (λ (c : List ℕ). IsLogText c r.after.batches) (sym (ap last_content r.lost ∙ last_is (losses p.was.journal.disk) choice r.c)) r.stands),
-            r.lands.nothing,
-          ),
+          record {
+            hosted = sym (hosted_y choice x y p);
+            batches = r.batches;
+            states = r.states;
+            shard = refl;
+            text =
+                subst (λ (l : List ℕ). ArePartText x.conf l (last_content (slot_facts y StateA).losses) (last_content (slot_facts y StateB).losses) r.batches r.states)
+                (sym (last_of choice x y Log p r.l r.log_lost))
+                (subst (λ (a : List ℕ). ArePartText x.conf r.l a (last_content (slot_facts y StateB).losses) r.batches r.states)
+                (sym (last_of choice x y StateA p r.a r.first_lost))
+                (subst (λ (b : List ℕ). ArePartText x.conf r.l r.a b r.batches r.states) (sym (last_of choice x y StateB p r.b r.second_lost)) r.stands));
+          },
           more.stands,
         );
-        lost = ((p.name, slot_lost choice x y e p k.0), more.lost);
+        lost = (slot_lost choice x y e p k.0, more.lost);
       }
 
   -- ---- all disks
 
-  among_slots : (slots : List (LogSlot D)) (other : Facts) (name : List ℕ)
-      → among (λ (e : List ℕ × Option D). e.0) (λ e. facts_at faults losses arms armed e.1) (log_disks slots) other name
-      ≡ among (λ (s : LogSlot D). s.name) slot_facts slots other name
-  among_slots [] other name = refl
-  among_slots (s ∷ slots) other name = ap (cond (same_name name s.name) (slot_facts s)) (among_slots slots other name)
-
   abbrev G : Option (D × D) → List ℕ → Facts
   G disks name = foreign_facts faults losses arms armed disks name
 
-  past : (hosts : HostsParts D) (name : List ℕ) → NotIn (slot_names hosts.logs) name → F hosts name ≡ G (foreign_disks hosts.foreign) name
-  past hosts name n = among_slots hosts.logs (G (foreign_disks hosts.foreign) name) name
-      ∙ among_past (λ (s : LogSlot D). s.name) slot_facts hosts.logs (G (foreign_disks hosts.foreign) name) name n
+  past : (hosts : HostsParts D) (name : List ℕ) → NotIn (part_disks (hosted_slots hosts.parts)) name → F hosts name ≡ G (foreign_disks hosts.foreign) name
+  past hosts name n = among_past (λ (e : List ℕ × Option D). e.0) entry_facts (slots_disks hosts.parts) (G (foreign_disks hosts.foreign) name) name
+      (subst (λ (l : List (List ℕ)). NotIn l name) (sym (disk_names hosts.parts)) n)
 
-  names_stay : (choice : ℕ) (xs ys : List (LogSlot D)) → AllZip (Opens choice) xs ys → slot_names ys ≡ slot_names xs
-  names_stay choice [] [] z = refl
-  names_stay choice [] (y ∷ ys) z = absurd z
-  names_stay choice (x ∷ xs) [] z = absurd z
-  names_stay choice (x ∷ xs) (y ∷ ys) z = λ i. z.0.name i ∷ names_stay choice xs ys z.1 i
+  pub hosted_stay : (choice : ℕ) (xs ys : List (PartSlot D)) → AllZip (Opens choice) xs ys → hosted_slots ys ≡ hosted_slots xs
+  hosted_stay choice [] [] z = refl
+  hosted_stay choice [] (y ∷ ys) z = absurd z
+  hosted_stay choice (x ∷ xs) [] z = absurd z
+  hosted_stay choice (x ∷ xs) (y ∷ ys) z = λ i. hosted_y choice x y z.0 i ∷ hosted_stay choice xs ys z.1 i
 
-  module _ (choice : ℕ) (old new : HostsParts D) (logs : AllZip (Opens choice) old.logs new.logs)
-      (p : ReopensForeign content image starved faults losses arms armed choice old.foreign new.foreign) (apart : AreApart old) (s : Shards)
-      (k : AreCarried content image starved old s) where
+  module _ (choice : ℕ) (old new : HostsParts D) (opens : AllZip (Opens choice) old.parts new.parts)
+      (p : ReopensForeign content image starved faults losses arms armed choice old.foreign new.foreign) (apart : AreApart old)
+      (members : new.members ≡ no_members old.members.topics) (s : Shards) (k : AreCarried content image starved old s) where
+    abbrev names : List (List ℕ)
+    names = part_disks (hosted_slots old.parts)
+
     was_carried : IsCarried content image starved p.was s.foreign
     was_carried = subst (λ (f : ForeignSlot D). IsSlot content image starved f s.foreign) p.old_is k.foreign
 
     state : IsRestartedShard content image starved faults losses arms armed choice p.was s.foreign p.is
     state = p.reopens s.foreign was_carried
 
-    abbrev r : Reopened old.logs new.logs s.logs choice
-    r = reopened choice old.logs new.logs s.logs logs k.logs
+    abbrev r : Reopened old.parts new.parts s.parts choice
+    r = reopened choice old.parts new.parts s.parts opens k.parts
 
-    new_names : slot_names new.logs ≡ slot_names old.logs
-    new_names = names_stay choice old.logs new.logs logs
+    new_hosted : hosted_slots new.parts ≡ hosted_slots old.parts
+    new_hosted = hosted_stay choice old.parts new.parts opens
 
-    not_in_new : (name : List ℕ) → NotIn (slot_names old.logs) name → NotIn (slot_names new.logs) name
-    not_in_new name n = subst (λ (l : List (List ℕ)). NotIn l name) (sym new_names) n
+    not_in_new : (name : List ℕ) → NotIn names name → NotIn (part_disks (hosted_slots new.parts)) name
+    not_in_new name n = subst (λ (hs : List Hosted). NotIn (part_disks hs) name) (sym new_hosted) n
 
-    was_at : (name : List ℕ) → NotIn (slot_names old.logs) name → F old name ≡ G (Some (p.was.journal.live.disk, p.was.journal.idle)) name
+    was_at : (name : List ℕ) → NotIn names name → F old name ≡ G (Some (p.was.journal.live.disk, p.was.journal.idle)) name
     was_at name n = past old name n ∙ ap (λ (f : ForeignSlot D). G (foreign_disks f) name) p.old_is
 
-    is_at : (name : List ℕ) → NotIn (slot_names old.logs) name → F new name ≡ G (Some (p.is.journal.live.disk, p.is.journal.idle)) name
+    is_at : (name : List ℕ) → NotIn names name → F new name ≡ G (Some (p.is.journal.live.disk, p.is.journal.idle)) name
     is_at name n = past new name (not_in_new name n) ∙ ap (λ (f : ForeignSlot D). G (foreign_disks f) name) p.new_is
 
     abbrev Lost : List ℕ → Type 0
     Lost name = IsLostFacts choice (F old name) (F new name)
 
-    no_a : NotIn (slot_names old.logs) state_a
-    no_a = not_a_log (slot_names old.logs) apart
+    no_a : NotIn names state_a
+    no_a = not_a_part (hosted_slots old.parts) apart
 
-    no_b : NotIn (slot_names old.logs) state_b
-    no_b = not_a_log_too (slot_names old.logs) apart
+    no_b : NotIn names state_b
+    no_b = not_a_part_too (hosted_slots old.parts) apart
 
-    lost_at : (name : List ℕ) → NotIn (slot_names old.logs) name
+    lost_at : (name : List ℕ) → NotIn names name
         → IsLostFacts choice (G (Some (p.was.journal.live.disk, p.was.journal.idle)) name) (G (Some (p.is.journal.live.disk, p.is.journal.idle)) name) → Lost name
     lost_at name n l =
         subst (λ (f : Facts). IsLostFacts choice f (F new name)) (sym (was_at name n))
@@ -188,22 +259,23 @@ module _ {D : Type 0} (content : D → Option (List ℕ)) (image : D → List �
     lost_b : Lost state_b
     lost_b = lost_at state_b no_b (record { c = state.b; lost = state.second_lost; restarted = state.on_second })
 
-    lost_log : (name : List ℕ) → IsOneOf (slot_names old.logs) name → Lost name
-    lost_log name one =
-        subst (λ (f : Facts). IsLostFacts choice f (F new name)) (sym (among_slots old.logs (G (foreign_disks old.foreign) name) name))
-        (subst (λ (f : Facts). IsLostFacts choice (among (λ (s : LogSlot D). s.name) slot_facts old.logs (G (foreign_disks old.foreign) name) name) f)
-        (sym (among_slots new.logs (G (foreign_disks new.foreign) name) name))
-        (among_zip (λ (s : LogSlot D). s.name) slot_facts (λ (s : LogSlot D). s.name) slot_facts (IsLostFacts choice) old.logs new.logs r.lost
-        (G (foreign_disks old.foreign) name) (G (foreign_disks new.foreign) name) name (λ n. absurd (not_both (slot_names old.logs) name n one))))
+    lost_part : (name : List ℕ) → IsOneOf names name → Lost name
+    lost_part name one =
+        among_zip (λ (e : List ℕ × Option D). e.0) entry_facts (λ (e : List ℕ × Option D). e.0) entry_facts (IsLostFacts choice)
+        (slots_disks old.parts) (slots_disks new.parts)
+        (zip_flat (λ (x y : PartSlot D). AllZip (LostEntry choice) (slot_disks x) (slot_disks y)) (LostEntry choice) slot_disks slot_disks (λ x y z. z)
+        old.parts new.parts r.lost)
+        (G (foreign_disks old.foreign) name) (G (foreign_disks new.foreign) name) name
+        (λ n. absurd (not_both names name (subst (λ (l : List (List ℕ)). NotIn l name) (disk_names old.parts) n) one))
 
-    lost_any : (name : List ℕ) → IsOneOf (slot_names old.logs) name ⊎ IsOneOf (state_a ∷ state_b ∷ []) name → Lost name
-    lost_any name (inl one) = lost_log name one
+    lost_any : (name : List ℕ) → IsOneOf names name ⊎ IsOneOf (state_a ∷ state_b ∷ []) name → Lost name
+    lost_any name (inl one) = lost_part name one
     lost_any name (inr (inl e)) = subst Lost (sym e) lost_a
     lost_any name (inr (inr (inl e))) = subst Lost (sym e) lost_b
     lost_any name (inr (inr (inr never))) = absurd never
 
-    lost_one : (name : List ℕ) → IsOneOf (all_names (slot_names old.logs)) name → Lost name
-    lost_one name one = lost_any name (one_in_either (slot_names old.logs) (state_a ∷ state_b ∷ []) name one)
+    lost_one : (name : List ℕ) → IsOneOf (all_names (hosted_slots old.parts)) name → Lost name
+    lost_one name one = lost_any name (one_in_either names (state_a ∷ state_b ∷ []) name one)
 
     abbrev contents : List ℕ → List ℕ
     contents name = last_content (F new name).losses
@@ -211,39 +283,47 @@ module _ {D : Type 0} (content : D → Option (List ℕ)) (image : D → List �
     contents_is : (name : List ℕ) (c : List ℕ) → (F new name).losses ≡ (F old name).losses ++ (choice, c) ∷ [] → contents name ≡ c
     contents_is name c e = ap last_content e ∙ last_is (F old name).losses choice c
 
-    -- each log's disk was left with the content that its log stands for
-    open_logs : (ys : List (LogSlot D)) (fs : List NamedLog) → AllByRecursion (λ (y : LogSlot D). F new y.name ≡ slot_facts y) ys
-        → AllZip (λ (y : LogSlot D) (f : NamedLog). (f.0 ≡ y.name) × IsLogText (last_content (slot_facts y).losses) f.1.batches × (f.1.pending ≡ None)) ys fs
-        → AllByRecursion (OpensLog contents) fs
-    open_logs [] [] each z = tt
-    open_logs [] (f ∷ fs) each z = absurd z
-    open_logs (y ∷ ys) [] each z = absurd z
-    open_logs (y ∷ ys) (f ∷ fs) each z = (
-      record {
-        stands =
-            subst (λ (n : List ℕ). IsLogText (contents n) f.1.batches) (sym z.0.0)
-            (subst (λ (g : Facts). IsLogText (last_content g.losses) f.1.batches) (sym each.0) z.0.1);
-        nothing = z.0.2;
-      },
-      open_logs ys fs each.1 z.1,
-    )
+    abbrev Found : List ℕ × Option D → Type 0
+    Found e = F new e.0 ≡ entry_facts e
 
-    each_slot : (ys : List (LogSlot D)) → AllByRecursion (λ (y : LogSlot D). among (λ (s : LogSlot D). s.name) slot_facts new.logs
-        (G (foreign_disks new.foreign) y.name) y.name ≡ slot_facts y) ys → AllByRecursion (λ (y : LogSlot D). F new y.name ≡ slot_facts y) ys
-    each_slot [] each = tt
-    each_slot (y ∷ ys) each = (among_slots new.logs (G (foreign_disks new.foreign) y.name) y.name ∙ each.0, each_slot ys each.1)
+    -- each disk was left with the content that its partition stands for
+    open_parts : (ys : List (PartSlot D)) (fs : List HostedPart) → AllByRecursion (λ (y : PartSlot D). AllByRecursion Found (slot_disks y)) ys
+        → AllZip Stands ys fs → AllByRecursion (OpensPart contents) fs
+    open_parts [] [] each z = tt
+    open_parts [] (f ∷ fs) each z = absurd z
+    open_parts (y ∷ ys) [] each z = absurd z
+    open_parts (y ∷ ys) (f ∷ fs) each z = (
+      record {
+        batches = z.0.batches;
+        states = z.0.states;
+        shard = z.0.shard;
+        stands =
+            subst (λ (h : Hosted). ArePartText f.hosted.conf (contents (log_of h)) (contents (first_of h)) (contents (second_of h)) z.0.batches z.0.states)
+            (sym z.0.hosted)
+            (subst (λ (g : Facts). ArePartText f.hosted.conf (last_content g.losses) (contents (first_of (hosted_slot y))) (contents (second_of (hosted_slot y)))
+            z.0.batches z.0.states) (sym each.0.0)
+            (subst (λ (g : Facts). ArePartText f.hosted.conf (last_content (slot_facts y Log).losses) (last_content g.losses) (contents (second_of (hosted_slot y)))
+            z.0.batches z.0.states) (sym each.0.1.0)
+            (subst (λ (g : Facts). ArePartText f.hosted.conf (last_content (slot_facts y Log).losses) (last_content (slot_facts y StateA).losses) (last_content g.losses)
+            z.0.batches z.0.states) (sym each.0.1.1.0) z.0.text)));
+      },
+      open_parts ys fs each.1 z.1,
+    )
 
     pub all_reopened : AreReopened content image starved faults losses arms armed choice old s new
     all_reopened = record {
-      after = record { logs = r.after; foreign = state.after };
+      after = record { parts = r.after; members = no_members s.members.topics; foreign = state.after };
       contents = contents;
       carried = record {
-        logs = r.zip;
+        parts = r.zip;
+        members = ap (λ (m : Memberships). no_members m.topics) k.members ∙ sym members;
         foreign = subst (λ (f : ForeignSlot D). IsSlot content image starved f state.after) (sym p.new_is) state.carried;
       };
-      lands = record { logs = r.lands; foreign = state.lands };
-      logs = open_logs new.logs r.after (each_slot new.logs (each_found (λ (s : LogSlot D). s.name) slot_facts new.logs
-          (λ name. G (foreign_disks new.foreign) name) (subst AreDistinct (sym new_names) (distinct_front (slot_names old.logs) (state_a ∷ state_b ∷ []) apart)))) r.stands;
+      lands = record { parts = r.lands; members = refl; foreign = state.lands };
+      parts = open_parts new.parts r.after (all_pieces slot_disks Found new.parts
+          (each_found (λ (e : List ℕ × Option D). e.0) entry_facts (slots_disks new.parts) (λ name. G (foreign_disks new.foreign) name)
+          (subst AreDistinct (sym (disk_names new.parts)) (subst (λ (hs : List Hosted). AreDistinct (part_disks hs)) (sym new_hosted)
+          (parts_apart (hosted_slots old.parts) apart))))) r.stands;
       states =
           subst (λ (a : List ℕ). StandForStates a (contents state_b) state.after.states) (sym (contents_is state_a state.a (lost_a_is)))
           (subst (λ (b : List ℕ). StandForStates state.a b state.after.states) (sym (contents_is state_b state.b lost_b_is)) state.stands);
@@ -261,25 +341,61 @@ module _ {D : Type 0} (content : D → Option (List ℕ)) (image : D → List �
 
   -- ---- one was not opened again
 
-  -- what stands for the log that landed stands for the old one, with or without its pending write
-  landed_still : (old new : LogShardState) (c : List ℕ) → LandsState old new → IsLogOf new c → IsLogOf old c
-  landed_still old new c l h =
-      pending_map (λ (b : List LogBatch). new.batches ≡ b) (IsLogText c)
-      (λ b e. subst (IsLogText c) e (subst (λ (p : Option LogBatch). WithPending (IsLogText c) new.batches (and_pending new.batches p)) l.nothing h))
-      old.batches (and_pending old.batches old.pending) l.batches
+  -- contents that stand for the shard that landed stand for the old one, with or without its pending writes
+  landed_left : (conf : PartConfParts) (old : PartShardState) (batches : List LogBatch) (states : ShareStates) (l a b : List ℕ)
+      → IsDoneOr old.log.batches (and_pending old.log.batches old.log.pending) batches → IsDoneOr old.states old.pending states
+      → IsLeftOf conf (shard_with batches states) l a b → IsLeftOf conf old l a b
+  landed_left conf old batches states l a b log_is states_are t = record {
+    batches = batches;
+    states = states;
+    log_is = log_is;
+    states_are = states_are;
+    text =
+        subst (λ (bs : List LogBatch). ArePartText conf l a b bs states) (done batches t.batches t.log_is)
+        (subst (λ (ss : ShareStates). ArePartText conf l a b t.batches ss) (done states t.states t.states_are) t.text);
+  }
+    where
+      done : {S : Type 0} (x y : S) → IsDoneOr x None y → y ≡ x
+      done x y (inl e) = e
+      done x y (inr e) = absurd (let bad : None ≡ Some y = e in cc)
 
-  reopened_still : (choice : ℕ) (x y : LogSlot D) (e : NamedLog) → Opens choice x y → In x e → Still y e
+  reopened_still : (choice : ℕ) (x y : PartSlot D) (e : HostedPart) → Opens choice x y → In x e → Still y e
   reopened_still choice x y e p k =
-      let r = p.reopens e.1 (was_in x p.was e p.old_is k) in
+      let r = p.reopens e.shard (was_in x p.was e p.old_is k) in
+      let same : hosted_slot y ≡ hosted_slot x = hosted_y choice x y p in
+      let is : e.hosted ≡ hosted_slot y = k.hosted ∙ sym same in
       record {
-        name = k.name ∙ sym p.name;
-        still = subst (λ (s : LogState D). StateStill content image (log_disk s) e.1) (sym p.new_is) (record {
-          stands = λ c on. landed_still e.1 r.after c r.lands (log_stands content image starved faults losses arms armed p.is r.after r.carried.carries c on);
-          told = r.carried.told;
-        });
+        log = open_disk p.is Log;
+        first = open_disk p.is StateA;
+        second = open_disk p.is StateB;
+        log_is = λ i. (log_of (sym is i), part_disk (p.new_is i) Log);
+        first_is = λ i. (first_of (sym is i), part_disk (p.new_is i) StateA);
+        second_is = λ i. (second_of (sym is i), part_disk (p.new_is i) StateB);
+        alone = record {
+          stand = λ l a b on_log on_first on_second. subst (λ (h : Hosted). IsLeftOf h.conf e.shard l a b) (sym k.hosted)
+              (landed_left x.conf e.shard r.batches r.states l a b r.log_is r.states_are
+              (part_left content image starved faults losses arms armed x.conf p.is (shard_with r.batches r.states) r.carried l a b on_log on_first on_second));
+          log_told = r.carried.log.told;
+          first_told = r.carried.first.told;
+          second_told = r.carried.second.told;
+        };
       }
 
-  all_still : (choice : ℕ) (xs ys : List (LogSlot D)) (es : List NamedLog) → AllZip (Opens choice) xs ys → AllZip In xs es → AllZip Still ys es
+  shut_still : (fault : CoreFault) (x y : PartSlot D) (e : HostedPart) → (p : Shuts fault x y) → In x e
+      → PartStandsAlone content image x.conf e.shard p.log p.first p.second → Still y e
+  shut_still fault x y e p k d =
+      let is : e.hosted ≡ hosted_slot y = k.hosted ∙ (λ i. record { topic = sym p.topic i; conf = sym p.conf i }) in
+      record {
+        log = p.log;
+        first = p.first;
+        second = p.second;
+        log_is = λ i. (log_of (sym is i), part_disk (p.new_is i) Log);
+        first_is = λ i. (first_of (sym is i), part_disk (p.new_is i) StateA);
+        second_is = λ i. (second_of (sym is i), part_disk (p.new_is i) StateB);
+        alone = subst (λ (h : Hosted). PartStandsAlone content image h.conf e.shard p.log p.first p.second) (sym k.hosted) d;
+      }
+
+  all_still : (choice : ℕ) (xs ys : List (PartSlot D)) (es : List HostedPart) → AllZip (Opens choice) xs ys → AllZip In xs es → AllZip Still ys es
   all_still choice [] [] [] z k = tt
   all_still choice [] [] (e ∷ es) z k = absurd k
   all_still choice [] (y ∷ ys) es z k = absurd z
@@ -287,14 +403,7 @@ module _ {D : Type 0} (content : D → Option (List ℕ)) (image : D → List �
   all_still choice (x ∷ xs) (y ∷ ys) [] z k = absurd k
   all_still choice (x ∷ xs) (y ∷ ys) (e ∷ es) z k = (reopened_still choice x y e z.0 k.0, all_still choice xs ys es z.1 k.1)
 
-  still_in : (x : LogSlot D) (e : NamedLog) → In x e → Still x e
-  still_in x e k = record { name = k.name; still = go x.state k.state } where
-    go : (state : LogState D) → IsLogState content image starved state e.1 → StateStill content image (log_disk state) e.1
-    go (log.Open parts) i = record { stands = log_stands content image starved faults losses arms armed parts e.1 i.carries; told = i.told }
-    go (log.Shut disk) i = absurd i
-    go log.Gone i = absurd i
-
-  stops_still : (choice : ℕ) (fault : CoreFault) (xs ys : List (LogSlot D)) (es : List NamedLog) → Stops choice fault xs ys → AllZip In xs es
+  stops_still : (choice : ℕ) (fault : CoreFault) (xs ys : List (PartSlot D)) (es : List HostedPart) → Stops choice fault xs ys → AllZip In xs es
       → AllZip Still ys es × (fault ≡ NoMemory)
   stops_still choice fault [] ys es z k = absurd z
   stops_still choice fault (x ∷ xs) [] es z k = absurd z
@@ -302,39 +411,34 @@ module _ {D : Type 0} (content : D → Option (List ℕ)) (image : D → List �
   stops_still choice fault (x ∷ xs) (y ∷ ys) (e ∷ es) (inl (p, more)) k =
       let m = stops_still choice fault xs ys es more k.1 in ((reopened_still choice x y e p k.0, m.0), m.1)
   stops_still choice fault (x ∷ xs) (y ∷ ys) (e ∷ es) (inr (p, same)) k =
-      let d = p.shuts e.1 (was_in x p.was e p.old_is k.0) in (
+      let d = p.shuts e.shard (was_in x p.was e p.old_is k.0) in (
         (
-          record {
-            name = k.0.name ∙ sym p.name;
-            still = subst (λ (s : LogState D). StateStill content image (log_disk s) e.1) (sym p.new_is) d.0;
-          },
-          subst (λ (l : List (LogSlot D)). AllZip Still l es) (sym same) (zip_weaker In Still still_in xs es k.1),
+          shut_still fault x y e p k.0 d.0,
+          subst (λ (l : List (PartSlot D)). AllZip Still l es) (sym same)
+              (zip_weaker In Still (slot_still content image starved faults losses arms armed) xs es k.1),
         ),
         d.1,
       )
 
-  still_pairs : (ys : List (LogSlot D)) (es : List NamedLog) → AllZip Still ys es → AllZip (LogStill content image) (log_disks ys) es
-  still_pairs ys es z = zip_map (λ (s : LogSlot D). (s.name, log_disk s.state)) (LogStill content image) ys es z
-
-  pub logs_stopped : (choice : ℕ) (fault : CoreFault) (old new : HostsParts D) → Stops choice fault old.logs new.logs → new.foreign ≡ old.foreign
+  pub parts_stopped : (choice : ℕ) (fault : CoreFault) (old new : HostsParts D) → Stops choice fault old.parts new.parts → new.foreign ≡ old.foreign
       → (s : Shards) → AreCarried content image starved old s → StandStill content image s (disks_in new) × (fault ≡ NoMemory)
-  logs_stopped choice fault old new stops same s k =
-      let d = stops_still choice fault old.logs new.logs s.logs stops k.logs in (
+  parts_stopped choice fault old new stops same s k =
+      let d = stops_still choice fault old.parts new.parts s.parts stops k.parts in (
         record {
-          logs = still_pairs new.logs s.logs d.0;
+          parts = parts_still content image starved faults losses arms armed new.parts s.parts d.0;
           foreign = subst (λ (f : ForeignSlot D). ForeignStill content image s.foreign (foreign_disks f)) (sym same)
               (still_foreign content image starved faults losses arms armed old.foreign s.foreign k.foreign);
         },
         d.1,
       )
 
-  pub state_stopped : (choice : ℕ) (fault : CoreFault) (old new : HostsParts D) → AllZip (Opens choice) old.logs new.logs
+  pub state_stopped : (choice : ℕ) (fault : CoreFault) (old new : HostsParts D) → AllZip (Opens choice) old.parts new.parts
       → ShutsForeign content image starved faults fault old.foreign new.foreign → (s : Shards) → AreCarried content image starved old s
       → StandStill content image s (disks_in new) × (fault ≡ NoMemory)
-  state_stopped choice fault old new logs p s k =
+  state_stopped choice fault old new opens p s k =
       let d = p.shuts s.foreign (subst (λ (f : ForeignSlot D). IsSlot content image starved f s.foreign) p.old_is k.foreign) in (
         record {
-          logs = still_pairs new.logs s.logs (all_still choice old.logs new.logs s.logs logs k.logs);
+          parts = parts_still content image starved faults losses arms armed new.parts s.parts (all_still choice old.parts new.parts s.parts opens k.parts);
           foreign = subst (λ (f : ForeignSlot D). ForeignStill content image s.foreign (foreign_disks f)) (sym p.new_is) (record {
             stand = λ a b on_first on_second. back a b d.0.after d.0.lands (d.0.stand a b on_first on_second);
             told = d.0.told;
@@ -354,61 +458,78 @@ module _ {D : Type 0} (content : D → Option (List ℕ)) (image : D → List �
 
   -- ---- any disks
 
-  opens_on : (choice : ℕ) (x y : LogSlot D) → Opens choice x y → LogGoesOn content faults (x.name, log_disk x.state) (y.name, log_disk y.state)
-  opens_on choice x y p = record {
-    name = p.name;
-    goes =
-        subst (λ (s : LogState D). GoesOnIf content faults (log_disk s) (log_disk y.state)) (sym p.old_is)
-        (subst (λ (s : LogState D). GoesOnIf content faults (Some p.was.journal.disk) (log_disk s)) (sym p.new_is) p.goes);
-  }
+  abbrev SlotGoesOn : PartSlot D → PartSlot D → Type 0
+  SlotGoesOn x y = AllZip (DiskGoesOn content faults) (slot_disks x) (slot_disks y)
 
-  shuts_on : (fault : CoreFault) (x y : LogSlot D) → Shuts fault x y → LogGoesOn content faults (x.name, log_disk x.state) (y.name, log_disk y.state)
-  shuts_on fault x y p = record {
-    name = p.name;
-    goes =
-        subst (λ (s : LogState D). GoesOnIf content faults (log_disk s) (log_disk y.state)) (sym p.old_is)
-        (subst (λ (s : LogState D). GoesOnIf content faults (Some p.was.journal.disk) (log_disk s)) (sym p.new_is) p.goes);
-  }
+  opens_on : (choice : ℕ) (x y : PartSlot D) → Opens choice x y → SlotGoesOn x y
+  opens_on choice x y p = slot_goes content image starved faults losses arms armed x y (record {
+    was = p.was;
+    is = p.is;
+    turns = record { old_is = p.old_is; new_is = p.new_is; hosted = hosted_y choice x y p };
+    goes = p.goes;
+  })
 
-  abbrev pair : LogSlot D → List ℕ × Option D
-  pair s = (s.name, log_disk s.state)
+  shuts_on : (fault : CoreFault) (x y : PartSlot D) → Shuts fault x y → SlotGoesOn x y
+  shuts_on fault x y p = (
+    record { name = ap (λ (h : Hosted). log_of h) same; goes = at Log p.on_log },
+    (
+      record { name = ap (λ (h : Hosted). first_of h) same; goes = at StateA p.on_first },
+      (record { name = ap (λ (h : Hosted). second_of h) same; goes = at StateB p.on_second }, tt),
+    ),
+  )
+    where
+      same : hosted_slot y ≡ hosted_slot x
+      same = λ i. record { topic = p.topic i; conf = p.conf i }
 
-  pub opened_on : (choice : ℕ) (xs ys : List (LogSlot D)) → AllZip (Opens choice) xs ys → AllZip (LogGoesOn content faults) (log_disks xs) (log_disks ys)
-  opened_on choice xs ys z =
-      zip_maps pair (LogGoesOn content faults) xs ys (zip_weaker (Opens choice) (λ x y. LogGoesOn content faults (pair x) (pair y)) (opens_on choice) xs ys z)
+      at : (place : DiskPlace) → GoesOn content faults (open_disk p.was place) (shut_disk p.log p.first p.second place)
+          → GoesOnIf content faults (part_disk x.state place) (part_disk y.state place)
+      at place g =
+          subst (λ (s : PartState D). GoesOnIf content faults (part_disk s place) (part_disk y.state place)) (sym p.old_is)
+          (subst (λ (s : PartState D). GoesOnIf content faults (Some (open_disk p.was place)) (part_disk s place)) (sym p.new_is) g)
 
-  pub stopped_on : (choice : ℕ) (fault : CoreFault) (xs ys : List (LogSlot D)) → Stops choice fault xs ys
-      → AllZip (LogGoesOn content faults) (log_disks xs) (log_disks ys)
+  slots_same : (xs : List (PartSlot D)) → AllZip SlotGoesOn xs xs
+  slots_same xs = zip_same SlotGoesOn (λ x. zip_same (DiskGoesOn content faults) (same_goes content image starved faults losses arms armed) (slot_disks x)) xs
+
+  flat_on : (xs ys : List (PartSlot D)) → AllZip SlotGoesOn xs ys → AllZip (DiskGoesOn content faults) (slots_disks xs) (slots_disks ys)
+  flat_on xs ys z = zip_flat SlotGoesOn (DiskGoesOn content faults) slot_disks slot_disks (λ x y w. w) xs ys z
+
+  opened_on : (choice : ℕ) (xs ys : List (PartSlot D)) → AllZip (Opens choice) xs ys → AllZip (DiskGoesOn content faults) (slots_disks xs) (slots_disks ys)
+  opened_on choice xs ys z = flat_on xs ys (zip_weaker (Opens choice) SlotGoesOn (opens_on choice) xs ys z)
+
+  stopped_on : (choice : ℕ) (fault : CoreFault) (xs ys : List (PartSlot D)) → Stops choice fault xs ys → AllZip SlotGoesOn xs ys
   stopped_on choice fault [] ys z = absurd z
   stopped_on choice fault (x ∷ xs) [] z = absurd z
   stopped_on choice fault (x ∷ xs) (y ∷ ys) (inl (p, more)) = (opens_on choice x y p, stopped_on choice fault xs ys more)
-  stopped_on choice fault (x ∷ xs) (y ∷ ys) (inr (p, same)) = (
-    shuts_on fault x y p,
-    subst (λ (l : List (LogSlot D)). AllZip (LogGoesOn content faults) (log_disks xs) (log_disks l)) (sym same)
-        (zip_same (LogGoesOn content faults) (same_goes content image starved faults losses arms armed) (log_disks xs)),
-  )
+  stopped_on choice fault (x ∷ xs) (y ∷ ys) (inr (p, same)) =
+      (shuts_on fault x y p, subst (λ (l : List (PartSlot D)). AllZip SlotGoesOn xs l) (sym same) (slots_same xs))
 
-  pub logs_stopped_on : (choice : ℕ) (fault : CoreFault) (old new : HostsParts D) → Stops choice fault old.logs new.logs → new.foreign ≡ old.foreign
+  pub hosted_stopped : (choice : ℕ) (fault : CoreFault) (xs ys : List (PartSlot D)) → Stops choice fault xs ys → hosted_slots ys ≡ hosted_slots xs
+  hosted_stopped choice fault [] ys z = absurd z
+  hosted_stopped choice fault (x ∷ xs) [] z = absurd z
+  hosted_stopped choice fault (x ∷ xs) (y ∷ ys) (inl (p, more)) = λ i. hosted_y choice x y p i ∷ hosted_stopped choice fault xs ys more i
+  hosted_stopped choice fault (x ∷ xs) (y ∷ ys) (inr (p, same)) = λ i. record { topic = p.topic i; conf = p.conf i } ∷ hosted_slots (same i)
+
+  pub parts_stopped_on : (choice : ℕ) (fault : CoreFault) (old new : HostsParts D) → Stops choice fault old.parts new.parts → new.foreign ≡ old.foreign
       → GoOn content faults (disks_in old) (disks_in new)
-  logs_stopped_on choice fault old new stops same = record {
-    logs = stopped_on choice fault old.logs new.logs stops;
+  parts_stopped_on choice fault old new stops same = record {
+    parts = flat_on old.parts new.parts (stopped_on choice fault old.parts new.parts stops);
     foreign = subst (λ (f : ForeignSlot D). BothGoOn content faults (foreign_disks old.foreign) (foreign_disks f)) (sym same)
         (same_both content image starved faults losses arms armed (foreign_disks old.foreign));
   }
 
-  pub state_stopped_on : (choice : ℕ) (fault : CoreFault) (old new : HostsParts D) → AllZip (Opens choice) old.logs new.logs
+  pub state_stopped_on : (choice : ℕ) (fault : CoreFault) (old new : HostsParts D) → AllZip (Opens choice) old.parts new.parts
       → ShutsForeign content image starved faults fault old.foreign new.foreign → GoOn content faults (disks_in old) (disks_in new)
-  state_stopped_on choice fault old new logs p = record {
-    logs = opened_on choice old.logs new.logs logs;
+  state_stopped_on choice fault old new opens p = record {
+    parts = opened_on choice old.parts new.parts opens;
     foreign =
         subst (λ (f : ForeignSlot D). BothGoOn content faults (foreign_disks f) (foreign_disks new.foreign)) (sym p.old_is)
         (subst (λ (f : ForeignSlot D). BothGoOn content faults (Some (p.was.journal.live.disk, p.was.journal.idle)) (foreign_disks f)) (sym p.new_is) (p.on_first, p.on_second));
   }
 
-  pub all_on : (choice : ℕ) (old new : HostsParts D) → AllZip (Opens choice) old.logs new.logs
+  pub all_on : (choice : ℕ) (old new : HostsParts D) → AllZip (Opens choice) old.parts new.parts
       → ReopensForeign content image starved faults losses arms armed choice old.foreign new.foreign → GoOn content faults (disks_in old) (disks_in new)
-  all_on choice old new logs p = record {
-    logs = opened_on choice old.logs new.logs logs;
+  all_on choice old new opens p = record {
+    parts = opened_on choice old.parts new.parts opens;
     foreign =
         subst (λ (f : ForeignSlot D). BothGoOn content faults (foreign_disks f) (foreign_disks new.foreign)) (sym p.old_is)
         (subst (λ (f : ForeignSlot D). BothGoOn content faults (Some (p.was.journal.live.disk, p.was.journal.idle)) (foreign_disks f)) (sym p.new_is) (p.first, p.second));
@@ -416,16 +537,26 @@ module _ {D : Type 0} (content : D → Option (List ℕ)) (image : D → List �
 
   -- ---- which count rose
 
-  pub stopped_rose : (choice : ℕ) (fault : CoreFault) (xs ys : List (LogSlot D)) → Stops choice fault xs ys → fault ≡ Reopen Device
-      → LogRose faults (log_disks xs) (log_disks ys)
+  pub stopped_rose : (choice : ℕ) (fault : CoreFault) (xs ys : List (PartSlot D)) → Stops choice fault xs ys → fault ≡ Reopen Device
+      → PartRose faults (slots_disks xs) (slots_disks ys)
   stopped_rose choice fault [] ys z is = absurd z
   stopped_rose choice fault (x ∷ xs) [] z is = absurd z
-  stopped_rose choice fault (x ∷ xs) (y ∷ ys) (inl (p, more)) is = inr (stopped_rose choice fault xs ys more is)
-  stopped_rose choice fault (x ∷ xs) (y ∷ ys) (inr (p, same)) is = inl
-      (subst (λ (s : LogState D). RoseIf faults (log_disk s) (log_disk y.state)) (sym p.old_is)
-      (subst (λ (s : LogState D). RoseIf faults (Some p.was.journal.disk) (log_disk s)) (sym p.new_is) (p.device is)))
+  stopped_rose choice fault (x ∷ xs) (y ∷ ys) (inl (p, more)) is = inr (inr (inr (stopped_rose choice fault xs ys more is)))
+  stopped_rose choice fault (x ∷ xs) (y ∷ ys) (inr (p, same)) is = one (p.device is) where
+    at : (place : DiskPlace) → Rose (faults (open_disk p.was place)) (faults (shut_disk p.log p.first p.second place))
+        → RoseIf faults (part_disk x.state place) (part_disk y.state place)
+    at place r =
+        subst (λ (s : PartState D). RoseIf faults (part_disk s place) (part_disk y.state place)) (sym p.old_is)
+        (subst (λ (s : PartState D). RoseIf faults (Some (open_disk p.was place)) (part_disk s place)) (sym p.new_is) r)
 
-  pub stopped_never : (choice : ℕ) (fault : CoreFault) (xs ys : List (LogSlot D)) → Stops choice fault xs ys → (f : CoreOpen) → fault ≡ Reopen f
+    one : Rose (faults p.was.log.journal.disk) (faults p.log)
+        ⊎ (Rose (faults p.was.states.journal.live.disk) (faults p.first) ⊎ Rose (faults p.was.states.journal.idle) (faults p.second))
+        → PartRose faults (slots_disks (x ∷ xs)) (slots_disks (y ∷ ys))
+    one (inl r) = inl (at Log r)
+    one (inr (inl r)) = inr (inl (at StateA r))
+    one (inr (inr r)) = inr (inr (inl (at StateB r)))
+
+  pub stopped_never : (choice : ℕ) (fault : CoreFault) (xs ys : List (PartSlot D)) → Stops choice fault xs ys → (f : CoreOpen) → fault ≡ Reopen f
       → (f ≢ Bay) × (f ≢ want)
   stopped_never choice fault [] ys z f is = absurd z
   stopped_never choice fault (x ∷ xs) [] z f is = absurd z
@@ -440,31 +571,31 @@ module _ {D : Type 0} (content : D → Option (List ℕ)) (image : D → List �
 
   -- ---- open, and held
 
-  pub opened_open : (choice : ℕ) (xs ys : List (LogSlot D)) → AllZip (Opens choice) xs ys → AreOpenLogs ys
+  pub opened_open : (choice : ℕ) (xs ys : List (PartSlot D)) → AllZip (Opens choice) xs ys → AreOpenParts ys
   opened_open choice [] [] z = tt
   opened_open choice [] (y ∷ ys) z = absurd z
   opened_open choice (x ∷ xs) [] z = absurd z
   opened_open choice (x ∷ xs) (y ∷ ys) z =
-      (subst (λ (s : LogState D). IsOpenState s) (sym z.0.new_is) tt, opened_open choice xs ys z.1)
+      (subst (λ (s : PartState D). IsOpenState s) (sym z.0.new_is) tt, opened_open choice xs ys z.1)
 
-  held_of_open : (slots : List (LogSlot D)) → AreOpenLogs slots → AreHeldLogs slots
+  pub held_of_open : (slots : List (PartSlot D)) → AreOpenParts slots → AreHeldParts slots
   held_of_open [] o = tt
   held_of_open (s ∷ slots) o = (go s.state o.0, held_of_open slots o.1) where
-    go : (state : LogState D) → IsOpenState state → IsHeldState state
-    go (log.Open parts) h = tt
-    go (log.Shut disk) h = absurd h
-    go log.Gone h = absurd h
+    go : (state : PartState D) → IsOpenState state → IsHeldState state
+    go (part.Open shard) h = tt
+    go (part.Shut log first second) h = absurd h
+    go part.Gone h = absurd h
 
-  pub opened_held : (choice : ℕ) (xs ys : List (LogSlot D)) → AllZip (Opens choice) xs ys → AreHeldLogs ys
+  pub opened_held : (choice : ℕ) (xs ys : List (PartSlot D)) → AllZip (Opens choice) xs ys → AreHeldParts ys
   opened_held choice xs ys z = held_of_open ys (opened_open choice xs ys z)
 
-  pub stopped_held : (choice : ℕ) (fault : CoreFault) (xs ys : List (LogSlot D)) → AreOpenLogs xs → Stops choice fault xs ys → AreHeldLogs ys
+  pub stopped_held : (choice : ℕ) (fault : CoreFault) (xs ys : List (PartSlot D)) → AreOpenParts xs → Stops choice fault xs ys → AreHeldParts ys
   stopped_held choice fault [] ys o z = absurd z
   stopped_held choice fault (x ∷ xs) [] o z = absurd z
   stopped_held choice fault (x ∷ xs) (y ∷ ys) o (inl (p, more)) =
-      (subst (λ (s : LogState D). IsHeldState s) (sym p.new_is) tt, stopped_held choice fault xs ys o.1 more)
+      (subst (λ (s : PartState D). IsHeldState s) (sym p.new_is) tt, stopped_held choice fault xs ys o.1 more)
   stopped_held choice fault (x ∷ xs) (y ∷ ys) o (inr (p, same)) =
-      (subst (λ (s : LogState D). IsHeldState s) (sym p.new_is) tt, subst AreHeldLogs (sym same) (held_of_open xs o.1))
+      (subst (λ (s : PartState D). IsHeldState s) (sym p.new_is) tt, subst AreHeldParts (sym same) (held_of_open xs o.1))
 
   pub held_open_foreign : (slot : ForeignSlot D) → IsOpen slot → IsHeld slot
   held_open_foreign (foreign.Open store) o = tt
@@ -473,7 +604,7 @@ module _ {D : Type 0} (content : D → Option (List ℕ)) (image : D → List �
 
   -- ---- one after another
 
-  pub done_stops : (choice : ℕ) (fault : CoreFault) (n : ℕ) (xs ys : List (LogSlot D)) (y z : LogSlot D) → DoneTo n (Opens choice) xs ys → n < length ys
+  pub done_stops : (choice : ℕ) (fault : CoreFault) (n : ℕ) (xs ys : List (PartSlot D)) (y z : PartSlot D) → DoneTo n (Opens choice) xs ys → n < length ys
       → y ≡ get_or ys n y → Shuts fault y z → Stops choice fault xs (set ys n z)
   done_stops choice fault zero [] [] y z d lt is p = absurd (omega (arith, lt))
   done_stops choice fault zero [] (w ∷ ys) y z d lt is p = absurd (let bad : w ∷ ys ≡ [] = d in cc)
@@ -481,7 +612,7 @@ module _ {D : Type 0} (content : D → Option (List ℕ)) (image : D → List �
   done_stops choice fault zero (x ∷ xs) (w ∷ ys) y z d lt is p =
       let head : w ≡ x = cc in
       let tail : ys ≡ xs = cc in
-      inr (subst (λ (v : LogSlot D). Shuts fault v z) (is ∙ head) p, tail)
+      inr (subst (λ (v : PartSlot D). Shuts fault v z) (is ∙ head) p, tail)
   done_stops choice fault (suc n) [] ys y z d lt is p = absurd d
   done_stops choice fault (suc n) (x ∷ xs) [] y z d lt is p = absurd d
   done_stops choice fault (suc n) (x ∷ xs) (w ∷ ys) y z d lt is p = inl (d.0, done_stops choice fault n xs ys y z d.1 (omega (arith, lt)) is p)

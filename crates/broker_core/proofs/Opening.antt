@@ -13,14 +13,14 @@ use Rattle.share_model.specs.ForeignRules.{ShareStates}
 use Rattle.share_model.specs.Pending.{WithPending}
 use Rattle.share_coord.specs.Parts.{StoreParts}
 use Rattle.share_coord.specs.Stored.{Entries, AreStored}
-use Rattle.foreign_coord.specs.Acts.{states_of}
+use Rattle.share_coord.specs.States.{states_of}
 use Rattle.foreign_coord.specs.Shards.{ForeignShardState, Carries}
 use Rattle.broker_model.specs.Machine.{StandForStates, Lands}
 use Rattle.broker_model.specs.Disks.{facts_of}
 use Rattle.broker_core.specs.declared.fault.CoreOpen.{CoreOpen}
 use Rattle.broker_core.specs.declared.fault.CoreOpen.TheVariants as fault
 use Rattle.broker_core.specs.Carried.{IsCarried, GoesOn}
-use Rattle.broker_core.specs.Restarts.{IsOpened, IsOpenedDisk, IsRestartedShard, IsNotRestarted, ImagesStand, ImagesStandAs}
+use Rattle.broker_core.specs.Restarts.{IsOpened, IsOpenedDisk, IsRestartedShard, IsNotRestarted, ImagesStand, ImagesStandAs, IsLost as Lost}
 
 -- ---- pending writes
 
@@ -138,14 +138,8 @@ module _ {D : Type 0} (content : D → Option (List ℕ)) (image : D → List �
   -- ---- restarts
 
   -- what a power loss left of a disk
-  pub record IsLost (choice : ℕ) (old new : D) (c : List ℕ) : Type 0 where
-    pub is : content new ≡ Some c
-    pub was : image old c
-    pub only : (d : List ℕ) → image new d → d ≡ c
-    pub lost : losses new ≡ losses old ++ (choice, c) ∷ []
-    pub same_arms : arms new ≡ arms old
-    pub disarmed : armed new ≡ Nothing
-    pub quiet : faults new ≡ faults old
+  abbrev pub IsLost : ℕ → D → D → List ℕ → Type 0
+  IsLost choice old new c = Lost content image faults losses arms armed choice old new c
 
   pub lost_of : (choice : ℕ) (live old new : D) → old ≡ live → IsTold (content live)
       → LosesPower choice (image old) (losses old) (content new) (image new) (losses new) (armed new)

@@ -1,9 +1,9 @@
 -- The two disks of foreign state are taken from a bay, and put back after a refusal.
-use Rattle.std.proofs.Common.{◌≡◌, ◌≢◌, ◌≤◌, ◌<◌, ◌+◌, ◌-◌, ◌^◌, min, ◌⊎◌, arith, inl, inr, refl, sym, ap, ◌∙◌, ℕ, List, Bool, true, Some, is_some}
+use Rattle.std.proofs.Common.{◌≡◌, ◌≢◌, ◌≤◌, ◌<◌, ◌-◌, ◌^◌, ◌⊎◌, inl, inr, refl, sym, ap, ◌∙◌, subst, ℕ, List, [], ◌∷◌, Bool, Some, is_some}
 use Rattle.std.specs.declared.option.Option.{Option}
 use Rattle.edge_io.specs.declared.fault.Armed.{Armed}
 use Rattle.edge_io.specs.declared.fault.Armed.TheVariants.{Nothing}
-use Rattle.edge_io.specs.Bays.{IsAsTold, SameSlot}
+use Rattle.edge_io.specs.Bays.{IsAsTold}
 use Rattle.edge_io.specs.Causes.{Rose}
 use Rattle.edge_io.specs.Disk.{IsTold}
 use Rattle.share_model.specs.ForeignRules.{ShareStates}
@@ -11,113 +11,145 @@ use Rattle.share_coord.specs.Parts.{StoreParts}
 use Rattle.broker_model.specs.Hosted.{state_a, state_b}
 use Rattle.broker_model.specs.Machine.{StandForStates}
 use Rattle.broker_core.specs.declared.fault.CoreOpen.{CoreOpen}
-use Rattle.broker_core.specs.declared.fault.CoreOpen.TheVariants.{Damaged, Device, Bay}
+use Rattle.broker_core.specs.declared.fault.CoreOpen.TheVariants.{Damaged, Device, Bay, NoMemory}
 use Rattle.broker_core.specs.declared.slot.ForeignSlot.TheVariants as foreign
+use Rattle.broker_core.specs.Hosts.{AreDistinct}
 use Rattle.broker_core.specs.Restarts.{IsOpened, IsDamagedState}
-use Rattle.broker_core.specs.Taking.{Moves, PutsBack, RefusesForeign, TakesForeign}
+use Rattle.broker_core.specs.Taking.{GetsAll, GetsNone, PutsAll, PutsBack, RefusesForeign, TakesForeign}
 use Rattle.broker_core.proofs.Naming.{states_apart}
-use Rattle.broker_core.proofs.Taking.{greater, moves_then, put_moves, tells_all}
+use Rattle.broker_core.proofs.Taking.{gets_each, gets_moves, gets_others, greater, moves_same, moves_then, puts_in, puts_moves, puts_others, puts_rise, rose_between, slot_then}
+
+pub states_distinct : AreDistinct (state_a ∷ state_b ∷ [])
+states_distinct = ((states_apart, tt), (tt, tt))
 
 module _ {B D : Type 0} (disk : B → List ℕ → Option D) (out : B → List ℕ → Bool) (taken : B → List ℕ → ℕ) (steady : B → Type 0) (bay_faults : B → ℕ)
     (content : D → Option (List ℕ)) (image : D → List ℕ → Type 0) (starved : D → Bool) (faults : D → ℕ)
-    (losses : D → List (ℕ × List ℕ)) (arms : D → ℕ) (armed : D → Armed) where
-  -- a disk was taken
-  pub record Gets (name : List ℕ) (d : D) (old new : B) : Type 0 where
-    pub given : IsAsTold (disk old name) d
-    pub is_out : (out new name ≡ true) × (taken new name ≡ faults d)
-    pub others : (m : List ℕ) → m ≢ name → SameSlot disk out taken m old new
-    pub told : is_some (disk new name) ≡ is_some (disk old name)
-    pub later : bay_faults old ≤ bay_faults new
-    pub steadies : steady old → steady new
+    (losses : D → List (ℕ × List ℕ)) (arms : D → ℕ) (armed : D → Armed) (first second : D) where
+  abbrev both : List (List ℕ × D)
+  both = (state_a, first) ∷ (state_b, second) ∷ []
 
-  abbrev Puts : List ℕ → D → B → B → Type 0
-  Puts name d old new = PutsBack disk out taken steady bay_faults faults name d old new
+  abbrev back : D → D → List (List ℕ × Option D)
+  back a b = (state_a, Some a) ∷ (state_b, Some b) ∷ []
 
-  get_moves : (name : List ℕ) (d : D) (old new : B) → Gets name d old new → Moves disk steady bay_faults old new
-  get_moves name d old new p = record {
-    told = tells_all disk out taken steady bay_faults name old new p.others (λ t. p.told ∙ t);
-    later = p.later;
-    steadies = p.steadies;
-  }
+  abbrev GetsBoth : B → B → Type 0
+  GetsBoth old new = GetsAll disk out taken steady bay_faults faults both old new
 
-  then_same : (m : List ℕ) (a b c : B) → SameSlot disk out taken m a b → SameSlot disk out taken m b c → SameSlot disk out taken m a c
-  then_same m a b c p q = record { same_disk = q.same_disk ∙ p.same_disk; same_out = q.same_out ∙ p.same_out; same_taken = q.same_taken ∙ p.same_taken }
+  abbrev Refuses : CoreOpen → B → B → Type 0
+  Refuses fault old new = RefusesForeign disk out taken steady bay_faults content starved faults arms armed fault old new
 
-  b_not_a : state_b ≢ state_a
-  b_not_a e = states_apart (sym e)
+  -- names that are those of its disks
+  pub gets_states : (x y : List ℕ) (old new : B) → x ≡ state_a → y ≡ state_b
+      → GetsAll disk out taken steady bay_faults faults ((x, first) ∷ (y, second) ∷ []) old new → GetsBoth old new
+  gets_states x y old new p q gets =
+      subst (λ (es : List (List ℕ × D)). GetsAll disk out taken steady bay_faults faults es old new) (λ i. (p i, first) ∷ (q i, second) ∷ []) gets
 
-  second_told : (b0 b1 b2 : B) (first second : D) → Gets state_a first b0 b1 → Gets state_b second b1 b2 → IsAsTold (disk b0 state_b) second
-  second_told b0 b1 b2 first second p q d told = q.given d ((p.others state_b b_not_a).same_disk ∙ told)
+  pub put_state : (x name : List ℕ) (given : D) (old new : B) → x ≡ name → PutsBack disk out taken steady bay_faults faults x given old new
+      → PutsBack disk out taken steady bay_faults faults name given old new
+  put_state x name given old new is put = subst (λ (n : List ℕ). PutsBack disk out taken steady bay_faults faults n given old new) is put
 
-  pub taken_both : (old mid new : B) (first second : D) (store : StoreParts D) → Gets state_a first old mid → Gets state_b second mid new
-      → faults first ≤ faults store.journal.live.disk → faults second ≤ faults store.journal.idle
+  -- one of them stood at its last count
+  abbrev Last : B → Type 0
+  Last old = (name : List ℕ) × (d : D) × ((name ≡ state_a) ⊎ (name ≡ state_b)) × IsAsTold (disk old name) d × (2 ^ 64 - 1 ≤ faults d)
+
+  pub taken_both : (old new : B) (store : StoreParts D) → GetsBoth old new → faults first ≤ faults store.journal.live.disk → faults second ≤ faults store.journal.idle
       → ((a b : List ℕ) → content first ≡ Some a → content second ≡ Some b → IsOpened content image starved faults losses arms armed first second a b store)
       → TakesForeign disk out taken steady bay_faults content image starved faults losses arms armed old (foreign.Open store) new
-  taken_both old mid new first second store p q on_first on_second opens = record {
-    store = store;
-    is_open = refl;
-    first = first;
-    second = second;
-    first_told = p.given;
-    second_told = second_told old mid new first second p q;
-    first_noted = (q.others state_a states_apart).same_taken ∙ p.is_out.1;
-    second_noted = q.is_out.1;
-    first_counted = on_first;
-    second_counted = on_second;
-    opens = opens;
-    first_out = (q.others state_a states_apart).same_out ∙ p.is_out.0;
-    second_out = q.is_out.0;
-    others = λ m n k. then_same m old mid new (p.others m n) (q.others m k);
-    moves = moves_then disk out taken steady bay_faults old mid new (get_moves state_a first old mid p) (get_moves state_b second mid new q);
-  }
+  taken_both old new store gets on_first on_second opens =
+      let each = gets_each disk out taken steady bay_faults faults both old new states_distinct gets in
+      record {
+        store = store;
+        is_open = refl;
+        first = first;
+        second = second;
+        first_told = each.0.as_told;
+        second_told = each.1.0.as_told;
+        first_noted = each.0.noted;
+        second_noted = each.1.0.noted;
+        first_counted = on_first;
+        second_counted = on_second;
+        opens = opens;
+        first_out = each.0.is_out;
+        second_out = each.1.0.is_out;
+        others = λ m n k. gets_others disk out taken steady bay_faults faults both old new gets m (n, (k, tt));
+        moves = gets_moves disk out taken steady bay_faults faults both old new gets;
+      }
 
-  bay_rose : (L : Type 0) (b0 b1 b2 b3 b4 t1 t2 : ℕ) (first second given given_second : D)
-      → Rose (faults first) (faults given) ⊎ Rose (faults second) (faults given_second) → b0 ≤ b1 → b1 ≤ b2 → b2 ≤ b3 → b3 ≤ b4
-      → t1 ≡ faults first → t2 ≡ faults second → b3 ≡ min (b2 + (faults given - t1)) (2 ^ 64 - 1) → b4 ≡ min (b3 + (faults given_second - t2)) (2 ^ 64 - 1)
-      → (2 ^ 64 - 1 ≤ faults first → L) → (2 ^ 64 - 1 ≤ faults second → L) → Rose b0 b4 ⊎ L
-  bay_rose L b0 b1 b2 b3 b4 t1 t2 first second given given_second (inl rose) l1 l2 l3 l4 e1 e2 p q on_first on_second =
-      go (greater (faults first) (faults given) rose) where
-        go : (faults first < faults given) ⊎ (2 ^ 64 - 1 ≤ faults first) → Rose b0 b4 ⊎ L
-        go (inl less) = inl (omega (arith, less, l1, l2, l3, l4, e1, p))
-        go (inr last) = inr (on_first last)
-  bay_rose L b0 b1 b2 b3 b4 t1 t2 first second given given_second (inr rose) l1 l2 l3 l4 e1 e2 p q on_first on_second =
-      go (greater (faults second) (faults given_second) rose) where
-        go : (faults second < faults given_second) ⊎ (2 ^ 64 - 1 ≤ faults second) → Rose b0 b4 ⊎ L
-        go (inl less) = inl (omega (arith, less, l1, l2, l3, l4, e2, q))
-        go (inr last) = inr (on_second last)
-
-  pub refused_both : (b0 b1 b2 b3 b4 : B) (first second given given_second : D) (fault : CoreOpen) → Gets state_a first b0 b1 → Gets state_b second b1 b2
-      → Puts state_a given b2 b3 → Puts state_b given_second b3 b4
+  pub refused_both : (old mid new : B) (first_now second_now : D) (fault : CoreOpen) → GetsBoth old mid
+      → PutsAll disk out taken steady bay_faults faults (back first_now second_now) mid new
       → ((a b : List ℕ) (states : ShareStates) → content first ≡ Some a → content second ≡ Some b → StandForStates a b states
       → (name : List ℕ) (place : ℕ) → fault ≢ Damaged name place)
       → (IsTold (content first) → IsTold (content second) → armed first ≡ Nothing → armed second ≡ Nothing → fault ≢ Device)
       → ((name : List ℕ) (place : ℕ) → fault ≡ Damaged name place → (a b : List ℕ) → content first ≡ Some a → content second ≡ Some b
       → IsDamagedState a b name place)
-      → (fault ≡ Device → Rose (faults first) (faults given) ⊎ Rose (faults second) (faults given_second)) → fault ≢ Bay
-      → RefusesForeign disk out taken steady bay_faults content starved faults arms armed fault b0 b4
-  refused_both b0 b1 b2 b3 b4 first second given given_second fault p q r s recovers sound damaged device no_bay = record {
-    damaged = λ n place e d f a b at second_at is is_second. damaged n place e a b (ap content (p.given d at) ∙ is) (ap content (as_second f second_at) ∙ is_second);
-    recovers = λ d f a b states at second_at is is_second stand n place.
-        recovers a b states (ap content (p.given d at) ∙ is) (ap content (as_second f second_at) ∙ is_second) stand n place;
-    bay = λ e. absurd (no_bay e);
-    device = λ e. bay_rose ((name : List ℕ) × (d : D) × ((name ≡ state_a) ⊎ (name ≡ state_b)) × IsAsTold (disk b0 name) d × (2 ^ 64 - 1 ≤ faults d))
-        (bay_faults b0) (bay_faults b1) (bay_faults b2) (bay_faults b3) (bay_faults b4) (taken b2 state_a) (taken b3 state_b) first second given given_second
-        (device e) p.later q.later r.later s.later ((q.others state_a states_apart).same_taken ∙ p.is_out.1)
-        ((r.others state_b b_not_a).same_taken ∙ q.is_out.1) r.counts s.counts
-        (λ last. (state_a, first, inl refl, p.given, last)) (λ last. (state_b, second, inr refl, as_second, last));
-    sound = λ d f at second_at is is_second still. (
-      no_bay,
-      sound (ap (λ (x : D). is_some (content x)) (p.given d at) ∙ is.tells) (ap (λ (x : D). is_some (content x)) (as_second f second_at) ∙ is_second.tells)
-          (ap armed (p.given d at) ∙ is.is_unarmed) (ap armed (as_second f second_at) ∙ is_second.is_unarmed),
-    );
-    first_in = (s.others state_a states_apart).same_out ∙ r.is_in;
-    second_in = s.is_in;
-    others = λ m n k. then_same m b0 b2 b4 (then_same m b0 b1 b2 (p.others m n) (q.others m k)) (then_same m b2 b3 b4 (r.others m n) (s.others m k));
-    moves = moves_then disk out taken steady bay_faults b0 b2 b4
-        (moves_then disk out taken steady bay_faults b0 b1 b2 (get_moves state_a first b0 b1 p) (get_moves state_b second b1 b2 q))
-        (moves_then disk out taken steady bay_faults b2 b3 b4 (put_moves disk out taken steady bay_faults faults state_a given b2 b3 r)
-        (put_moves disk out taken steady bay_faults faults state_b given_second b3 b4 s));
+      → (fault ≡ Device → Rose (faults first) (faults first_now) ⊎ Rose (faults second) (faults second_now)) → fault ≢ Bay
+      → Refuses fault old new
+  refused_both old mid new first_now second_now fault gets puts recovers sound damaged device no_bay =
+      let each = gets_each disk out taken steady bay_faults faults both old mid states_distinct gets in
+      let is_first : (d : D) → disk old state_a ≡ Some d → first ≡ d = each.0.as_told in
+      let is_second : (d : D) → disk old state_b ≡ Some d → second ≡ d = each.1.0.as_told in
+      record {
+        damaged = λ n place e d f a b at second_at is second_is. damaged n place e a b (ap content (is_first d at) ∙ is) (ap content (is_second f second_at) ∙ second_is);
+        recovers = λ d f a b states at second_at is second_is stand n place.
+            recovers a b states (ap content (is_first d at) ∙ is) (ap content (is_second f second_at) ∙ second_is) stand n place;
+        bay = λ e. absurd (no_bay e);
+        device = λ e. rises (device e) each.0.as_told each.1.0.as_told each.0.noted each.1.0.noted;
+        sound = λ d f at second_at is second_is still. (
+          no_bay,
+          sound (ap (λ (x : D). is_some (content x)) (is_first d at) ∙ is.tells) (ap (λ (x : D). is_some (content x)) (is_second f second_at) ∙ second_is.tells)
+              (ap armed (is_first d at) ∙ is.is_unarmed) (ap armed (is_second f second_at) ∙ second_is.is_unarmed),
+        );
+        first_in = puts_in disk out taken steady bay_faults faults (back first_now second_now) mid new states_distinct puts state_a (inl refl);
+        second_in = puts_in disk out taken steady bay_faults faults (back first_now second_now) mid new states_distinct puts state_b (inr (inl refl));
+        others = λ m n k. slot_then disk out taken steady bay_faults m old mid new
+            (gets_others disk out taken steady bay_faults faults both old mid gets m (n, (k, tt)))
+            (puts_others disk out taken steady bay_faults faults (back first_now second_now) mid new puts m (n, (k, tt)));
+        moves = moves_then disk out taken steady bay_faults old mid new (gets_moves disk out taken steady bay_faults faults both old mid gets)
+            (puts_moves disk out taken steady bay_faults faults (back first_now second_now) mid new puts);
+      }
+    where
+      rise : taken mid state_a < faults first_now ⊎ (taken mid state_b < faults second_now ⊎ ⊥) → Rose (bay_faults old) (bay_faults new) ⊎ Last old
+      rise risen = inl (rose_between (bay_faults old) (bay_faults mid) (bay_faults new) (bay_faults new)
+          (gets_moves disk out taken steady bay_faults faults both old mid gets).later
+          (puts_rise disk out taken steady bay_faults faults (back first_now second_now) mid new states_distinct puts risen)
+          (moves_same disk out taken steady bay_faults new).later)
+
+      rises : Rose (faults first) (faults first_now) ⊎ Rose (faults second) (faults second_now)
+          → IsAsTold (disk old state_a) first → IsAsTold (disk old state_b) second → taken mid state_a ≡ faults first → taken mid state_b ≡ faults second
+          → Rose (bay_faults old) (bay_faults new) ⊎ Last old
+      rises (inl rose) tf ts nf ns = go (greater (faults first) (faults first_now) rose) where
+        go : (faults first < faults first_now) ⊎ (2 ^ 64 - 1 ≤ faults first) → Rose (bay_faults old) (bay_faults new) ⊎ Last old
+        go (inl less) = rise (inl (subst (λ (k : ℕ). k < faults first_now) (sym nf) less))
+        go (inr last) = inr (state_a, first, inl refl, tf, last)
+      rises (inr rose) tf ts nf ns = go (greater (faults second) (faults second_now) rose) where
+        go : (faults second < faults second_now) ⊎ (2 ^ 64 - 1 ≤ faults second) → Rose (bay_faults old) (bay_faults new) ⊎ Last old
+        go (inl less) = rise (inr (inl (subst (λ (k : ℕ). k < faults second_now) (sym ns) less)))
+        go (inr last) = inr (state_b, second, inr refl, ts, last)
+
+module _ {B D : Type 0} (disk : B → List ℕ → Option D) (out : B → List ℕ → Bool) (taken : B → List ℕ → ℕ) (steady : B → Type 0) (bay_faults : B → ℕ)
+    (content : D → Option (List ℕ)) (starved : D → Bool) (faults : D → ℕ) (arms : D → ℕ) (armed : D → Armed) where
+  -- the bay gave one of them not
+  pub none_both : (old new : B) (fault : CoreOpen) → GetsNone disk out taken steady bay_faults (state_a ∷ state_b ∷ []) fault old new
+      → RefusesForeign disk out taken steady bay_faults content starved faults arms armed fault old new
+  none_both old new fault g = record {
+    damaged = λ n place e d f a b at second_at is second_is. absurd (never n place e);
+    recovers = λ d f a b states at second_at is second_is stand n place e. never n place e;
+    bay = g.bay;
+    device = λ e. absurd (no_device e);
+    sound = λ d f at second_at is second_is still. (g.sound still, no_device);
+    first_in = g.are_in state_a (inl refl);
+    second_in = g.are_in state_b (inr (inl refl));
+    others = λ m n k. g.others m (n, (k, tt));
+    moves = g.moves;
   }
     where
-      as_second : IsAsTold (disk b0 state_b) second
-      as_second = second_told b0 b1 b2 first second p q
+      never : (n : List ℕ) (place : ℕ) → fault ≡ Damaged n place → ⊥
+      never n place e = go g.only where
+        go : (fault ≡ Bay) ⊎ (fault ≡ NoMemory) → ⊥
+        go (inl is) = let bad : Bay ≡ Damaged n place = sym is ∙ e in cc
+        go (inr is) = let bad : NoMemory ≡ Damaged n place = sym is ∙ e in cc
+
+      no_device : fault ≡ Device → ⊥
+      no_device e = go g.only where
+        go : (fault ≡ Bay) ⊎ (fault ≡ NoMemory) → ⊥
+        go (inl is) = let bad : Bay ≡ Device = sym is ∙ e in cc
+        go (inr is) = let bad : NoMemory ≡ Device = sym is ∙ e in cc

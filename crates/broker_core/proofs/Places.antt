@@ -69,6 +69,13 @@ changes_zip P R same f zero (x ∷ xs) (y ∷ ys) c = (f x y c.0, subst (λ l. A
 changes_zip P R same f (suc n) (x ∷ xs) [] c = absurd c
 changes_zip P R same f (suc n) (x ∷ xs) (y ∷ ys) c = (subst (λ z. R x z) (sym c.0) (same x), changes_zip P R same f n xs ys c.1)
 
+pub changes_within : {A : Type 0} (P : A → A → Type 0) (n : ℕ) (xs ys : List A) → ChangesAt n P xs ys → n < length xs
+changes_within P n [] ys c = absurd c
+changes_within P zero (x ∷ xs) [] c = absurd c
+changes_within P zero (x ∷ xs) (y ∷ ys) c = omega arith
+changes_within P (suc n) (x ∷ xs) [] c = absurd c
+changes_within P (suc n) (x ∷ xs) (y ∷ ys) c = let lt = changes_within P n xs ys c.1 in omega (arith, lt)
+
 -- ---- lists side by side
 
 pub zip_same : {A : Type 0} (R : A → A → Type 0) → ((x : A) → R x x) → (xs : List A) → AllZip R xs xs
@@ -300,6 +307,11 @@ pub holds_within : {A : Type 0} (P : A → Type 0) (n : ℕ) (xs : List A) → H
 holds_within P n [] p = absurd p
 holds_within P zero (z ∷ xs) p = omega arith
 holds_within P (suc n) (z ∷ xs) p = let lt = holds_within P n xs p in omega (arith, lt)
+
+pub holds_get : {A : Type 0} (P : A → Type 0) (n : ℕ) (xs : List A) (x : A) → n < length xs → x ≡ get_or xs n x → P x → HoldsAt n P xs
+holds_get P n [] x lt is p = absurd (omega (arith, lt))
+holds_get P zero (z ∷ xs) x lt is p = subst P is p
+holds_get P (suc n) (z ∷ xs) x lt is p = holds_get P n xs x (omega (arith, lt)) is p
 
 -- each entry holds this
 pub all_at : {A : Type 0} (P : A → Type 0) (n : ℕ) (xs : List A) (x : A) → AllByRecursion P xs → n < length xs → x ≡ get_or xs n x → P x

@@ -1,36 +1,33 @@
 -- A start over a bay, and its end.
-use Rattle.std.proofs.Common.{◌≡◌, ◌≢◌, ◌≤◌, ◌<◌, ◌+◌, ◌-◌, ◌^◌, ◌⊎◌, arith, inl, inr, refl, sym, ap, ◌∙◌, subst, ℕ, zero, suc, List, [], ◌∷◌, ◌++◌, Bool, true, false, cond, Some, None, is_some, All}
-use Rattle.std.specs.List.{AllByRecursion, AllZip}
+use Rattle.std.proofs.Common.{◌≡◌, ◌≢◌, ◌≤◌, ◌<◌, ◌-◌, ◌^◌, ◌⊎◌, arith, inl, inr, refl, sym, ap, ◌∙◌, subst, ℕ, List, [], ◌∷◌, ◌++◌, map, Bool, true, false, cond, Some, None, is_some}
+use Rattle.std.proofs.lemmas.List.Elements.{Contains-append_left, Contains-append_right, Contains-push}
+use Rattle.std.specs.List.{AllByRecursion, AllZip, Contains}
 use Rattle.std.specs.declared.option.Option.{Option}
 use Rattle.edge_io.specs.declared.fault.Armed.{Armed}
-use Rattle.edge_io.specs.declared.name.DiskPlace.TheVariants.{Log}
+use Rattle.edge_io.specs.declared.name.DiskPlace.TheVariants.{Log, StateA, StateB}
 use Rattle.edge_io.specs.Bays.{IsAsTold, IsSound, IsSoundDisk, SameSlot}
 use Rattle.edge_io.specs.Causes.{Rose}
-use Rattle.edge_io.specs.Names.{IsDiskName, IsTopicName, most_partitions}
-use Rattle.part_log.specs.Logs.{IsNoLogText}
+use Rattle.share_part.specs.Shards.{shard_with}
 use Rattle.topic_conf.specs.Configs.{ConfigParts}
-use Rattle.topic_conf.specs.declared.topic.Topic.{Topic}
-use Rattle.topic_conf.specs.Topics.{IsTopic, IsTopicList, partitions}
-use Rattle.topic_conf.proofs.Lists.{all_front, all_others, partitions_cons}
-use Rattle.broker_model.specs.Hosted.{IsOneOf, IsTaken, log_names, logs_from, same_name, state_a, state_b}
-use Rattle.broker_model.specs.Shards.{NamedLog, names_of}
-use Rattle.broker_model.specs.Machine.{Machine, OpensLog}
+use Rattle.topic_conf.specs.Topics.{IsTopicList}
+use Rattle.broker_model.specs.Hosted.{Hosted, IsOneOf, IsTaken, disks_of, first_of, hosted_of, log_of, part_disks, same_name, second_of, state_a, state_b}
+use Rattle.broker_model.specs.Shards.{HostedPart, hosted_by}
+use Rattle.broker_model.specs.Machine.{Machine, OpensPart}
 use Rattle.broker_model.specs.Disks.{Disks, Facts, facts_of}
 use Rattle.broker_core.specs.declared.fault.CoreOpen.{CoreOpen}
 use Rattle.broker_core.specs.declared.fault.CoreOpen.TheVariants.{Damaged, Device, Bay, NoMemory}
 use Rattle.broker_core.specs.declared.slot.ForeignSlot.{ForeignSlot}
-use Rattle.broker_core.specs.declared.slot.LogState.{LogState}
-use Rattle.broker_core.specs.declared.slot.LogSlot.{LogSlot}
+use Rattle.broker_core.specs.declared.slot.PartState.{PartState}
+use Rattle.broker_core.specs.declared.slot.PartSlot.{PartSlot}
 use Rattle.broker_core.specs.Restarts.{IsDamagedDisk, IsOpened, IsOpenedDisk}
-use Rattle.broker_core.specs.Bays.{ArePutBack, AreOut, AreTakenFrom, BothHold, BothRisen, BothTaken, HasLastCount, HasName, HasRisen, HoldsIf, IsFirst, StandForAll, TakenIf, TellsDisks}
+use Rattle.broker_core.specs.Bays.{ArePutBack, AreOut, AreTakenFrom, BothHold, BothRisen, BothTaken, HasLastCount, HasName, HasRisen, HoldsIf, IsFirst, StandForAll, StandsForTables, TellsDisks}
 use Rattle.broker_core.specs.Cores.{IsCore, core_of, state_of}
-use Rattle.broker_core.specs.Hosts.{AreApart, AreCarried, AreDistinct, AreHeld, AreOpen, AreOpenLogs, HostsParts, IsLogSlot, IsLogState, IsOpen, IsOpenState, IsSlot, NotIn, all_names, among, disks_in, facts_at, facts_in, foreign_disks, foreign_facts, log_disk, log_disks, slot_names}
-use Rattle.broker_core.specs.Taking.{Moves, PutsBack, PutsAllBack, PutsLogsBack, RefusesAll, RefusesAt, RefusesForeign, TakesAll, TakesLogs}
-use Rattle.broker_core.proofs.Places.{among_past, apart_from, distinct_front, is_same, not_both, not_in_front, not_in_rest, one_in_either, one_in_rest, same_self}
-use Rattle.broker_core.proofs.Leading.{not_a_log, not_a_log_too}
-use Rattle.broker_core.proofs.Taking.{IsTakenSlot, moves_same, moves_then, put_moves, puts_hold, puts_in, puts_moves, puts_others, puts_rise, takes_moves, takes_names, takes_others, takes_out, takes_slots}
-use Rattle.broker_core.proofs.Naming.{distinct_names, not_in_both, states_apart}
-use Rattle.broker_core.proofs.Events.{open_held}
+use Rattle.broker_core.specs.Hosts.{AreApart, AreCarried, AreDistinct, AreHeld, AreNamed, AreOpen, HostsParts, IsHeld, IsOpen, IsPartSlot, IsPartState, IsSlot, NotIn, all_names, among, disks_in, facts_at, facts_in, foreign_disks, foreign_facts, hosted_slot, hosted_slots, part_disk, slots_disks}
+use Rattle.broker_core.specs.Taking.{Moves, PutsAll, PutsAllBack, PutsBack, RefusesAll, RefusesAt, RefusesForeign, TakesAll, TakesParts, TellsThese}
+use Rattle.broker_core.proofs.Places.{among_past, apart_from, distinct_front, is_same, not_both, not_in_front, not_in_rest, one_in_either, one_in_front, one_in_rest, same_self}
+use Rattle.broker_core.proofs.Naming.{are_disk_names, distinct_names, named_of, not_in_both, states_apart}
+use Rattle.broker_core.proofs.Taking.{moves_same, moves_then, named, put_moves, puts_hold, puts_in, puts_moves, puts_others, puts_rise, rose_between, slot_then}
+use Rattle.broker_core.proofs.Partitions.{IsTakenSlot, apart_behind, disks_then, names_of_disks, slots_counted, slots_open, takes_held, takes_hosts, takes_moves, takes_others, takes_out, takes_slots}
 
 -- a name is one of these, or none of them
 pub one_or_none : (names : List (List ℕ)) (name : List ℕ) → IsOneOf names name ⊎ NotIn names name
@@ -41,25 +38,28 @@ one_or_none (n ∷ names) name = go (same_name name n) refl (one_or_none names n
   go false is (inl one) = inl (inr one)
   go false is (inr away) = inr (λ e. (let bad : true ≡ false = sym (subst (λ (m : List ℕ). same_name name m ≡ true) e (same_self name)) ∙ is in cc), away)
 
--- the names of logs are names of disks
-logs_are_disks : (t : List ℕ) (part more : ℕ) → IsTopicName t → part + more ≤ most_partitions → (name : List ℕ) → IsOneOf (logs_from t part more) name → IsDiskName name
-logs_are_disks t part zero is few name one = absurd one
-logs_are_disks t part (suc more) is few name (inl e) = inl (t, part, Log, is, (omega (arith, few)), e)
-logs_are_disks t part (suc more) is few name (inr one) = logs_are_disks t (suc part) more is (omega (arith, few)) name one
+pub no_state_a : (hosted : List Hosted) → AreDistinct (all_names hosted) → NotIn (part_disks hosted) state_a
+no_state_a hosted d = apart_from (part_disks hosted) (state_a ∷ state_b ∷ []) state_a d (inl refl)
 
-all_are_disks : (topics : List Topic) → All IsTopic topics → partitions topics ≤ most_partitions → (name : List ℕ) → IsOneOf (log_names topics) name → IsDiskName name
-all_are_disks [] each few name one = absurd one
-all_are_disks (t ∷ topics) each few name one =
-    let is = all_front IsTopic t topics each in
-    let sum = partitions_cons t topics in
-    go (one_in_either (logs_from t.name 0 t.parts) (log_names topics) name one)
-    (λ o. logs_are_disks t.name 0 t.parts is.name (omega (arith, few, sum)) name o)
-    (λ o. all_are_disks topics (all_others IsTopic t topics each) (omega (arith, few, sum)) name o)
-  where
-    go : IsOneOf (logs_from t.name 0 t.parts) name ⊎ IsOneOf (log_names topics) name → (IsOneOf (logs_from t.name 0 t.parts) name → IsDiskName name)
-        → (IsOneOf (log_names topics) name → IsDiskName name) → IsDiskName name
-    go (inl o) front rest = front o
-    go (inr o) front rest = rest o
+pub no_state_b : (hosted : List Hosted) → AreDistinct (all_names hosted) → NotIn (part_disks hosted) state_b
+no_state_b hosted d = apart_from (part_disks hosted) (state_a ∷ state_b ∷ []) state_b d (inr (inl refl))
+
+pub parts_distinct : (hosted : List Hosted) → AreDistinct (all_names hosted) → AreDistinct (part_disks hosted)
+parts_distinct hosted d = distinct_front (part_disks hosted) (state_a ∷ state_b ∷ []) d
+
+-- a disk of a partition is none of foreign state
+pub not_states : (hosted : List Hosted) → AreDistinct (all_names hosted) → (name : List ℕ) → IsOneOf (part_disks hosted) name → (name ≢ state_a) × (name ≢ state_b)
+not_states hosted d name one = (
+  λ e. not_both (part_disks hosted) state_a (no_state_a hosted d) (subst (λ (n : List ℕ). IsOneOf (part_disks hosted) n) e one),
+  λ e. not_both (part_disks hosted) state_b (no_state_b hosted d) (subst (λ (n : List ℕ). IsOneOf (part_disks hosted) n) e one),
+)
+
+all_in_rest : {A : Type 0} (P : A → Type 0) (xs : List A) (y : A) (ys : List A) → AllByRecursion P (xs ++ (y ∷ ys)) → P y
+all_in_rest P [] y ys all = all.0
+all_in_rest P (x ∷ xs) y ys all = all_in_rest P xs y ys all.1
+
+there : {A : Type 0} (xs : List A) (y : A) (ys : List A) → Contains (xs ++ (y ∷ ys)) y
+there xs y ys = Contains-append_right xs (y ∷ ys) y (Contains-append_left (y ∷ []) ys y (Contains-push [] y))
 
 module _ {B D : Type 0} (disk : B → List ℕ → Option D) (out : B → List ℕ → Bool) (taken : B → List ℕ → ℕ) (steady : B → Type 0) (bay_faults : B → ℕ)
     (content : D → Option (List ℕ)) (image : D → List ℕ → Type 0) (starved : D → Bool) (faults : D → ℕ)
@@ -67,11 +67,9 @@ module _ {B D : Type 0} (disk : B → List ℕ → Option D) (out : B → List �
   abbrev Tells : ConfigParts → B → (List ℕ → List ℕ) → Disks → Type 0
   Tells conf bay contents was = TellsDisks disk content faults losses arms armed conf bay contents was
 
-  abbrev Slot : B → B → LogSlot D → Type 0
-  Slot old new s = IsTakenSlot disk out taken steady bay_faults content image starved faults losses arms armed old new s
-
-  abbrev slot_facts : LogSlot D → Facts
-  slot_facts s = facts_at faults losses arms armed (log_disk s.state)
+  abbrev Slots : B → B → List (PartSlot D) → Type 0
+  Slots old new slots = AllByRecursion
+      (λ (s : PartSlot D). IsTakenSlot disk out taken steady bay_faults content image starved faults losses arms armed (hosted_slot s) old new s) slots
 
   abbrev F : HostsParts D → List ℕ → Facts
   F hosts name = facts_in faults losses arms armed (disks_in hosts) name
@@ -79,170 +77,177 @@ module _ {B D : Type 0} (disk : B → List ℕ → Option D) (out : B → List �
   abbrev G : Option (D × D) → List ℕ → Facts
   G left name = foreign_facts faults losses arms armed left name
 
-  among_slots : (slots : List (LogSlot D)) (other : Facts) (name : List ℕ)
-      → among (λ (e : List ℕ × Option D). e.0) (λ e. facts_at faults losses arms armed e.1) (log_disks slots) other name
-      ≡ among (λ (s : LogSlot D). s.name) slot_facts slots other name
-  among_slots [] other name = refl
-  among_slots (s ∷ slots) other name = ap (cond (same_name name s.name) (slot_facts s)) (among_slots slots other name)
+  abbrev Known : Disks → List (List ℕ × Option D) → Type 0
+  Known was es = AllByRecursion (λ (e : List ℕ × Option D). IsOpenedDisk (was e.0) (facts_at faults losses arms armed e.1)) es
 
-  abbrev Before : List (List ℕ) → B → List (LogSlot D) → B → Type 0
-  Before names old slots mid = TakesLogs disk out taken steady bay_faults content image starved faults losses arms armed names old slots mid
+  abbrev Before : List Hosted → B → List (PartSlot D) → B → Type 0
+  Before hosted old slots mid = TakesParts disk out taken steady bay_faults content image starved faults losses arms armed hosted old slots mid
 
-  abbrev Behind : List (LogSlot D) → B → B → Type 0
-  Behind slots mid new = PutsLogsBack disk out taken steady bay_faults faults slots mid new
+  abbrev Behind : List (List ℕ × Option D) → B → B → Type 0
+  Behind es mid new = PutsAll disk out taken steady bay_faults faults es mid new
 
   abbrev Goes : B → B → Type 0
   Goes old new = Moves disk steady bay_faults old new
 
-  -- ---- the logs
+  abbrev Same : List ℕ → B → B → Type 0
+  Same m old new = SameSlot disk out taken m old new
 
-  -- what the logs that were taken stand for
-  record Stand (contents : List ℕ → List ℕ) (was : Disks) (slots : List (LogSlot D)) : Type 0 where
-    logs : List NamedLog
-    zip : AllZip (IsLogSlot content image starved) slots logs
-    opens : AllByRecursion (OpensLog contents) logs
-    known : AllByRecursion (λ (s : LogSlot D). IsOpenedDisk (was s.name) (slot_facts s)) slots
+  -- ---- partitions
 
-  stands : (contents : List ℕ → List ℕ) (was : Disks) (old new : B) (slots : List (LogSlot D))
-      → ((name : List ℕ) → IsOneOf (slot_names slots) name → (d : D) × (disk old name ≡ Some d) × (content d ≡ Some (contents name))
-      × (was name ≡ facts_of faults losses arms armed d)) → AllByRecursion (Slot old new) slots → Stand contents was slots
-  stands contents was old new [] tells all = record { logs = []; zip = tt; opens = tt; known = tt }
+  -- what the partitions that were taken stand for
+  record Stand (contents : List ℕ → List ℕ) (was : Disks) (slots : List (PartSlot D)) : Type 0 where
+    parts : List HostedPart
+    zip : AllZip (IsPartSlot content image starved) slots parts
+    opens : AllByRecursion (OpensPart contents) parts
+    hosts : hosted_by parts ≡ hosted_slots slots
+    known : Known was (slots_disks slots)
+
+  known_one : (was : Disks) (at : PartState D → Option D) (st opened_as : PartState D) (d given told : D) → st ≡ opened_as → at opened_as ≡ Some d → (name : List ℕ)
+      → given ≡ told → was name ≡ facts_of faults losses arms armed told
+      → IsOpenedDisk (facts_of faults losses arms armed given) (facts_of faults losses arms armed d)
+      → IsOpenedDisk (was name) (facts_at faults losses arms armed (at st))
+  known_one was at st opened_as d given told is has name same knows o =
+      subst (λ (p : Option D). IsOpenedDisk (was name) (facts_at faults losses arms armed p)) (sym (ap at is ∙ has))
+      (subst (λ (f : Facts). IsOpenedDisk f (facts_of faults losses arms armed d)) (ap (facts_of faults losses arms armed) same ∙ sym knows) o)
+
+  stands : (contents : List ℕ → List ℕ) (was : Disks) (old new : B) (slots : List (PartSlot D))
+      → ((name : List ℕ) → IsOneOf (part_disks (hosted_slots slots)) name → (d : D) × (disk old name ≡ Some d) × (content d ≡ Some (contents name))
+      × (was name ≡ facts_of faults losses arms armed d)) → Slots old new slots → Stand contents was slots
+  stands contents was old new [] tells all = record { parts = []; zip = tt; opens = tt; hosts = refl; known = tt }
   stands contents was old new (s ∷ slots) tells all =
-      let more = stands contents was old new slots (λ name one. tells name (inr one)) all.1 in
-      let t = tells s.name (inl refl) in
-      let same = all.0.as_told t.0 t.1 in
-      let o = all.0.opens (contents s.name) (ap content same ∙ t.2) in
+      let more = stands contents was old new slots (λ name one. tells name (inr (inr (inr one)))) all.1 in
+      let l = tells (log_of (hosted_slot s)) (inl refl) in
+      let a = tells (first_of (hosted_slot s)) (inr (inl refl)) in
+      let b = tells (second_of (hosted_slot s)) (inr (inr (inl refl))) in
+      let is_log = all.0.on_log.as_told l.0 l.1 in
+      let is_first = all.0.on_first.as_told a.0 a.1 in
+      let is_second = all.0.on_second.as_told b.0 b.1 in
+      let o = all.0.opens (contents (log_of (hosted_slot s))) (contents (first_of (hosted_slot s))) (contents (second_of (hosted_slot s)))
+      (ap content is_log ∙ l.2) (ap content is_first ∙ a.2) (ap content is_second ∙ b.2) in
       record {
-        logs = (s.name, o.shard) ∷ more.logs;
+        parts = record { hosted = hosted_slot s; shard = shard_with o.batches o.states } ∷ more.parts;
         zip = (
-          record { name = refl; state = subst (λ (st : LogState D). IsLogState content image starved st o.shard) (sym all.0.is_open) o.carried },
+          record {
+            hosted = refl;
+            state = subst (λ (st : PartState D). IsPartState content image starved s.conf st (shard_with o.batches o.states)) (sym all.0.is_open) o.carried;
+          },
           more.zip,
         );
-        opens = (record { stands = o.stands; nothing = o.nothing }, more.opens);
+        opens = (record { batches = o.batches; states = o.states; shard = refl; stands = o.stands }, more.opens);
+        hosts = ap (λ (hs : List Hosted). hosted_slot s ∷ hs) more.hosts;
         known = (
-          subst (λ (st : LogState D). IsOpenedDisk (was s.name) (facts_at faults losses arms armed (log_disk st))) (sym all.0.is_open)
-              (subst (λ (f : Facts). IsOpenedDisk f (facts_of faults losses arms armed all.0.log_is.journal.disk))
-              (ap (facts_of faults losses arms armed) same ∙ sym t.3) o.on_disk),
-          more.known,
+          known_one was (λ st. part_disk st Log) s.state _ _ all.0.on_log.given l.0 all.0.is_open refl (log_of (hosted_slot s)) is_log l.3 o.on_log,
+          (
+            known_one was (λ st. part_disk st StateA) s.state _ _ all.0.on_first.given a.0 all.0.is_open refl (first_of (hosted_slot s)) is_first a.3 o.on_first,
+            (
+              known_one was (λ st. part_disk st StateB) s.state _ _ all.0.on_second.given b.0 all.0.is_open refl (second_of (hosted_slot s)) is_second b.3 o.on_second,
+              more.known,
+            ),
+          ),
         );
       }
 
-  known_among : (was : Disks) (slots : List (LogSlot D)) (other : Facts) (name : List ℕ) → IsOneOf (slot_names slots) name
-      → AllByRecursion (λ (s : LogSlot D). IsOpenedDisk (was s.name) (slot_facts s)) slots
-      → IsOpenedDisk (was name) (among (λ (s : LogSlot D). s.name) slot_facts slots other name)
+  known_among : (was : Disks) (es : List (List ℕ × Option D)) (other : Facts) (name : List ℕ) → IsOneOf (named es) name → Known was es
+      → IsOpenedDisk (was name) (among (λ (e : List ℕ × Option D). e.0) (λ e. facts_at faults losses arms armed e.1) es other name)
   known_among was [] other name one all = absurd one
-  known_among was (s ∷ slots) other name one all = go (same_name name s.name) refl (λ more. known_among was slots other name more all.1) one where
-    go : (b : Bool) → same_name name s.name ≡ b
-        → (IsOneOf (slot_names slots) name → IsOpenedDisk (was name) (among (λ (s : LogSlot D). s.name) slot_facts slots other name))
-        → IsOneOf (slot_names (s ∷ slots)) name → IsOpenedDisk (was name) (cond b (slot_facts s) (among (λ (s : LogSlot D). s.name) slot_facts slots other name))
-    go true is more one = subst (λ (n : List ℕ). IsOpenedDisk (was n) (slot_facts s)) (sym (is_same name s.name is)) all.0
-    go false is more (inl e) = absurd (let bad : true ≡ false = sym (subst (λ (m : List ℕ). same_name name m ≡ true) e (same_self name)) ∙ is in cc)
+  known_among was (e ∷ es) other name one all = go (same_name name e.0) refl (λ more. known_among was es other name more all.1) one where
+    rest : Facts
+    rest = among (λ (x : List ℕ × Option D). x.0) (λ x. facts_at faults losses arms armed x.1) es other name
+
+    go : (b : Bool) → same_name name e.0 ≡ b → (IsOneOf (named es) name → IsOpenedDisk (was name) rest)
+        → IsOneOf (named (e ∷ es)) name → IsOpenedDisk (was name) (cond b (facts_at faults losses arms armed e.1) rest)
+    go true is more one = subst (λ (n : List ℕ). IsOpenedDisk (was n) (facts_at faults losses arms armed e.1)) (sym (is_same name e.0 is)) all.0
+    go false is more (inl same) = absurd (let bad : true ≡ false = sym (subst (λ (m : List ℕ). same_name name m ≡ true) same (same_self name)) ∙ is in cc)
     go false is more (inr one) = more one
 
-  slots_open : (old new : B) (slots : List (LogSlot D)) → AllByRecursion (Slot old new) slots → AreOpenLogs slots
-  slots_open old new [] all = tt
-  slots_open old new (s ∷ slots) all = (subst (λ (st : LogState D). IsOpenState st) (sym all.0.is_open) tt, slots_open old new slots all.1)
-
-  slots_counted : (old mid new : B) (slots : List (LogSlot D)) → AllByRecursion (Slot old mid) slots
-      → ((name : List ℕ) → IsOneOf (slot_names slots) name → taken new name ≡ taken mid name) → AllByRecursion (TakenIf disk taken faults old new) (log_disks slots)
-  slots_counted old mid new [] all same = tt
-  slots_counted old mid new (s ∷ slots) all same = (
-    subst (λ (st : LogState D). TakenIf disk taken faults old new (s.name, log_disk st)) (sym all.0.is_open) (record {
-      given = all.0.given;
-      as_told = all.0.as_told;
-      noted = same s.name (inl refl) ∙ all.0.noted;
-      later = all.0.counted;
-    }),
-    slots_counted old mid new slots all.1 (λ name one. same name (inr one)),
-  )
-
-  named_one : (slots : List (LogSlot D)) (name : List ℕ) → HasName (log_disks slots) name → IsOneOf (slot_names slots) name
+  named_one : (es : List (List ℕ × Option D)) (name : List ℕ) → HasName es name → IsOneOf (named es) name
   named_one [] name h = absurd h
-  named_one (s ∷ slots) name (inl e) = inl e
-  named_one (s ∷ slots) name (inr h) = inr (named_one slots name h)
+  named_one (e ∷ es) name (inl same) = inl same
+  named_one (e ∷ es) name (inr h) = inr (named_one es name h)
 
   -- ---- all is taken
 
   module _ (conf : ConfigParts) (list : IsTopicList conf.topics) (old : B) (hosts : HostsParts D) (new : B)
       (t : TakesAll disk out taken steady bay_faults content image starved faults losses arms armed conf old hosts new) where
     abbrev names : List (List ℕ)
-    names = log_names conf.topics
+    names = part_disks (hosted_of conf)
 
-    distinct : AreDistinct (all_names names)
-    distinct = distinct_names conf.topics list
+    distinct : AreDistinct (all_names (hosted_of conf))
+    distinct = distinct_names conf list
 
-    distinct_logs : AreDistinct names
-    distinct_logs = distinct_front names (state_a ∷ state_b ∷ []) distinct
+    distinct_parts : AreDistinct names
+    distinct_parts = parts_distinct (hosted_of conf) distinct
 
     no_a : NotIn names state_a
-    no_a = not_a_log names distinct
+    no_a = no_state_a (hosted_of conf) distinct
 
     no_b : NotIn names state_b
-    no_b = not_a_log_too names distinct
+    no_b = no_state_b (hosted_of conf) distinct
 
-    pub hosts_are : slot_names hosts.logs ≡ names
-    hosts_are = takes_names disk out taken steady bay_faults content image starved faults losses arms armed names old hosts.logs t.mid t.logs
+    pub hosts_are : hosted_slots hosts.parts ≡ hosted_of conf
+    hosts_are = takes_hosts disk out taken steady bay_faults content image starved faults losses arms armed (hosted_of conf) old hosts.parts t.mid t.parts
 
     pub hosts_apart : AreApart hosts
-    hosts_apart = subst (λ (l : List (List ℕ)). AreDistinct (all_names l)) (sym hosts_are) distinct
+    hosts_apart = subst (λ (l : List Hosted). AreDistinct (all_names l)) (sym hosts_are) distinct
 
-    slots : AllByRecursion (Slot old t.mid) hosts.logs
-    slots = takes_slots disk out taken steady bay_faults content image starved faults losses arms armed names old hosts.logs t.mid distinct_logs t.logs
+    pub hosts_named : AreNamed (hosted_slots hosts.parts)
+    hosts_named = subst AreNamed (sym hosts_are) (named_of conf list)
 
-    logs_others : (m : List ℕ) → NotIn names m → SameSlot disk out taken m old t.mid
-    logs_others = takes_others disk out taken steady bay_faults content image starved faults losses arms armed names old hosts.logs t.mid t.logs
+    slots : Slots old t.mid hosts.parts
+    slots = takes_slots disk out taken steady bay_faults content image starved faults losses arms armed (hosted_of conf) old hosts.parts t.mid distinct_parts t.parts
+
+    parts_others : (m : List ℕ) → NotIn names m → Same m old t.mid
+    parts_others = takes_others disk out taken steady bay_faults content image starved faults losses arms armed (hosted_of conf) old hosts.parts t.mid t.parts
 
     pub hosts_open : AreOpen hosts
     hosts_open = record {
-      logs = slots_open old t.mid hosts.logs slots;
+      parts = slots_open disk out taken steady bay_faults content image starved faults losses arms armed old t.mid hosts.parts slots;
       foreign = subst IsOpen (sym t.foreign.is_open) tt;
     }
 
     pub hosts_held : AreHeld hosts
-    hosts_held = open_held hosts hosts_open
+    hosts_held = record {
+      parts = takes_held disk out taken steady bay_faults content image starved faults losses arms armed (hosted_of conf) old hosts.parts t.mid t.parts;
+      foreign = subst IsHeld (sym t.foreign.is_open) tt;
+    }
 
-    not_state : (name : List ℕ) → IsOneOf names name → (name ≢ state_a) × (name ≢ state_b)
-    not_state name one = (
-      λ e. not_both names state_a no_a (subst (λ (n : List ℕ). IsOneOf names n) e one),
-      λ e. not_both names state_b no_b (subst (λ (n : List ℕ). IsOneOf names n) e one),
-    )
+    foreign_others : (name : List ℕ) → IsOneOf names name → Same name t.mid new
+    foreign_others name one = let n = not_states (hosted_of conf) distinct name one in t.foreign.others name n.0 n.1
 
-    foreign_others : (name : List ℕ) → IsOneOf names name → SameSlot disk out taken name t.mid new
-    foreign_others name one = let n = not_state name one in t.foreign.others name n.0 n.1
-
-    to_names : (name : List ℕ) → IsOneOf (slot_names hosts.logs) name → IsOneOf names name
-    to_names name one = subst (λ (l : List (List ℕ)). IsOneOf l name) hosts_are one
+    to_names : (name : List ℕ) → IsOneOf (part_disks (hosted_slots hosts.parts)) name → IsOneOf names name
+    to_names name one = subst (λ (l : List Hosted). IsOneOf (part_disks l) name) hosts_are one
 
     first_told : IsAsTold (disk old state_a) t.foreign.first
-    first_told d told = t.foreign.first_told d ((logs_others state_a no_a).same_disk ∙ told)
+    first_told d told = t.foreign.first_told d ((parts_others state_a no_a).same_disk ∙ told)
 
     second_told : IsAsTold (disk old state_b) t.foreign.second
-    second_told d told = t.foreign.second_told d ((logs_others state_b no_b).same_disk ∙ told)
+    second_told d told = t.foreign.second_told d ((parts_others state_b no_b).same_disk ∙ told)
 
     pub all_moves : Goes old new
     all_moves = moves_then disk out taken steady bay_faults old t.mid new
-        (takes_moves disk out taken steady bay_faults content image starved faults losses arms armed names old hosts.logs t.mid t.logs) t.foreign.moves
+        (takes_moves disk out taken steady bay_faults content image starved faults losses arms armed (hosted_of conf) old hosts.parts t.mid t.parts) t.foreign.moves
 
-    pub all_out : AreOut out [] old → AreOut out (all_names (slot_names hosts.logs)) new
-    all_out whole = subst (λ (l : List (List ℕ)). AreOut out (all_names l) new) (sym hosts_are) (record {
+    pub all_out : AreOut out [] old → AreOut out (all_names (hosted_slots hosts.parts)) new
+    all_out whole = subst (λ (l : List Hosted). AreOut out (all_names l) new) (sym hosts_are) (record {
       those = λ name one. those name (one_in_either names (state_a ∷ state_b ∷ []) name one);
       others = λ name away.
           let n = not_in_rest names (state_a ∷ state_b ∷ []) name away in
           (t.foreign.others name n.0 n.1.0).same_out
-          ∙ (logs_others name (not_in_front names (state_a ∷ state_b ∷ []) name away)).same_out ∙ whole.others name tt;
+          ∙ (parts_others name (not_in_front names (state_a ∷ state_b ∷ []) name away)).same_out ∙ whole.others name tt;
     })
       where
         those : (name : List ℕ) → IsOneOf names name ⊎ IsOneOf (state_a ∷ state_b ∷ []) name → out new name ≡ true
         those name (inl one) = (foreign_others name one).same_out
-            ∙ takes_out disk out taken steady bay_faults content image starved faults losses arms armed names old hosts.logs t.mid distinct_logs t.logs name one
+            ∙ takes_out disk out taken steady bay_faults content image starved faults losses arms armed (hosted_of conf) old hosts.parts t.mid distinct_parts t.parts name one
         those name (inr (inl e)) = subst (λ (n : List ℕ). out new n ≡ true) (sym e) t.foreign.first_out
         those name (inr (inr (inl e))) = subst (λ (n : List ℕ). out new n ≡ true) (sym e) t.foreign.second_out
         those name (inr (inr (inr never))) = absurd never
 
     pub all_counted : AreTakenFrom disk taken faults conf old new (disks_in hosts)
     all_counted = record {
-      logs = slots_counted old t.mid new hosts.logs slots (λ name one. (foreign_others name (to_names name one)).same_taken);
-      names = λ name has. inl (to_names name (named_one hosts.logs name has));
+      parts = slots_counted disk out taken steady bay_faults content image starved faults losses arms armed old t.mid new hosts.parts slots
+          (λ name one. (foreign_others name (to_names name one)).same_taken);
+      names = λ name has. inl (to_names name (subst (λ (l : List (List ℕ)). IsOneOf l name) (names_of_disks hosts.parts) (named_one (slots_disks hosts.parts) name has)));
       foreign = subst (λ (f : ForeignSlot D). BothTaken disk taken faults old new (foreign_disks f)) (sym t.foreign.is_open) (
         record { given = t.foreign.first; as_told = first_told; noted = t.foreign.first_noted; later = t.foreign.first_counted },
         record { given = t.foreign.second; as_told = second_told; noted = t.foreign.second_noted; later = t.foreign.second_counted },
@@ -250,8 +255,8 @@ module _ {B D : Type 0} (disk : B → List ℕ → Option D) (out : B → List �
     }
 
     module _ (contents : List ℕ → List ℕ) (was : Disks) (tells : Tells conf old contents was) where
-      stand : Stand contents was hosts.logs
-      stand = stands contents was old t.mid hosts.logs (λ name one. tells name (inl (to_names name one))) slots
+      stand : Stand contents was hosts.parts
+      stand = stands contents was old t.mid hosts.parts (λ name one. tells name (inl (to_names name one))) slots
 
       first_is : t.foreign.first ≡ (tells state_a (inr (inl refl))).0
       first_is = let d = tells state_a (inr (inl refl)) in first_told d.0 d.1
@@ -264,31 +269,26 @@ module _ {B D : Type 0} (disk : B → List ℕ → Option D) (out : B → List �
           (ap content second_is ∙ (tells state_b (inr (inr refl))).2)
 
       abbrev machine : Machine
-      machine = record { connections = []; shards = record { logs = stand.logs; foreign = opened.shard } }
+      machine = record { connections = []; shards = record { parts = stand.parts; members = hosts.members; foreign = opened.shard } }
 
-      carried : AreCarried content image starved hosts (record { logs = stand.logs; foreign = opened.shard })
+      carried : AreCarried content image starved hosts (record { parts = stand.parts; members = hosts.members; foreign = opened.shard })
       carried = record {
-        logs = stand.zip;
+        parts = stand.zip;
+        members = refl;
         foreign = subst (λ (f : ForeignSlot D). IsSlot content image starved f opened.shard) (sym t.foreign.is_open) opened.carried;
       }
 
-      log_names_are : (xs : List (LogSlot D)) (ls : List NamedLog) → AllZip (IsLogSlot content image starved) xs ls → names_of ls ≡ slot_names xs
-      log_names_are [] [] z = refl
-      log_names_are [] (l ∷ ls) z = absurd z
-      log_names_are (x ∷ xs) [] z = absurd z
-      log_names_are (x ∷ xs) (l ∷ ls) z = λ i. z.0.name i ∷ log_names_are xs ls z.1 i
-
       foreign_at : (name : List ℕ) → NotIn names name → F hosts name ≡ G (Some (t.foreign.store.journal.live.disk, t.foreign.store.journal.idle)) name
       foreign_at name n =
-          among_slots hosts.logs (G (foreign_disks hosts.foreign) name) name
-          ∙ among_past (λ (s : LogSlot D). s.name) slot_facts hosts.logs (G (foreign_disks hosts.foreign) name) name
-          (subst (λ (l : List (List ℕ)). NotIn l name) (sym hosts_are) n)
+          among_past (λ (e : List ℕ × Option D). e.0) (λ e. facts_at faults losses arms armed e.1) (slots_disks hosts.parts) (G (foreign_disks hosts.foreign) name) name
+          (subst (λ (l : List (List ℕ)). NotIn l name) (sym (names_of_disks hosts.parts)) (subst (λ (l : List Hosted). NotIn (part_disks l) name) (sym hosts_are) n))
           ∙ ap (λ (f : ForeignSlot D). G (foreign_disks f) name) t.foreign.is_open
 
       known : (name : List ℕ) → IsTaken conf name → IsOpenedDisk (was name) (F hosts name)
       known name (inl one) =
-          subst (λ (f : Facts). IsOpenedDisk (was name) f) (sym (among_slots hosts.logs (G (foreign_disks hosts.foreign) name) name))
-          (known_among was hosts.logs (G (foreign_disks hosts.foreign) name) name (subst (λ (l : List (List ℕ)). IsOneOf l name) (sym hosts_are) one) stand.known)
+          known_among was (slots_disks hosts.parts) (G (foreign_disks hosts.foreign) name) name
+          (subst (λ (l : List (List ℕ)). IsOneOf l name) (sym (names_of_disks hosts.parts)) (subst (λ (l : List Hosted). IsOneOf (part_disks l) name) (sym hosts_are) one))
+          stand.known
       known name (inr (inl e)) =
           subst (λ (n : List ℕ). IsOpenedDisk (was n) (F hosts n)) (sym e)
           (subst (λ (f : Facts). IsOpenedDisk (was state_a) f) (sym (foreign_at state_a no_a))
@@ -308,8 +308,9 @@ module _ {B D : Type 0} (disk : B → List ℕ → Option D) (out : B → List �
         record {
           opens = record {
             nobody = refl;
-            hosts = log_names_are hosts.logs stand.logs stand.zip ∙ hosts_are;
-            logs = stand.opens;
+            hosts = stand.hosts ∙ hosts_are;
+            parts = stand.opens;
+            members = t.members;
             foreign = opened.stands;
             nothing = opened.nothing;
           };
@@ -331,9 +332,6 @@ module _ {B D : Type 0} (disk : B → List ℕ → Option D) (out : B → List �
     pub device : fault ≡ Device → Rose (bay_faults old) (bay_faults new) ⊎ HasLastCount disk faults conf old
     pub sound : IsSound disk steady content armed arms starved faults old → (fault ≢ Bay) × (fault ≢ Device)
 
-  rose_between : (a b c d : ℕ) → a ≤ b → Rose b c → c ≤ d → Rose a d
-  rose_between a b c d l r m = omega (arith, l, r, m)
-
   want_refused : (conf : ConfigParts) (fault : CoreOpen) (old new : B) → fault ≡ NoMemory → new ≡ old → Refused conf fault old new
   want_refused conf fault old new is same = record {
     back = λ whole. subst (λ (b : B). AreOut out [] b) (sym same) whole;
@@ -347,117 +345,121 @@ module _ {B D : Type 0} (disk : B → List ℕ → Option D) (out : B → List �
 
   module _ (conf : ConfigParts) (list : IsTopicList conf.topics) (fault : CoreOpen) (old new : B) where
     abbrev all : List (List ℕ)
-    all = log_names conf.topics
+    all = part_disks (hosted_of conf)
 
-    all_apart : AreDistinct (all_names all)
-    all_apart = distinct_names conf.topics list
+    all_apart : AreDistinct (all_names (hosted_of conf))
+    all_apart = distinct_names conf list
 
-    sound_disk : IsSound disk steady content armed arms starved faults old → (name : List ℕ) → IsOneOf all name
-        → (d : D) × (disk old name ≡ Some d) × IsSoundDisk content armed arms starved faults d
-    sound_disk sound name one = sound.each name (all_are_disks conf.topics list.each list.few name one)
+    -- a partition was refused
+    module _ (r : RefusesAt disk out taken steady bay_faults content image starved faults losses arms armed (hosted_of conf) fault old new) where
+      split_disks : all ≡ part_disks r.before ++ part_disks (r.h ∷ r.after)
+      split_disks = ap part_disks r.split ∙ disks_then r.before (r.h ∷ r.after)
 
-    -- a log was refused
-    module _ (r : RefusesAt disk out taken steady bay_faults content image starved faults losses arms armed all fault old new) where
-      one_name : IsOneOf all r.name
-      one_name = subst (λ (l : List (List ℕ)). IsOneOf l r.name) (sym r.split) (one_in_rest r.before (r.name ∷ r.after) r.name (inl refl))
+      both_distinct : AreDistinct (part_disks r.before ++ part_disks (r.h ∷ r.after))
+      both_distinct = subst AreDistinct split_disks (parts_distinct (hosted_of conf) all_apart)
 
-      front_distinct : AreDistinct (r.before ++ (r.name ∷ r.after))
-      front_distinct = subst AreDistinct r.split (distinct_front all (state_a ∷ state_b ∷ []) all_apart)
+      own_in : (name : List ℕ) → IsOneOf (disks_of r.h) name → IsOneOf (part_disks (r.h ∷ r.after)) name
+      own_in name one = one_in_front (disks_of r.h) (part_disks r.after) name one
 
-      before_distinct : AreDistinct r.before
-      before_distinct = distinct_front r.before (r.name ∷ r.after) front_distinct
+      in_all : (name : List ℕ) → IsOneOf (disks_of r.h) name → IsOneOf all name
+      in_all name one = subst (λ (l : List (List ℕ)). IsOneOf l name) (sym split_disks)
+          (one_in_rest (part_disks r.before) (part_disks (r.h ∷ r.after)) name (own_in name one))
 
-      not_before : NotIn r.before r.name
-      not_before = apart_from r.before (r.name ∷ r.after) r.name front_distinct (inl refl)
+      before_distinct : AreDistinct (part_disks r.before)
+      before_distinct = distinct_front (part_disks r.before) (part_disks (r.h ∷ r.after)) both_distinct
 
-      slots_are : slot_names r.slots ≡ r.before
-      slots_are = takes_names disk out taken steady bay_faults content image starved faults losses arms armed r.before old r.slots r.mid r.takes
+      slots_are : named (slots_disks r.slots) ≡ part_disks r.before
+      slots_are = names_of_disks r.slots ∙ ap part_disks
+          (takes_hosts disk out taken steady bay_faults content image starved faults losses arms armed r.before old r.slots r.mid r.takes)
 
-      slots_distinct : AreDistinct (slot_names r.slots)
+      slots_distinct : AreDistinct (named (slots_disks r.slots))
       slots_distinct = subst AreDistinct (sym slots_are) before_distinct
 
-      mid_is : SameSlot disk out taken r.name old r.mid
-      mid_is = takes_others disk out taken steady bay_faults content image starved faults losses arms armed r.before old r.slots r.mid r.takes r.name not_before
+      mid_is : (name : List ℕ) → IsOneOf (disks_of r.h) name → Same name old r.mid
+      mid_is name one = takes_others disk out taken steady bay_faults content image starved faults losses arms armed r.before old r.slots r.mid r.takes name
+          (apart_from (part_disks r.before) (part_disks (r.h ∷ r.after)) name both_distinct (own_in name one))
 
       to_mid : Goes old r.mid
       to_mid = takes_moves disk out taken steady bay_faults content image starved faults losses arms armed r.before old r.slots r.mid r.takes
 
       from_behind : Goes r.behind new
-      from_behind = puts_moves disk out taken steady bay_faults faults r.slots r.behind new r.puts
+      from_behind = puts_moves disk out taken steady bay_faults faults (slots_disks r.slots) r.behind new r.puts
 
-      log_back : AreOut out [] old → (name : List ℕ) → IsOneOf r.before name ⊎ NotIn r.before name → out new name ≡ false
-      log_back whole name (inl one) = puts_in disk out taken steady bay_faults faults r.slots r.behind new slots_distinct r.puts name
+      tells_mid : (contents : List ℕ → List ℕ) (was : Disks) → Tells conf old contents was → TellsThese disk content (disks_of r.h) r.mid contents
+      tells_mid contents was tells name one = let d = tells name (inl (in_all name one)) in (d.0, (mid_is name one).same_disk ∙ d.1, d.2)
+
+      part_back : AreOut out [] old → (name : List ℕ) → IsOneOf (part_disks r.before) name ⊎ NotIn (part_disks r.before) name → out new name ≡ false
+      part_back whole name (inl one) = puts_in disk out taken steady bay_faults faults (slots_disks r.slots) r.behind new slots_distinct r.puts name
           (subst (λ (l : List (List ℕ)). IsOneOf l name) (sym slots_are) one)
-      log_back whole name (inr away) = go (same_name name r.name) refl where
+      part_back whole name (inr away) = go (one_or_none (disks_of r.h) name) where
         behind_same : out new name ≡ out r.behind name
-        behind_same = (puts_others disk out taken steady bay_faults faults r.slots r.behind new r.puts name
+        behind_same = (puts_others disk out taken steady bay_faults faults (slots_disks r.slots) r.behind new r.puts name
             (subst (λ (l : List (List ℕ)). NotIn l name) (sym slots_are) away)).same_out
 
-        go : (b : Bool) → same_name name r.name ≡ b → out new name ≡ false
-        go true is = behind_same ∙ subst (λ (n : List ℕ). out r.behind n ≡ false) (sym (is_same name r.name is)) r.refuses.is_in
-        go false is = behind_same
-            ∙ (r.refuses.others name (λ e. let bad : true ≡ false = sym (subst (λ (m : List ℕ). same_name name m ≡ true) e (same_self name)) ∙ is in cc)).same_out
+        go : IsOneOf (disks_of r.h) name ⊎ NotIn (disks_of r.h) name → out new name ≡ false
+        go (inl one) = behind_same ∙ r.refuses.are_in name one
+        go (inr n) = behind_same ∙ (r.refuses.others name n).same_out
             ∙ (takes_others disk out taken steady bay_faults content image starved faults losses arms armed r.before old r.slots r.mid r.takes name away).same_out
             ∙ whole.others name tt
 
-      log_refused : Refused conf fault old new
-      log_refused = record {
-        back = λ whole. record { those = λ name one. absurd one; others = λ name away. log_back whole name (one_or_none r.before name) };
+      part_refused : Refused conf fault old new
+      part_refused = record {
+        back = λ whole. record { those = λ name one. absurd one; others = λ name away. part_back whole name (one_or_none (part_disks r.before) name) };
         moves = moves_then disk out taken steady bay_faults old r.mid new to_mid
             (moves_then disk out taken steady bay_faults r.mid r.behind new r.refuses.moves from_behind);
-        damaged = λ n place e contents was tells.
-            let why = r.refuses.damaged n place e in
-            let d = tells r.name (inl one_name) in
-            inl (
-              subst (λ (m : List ℕ). IsOneOf all m) (sym why.0) one_name,
-              subst (λ (m : List ℕ). IsNoLogText (contents m) place) (sym why.0) (why.1 d.0 (contents r.name) (mid_is.same_disk ∙ d.1) d.2),
-            );
-        recovers = λ contents was tells stand n place.
-            let d = tells r.name (inl one_name) in
-            let b = stand.logs r.name one_name in
-            r.refuses.recovers d.0 (contents r.name) b.0 (mid_is.same_disk ∙ d.1) d.2 b.1 n place;
+        damaged = λ n place e contents was tells. inl (
+          r.h,
+          subst (λ (l : List Hosted). Contains l r.h) (sym r.split) (there r.before r.h r.after),
+          r.refuses.damaged n place e contents (tells_mid contents was tells),
+        );
+        recovers = λ contents was tells stand n place. r.refuses.recovers contents (tells_mid contents was tells)
+            (all_in_rest (StandsForTables contents) r.before r.h r.after (subst (AllByRecursion (StandsForTables contents)) r.split stand.parts)) n place;
         bay = λ e. rose_between (bay_faults old) (bay_faults r.mid) (bay_faults r.behind) (bay_faults new) to_mid.later (r.refuses.bay e) from_behind.later;
         device = λ e. device (r.refuses.device e);
-        sound = λ s.
-            let d = sound_disk s r.name one_name in
-            r.refuses.sound d.0 (mid_is.same_disk ∙ d.1) d.2 (to_mid.steadies s.is_steady);
+        sound = λ s. r.refuses.sound
+            (λ name one.
+            let d = s.each name (are_disk_names (hosted_of conf) (named_of conf list) name (in_all name one)) in
+            (d.0, (mid_is name one).same_disk ∙ d.1, d.2))
+            (to_mid.steadies s.is_steady);
       }
         where
-          device : Rose (bay_faults r.mid) (bay_faults r.behind) ⊎ ((d : D) × IsAsTold (disk r.mid r.name) d × (2 ^ 64 - 1 ≤ faults d))
+          device : Rose (bay_faults r.mid) (bay_faults r.behind)
+              ⊎ ((name : List ℕ) × (d : D) × IsOneOf (disks_of r.h) name × IsAsTold (disk r.mid name) d × (2 ^ 64 - 1 ≤ faults d))
               → Rose (bay_faults old) (bay_faults new) ⊎ HasLastCount disk faults conf old
           device (inl rose) = inl (rose_between (bay_faults old) (bay_faults r.mid) (bay_faults r.behind) (bay_faults new) to_mid.later rose from_behind.later)
-          device (inr (d, told, last)) = inr (r.name, d, inl one_name, (λ x is. told x (mid_is.same_disk ∙ is)), last)
+          device (inr (name, d, one, told, last)) = inr (name, d, inl (in_all name one), (λ x is. told x ((mid_is name one).same_disk ∙ is)), last)
 
     -- foreign state was refused
-    module _ (slots : List (LogSlot D)) (mid behind : B) (takes : Before all old slots mid)
-        (r : RefusesForeign disk out taken steady bay_faults content starved faults arms armed fault mid behind) (puts : Behind slots behind new) where
-      names_are : slot_names slots ≡ all
-      names_are = takes_names disk out taken steady bay_faults content image starved faults losses arms armed all old slots mid takes
+    module _ (slots : List (PartSlot D)) (mid behind : B) (takes : Before (hosted_of conf) old slots mid)
+        (r : RefusesForeign disk out taken steady bay_faults content starved faults arms armed fault mid behind) (puts : Behind (slots_disks slots) behind new) where
+      names_are : named (slots_disks slots) ≡ all
+      names_are = names_of_disks slots ∙ ap part_disks
+          (takes_hosts disk out taken steady bay_faults content image starved faults losses arms armed (hosted_of conf) old slots mid takes)
 
-      slots_apart : AreDistinct (slot_names slots)
-      slots_apart = subst AreDistinct (sym names_are) (distinct_front all (state_a ∷ state_b ∷ []) all_apart)
+      slots_apart : AreDistinct (named (slots_disks slots))
+      slots_apart = subst AreDistinct (sym names_are) (parts_distinct (hosted_of conf) all_apart)
 
-      others_of : (m : List ℕ) → NotIn all m → SameSlot disk out taken m old mid
-      others_of = takes_others disk out taken steady bay_faults content image starved faults losses arms armed all old slots mid takes
+      others_of : (m : List ℕ) → NotIn all m → Same m old mid
+      others_of = takes_others disk out taken steady bay_faults content image starved faults losses arms armed (hosted_of conf) old slots mid takes
 
-      a_same : SameSlot disk out taken state_a old mid
-      a_same = others_of state_a (not_a_log all all_apart)
+      a_same : Same state_a old mid
+      a_same = others_of state_a (no_state_a (hosted_of conf) all_apart)
 
-      b_same : SameSlot disk out taken state_b old mid
-      b_same = others_of state_b (not_a_log_too all all_apart)
+      b_same : Same state_b old mid
+      b_same = others_of state_b (no_state_b (hosted_of conf) all_apart)
 
       before : Goes old mid
-      before = takes_moves disk out taken steady bay_faults content image starved faults losses arms armed all old slots mid takes
+      before = takes_moves disk out taken steady bay_faults content image starved faults losses arms armed (hosted_of conf) old slots mid takes
 
       after : Goes behind new
-      after = puts_moves disk out taken steady bay_faults faults slots behind new puts
+      after = puts_moves disk out taken steady bay_faults faults (slots_disks slots) behind new puts
 
       state_back : AreOut out [] old → (name : List ℕ) → IsOneOf all name ⊎ NotIn all name → out new name ≡ false
-      state_back whole name (inl one) = puts_in disk out taken steady bay_faults faults slots behind new slots_apart puts name
+      state_back whole name (inl one) = puts_in disk out taken steady bay_faults faults (slots_disks slots) behind new slots_apart puts name
           (subst (λ (l : List (List ℕ)). IsOneOf l name) (sym names_are) one)
       state_back whole name (inr away) = go (one_or_none (state_a ∷ state_b ∷ []) name) where
         behind_same : out new name ≡ out behind name
-        behind_same = (puts_others disk out taken steady bay_faults faults slots behind new puts name
+        behind_same = (puts_others disk out taken steady bay_faults faults (slots_disks slots) behind new puts name
             (subst (λ (l : List (List ℕ)). NotIn l name) (sym names_are) away)).same_out
 
         go : IsOneOf (state_a ∷ state_b ∷ []) name ⊎ NotIn (state_a ∷ state_b ∷ []) name → out new name ≡ false
@@ -497,20 +499,23 @@ module _ {B D : Type 0} (disk : B → List ℕ → Option D) (out : B → List �
 
     pub refused : RefusesAll disk out taken steady bay_faults content image starved faults losses arms armed conf fault old new → Refused conf fault old new
     refused (inl (is, same)) = want_refused conf fault old new is same
-    refused (inr (inl r)) = log_refused r
+    refused (inr (inl r)) = part_refused r
     refused (inr (inr (slots, mid, behind, takes, r, puts))) = state_refused slots mid behind takes r puts
 
   -- ---- all is put back
 
   module _ (hosts : HostsParts D) (apart : AreApart hosts) (old new : B) (p : PutsAllBack disk out taken steady bay_faults faults hosts old new) where
+    abbrev entries : List (List ℕ × Option D)
+    entries = slots_disks hosts.parts
+
+    abbrev own : List (List ℕ)
+    own = part_disks (hosted_slots hosts.parts)
+
     abbrev mid_bay : B
     mid_bay = p.0
 
-    abbrev logs_back : Behind hosts.logs old mid_bay
-    logs_back = p.1
-
-    abbrev state_pair : D × D
-    state_pair = (p.2.0, p.2.1)
+    parts_back : Behind entries old p.0
+    parts_back = p.1
 
     pair_is : foreign_disks hosts.foreign ≡ Some (p.2.0, p.2.1)
     pair_is = p.2.3
@@ -518,14 +523,11 @@ module _ {B D : Type 0} (disk : B → List ℕ → Option D) (out : B → List �
     abbrev next_bay : B
     next_bay = p.2.2
 
-    log_distinct : AreDistinct (slot_names hosts.logs)
-    log_distinct = distinct_front (slot_names hosts.logs) (state_a ∷ state_b ∷ []) apart
+    own_distinct : AreDistinct (named entries)
+    own_distinct = subst AreDistinct (sym (names_of_disks hosts.parts)) (parts_distinct (hosted_slots hosts.parts) apart)
 
-    no_log_a : NotIn (slot_names hosts.logs) state_a
-    no_log_a = not_a_log (slot_names hosts.logs) apart
-
-    no_log_b : NotIn (slot_names hosts.logs) state_b
-    no_log_b = not_a_log_too (slot_names hosts.logs) apart
+    from_own : (m : List ℕ) → NotIn own m → NotIn (named entries) m
+    from_own m n = subst (λ (l : List (List ℕ)). NotIn l m) (sym (names_of_disks hosts.parts)) n
 
     a_not_b : state_a ≢ state_b
     a_not_b e = states_apart e
@@ -536,80 +538,81 @@ module _ {B D : Type 0} (disk : B → List ℕ → Option D) (out : B → List �
     second_back : PutsBack disk out taken steady bay_faults faults state_b p.2.1 next_bay new
     second_back = p.2.5
 
-    logs_same : (m : List ℕ) → NotIn (slot_names hosts.logs) m → SameSlot disk out taken m old mid_bay
-    logs_same = puts_others disk out taken steady bay_faults faults hosts.logs old mid_bay logs_back
+    parts_same : (m : List ℕ) → NotIn own m → Same m old mid_bay
+    parts_same m n = puts_others disk out taken steady bay_faults faults entries old mid_bay parts_back m (from_own m n)
 
-    state_same : (m : List ℕ) → m ≢ state_a → m ≢ state_b → SameSlot disk out taken m mid_bay new
-    state_same m n k =
-        let a = first_back.others m n in
-        let b = second_back.others m k in
-        record { same_disk = b.same_disk ∙ a.same_disk; same_out = b.same_out ∙ a.same_out; same_taken = b.same_taken ∙ a.same_taken }
+    a_same_too : Same state_a old mid_bay
+    a_same_too = parts_same state_a (no_state_a (hosted_slots hosts.parts) apart)
 
-    one_not : (m : List ℕ) → IsOneOf (slot_names hosts.logs) m → (m ≢ state_a) × (m ≢ state_b)
-    one_not m one = (
-      λ e. not_both (slot_names hosts.logs) state_a no_log_a (subst (λ (n : List ℕ). IsOneOf (slot_names hosts.logs) n) e one),
-      λ e. not_both (slot_names hosts.logs) state_b no_log_b (subst (λ (n : List ℕ). IsOneOf (slot_names hosts.logs) n) e one),
-    )
+    b_same_too : Same state_b old mid_bay
+    b_same_too = parts_same state_b (no_state_b (hosted_slots hosts.parts) apart)
+
+    state_same : (m : List ℕ) → m ≢ state_a → m ≢ state_b → Same m mid_bay new
+    state_same m n k = slot_then disk out taken steady bay_faults m mid_bay next_bay new (first_back.others m n) (second_back.others m k)
 
     pub back_moves : Goes old new
-    back_moves = moves_then disk out taken steady bay_faults old mid_bay new (puts_moves disk out taken steady bay_faults faults hosts.logs old mid_bay logs_back)
+    back_moves = moves_then disk out taken steady bay_faults old mid_bay new (puts_moves disk out taken steady bay_faults faults entries old mid_bay parts_back)
         (moves_then disk out taken steady bay_faults mid_bay next_bay new (put_moves disk out taken steady bay_faults faults state_a p.2.0 mid_bay next_bay first_back)
         (put_moves disk out taken steady bay_faults faults state_b p.2.1 next_bay new second_back))
 
-    log_holds : (xs : List (LogSlot D)) → ((m : List ℕ) → IsOneOf (slot_names xs) m → disk new m ≡ disk mid_bay m)
-        → AllByRecursion (HoldsIf disk old mid_bay) (log_disks xs) → AllByRecursion (HoldsIf disk old new) (log_disks xs)
-    log_holds [] same h = tt
-    log_holds (s ∷ xs) same h = (go (log_disk s.state) h.0, log_holds xs (λ m one. same m (inr one)) h.1) where
-      go : (o : Option D) → HoldsIf disk old mid_bay (s.name, o) → HoldsIf disk old new (s.name, o)
-      go (Some d) holds = λ t. same s.name (inl refl) ∙ holds t
+    part_holds : (es : List (List ℕ × Option D)) → ((m : List ℕ) → IsOneOf (named es) m → disk new m ≡ disk mid_bay m)
+        → AllByRecursion (HoldsIf disk old mid_bay) es → AllByRecursion (HoldsIf disk old new) es
+    part_holds [] same h = tt
+    part_holds (e ∷ es) same h = (go e.1 h.0, part_holds es (λ m one. same m (inr one)) h.1) where
+      go : (o : Option D) → HoldsIf disk old mid_bay (e.0, o) → HoldsIf disk old new (e.0, o)
+      go (Some d) holds = λ t. same e.0 (inl refl) ∙ holds t
       go None holds = absurd holds
 
     pub all_back : ArePutBack disk old new (disks_in hosts)
     all_back = record {
-      logs = log_holds hosts.logs (λ m one. let n = one_not m one in (state_same m n.0 n.1).same_disk)
-          (puts_hold disk out taken steady bay_faults faults hosts.logs old mid_bay log_distinct logs_back);
+      parts = part_holds entries
+          (λ m one.
+          let n = not_states (hosted_slots hosts.parts) apart m (subst (λ (l : List (List ℕ)). IsOneOf l m) (names_of_disks hosts.parts) one) in
+          (state_same m n.0 n.1).same_disk)
+          (puts_hold disk out taken steady bay_faults faults entries old mid_bay own_distinct parts_back);
       foreign = subst (λ (o : Option (D × D)). BothHold disk old new o) (sym pair_is) (
-        λ t. (second_back.others state_a a_not_b).same_disk ∙ first_back.there (ap is_some (logs_same state_a no_log_a).same_disk ∙ t),
-        λ t. second_back.there (ap is_some (first_back.others state_b (λ e. a_not_b (sym e))).same_disk ∙ ap is_some (logs_same state_b no_log_b).same_disk ∙ t),
+        λ t. (second_back.others state_a a_not_b).same_disk ∙ first_back.there (ap is_some a_same_too.same_disk ∙ t),
+        λ t. second_back.there (ap is_some (first_back.others state_b (λ e. a_not_b (sym e))).same_disk ∙ ap is_some b_same_too.same_disk ∙ t),
       );
     }
 
-    pub all_in : AreOut out (all_names (slot_names hosts.logs)) old → AreOut out [] new
+    pub all_in : AreOut out (all_names (hosted_slots hosts.parts)) old → AreOut out [] new
     all_in were = record {
       those = λ name one. absurd one;
-      others = λ name away. go name (one_or_none (slot_names hosts.logs) name) (one_or_none (state_a ∷ state_b ∷ []) name);
+      others = λ name away. go name (one_or_none own name) (one_or_none (state_a ∷ state_b ∷ []) name);
     }
       where
-        go : (name : List ℕ) → IsOneOf (slot_names hosts.logs) name ⊎ NotIn (slot_names hosts.logs) name
-            → IsOneOf (state_a ∷ state_b ∷ []) name ⊎ NotIn (state_a ∷ state_b ∷ []) name → out new name ≡ false
+        go : (name : List ℕ) → IsOneOf own name ⊎ NotIn own name → IsOneOf (state_a ∷ state_b ∷ []) name ⊎ NotIn (state_a ∷ state_b ∷ []) name → out new name ≡ false
         go name (inl one) either =
-            let n = one_not name one in
-            (state_same name n.0 n.1).same_out ∙ puts_in disk out taken steady bay_faults faults hosts.logs old mid_bay log_distinct logs_back name one
+            let n = not_states (hosted_slots hosts.parts) apart name one in
+            (state_same name n.0 n.1).same_out
+            ∙ puts_in disk out taken steady bay_faults faults entries old mid_bay own_distinct parts_back name
+            (subst (λ (l : List (List ℕ)). IsOneOf l name) (sym (names_of_disks hosts.parts)) one)
         go name (inr away) (inl (inl e)) =
             subst (λ (m : List ℕ). out new m ≡ false) (sym e) ((second_back.others state_a a_not_b).same_out ∙ first_back.is_in)
         go name (inr away) (inl (inr (inl e))) = subst (λ (m : List ℕ). out new m ≡ false) (sym e) second_back.is_in
         go name (inr away) (inl (inr (inr never))) = absurd never
-        go name (inr away) (inr n) = (state_same name n.0 n.1.0).same_out ∙ (logs_same name away).same_out
-            ∙ were.others name (not_in_both (slot_names hosts.logs) (state_a ∷ state_b ∷ []) name away n)
+        go name (inr away) (inr n) = (state_same name n.0 n.1.0).same_out ∙ (parts_same name away).same_out
+            ∙ were.others name (not_in_both own (state_a ∷ state_b ∷ []) name away n)
 
     pub all_rise : HasRisen taken faults old (disks_in hosts) → Rose (bay_faults old) (bay_faults new)
     all_rise (inl risen) =
-        let r = puts_rise disk out taken steady bay_faults faults hosts.logs old mid_bay log_distinct logs_back risen in
+        let r = puts_rise disk out taken steady bay_faults faults entries old mid_bay own_distinct parts_back risen in
         let l = first_back.later in
         let m = second_back.later in
         omega (arith, r, l, m)
     all_rise (inr risen) = state_rise (subst (λ (o : Option (D × D)). BothRisen taken faults old o) pair_is risen) where
       state_rise : (taken old state_a < faults p.2.0) ⊎ (taken old state_b < faults p.2.1) → Rose (bay_faults old) (bay_faults new)
       state_rise (inl less) =
-          let l = (puts_moves disk out taken steady bay_faults faults hosts.logs old mid_bay logs_back).later in
+          let l = (puts_moves disk out taken steady bay_faults faults entries old mid_bay parts_back).later in
           let c = first_back.counts in
-          let s = (logs_same state_a no_log_a).same_taken in
+          let s = a_same_too.same_taken in
           let m = second_back.later in
           omega (arith, less, l, c, s, m)
       state_rise (inr less) =
-          let l = (puts_moves disk out taken steady bay_faults faults hosts.logs old mid_bay logs_back).later in
+          let l = (puts_moves disk out taken steady bay_faults faults entries old mid_bay parts_back).later in
           let c = second_back.counts in
-          let s = (logs_same state_b no_log_b).same_taken in
+          let s = b_same_too.same_taken in
           let t = (first_back.others state_b (λ e. a_not_b (sym e))).same_taken in
           let m = first_back.later in
           omega (arith, less, l, c, s, t, m)

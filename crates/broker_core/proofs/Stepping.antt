@@ -6,7 +6,7 @@ use Rattle.broker_model.specs.Machine.{named, conn_at, at_connection, left}
 
 -- a connection without replies
 pub none_waiting : (conn : ConnParts) → conn.replies ≡ [] → conn ≡ without_replies conn
-none_waiting conn e = λ i. record { unread = conn.unread; work = conn.work; releases = conn.releases; replies = e i }
+none_waiting conn e = λ i. record { unread = conn.unread; work = conn.work; sessions = conn.sessions; releases = conn.releases; replies = e i }
 
 pub on_err : {X Y P : Type 0} (result : Result X Y) → P → OnErr result P
 on_err (Ok x) p = tt

@@ -1,23 +1,17 @@
 -- Disks are taken from a bay one after another, and put back.
-use Rattle.std.proofs.Common.{◌≡◌, ◌≢◌, ◌≤◌, ◌<◌, ◌-◌, ◌^◌, ◌⊎◌, arith, inl, inr, refl, sym, ap, ◌∙◌, subst, ℕ, List, [], ◌∷◌, ◌++◌, append_assoc, append-nil, Bool, true, false, Some, None, is_some, nat_lt, rules}
+use Rattle.std.proofs.Common.{◌≡◌, ◌≢◌, ◌≤◌, ◌<◌, ◌-◌, ◌^◌, ◌⊎◌, arith, inl, inr, refl, sym, ap, ◌∙◌, subst, ℕ, List, [], ◌∷◌, ◌++◌, map, Bool, true, false, Some, None, is_some, nat_lt, rules}
 use Rattle.std.proofs.lemmas.Bool.{cases_Bool}
 use Rattle.std.specs.List.{AllByRecursion}
 use Rattle.std.specs.declared.option.Option.{Option}
-use Rattle.edge_io.specs.declared.fault.Armed.{Armed}
 use Rattle.edge_io.specs.Bays.{IsAsTold, SameSlot}
 use Rattle.edge_io.specs.Causes.{Rose}
-use Rattle.part_log.specs.Logs.{LogParts}
 use Rattle.broker_model.specs.Hosted.{IsOneOf, same_name}
-use Rattle.broker_core.specs.declared.slot.LogState.{LogState}
-use Rattle.broker_core.specs.declared.slot.LogState.TheVariants as log
-use Rattle.broker_core.specs.declared.slot.LogSlot.{LogSlot}
-use Rattle.broker_core.specs.Bays.{HoldsIf, LogRisen, RisenIf, TellsStill}
-use Rattle.broker_core.specs.Hosts.{AreDistinct, AreHeldLogs, IsHeldState, NotIn, log_disk, log_disks, slot_names}
-use Rattle.broker_core.specs.Restarts.{IsOpenedLog}
-use Rattle.broker_core.specs.Taking.{Moves, PutsBack, PutsLogsBack, TakesLog, TakesLogs}
-use Rattle.broker_core.proofs.Places.{apart_from, distinct_front, is_same, not_both, same_self}
+use Rattle.broker_core.specs.Bays.{HoldsIf, OneRisen, RisenIf, TellsStill}
+use Rattle.broker_core.specs.Hosts.{AreDistinct, NotIn}
+use Rattle.broker_core.specs.Taking.{Gets, GetsAll, Moves, PutsAll, PutsBack}
+use Rattle.broker_core.proofs.Places.{is_same, same_self}
 
-some_told : {D : Type 0} (o : Option D) (d : D) → o ≡ Some d → is_some o ≡ true
+pub some_told : {D : Type 0} (o : Option D) (d : D) → o ≡ Some d → is_some o ≡ true
 some_told o d e = ap is_some e
 
 -- a count that rose below its last value is greater
@@ -27,9 +21,22 @@ greater before now rose = go (cases_Bool (nat_lt before (2 ^ 64 - 1))) where
   go (inl less) = inl (let l : before < 2 ^ 64 - 1 = search rules in omega (arith, rose, l))
   go (inr not) = inr (let l : (before < 2 ^ 64 - 1) → ⊥ = search rules in grind (arith, l))
 
+pub rose_between : (a b c d : ℕ) → a ≤ b → Rose b c → c ≤ d → Rose a d
+rose_between a b c d l r m = omega (arith, l, r, m)
+
+-- the names of entries
+abbrev pub named : {A : Type 0} → List (List ℕ × A) → List (List ℕ)
+named es = map (λ e. e.0) es
+
+pub named_append : {A : Type 0} (xs ys : List (List ℕ × A)) → named (xs ++ ys) ≡ named xs ++ named ys
+named_append [] ys = refl
+named_append (x ∷ xs) ys = ap (λ (l : List (List ℕ)). x.0 ∷ l) (named_append xs ys)
+
 module _ {B D : Type 0} (disk : B → List ℕ → Option D) (out : B → List ℕ → Bool) (taken : B → List ℕ → ℕ) (steady : B → Type 0) (bay_faults : B → ℕ) where
   abbrev Others : List ℕ → B → B → Type 0
   Others name old new = (m : List ℕ) → m ≢ name → SameSlot disk out taken m old new
+
+  -- ---- what stays
 
   -- what is told at one name, and stays at the others, is told everywhere
   pub tells_all : (name : List ℕ) (old new : B) → Others name old new → (is_some (disk old name) ≡ true → is_some (disk new name) ≡ true) → TellsStill disk old new
@@ -39,6 +46,12 @@ module _ {B D : Type 0} (disk : B → List ℕ → Option D) (out : B → List �
     go false is = ap is_some (others m (λ e. differ e is)).same_disk ∙ told where
       differ : m ≡ name → same_name m name ≡ false → ⊥
       differ e away = let bad : true ≡ false = sym (subst (λ (n : List ℕ). same_name m n ≡ true) e (same_self m)) ∙ away in cc
+
+  pub slot_same : (m : List ℕ) (b : B) → SameSlot disk out taken m b b
+  slot_same m b = record { same_disk = refl; same_out = refl; same_taken = refl }
+
+  pub slot_then : (m : List ℕ) (a b c : B) → SameSlot disk out taken m a b → SameSlot disk out taken m b c → SameSlot disk out taken m a c
+  slot_then m a b c p q = record { same_disk = q.same_disk ∙ p.same_disk; same_out = q.same_out ∙ p.same_out; same_taken = q.same_taken ∙ p.same_taken }
 
   pub moves_same : (b : B) → Moves disk steady bay_faults b b
   moves_same b = record { told = λ name t. t; later = least (bay_faults b); steadies = λ s. s } where
@@ -52,14 +65,66 @@ module _ {B D : Type 0} (disk : B → List ℕ → Option D) (out : B → List �
     steadies = λ s. q.steadies (p.steadies s);
   }
 
-  -- ---- disks that are put back
-
   module _ (faults : D → ℕ) where
+    -- ---- disks that are taken
+
+    abbrev Take : List ℕ → D → B → B → Type 0
+    Take name d old new = Gets disk out taken steady bay_faults faults name d old new
+
+    abbrev TakeAll : List (List ℕ × D) → B → B → Type 0
+    TakeAll es old new = GetsAll disk out taken steady bay_faults faults es old new
+
+    -- a call of `take` that gave a disk
+    pub get : (name : List ℕ) (d : D) (old new : B) → IsAsTold (disk old name) d → (out new name ≡ true) × (taken new name ≡ faults d) → Others name old new
+        → is_some (disk new name) ≡ is_some (disk old name) → bay_faults old ≤ bay_faults new → (steady old → steady new) → Take name d old new
+    get name d old new given is_out others told later steadies = record {
+      as_told = given;
+      is_out = is_out.0;
+      noted = is_out.1;
+      others = others;
+      moves = record { told = tells_all name old new others (λ t. told ∙ t); later = later; steadies = steadies };
+    }
+
+    pub gets_moves : (es : List (List ℕ × D)) (old new : B) → TakeAll es old new → Moves disk steady bay_faults old new
+    gets_moves [] old new is = subst (λ (b : B). Moves disk steady bay_faults old b) (sym is) (moves_same old)
+    gets_moves (e ∷ es) old new (mid, g, more) = moves_then old mid new g.moves (gets_moves es mid new more)
+
+    pub gets_others : (es : List (List ℕ × D)) (old new : B) → TakeAll es old new → (m : List ℕ) → NotIn (named es) m → SameSlot disk out taken m old new
+    gets_others [] old new is m n = subst (λ (b : B). SameSlot disk out taken m old b) (sym is) (slot_same m old)
+    gets_others (e ∷ es) old new (mid, g, more) m n = slot_then m old mid new (g.others m n.0) (gets_others es mid new more m n.1)
+
+    -- how each of them was given
+    pub record IsGiven (old new : B) (e : List ℕ × D) : Type 0 where
+      pub as_told : IsAsTold (disk old e.0) e.1
+      pub noted : taken new e.0 ≡ faults e.1
+      pub is_out : out new e.0 ≡ true
+
+    pub gets_each : (es : List (List ℕ × D)) (old new : B) → AreDistinct (named es) → TakeAll es old new → AllByRecursion (IsGiven old new) es
+    gets_each [] old new distinct is = tt
+    gets_each (e ∷ es) old new distinct (mid, g, more) =
+        let same = gets_others es mid new more e.0 distinct.0 in (
+          record { as_told = g.as_told; noted = same.same_taken ∙ g.noted; is_out = same.same_out ∙ g.is_out },
+          later_ones es distinct.0 (gets_each es mid new distinct.1 more),
+        )
+      where
+        later_ones : (rest : List (List ℕ × D)) → NotIn (named rest) e.0 → AllByRecursion (IsGiven mid new) rest → AllByRecursion (IsGiven old new) rest
+        later_ones [] away all = tt
+        later_ones (r ∷ rest) away all = (
+          record {
+            as_told = λ d told. all.0.as_told d ((g.others r.0 (λ same. away.0 (sym same))).same_disk ∙ told);
+            noted = all.0.noted;
+            is_out = all.0.is_out;
+          },
+          later_ones rest away.1 all.1,
+        )
+
+    -- ---- disks that are put back
+
     abbrev Puts : List ℕ → D → B → B → Type 0
     Puts name d old new = PutsBack disk out taken steady bay_faults faults name d old new
 
-    abbrev PutsAll : List (LogSlot D) → B → B → Type 0
-    PutsAll slots old new = PutsLogsBack disk out taken steady bay_faults faults slots old new
+    abbrev PutAll : List (List ℕ × Option D) → B → B → Type 0
+    PutAll es old new = PutsAll disk out taken steady bay_faults faults es old new
 
     pub put_moves : (name : List ℕ) (d : D) (old new : B) → Puts name d old new → Moves disk steady bay_faults old new
     put_moves name d old new p = record {
@@ -68,241 +133,60 @@ module _ {B D : Type 0} (disk : B → List ℕ → Option D) (out : B → List �
       steadies = p.steadies;
     }
 
-    pub puts_moves : (slots : List (LogSlot D)) (old new : B) → PutsAll slots old new → Moves disk steady bay_faults old new
+    pub puts_moves : (es : List (List ℕ × Option D)) (old new : B) → PutAll es old new → Moves disk steady bay_faults old new
     puts_moves [] old new is = subst (λ (b : B). Moves disk steady bay_faults old b) (sym is) (moves_same old)
-    puts_moves (s ∷ slots) old new (d, mid, has, p, more) = moves_then old mid new (put_moves s.name d old mid p) (puts_moves slots mid new more)
+    puts_moves (e ∷ es) old new (d, mid, has, p, more) = moves_then old mid new (put_moves e.0 d old mid p) (puts_moves es mid new more)
 
-    pub puts_others : (slots : List (LogSlot D)) (old new : B) → PutsAll slots old new → (m : List ℕ) → NotIn (slot_names slots) m → SameSlot disk out taken m old new
-    puts_others [] old new is m n = subst (λ (b : B). SameSlot disk out taken m old b) (sym is) (record { same_disk = refl; same_out = refl; same_taken = refl })
-    puts_others (s ∷ slots) old new (d, mid, has, p, more) m n =
-        let a = p.others m n.0 in
-        let b = puts_others slots mid new more m n.1 in
-        record { same_disk = b.same_disk ∙ a.same_disk; same_out = b.same_out ∙ a.same_out; same_taken = b.same_taken ∙ a.same_taken }
+    pub puts_others : (es : List (List ℕ × Option D)) (old new : B) → PutAll es old new → (m : List ℕ) → NotIn (named es) m → SameSlot disk out taken m old new
+    puts_others [] old new is m n = subst (λ (b : B). SameSlot disk out taken m old b) (sym is) (slot_same m old)
+    puts_others (e ∷ es) old new (d, mid, has, p, more) m n = slot_then m old mid new (p.others m n.0) (puts_others es mid new more m n.1)
 
-    pub puts_in : (slots : List (LogSlot D)) (old new : B) → AreDistinct (slot_names slots) → PutsAll slots old new → (m : List ℕ) → IsOneOf (slot_names slots) m
+    pub puts_in : (es : List (List ℕ × Option D)) (old new : B) → AreDistinct (named es) → PutAll es old new → (m : List ℕ) → IsOneOf (named es) m
         → out new m ≡ false
     puts_in [] old new distinct is m one = absurd one
-    puts_in (s ∷ slots) old new distinct (d, mid, has, p, more) m (inl e) =
-        subst (λ (n : List ℕ). out new n ≡ false) (sym e) ((puts_others slots mid new more s.name distinct.0).same_out ∙ p.is_in)
-    puts_in (s ∷ slots) old new distinct (d, mid, has, p, more) m (inr one) = puts_in slots mid new distinct.1 more m one
+    puts_in (e ∷ es) old new distinct (d, mid, has, p, more) m (inl same) =
+        subst (λ (n : List ℕ). out new n ≡ false) (sym same) ((puts_others es mid new more e.0 distinct.0).same_out ∙ p.is_in)
+    puts_in (e ∷ es) old new distinct (d, mid, has, p, more) m (inr one) = puts_in es mid new distinct.1 more m one
 
-    pub puts_hold : (slots : List (LogSlot D)) (old new : B) → AreDistinct (slot_names slots) → PutsAll slots old new
-        → AllByRecursion (HoldsIf disk old new) (log_disks slots)
+    pub puts_hold : (es : List (List ℕ × Option D)) (old new : B) → AreDistinct (named es) → PutAll es old new → AllByRecursion (HoldsIf disk old new) es
     puts_hold [] old new distinct is = tt
-    puts_hold (s ∷ slots) old new distinct (d, mid, has, p, more) = (
-      subst (λ (o : Option D). HoldsIf disk old new (s.name, o)) (sym has)
-          (λ t. (puts_others slots mid new more s.name distinct.0).same_disk ∙ p.there t),
-      later_ones slots distinct.0 (puts_hold slots mid new distinct.1 more),
+    puts_hold (e ∷ es) old new distinct (d, mid, has, p, more) = (
+      subst (λ (o : Option D). HoldsIf disk old new (e.0, o)) (sym has)
+          (λ t. (puts_others es mid new more e.0 distinct.0).same_disk ∙ p.there t),
+      later_ones es distinct.0 (puts_hold es mid new distinct.1 more),
     )
       where
-        later_ones : (rest : List (LogSlot D)) → NotIn (slot_names rest) s.name → AllByRecursion (HoldsIf disk mid new) (log_disks rest)
-            → AllByRecursion (HoldsIf disk old new) (log_disks rest)
+        later_ones : (rest : List (List ℕ × Option D)) → NotIn (named rest) e.0 → AllByRecursion (HoldsIf disk mid new) rest
+            → AllByRecursion (HoldsIf disk old new) rest
         later_ones [] n all = tt
-        later_ones (r ∷ rest) n all = (go (log_disk r.state) all.0, later_ones rest n.1 all.1) where
-          go : (o : Option D) → HoldsIf disk mid new (r.name, o) → HoldsIf disk old new (r.name, o)
-          go (Some x) h = λ t. h (ap is_some (p.others r.name (λ e. n.0 (sym e))).same_disk ∙ t)
+        later_ones (r ∷ rest) n all = (go r.1 all.0, later_ones rest n.1 all.1) where
+          go : (o : Option D) → HoldsIf disk mid new (r.0, o) → HoldsIf disk old new (r.0, o)
+          go (Some x) h = λ t. h (ap is_some (p.others r.0 (λ same. n.0 (sym same))).same_disk ∙ t)
           go None h = absurd h
 
     put_rises : (name : List ℕ) (d : D) (old mid new : B) → Puts name d old mid → bay_faults mid ≤ bay_faults new → taken old name < faults d
         → Rose (bay_faults old) (bay_faults new)
     put_rises name d old mid new p later less = let c = p.counts in omega (arith, later, less, c)
 
-    pub puts_rise : (slots : List (LogSlot D)) (old new : B) → AreDistinct (slot_names slots) → PutsAll slots old new
-        → LogRisen taken faults old (log_disks slots) → Rose (bay_faults old) (bay_faults new)
+    pub puts_rise : (es : List (List ℕ × Option D)) (old new : B) → AreDistinct (named es) → PutAll es old new
+        → OneRisen taken faults old es → Rose (bay_faults old) (bay_faults new)
     puts_rise [] old new distinct is risen = absurd risen
-    puts_rise (s ∷ slots) old new distinct (d, mid, has, p, more) (inl risen) =
-        put_rises s.name d old mid new p (puts_moves slots mid new more).later (subst (λ (o : Option D). RisenIf taken faults old (s.name, o)) has risen)
-    puts_rise (s ∷ slots) old new distinct (d, mid, has, p, more) (inr risen) =
-        let rose = puts_rise slots mid new distinct.1 more (later_ones slots distinct.0 risen) in
+    puts_rise (e ∷ es) old new distinct (d, mid, has, p, more) (inl risen) =
+        put_rises e.0 d old mid new p (puts_moves es mid new more).later (subst (λ (o : Option D). RisenIf taken faults old (e.0, o)) has risen)
+    puts_rise (e ∷ es) old new distinct (d, mid, has, p, more) (inr risen) =
+        let rose = puts_rise es mid new distinct.1 more (later_ones es distinct.0 risen) in
         let l = p.later in
         omega (arith, rose, l)
       where
-        later_ones : (rest : List (LogSlot D)) → NotIn (slot_names rest) s.name → LogRisen taken faults old (log_disks rest) → LogRisen taken faults mid (log_disks rest)
+        later_ones : (rest : List (List ℕ × Option D)) → NotIn (named rest) e.0 → OneRisen taken faults old rest → OneRisen taken faults mid rest
         later_ones [] n h = absurd h
-        later_ones (r ∷ rest) n (inl h) = inl (go (log_disk r.state) h) where
-          go : (o : Option D) → RisenIf taken faults old (r.name, o) → RisenIf taken faults mid (r.name, o)
-          go (Some x) less = subst (λ (k : ℕ). k < faults x) (sym (p.others r.name (λ e. n.0 (sym e))).same_taken) less
+        later_ones (r ∷ rest) n (inl h) = inl (go r.1 h) where
+          go : (o : Option D) → RisenIf taken faults old (r.0, o) → RisenIf taken faults mid (r.0, o)
+          go (Some x) less = subst (λ (k : ℕ). k < faults x) (sym (p.others r.0 (λ same. n.0 (sym same))).same_taken) less
           go None less = absurd less
         later_ones (r ∷ rest) n (inr h) = inr (later_ones rest n.1 h)
 
-    pub puts_more : (slots : List (LogSlot D)) (s : LogSlot D) (old mid new : B) (d : D) → PutsAll slots old mid → log_disk s.state ≡ Some d
-        → Puts s.name d mid new → PutsAll (slots ++ s ∷ []) old new
-    puts_more [] s old mid new d is has p = (d, new, has, subst (λ (b : B). Puts s.name d b new) is p, refl)
-    puts_more (r ∷ slots) s old mid new d (e, next, had, q, more) has p = (e, next, had, q, puts_more slots s next mid new d more has p)
-
-    -- as a loop puts them back
-    pub record Putting (all yielded rest : List (LogSlot D)) (old now : B) : Type 0 where
-      pub parts : all ≡ yielded ++ rest
-      pub puts : PutsAll yielded old now
-
-    names_of_both : (xs ys : List (LogSlot D)) → slot_names (xs ++ ys) ≡ slot_names xs ++ slot_names ys
-    names_of_both [] ys = refl
-    names_of_both (x ∷ xs) ys = ap (λ (l : List (List ℕ)). x.name ∷ l) (names_of_both xs ys)
-
-    held_behind : (xs ys : List (LogSlot D)) → AreHeldLogs (xs ++ ys) → AreHeldLogs ys
-    held_behind [] ys h = h
-    held_behind (x ∷ xs) ys h = held_behind xs ys h.1
-
-    one_behind : (xs : List (LogSlot D)) (s : LogSlot D) (ys : List (LogSlot D)) → IsOneOf (slot_names (xs ++ s ∷ ys)) s.name
-    one_behind [] s ys = inl refl
-    one_behind (x ∷ xs) s ys = inr (one_behind xs s ys)
-
-    module _ (all yielded rest more : List (LogSlot D)) (s : LogSlot D) (old now : B) (p : Putting all yielded rest old now) (is : rest ≡ s ∷ more) where
-      split : all ≡ yielded ++ s ∷ more
-      split = p.parts ∙ ap (λ (l : List (LogSlot D)). yielded ++ l) is
-
-      pub putting_held : AreHeldLogs all → IsHeldState s.state
-      putting_held h = (held_behind yielded (s ∷ more) (subst AreHeldLogs split h)).0
-
-      pub putting_out : AreDistinct (slot_names all) → ((name : List ℕ) → IsOneOf (slot_names all) name → out old name ≡ true) → out now s.name ≡ true
-      putting_out distinct outs =
-          (puts_others yielded old now p.puts s.name
-          (apart_from (slot_names yielded) (slot_names (s ∷ more)) s.name (subst AreDistinct (ap slot_names split ∙ names_of_both yielded (s ∷ more)) distinct) (inl refl))).same_out
-          ∙ outs s.name (subst (λ (l : List (LogSlot D)). IsOneOf (slot_names l) s.name) (sym split) (one_behind yielded s more))
-
-      pub putting_on : (d : D) (new : B) → log_disk s.state ≡ Some d → Puts s.name d now new → Putting all (yielded ++ s ∷ []) more old new
-      putting_on d new has put = record {
-        parts = split ∙ sym (append_assoc yielded (s ∷ []) more);
-        puts = puts_more yielded s old now new d p.puts has put;
-      }
-
-  -- ---- disks that are taken
-
-  module _ (content : D → Option (List ℕ)) (image : D → List ℕ → Type 0) (starved : D → Bool) (faults : D → ℕ)
-      (losses : D → List (ℕ × List ℕ)) (arms : D → ℕ) (armed : D → Armed) where
-    abbrev Takes : List ℕ → B → LogSlot D → B → Type 0
-    Takes name old slot new = TakesLog disk out taken steady bay_faults content image starved faults losses arms armed name old slot new
-
-    abbrev TakesAll : List (List ℕ) → B → List (LogSlot D) → B → Type 0
-    TakesAll names old slots new = TakesLogs disk out taken steady bay_faults content image starved faults losses arms armed names old slots new
-
-    pub takes_names : (names : List (List ℕ)) (old : B) (slots : List (LogSlot D)) (new : B) → TakesAll names old slots new → slot_names slots ≡ names
-    takes_names [] old [] new t = refl
-    takes_names [] old (s ∷ slots) new t = absurd t
-    takes_names (n ∷ names) old [] new t = absurd t
-    takes_names (n ∷ names) old (s ∷ slots) new (mid, one, more) = λ i. one.name_is i ∷ takes_names names mid slots new more i
-
-    pub takes_moves : (names : List (List ℕ)) (old : B) (slots : List (LogSlot D)) (new : B) → TakesAll names old slots new → Moves disk steady bay_faults old new
-    takes_moves [] old [] new t = subst (λ (b : B). Moves disk steady bay_faults old b) (sym t) (moves_same old)
-    takes_moves [] old (s ∷ slots) new t = absurd t
-    takes_moves (n ∷ names) old [] new t = absurd t
-    takes_moves (n ∷ names) old (s ∷ slots) new (mid, one, more) = moves_then old mid new one.moves (takes_moves names mid slots new more)
-
-    pub takes_others : (names : List (List ℕ)) (old : B) (slots : List (LogSlot D)) (new : B) → TakesAll names old slots new → (m : List ℕ) → NotIn names m
-        → SameSlot disk out taken m old new
-    takes_others [] old [] new t m n = subst (λ (b : B). SameSlot disk out taken m old b) (sym t) (record { same_disk = refl; same_out = refl; same_taken = refl })
-    takes_others [] old (s ∷ slots) new t m n = absurd t
-    takes_others (k ∷ names) old [] new t m n = absurd t
-    takes_others (k ∷ names) old (s ∷ slots) new (mid, one, more) m n =
-        let a = one.others m n.0 in
-        let b = takes_others names mid slots new more m n.1 in
-        record { same_disk = b.same_disk ∙ a.same_disk; same_out = b.same_out ∙ a.same_out; same_taken = b.same_taken ∙ a.same_taken }
-
-    pub takes_out : (names : List (List ℕ)) (old : B) (slots : List (LogSlot D)) (new : B) → AreDistinct names → TakesAll names old slots new
-        → (m : List ℕ) → IsOneOf names m → out new m ≡ true
-    takes_out [] old slots new d t m one = absurd one
-    takes_out (n ∷ names) old [] new d t m one = absurd t
-    takes_out (n ∷ names) old (s ∷ slots) new d (mid, first, more) m (inl e) =
-        subst (λ (k : List ℕ). out new k ≡ true) (sym e) ((takes_others names mid slots new more n d.0).same_out ∙ first.is_out)
-    takes_out (n ∷ names) old (s ∷ slots) new d (mid, first, more) m (inr one) = takes_out names mid slots new d.1 more m one
-
-    pub takes_more : (names : List (List ℕ)) (old : B) (slots : List (LogSlot D)) (mid : B) (n : List ℕ) (s : LogSlot D) (new : B)
-        → TakesAll names old slots mid → Takes n mid s new → TakesAll (names ++ n ∷ []) old (slots ++ s ∷ []) new
-    takes_more [] old [] mid n s new t one = (new, subst (λ (b : B). Takes n b s new) t one, refl)
-    takes_more [] old (r ∷ slots) mid n s new t one = absurd t
-    takes_more (k ∷ names) old [] mid n s new t one = absurd t
-    takes_more (k ∷ names) old (r ∷ slots) mid n s new (next, first, more) one = (next, first, takes_more names next slots mid n s new more one)
-
-    -- each slot, by the bay at the beginning and in the end
-    pub record IsTakenSlot (old new : B) (slot : LogSlot D) : Type 0 where
-      pub log_is : LogParts D
-      pub is_open : slot.state ≡ log.Open log_is
-      pub given : D
-      pub as_told : IsAsTold (disk old slot.name) given
-      pub noted : taken new slot.name ≡ faults given
-      pub counted : faults given ≤ faults log_is.journal.disk
-      pub opens : (c : List ℕ) → content given ≡ Some c → IsOpenedLog content image starved faults losses arms armed given c log_is
-
-    first_slot : (n : List ℕ) (old : B) (s : LogSlot D) (mid new : B) → Takes n old s mid → SameSlot disk out taken n mid new → IsTakenSlot old new s
-    first_slot n old s mid new one same = record {
-      log_is = one.log_is;
-      is_open = one.is_open;
-      given = one.given;
-      as_told = λ d told. one.as_told d (ap (disk old) (sym one.name_is) ∙ told);
-      noted = ap (taken new) one.name_is ∙ same.same_taken ∙ one.noted;
-      counted = one.counted;
-      opens = one.opens;
-    }
-
-    later_slots : (n : List ℕ) (old mid new : B) → Others n old mid → (slots : List (LogSlot D)) → NotIn (slot_names slots) n
-        → AllByRecursion (IsTakenSlot mid new) slots → AllByRecursion (IsTakenSlot old new) slots
-    later_slots n old mid new others [] away all = tt
-    later_slots n old mid new others (s ∷ slots) away all = (
-      record {
-        log_is = all.0.log_is;
-        is_open = all.0.is_open;
-        given = all.0.given;
-        as_told = λ d told. all.0.as_told d ((others s.name (λ e. away.0 (sym e))).same_disk ∙ told);
-        noted = all.0.noted;
-        counted = all.0.counted;
-        opens = all.0.opens;
-      },
-      later_slots n old mid new others slots away.1 all.1,
-    )
-
-    pub takes_slots : (names : List (List ℕ)) (old : B) (slots : List (LogSlot D)) (new : B) → AreDistinct names → TakesAll names old slots new
-        → AllByRecursion (IsTakenSlot old new) slots
-    takes_slots [] old [] new d t = tt
-    takes_slots [] old (s ∷ slots) new d t = absurd t
-    takes_slots (n ∷ names) old [] new d t = absurd t
-    takes_slots (n ∷ names) old (s ∷ slots) new d (mid, one, more) = (
-      first_slot n old s mid new one (takes_others names mid slots new more n d.0),
-      later_slots n old mid new one.others slots (subst (λ (l : List (List ℕ)). NotIn l n) (sym (takes_names names mid slots new more)) d.0)
-          (takes_slots names mid slots new d.1 more),
-    )
-
-    pub takes_held : (names : List (List ℕ)) (old : B) (slots : List (LogSlot D)) (new : B) → TakesAll names old slots new → AreHeldLogs slots
-    takes_held [] old [] new t = tt
-    takes_held [] old (s ∷ slots) new t = absurd t
-    takes_held (n ∷ names) old [] new t = absurd t
-    takes_held (n ∷ names) old (s ∷ slots) new (mid, one, more) =
-        (subst (λ (st : LogState D). IsHeldState st) (sym one.is_open) tt, takes_held names mid slots new more)
-
-    -- as a loop takes them
-    pub record Going (all yielded rest : List (List ℕ)) (old : B) (slots : List (LogSlot D)) (now : B) : Type 0 where
-      pub parts : all ≡ yielded ++ rest
-      pub takes : TakesAll yielded old slots now
-
-    module _ (all yielded rest more : List (List ℕ)) (name : List ℕ) (old : B) (slots : List (LogSlot D)) (now : B) (p : Going all yielded rest old slots now)
-        (is : rest ≡ name ∷ more) where
-      pub going_split : all ≡ yielded ++ name ∷ more
-      going_split = p.parts ∙ ap (λ (l : List (List ℕ)). yielded ++ l) is
-
-      pub going_apart : AreDistinct all → NotIn yielded name
-      going_apart distinct = apart_from yielded (name ∷ more) name (subst AreDistinct going_split distinct) (inl refl)
-
-      pub going_in : AreDistinct all → out old name ≡ false → out now name ≡ false
-      going_in distinct at = (takes_others yielded old slots now p.takes name (going_apart distinct)).same_out ∙ at
-
-      pub going_on : (s : LogSlot D) (new : B) (next : List (LogSlot D)) → Takes name now s new → next ≡ slots ++ s ∷ []
-          → Going all (yielded ++ name ∷ []) more old next new
-      going_on s new next one pushed = record {
-        parts = going_split ∙ sym (append_assoc yielded (name ∷ []) more);
-        takes = subst (λ (l : List (LogSlot D)). TakesAll (yielded ++ name ∷ []) old l new) (sym pushed) (takes_more yielded old slots now name s new p.takes one);
-      }
-
-      pub going_distinct : AreDistinct all → AreDistinct (slot_names slots)
-      going_distinct distinct = subst AreDistinct (sym (takes_names yielded old slots now p.takes))
-          (distinct_front yielded (name ∷ more) (subst AreDistinct going_split distinct))
-
-      -- those before it are still out after a refusal
-      pub going_out : AreDistinct all → (behind : B) → Others name now behind → (m : List ℕ) → IsOneOf (slot_names slots) m → out behind m ≡ true
-      going_out distinct behind others m one =
-          let among_them = subst (λ (l : List (List ℕ)). IsOneOf l m) (takes_names yielded old slots now p.takes) one in
-          (others m (λ e. not_both yielded name (going_apart distinct) (subst (λ (n : List ℕ). IsOneOf yielded n) e among_them))).same_out
-          ∙ takes_out yielded old slots now (distinct_front yielded (name ∷ more) (subst AreDistinct going_split distinct)) p.takes m among_them
-
-    pub going_all : (all yielded rest : List (List ℕ)) (old : B) (slots : List (LogSlot D)) (now : B) → Going all yielded rest old slots now → rest ≡ []
-        → TakesAll all old slots now
-    going_all all yielded rest old slots now p is =
-        subst (λ (l : List (List ℕ)). TakesAll l old slots now) (sym (p.parts ∙ ap (λ (l : List (List ℕ)). yielded ++ l) is ∙ append-nil yielded)) p.takes
+    -- these, and then those
+    pub puts_then : (xs ys : List (List ℕ × Option D)) (old mid new : B) → PutAll xs old mid → PutAll ys mid new → PutAll (xs ++ ys) old new
+    puts_then [] ys old mid new is more = subst (λ (b : B). PutAll ys b new) is more
+    puts_then (x ∷ xs) ys old mid new (d, next, has, p, front) more = (d, next, has, p, puts_then xs ys next mid new front more)

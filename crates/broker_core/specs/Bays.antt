@@ -1,5 +1,5 @@
 -- The broker's disks in a bay, and what a start makes of them. This project's own.
--- For example a fresh bay in memory tells empty disks, which stand for logs of no batches and no keys.
+-- For example a fresh bay in memory tells empty disks, which stand for logs of no batches, no tables and no keys.
 use Rattle.std.specs.Prelude.{◌≡◌, ◌≤◌, ◌<◌, ◌-◌, ◌^◌, ◌⊎◌, ℕ, List, [], ◌∷◌, Bool, true, false, Some, None, is_some}
 use Rattle.std.specs.List.{AllByRecursion}
 use Rattle.std.specs.declared.option.Option.{Option}
@@ -7,9 +7,9 @@ use Rattle.edge_io.specs.declared.fault.Armed.{Armed}
 use Rattle.edge_io.specs.Bays.{IsAsTold, Holds}
 use Rattle.share_model.specs.ForeignRules.{ShareStates}
 use Rattle.share_model.specs.Logs.{Batch}
-use Rattle.part_log.specs.Logs.{IsLogText}
+use Rattle.share_part.specs.Hosting.{ArePartText}
 use Rattle.topic_conf.specs.Configs.{ConfigParts}
-use Rattle.broker_model.specs.Hosted.{IsOneOf, IsTaken, log_names, state_a, state_b}
+use Rattle.broker_model.specs.Hosted.{Hosted, IsOneOf, IsTaken, first_of, hosted_of, log_of, second_of, state_a, state_b}
 use Rattle.broker_model.specs.Machine.{Opening, StandForStates}
 use Rattle.broker_model.specs.Disks.{Disks, facts_of}
 use Rattle.broker_model.specs.States.{State}
@@ -29,9 +29,14 @@ pub record IsFirst (conf : ConfigParts) (contents : List ℕ → List ℕ) (was 
   pub opens : Opening conf contents first.machine
   pub disks : (name : List ℕ) → IsTaken conf name → IsOpenedDisk (was name) (first.disks name)
 
--- contents that stand for logs and states
+-- the contents of a partition's three disks, by their names, stand for a log and tables
+abbrev pub StandsForTables : (List ℕ → List ℕ) → Hosted → Type 0
+StandsForTables contents h = (batches : List Batch) × (states : ShareStates)
+    × ArePartText h.conf (contents (log_of h)) (contents (first_of h)) (contents (second_of h)) batches states
+
+-- contents that stand for a log and tables of each hosted partition, and for foreign state
 pub record StandForAll (conf : ConfigParts) (contents : List ℕ → List ℕ) : Type 0 where
-  pub logs : (name : List ℕ) → IsOneOf (log_names conf.topics) name → (batches : List Batch) × IsLogText (contents name) batches
+  pub parts : AllByRecursion (StandsForTables contents) (hosted_of conf)
   pub states : ShareStates
   pub stand : StandForStates (contents state_a) (contents state_b) states
 
@@ -71,8 +76,8 @@ HasName (e ∷ es) name = (name ≡ e.0) ⊎ HasName es name
 
 pub record AreTakenFrom {B D : Type 0} (disk : B → List ℕ → Option D) (taken : B → List ℕ → ℕ) (faults : D → ℕ) (conf : ConfigParts) (old new : B)
     (left : LeftDisks D) : Type 0 where
-  pub logs : AllByRecursion (TakenIf disk taken faults old new) left.logs
-  pub names : (name : List ℕ) → HasName left.logs name → IsTaken conf name
+  pub parts : AllByRecursion (TakenIf disk taken faults old new) left.parts
+  pub names : (name : List ℕ) → HasName left.parts name → IsTaken conf name
   pub foreign : BothTaken disk taken faults old new left.foreign
 
 -- The count of a disk that the bay hands out stands at its last value. It is the one that the bay tells, where it tells one.
@@ -83,9 +88,9 @@ abbrev pub RisenIf : {B D : Type 0} → (B → List ℕ → ℕ) → (D → ℕ)
 RisenIf taken faults bay (name, None) = ⊥
 RisenIf taken faults bay (name, Some d) = taken bay name < faults d
 
-abbrev pub LogRisen : {B D : Type 0} → (B → List ℕ → ℕ) → (D → ℕ) → B → List (List ℕ × Option D) → Type 0
-LogRisen taken faults bay [] = ⊥
-LogRisen taken faults bay (e ∷ es) = RisenIf taken faults bay e ⊎ LogRisen taken faults bay es
+abbrev pub OneRisen : {B D : Type 0} → (B → List ℕ → ℕ) → (D → ℕ) → B → List (List ℕ × Option D) → Type 0
+OneRisen taken faults bay [] = ⊥
+OneRisen taken faults bay (e ∷ es) = RisenIf taken faults bay e ⊎ OneRisen taken faults bay es
 
 abbrev pub BothRisen : {B D : Type 0} → (B → List ℕ → ℕ) → (D → ℕ) → B → Option (D × D) → Type 0
 BothRisen taken faults bay None = ⊥
@@ -93,7 +98,7 @@ BothRisen taken faults bay (Some disks) = (taken bay state_a < faults disks.0) �
 
 -- one of the disks has a greater count than that with which it was taken
 abbrev pub HasRisen : {B D : Type 0} → (B → List ℕ → ℕ) → (D → ℕ) → B → LeftDisks D → Type 0
-HasRisen taken faults bay left = LogRisen taken faults bay left.logs ⊎ BothRisen taken faults bay left.foreign
+HasRisen taken faults bay left = OneRisen taken faults bay left.parts ⊎ BothRisen taken faults bay left.foreign
 
 -- ---- disks that were put back
 
@@ -106,5 +111,5 @@ BothHold disk old new None = ⊥
 BothHold disk old new (Some disks) = Holds (disk old state_a) (disk new state_a) disks.0 × Holds (disk old state_b) (disk new state_b) disks.1
 
 pub record ArePutBack {B D : Type 0} (disk : B → List ℕ → Option D) (old new : B) (left : LeftDisks D) : Type 0 where
-  pub logs : AllByRecursion (HoldsIf disk old new) left.logs
+  pub parts : AllByRecursion (HoldsIf disk old new) left.parts
   pub foreign : BothHold disk old new left.foreign

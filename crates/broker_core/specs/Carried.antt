@@ -1,39 +1,53 @@
 -- How a shard in memory and on its disks stands for the machine's, and what a call makes of both. This project's own.
 -- For example a store of no keys whose write of `g1` failed at its last sync stands for a shard of no keys with the state of `g1` pending,
--- and a log whose append of a batch failed so for a log with that batch pending.
+-- and a partition whose append of a batch failed so for one with that batch pending.
 use Rattle.std.specs.Prelude.{◌≡◌, ◌≤◌, ◌⊎◌, ℕ, List, Bool, false, is_some, if◌then◌else◌}
 use Rattle.std.specs.declared.option.Option.{Option}
 use Rattle.edge_io.specs.declared.fault.Armed.{Armed}
 use Rattle.edge_io.specs.Causes.{Rose}
 use Rattle.edge_io.specs.Disk.{IsTold}
+use Rattle.share_model.specs.ForeignRules.{share_state_at}
+use Rattle.share_model.specs.Held.{Held}
 use Rattle.share_model.specs.declared.fault.StoreFault.{StoreFault}
 use Rattle.share_model.specs.declared.foreign.ForeignAnswer.{ForeignAnswer}
 use Rattle.share_model.specs.declared.foreign.ForeignOp.{ForeignOp}
+use Rattle.share_model.specs.declared.visit.AckOutcome.{AckOutcome}
+use Rattle.share_model.specs.declared.visit.Visit.{Visit}
 use Rattle.share_coord.specs.Parts.{StoreParts}
-use Rattle.foreign_coord.specs.Shards.{ForeignShardState, Carries, StepsForeign}
-use Rattle.part_log.specs.Logs.{LogParts}
-use Rattle.part_log.specs.Shards.{LogShardState, CarriesLog, StepsLog}
-use Rattle.call_fold.specs.declared.part.Produced.{Produced}
+use Rattle.foreign_coord.specs.Shards.{ForeignShardState, Carries as CarriesForeign, StepsForeign}
+use Rattle.window_rows.specs.Windows.{WindowParts}
+use Rattle.share_part.specs.Expiring.{ExpiresPart, StepsExpire}
+use Rattle.share_part.specs.Hosting.{PartConfParts, key_of}
+use Rattle.share_part.specs.Shards.{PartParts, PartShardState, Carries, StepsProduce}
+use Rattle.share_part.specs.Visits.{StepsAcks, StepsVisit}
 use Rattle.broker_model.specs.Hosted.{state_a, same_name}
-use Rattle.broker_model.specs.Shards.{result_of}
+use Rattle.broker_model.specs.Shards.{PartCall, look_at, result_of}
+use Rattle.broker_model.specs.Shards.PartCall.{Visits, Produces, Looks, Expires}
 use Rattle.broker_model.specs.Disks.{Disks, IsUsed, facts_of}
+
+-- ---- one disk
+
+-- it tells its content, and has found memory at each call; the members of the disk come first
+pub record IsFed {D : Type 0} (content : D → Option (List ℕ)) (starved : D → Bool) (disk : D) : Type 0 where
+  pub told : IsTold (content disk)
+  pub fed : starved disk ≡ false
+
+-- a disk over calls: its count of faults doesn't fall, and it tells its content where it did
+pub record GoesOn {D : Type 0} (content : D → Option (List ℕ)) (faults : D → ℕ) (old new : D) : Type 0 where
+  pub later : faults old ≤ faults new
+  pub told : is_some (content new) ≡ is_some (content old)
+
+-- ---- foreign state
 
 -- A store on disks that tell their contents and have found memory at each call stands for this shard. The members of the disk come
 -- first.
 pub record IsCarried {D : Type 0} (content : D → Option (List ℕ)) (image : D → List ℕ → Type 0) (starved : D → Bool)
     (store : StoreParts D) (shard : ForeignShardState) : Type 0 where
-  pub carries : Carries image store shard
+  pub carries : CarriesForeign image store shard
   pub told : IsTold (content store.journal.live.disk)
   pub second_told : IsTold (content store.journal.idle)
   pub fed : starved store.journal.live.disk ≡ false
   pub second_fed : starved store.journal.idle ≡ false
-
--- so does a log
-pub record IsLogCarried {D : Type 0} (content : D → Option (List ℕ)) (image : D → List ℕ → Type 0) (starved : D → Bool)
-    (log : LogParts D) (shard : LogShardState) : Type 0 where
-  pub carries : CarriesLog image log shard
-  pub told : IsTold (content log.journal.disk)
-  pub fed : starved log.journal.disk ≡ false
 
 -- what the first and the second disk have, by the name
 abbrev pub by_name : {A : Type 0} → A → A → List ℕ → A
@@ -47,13 +61,6 @@ facts_by faults losses arms armed first second name = record {
   arms = by_name (arms first) (arms second) name;
   armed = by_name (armed first) (armed second) name;
 }
-
--- a disk over calls: its count of faults doesn't fall, and it tells its content where it did
-pub record GoesOn {D : Type 0} (content : D → Option (List ℕ)) (faults : D → ℕ) (old new : D) : Type 0 where
-  pub later : faults old ≤ faults new
-  pub told : is_some (content new) ≡ is_some (content old)
-
--- ---- calls on foreign state
 
 -- from the shard that the store stood for, it stands for one now to which this call led
 pub record LeadsForeign {D : Type 0} (content : D → Option (List ℕ)) (image : D → List ℕ → Type 0) (starved : D → Bool)
@@ -69,26 +76,93 @@ pub record LeadsForeign {D : Type 0} (content : D → Option (List ℕ)) (image 
 pub record HaltsForeign {D : Type 0} (content : D → Option (List ℕ)) (image : D → List ℕ → Type 0) (faults : D → ℕ)
     (old : StoreParts D) (shard : ForeignShardState) (new : StoreParts D) (op : ForeignOp) : Type 0 where
   pub after : ForeignShardState
-  pub carries : Carries image new after
+  pub carries : CarriesForeign image new after
   pub does : (after ≡ shard) ⊎ ((answer : ForeignAnswer) × (fault : Option StoreFault)
       × StepsForeign (Rose (faults old.journal.live.disk) (faults new.journal.live.disk)) old.journal.live.end shard op answer fault after)
   pub told : IsTold (content new.journal.live.disk)
   pub second_told : IsTold (content new.journal.idle)
 
--- ---- batches for a log
+-- ---- hosted partitions
 
-pub record LeadsLog {D : Type 0} (content : D → Option (List ℕ)) (image : D → List ℕ → Type 0) (starved : D → Bool)
-    (faults : D → ℕ) (losses : D → List (ℕ × List ℕ)) (arms : D → ℕ) (armed : D → Armed) (old : LogParts D) (shard : LogShardState)
-    (new : LogParts D) (batch : List ℕ) (produced : Produced) : Type 0 where
-  pub after : LogShardState
-  pub carried : IsLogCarried content image starved new after
-  pub step : StepsLog (Rose (faults old.journal.disk) (faults new.journal.disk)) old.journal.end shard batch (result_of produced) after
-  pub used : IsUsed (facts_of faults losses arms armed old.journal.disk) (facts_of faults losses arms armed new.journal.disk)
+-- the shard of a partition in memory
+abbrev pub OpenPart : Type 0 → Type 0
+OpenPart D = PartParts D WindowParts
 
-pub record HaltsLog {D : Type 0} (content : D → Option (List ℕ)) (image : D → List ℕ → Type 0) (faults : D → ℕ)
-    (old : LogParts D) (shard : LogShardState) (new : LogParts D) (batch : List ℕ) : Type 0 where
-  pub after : LogShardState
-  pub carries : CarriesLog image new after
-  pub does : (after ≡ shard) ⊎ ((produced : Produced)
-      × StepsLog (Rose (faults old.journal.disk) (faults new.journal.disk)) old.journal.end shard batch (result_of produced) after)
-  pub told : IsTold (content new.journal.disk)
+abbrev pub holding : WindowParts → Held
+holding window = window.held
+
+-- A partition's shard of this configuration, on disks that tell their contents and have found memory at each call, stands for this one.
+pub record IsPartCarried {D : Type 0} (content : D → Option (List ℕ)) (image : D → List ℕ → Type 0) (starved : D → Bool)
+    (conf : PartConfParts) (part : OpenPart D) (shard : PartShardState) : Type 0 where
+  pub conf_is : part.conf ≡ conf
+  pub carries : Carries image holding part shard
+  pub log : IsFed content starved part.log.journal.disk
+  pub first : IsFed content starved part.states.journal.live.disk
+  pub second : IsFed content starved part.states.journal.idle
+
+-- its three disks go on
+pub record PartGoesOn {D : Type 0} (content : D → Option (List ℕ)) (faults : D → ℕ) (old new : OpenPart D) : Type 0 where
+  pub log : GoesOn content faults old.log.journal.disk new.log.journal.disk
+  pub first : GoesOn content faults old.states.journal.live.disk new.states.journal.live.disk
+  pub second : GoesOn content faults old.states.journal.idle new.states.journal.idle
+
+-- The shard takes the step of this call, by the counts of its own disks and the ends of its own journals.
+abbrev pub StepsOn : {D : Type 0} → (D → ℕ) → PartConfParts → OpenPart D → OpenPart D → (now : ℕ) → PartShardState → PartCall → PartShardState → Type 0
+StepsOn faults conf old new now shard (Visits visit answer) after =
+    StepsVisit conf (faults old.states.journal.live.disk) (faults new.states.journal.live.disk) old.states.journal.live.end shard now visit answer after
+StepsOn faults conf old new now shard (Produces batch produced) after =
+    StepsProduce (Rose (faults old.log.journal.disk) (faults new.log.journal.disk)) old.log.journal.end shard now batch (result_of produced) after
+StepsOn faults conf old new now shard (Looks group looked) after =
+    (looked ≡ look_at (share_state_at shard.states (key_of conf group))) × (after ≡ shard)
+StepsOn faults conf old new now shard (Expires answer) after =
+    StepsExpire conf (faults old.states.journal.live.disk) (faults new.states.journal.live.disk) old.states.journal.live.end shard now answer after
+
+-- a visit and an expiry use the first disk of the states alone, a batch that of the log, and a look none
+pub record UsesStates {D : Type 0} (faults : D → ℕ) (losses : D → List (ℕ × List ℕ)) (arms : D → ℕ) (armed : D → Armed) (old new : OpenPart D) : Type 0 where
+  pub used : IsUsed (facts_of faults losses arms armed old.states.journal.live.disk) (facts_of faults losses arms armed new.states.journal.live.disk)
+  pub log : new.log ≡ old.log
+  pub second : new.states.journal.idle ≡ old.states.journal.idle
+
+pub record UsesLog {D : Type 0} (faults : D → ℕ) (losses : D → List (ℕ × List ℕ)) (arms : D → ℕ) (armed : D → Armed) (old new : OpenPart D) : Type 0 where
+  pub used : IsUsed (facts_of faults losses arms armed old.log.journal.disk) (facts_of faults losses arms armed new.log.journal.disk)
+  pub states : new.states ≡ old.states
+
+abbrev pub Uses : {D : Type 0} → (D → ℕ) → (D → List (ℕ × List ℕ)) → (D → ℕ) → (D → Armed) → OpenPart D → OpenPart D → PartCall → Type 0
+Uses faults losses arms armed old new (Visits visit answer) = UsesStates faults losses arms armed old new
+Uses faults losses arms armed old new (Produces batch produced) = UsesLog faults losses arms armed old new
+Uses faults losses arms armed old new (Looks group looked) = new ≡ old
+Uses faults losses arms armed old new (Expires answer) = UsesStates faults losses arms armed old new
+
+-- from the shard that it stood for, it stands for one now to which this call led
+pub record LeadsPart {D : Type 0} (content : D → Option (List ℕ)) (image : D → List ℕ → Type 0) (starved : D → Bool)
+    (faults : D → ℕ) (losses : D → List (ℕ × List ℕ)) (arms : D → ℕ) (armed : D → Armed) (conf : PartConfParts) (now : ℕ) (did : PartCall)
+    (old : OpenPart D) (shard : PartShardState) (new : OpenPart D) : Type 0 where
+  pub after : PartShardState
+  pub carried : IsPartCarried content image starved conf new after
+  pub step : StepsOn faults conf old new now shard did after
+  pub used : Uses faults losses arms armed old new did
+
+-- a call that makes several writes, between two of which memory may run out
+pub data Begun : Type 0 where
+  BeginsVisit : (visit : Visit) → Begun
+  BeginsExpiry : Begun
+
+-- It was left between two writes: a visit behind its acknowledgements, an expiry behind some of the groups.
+abbrev pub HalvesOn : {D : Type 0} → (D → ℕ) → PartConfParts → OpenPart D → OpenPart D → (now : ℕ) → PartShardState → Begun → PartShardState → Type 0
+HalvesOn faults conf old new now shard (BeginsVisit visit) after = (ack : AckOutcome) × StepsAcks conf
+    (Rose (faults old.states.journal.live.disk) (faults new.states.journal.live.disk)) old.states.journal.live.end shard visit ack after
+HalvesOn faults conf old new now shard BeginsExpiry after =
+    ExpiresPart conf (faults old.states.journal.live.disk) (faults new.states.journal.live.disk) old.states.journal.live.end shard now after
+
+-- No memory was found: nothing was done in the shard, or such a call was done whole, or left half done. The disks tell their contents
+-- still.
+pub record HaltsPart {D : Type 0} (content : D → Option (List ℕ)) (image : D → List ℕ → Type 0) (faults : D → ℕ) (conf : PartConfParts) (now : ℕ)
+    (Whole : PartCall → Type 0) (Half : Begun → Type 0) (old : OpenPart D) (shard : PartShardState) (new : OpenPart D) : Type 0 where
+  pub after : PartShardState
+  pub conf_is : new.conf ≡ conf
+  pub carries : Carries image holding new after
+  pub does : (after ≡ shard) ⊎ (((did : PartCall) × Whole did × StepsOn faults conf old new now shard did after)
+      ⊎ ((begun : Begun) × Half begun × HalvesOn faults conf old new now shard begun after))
+  pub log_told : IsTold (content new.log.journal.disk)
+  pub first_told : IsTold (content new.states.journal.live.disk)
+  pub second_told : IsTold (content new.states.journal.idle)

@@ -1,21 +1,33 @@
 -- How a broker in memory and on its disks stands for the machine. This project's own.
 -- For example one that was just started stands for the opening of its disks' contents, to which nobody has connected.
-use Rattle.std.specs.Prelude.{◌≡◌, ◌⊎◌, ◌∷◌, ◌++◌, ℕ, List, [], Bool, if◌then◌else◌}
+use Rattle.std.specs.Prelude.{◌≡◌, ◌⊎◌, ◌≤◌, ◌^◌, ◌∷◌, ◌++◌, ℕ, List, [], Bool, if◌then◌else◌}
 use Rattle.std.specs.List.{AllByRecursion}
 use Rattle.edge_io.specs.declared.fault.FaultMode.{FaultMode}
 use Rattle.std.specs.declared.option.Option.{Option}
 use Rattle.edge_io.specs.declared.fault.Armed.{Armed}
 use Rattle.session_script.specs.declared.event.Event.{Event}
+use Rattle.session_script.specs.declared.event.Event.TheVariants.{Open, Bytes, Close, Step, Expire, Tick, Arm, Power}
 use Rattle.session_script.specs.declared.event.Outcome.{Outcome}
 use Rattle.topic_conf.specs.Configs.{ConfigParts}
 use Rattle.conn_core.specs.Conns.{ConnParts}
-use Rattle.broker_model.specs.Hosted.{IsOneOf, log_names, same_name, state_a, state_b}
-use Rattle.broker_model.specs.Shards.{Shards, ShardCall}
-use Rattle.broker_model.specs.Machine.{Machine, OpensLog, StandForStates, LandAll}
+use Rattle.broker_model.specs.Hosted.{IsOneOf, hosted_of, same_name, state_a, state_b}
+use Rattle.broker_model.specs.Shards.{Counts, Shards, ShardCall}
+use Rattle.broker_model.specs.Machine.{Machine, OpensPart, StandForStates, LandAll}
 use Rattle.broker_model.specs.Disks.{IsRestarted, with_arm}
-use Rattle.broker_model.specs.Steps.{StepsTo}
+use Rattle.broker_model.specs.Steps.{StepsTo, StopsWithin}
 use Rattle.broker_model.specs.States.{State, IsStep}
-use Rattle.broker_core.specs.Hosts.{HostsParts, AreCarried, AreHeld, AreApart, StandStill, all_names, disks_in, ends_in, facts_in, rose_in, slot_names}
+use Rattle.broker_core.specs.Hosts.{HostsParts, AreCarried, AreHeld, AreApart, AreNamed, StandStill, all_names, counts_in, disks_in, ends_in, facts_in, hosted_slots}
+
+-- moments are at most 2^62 milliseconds
+abbrev pub HasMoment : Event → Type 0
+HasMoment (Open conn) = Unit {0}
+HasMoment (Bytes conn bytes) = Unit {0}
+HasMoment (Close conn) = Unit {0}
+HasMoment (Step conn now) = now ≤ 2 ^ 62
+HasMoment (Expire topic part now) = now ≤ 2 ^ 62
+HasMoment (Tick now) = now ≤ 2 ^ 62
+HasMoment (Arm disk after mode) = Unit {0}
+HasMoment (Power choice) = Unit {0}
 
 -- a broker as its callers see it: its configuration, who is connected, and the shards
 pub record CoreParts (D : Type 0) : Type 0 where
@@ -26,18 +38,20 @@ pub record CoreParts (D : Type 0) : Type 0 where
 abbrev pub core_of : {D : Type 0} → ConfigParts → List (ℕ × ConnParts) → HostsParts D → CoreParts D
 core_of conf connections hosts = record { conf = conf; connections = connections; hosts = hosts }
 
--- it has the logs of its configuration, each shard has its disks, and no two of these have one name
+-- it has the partitions and the topics of its configuration, each shard has its disks, and no two of these have one name
 pub record IsWhole {D : Type 0} (core : CoreParts D) : Type 0 where
   pub held : AreHeld core.hosts
-  pub hosts : slot_names core.hosts.logs ≡ log_names core.conf.topics
+  pub hosts : hosted_slots core.hosts.parts ≡ hosted_of core.conf
+  pub topics : core.hosts.members.topics ≡ core.conf.topics
   pub apart : AreApart core.hosts
+  pub named : AreNamed (hosted_slots core.hosts.parts)
 
 -- A fault of the disk of this name was armed, if it is one of these, and nothing else has changed.
 pub record IsArmed {D : Type 0} (content : D → Option (List ℕ)) (image : D → List ℕ → Type 0) (starved : D → Bool) (faults : D → ℕ)
     (losses : D → List (ℕ × List ℕ)) (arms : D → ℕ) (armed : D → Armed) (disk : List ℕ) (passes : ℕ) (mode : FaultMode) (old : HostsParts D)
     (shards : Shards) (new : HostsParts D) : Type 0 where
   pub carried : AreCarried content image starved new shards
-  pub disks : (name : List ℕ) → IsOneOf (all_names (slot_names old.logs)) name → facts_in faults losses arms armed (disks_in new) name
+  pub disks : (name : List ℕ) → IsOneOf (all_names (hosted_slots old.parts)) name → facts_in faults losses arms armed (disks_in new) name
       ≡ (if same_name disk name then with_arm passes mode (facts_in faults losses arms armed (disks_in old) name)
       else facts_in faults losses arms armed (disks_in old) name)
   pub ends : (name : List ℕ) → ends_in new name ≡ ends_in old name
@@ -50,11 +64,11 @@ pub record AreReopened {D : Type 0} (content : D → Option (List ℕ)) (image :
   pub contents : List ℕ → List ℕ
   pub carried : AreCarried content image starved new after
   pub lands : LandAll shards after
-  pub logs : AllByRecursion (OpensLog contents) after.logs
+  pub parts : AllByRecursion (OpensPart contents) after.parts
   pub states : StandForStates (contents state_a) (contents state_b) after.foreign.states
-  pub lost : (name : List ℕ) → IsOneOf (all_names (slot_names old.logs)) name → (facts_in faults losses arms armed (disks_in new) name).losses
+  pub lost : (name : List ℕ) → IsOneOf (all_names (hosted_slots old.parts)) name → (facts_in faults losses arms armed (disks_in new) name).losses
       ≡ (facts_in faults losses arms armed (disks_in old) name).losses ++ (choice, contents name) ∷ []
-  pub disks : (name : List ℕ) → IsOneOf (all_names (slot_names old.logs)) name
+  pub disks : (name : List ℕ) → IsOneOf (all_names (hosted_slots old.parts)) name
       → IsRestarted (facts_in faults losses arms armed (disks_in old) name) (facts_in faults losses arms armed (disks_in new) name)
 
 -- ---- the broker
@@ -79,14 +93,15 @@ Advances content image starved faults losses arms armed old event outcomes new =
 
 -- ---- where no memory was found
 
--- the machine is as before, or one step of the event on
-abbrev pub Reaches : ConfigParts → (List ℕ → Type 0) → (List ℕ → ℕ) → Machine → Event → Machine → Type 0
-Reaches conf rose ends old event new =
-    (new ≡ old) ⊎ ((call : Option ShardCall) × (outcomes : List Outcome) × StepsTo conf rose ends old event call outcomes new)
+-- the machine is as before, or one step of the event on, or in the midst of that step
+abbrev pub Reaches : ConfigParts → Counts → (ends : List ℕ → ℕ) → Machine → Event → Machine → Type 0
+Reaches conf counts ends old event new =
+    (new ≡ old) ⊎ (((call : Option ShardCall) × (outcomes : List Outcome) × StepsTo conf counts ends old event call outcomes new)
+    ⊎ StopsWithin conf counts ends old event new)
 
--- The event was done in the shards, or not at all, and the disks stand for what that left.
+-- The event was done in the shards, or not at all, or in part, and the disks stand for what that left.
 pub record StopsIn {D : Type 0} (content : D → Option (List ℕ)) (image : D → List ℕ → Type 0) (faults : D → ℕ) (losses : D → List (ℕ × List ℕ))
     (arms : D → ℕ) (armed : D → Armed) (old : CoreParts D) (before : Machine) (event : Event) (new : CoreParts D) : Type 0 where
   pub after : Machine
-  pub reaches : Reaches old.conf (rose_in faults losses arms armed (disks_in old.hosts) (disks_in new.hosts)) (ends_in old.hosts) before event after
+  pub reaches : Reaches old.conf (counts_in faults losses arms armed (disks_in old.hosts) (disks_in new.hosts)) (ends_in old.hosts) before event after
   pub still : StandStill content image after.shards (disks_in new.hosts)

@@ -1,40 +1,68 @@
 -- The shards as a broker holds them: how they stand for the machine's, what is known of their disks by name, and what a call makes of
 -- both. This project's own.
--- For example a broker of one partition of `orders` holds the log on `orders/0/log`, and foreign state on its two disks.
-use Rattle.std.specs.Prelude.{◌≡◌, ◌≢◌, ◌⊎◌, ℕ, List, [], ◌∷◌, ◌++◌, Bool, false, Some, None, map, if◌then◌else◌}
-use Rattle.std.specs.List.{AllByRecursion, AllZip}
+-- For example a broker of one partition of `orders` holds its shard on `orders/0/log`, `orders/0/state-a` and `orders/0/state-b`, the
+-- members of all groups in memory, and foreign state on its two disks.
+use Rattle.std.specs.Prelude.{◌≡◌, ◌≢◌, ◌⊎◌, ◌<◌, ℕ, List, [], ◌∷◌, ◌++◌, Bool, false, Some, None, map, if◌then◌else◌}
+use Rattle.std.specs.List.{AllByRecursion, AllZip, flat_map}
 use Rattle.std.specs.declared.option.Option.{Option}
 use Rattle.edge_io.specs.declared.fault.Armed.{Armed}
 use Rattle.edge_io.specs.declared.fault.FaultMode.{FaultMode}
+use Rattle.edge_io.specs.declared.name.DiskPlace.{DiskPlace}
+use Rattle.edge_io.specs.declared.name.DiskPlace.TheVariants.{Log, StateA, StateB}
 use Rattle.edge_io.specs.Armed.{ArmsAlone}
 use Rattle.edge_io.specs.declared.fault.Armed.TheVariants.{Nothing}
 use Rattle.edge_io.specs.Causes.{Rose}
 use Rattle.edge_io.specs.Disk.{IsTold}
+use Rattle.edge_io.specs.Names.{IsTopicName, most_partitions}
 use Rattle.call_fold.specs.declared.part.Part.{Part}
+use Rattle.call_fold.specs.declared.part.Part.TheVariants.{Foreign, Produce, Visit as PartVisit, Look, Heartbeat}
 use Rattle.call_fold.specs.declared.part.PartAnswer.{PartAnswer}
-use Rattle.call_fold.specs.declared.part.Produced.{Produced}
+use Rattle.call_fold.specs.declared.part.PartAnswer.TheVariants.{Foreign as AnswerForeign, Produce as AnswerProduce, Visit as AnswerVisit, Look as AnswerLook, Heartbeat as AnswerHeartbeat}
+use Rattle.conn_core.specs.Conns.{ConnParts}
+use Rattle.conn_core.specs.Turning.{turn}
+use Rattle.conn_core.specs.declared.next.Next.{Next}
+use Rattle.conn_core.specs.declared.next.Next.TheVariants.{Ask}
+use Rattle.session_script.specs.declared.event.Outcome.{Outcome}
+use Rattle.topic_conf.specs.Configs.{ConfigParts}
 use Rattle.foreign_coord.specs.Shards.{ForeignShardState}
-use Rattle.part_log.specs.Logs.{LogParts}
-use Rattle.part_log.specs.Shards.{LogShardState, CarriesLog, IsLogOf}
-use Rattle.broker_model.specs.Hosted.{state_a, state_b, same_name}
-use Rattle.broker_model.specs.Shards.{Shards, ShardCall, NamedLog, StepsShards, calls, part_of, answer_of}
+use Rattle.share_members.specs.Groups.{Memberships}
+use Rattle.share_model.specs.declared.visit.AckOutcome.{AckOutcome}
+use Rattle.share_model.specs.declared.visit.ExpireAnswer.{ExpireAnswer}
+use Rattle.share_model.specs.declared.visit.Then.{Then}
+use Rattle.share_part.specs.Expiring.{ExpiresPart}
+use Rattle.share_part.specs.Hosting.{PartConfParts}
+use Rattle.share_part.specs.Leaving.{IsLeftOf}
+use Rattle.share_part.specs.Shards.{PartShardState, Carries}
+use Rattle.share_part.specs.Visits.{StepsAcks}
+use Rattle.broker_model.specs.Hosted.{ChangesAt, Hosted, first_of, log_of, part_disks, second_of, state_a, state_b, same_name}
+use Rattle.broker_model.specs.Shards.{Counts, HostedPart, PartCall, Shards, ShardCall, StepsShards, answered_by, calls, fault_of_expiry, fault_of_release}
+use Rattle.broker_model.specs.Shards.ShardCall.{CallPart}
+use Rattle.broker_model.specs.Shards.PartCall.{Expires}
 use Rattle.broker_model.specs.Machine.{StandWith}
 use Rattle.broker_model.specs.Disks.{Facts, Disks, OnCalled, facts_of}
 use Rattle.broker_core.specs.declared.slot.ForeignSlot.{ForeignSlot}
 use Rattle.broker_core.specs.declared.slot.ForeignSlot.TheVariants as foreign
-use Rattle.broker_core.specs.declared.slot.LogState.{LogState}
-use Rattle.broker_core.specs.declared.slot.LogState.TheVariants as log
-use Rattle.broker_core.specs.declared.slot.LogSlot.{LogSlot}
+use Rattle.broker_core.specs.declared.slot.PartState.{PartState}
+use Rattle.broker_core.specs.declared.slot.PartState.TheVariants as part
+use Rattle.broker_core.specs.declared.slot.PartSlot.{PartSlot}
 use Rattle.broker_core.specs.declared.hosts.Hosts.{Hosts}
-use Rattle.broker_core.specs.Carried.{IsCarried, IsLogCarried, LeadsLog, HaltsLog, GoesOn, facts_by, by_name}
+use Rattle.broker_core.specs.Carried.{Begun, GoesOn, HaltsPart, IsCarried, IsPartCarried, LeadsPart, OpenPart, PartGoesOn, facts_by, by_name, holding}
 
--- the logs of the hosted partitions, in the order of their shards' numbers, and foreign state
+-- the shards of the hosted partitions, in the order of their numbers; the members of all groups; foreign state
 pub record HostsParts (D : Type 0) : Type 0 where
-  pub logs : List (LogSlot D)
+  pub parts : List (PartSlot D)
+  pub members : Memberships
   pub foreign : ForeignSlot D
 
 abbrev pub parts_of : {D : Type 0} → Hosts D → HostsParts D
-parts_of hosts = record { logs = hosts.logs.items; foreign = hosts.foreign }
+parts_of hosts = record { parts = hosts.parts.items; members = hosts.members; foreign = hosts.foreign }
+
+-- the partition of a slot, as the machine has it
+abbrev pub hosted_slot : {D : Type 0} → PartSlot D → Hosted
+hosted_slot slot = record { topic = slot.topic; conf = slot.conf }
+
+abbrev pub hosted_slots : {D : Type 0} → List (PartSlot D) → List Hosted
+hosted_slots slots = map hosted_slot slots
 
 -- ---- open, or with its disks
 
@@ -48,40 +76,37 @@ IsHeld (foreign.Open store) = Unit {0}
 IsHeld (foreign.Shut first second) = Unit {0}
 IsHeld foreign.Gone = ⊥
 
-abbrev pub IsOpenState : {D : Type 0} → LogState D → Type 0
-IsOpenState (log.Open parts) = Unit {0}
-IsOpenState (log.Shut disk) = ⊥
-IsOpenState log.Gone = ⊥
+abbrev pub IsOpenState : {D : Type 0} → PartState D → Type 0
+IsOpenState (part.Open shard) = Unit {0}
+IsOpenState (part.Shut log first second) = ⊥
+IsOpenState part.Gone = ⊥
 
-abbrev pub IsHeldState : {D : Type 0} → LogState D → Type 0
-IsHeldState (log.Open parts) = Unit {0}
-IsHeldState (log.Shut disk) = Unit {0}
-IsHeldState log.Gone = ⊥
+abbrev pub IsHeldState : {D : Type 0} → PartState D → Type 0
+IsHeldState (part.Open shard) = Unit {0}
+IsHeldState (part.Shut log first second) = Unit {0}
+IsHeldState part.Gone = ⊥
 
-abbrev pub AreOpenLogs : {D : Type 0} → List (LogSlot D) → Type 0
-AreOpenLogs slots = AllByRecursion (λ s. IsOpenState s.state) slots
+abbrev pub AreOpenParts : {D : Type 0} → List (PartSlot D) → Type 0
+AreOpenParts slots = AllByRecursion (λ s. IsOpenState s.state) slots
 
-abbrev pub AreHeldLogs : {D : Type 0} → List (LogSlot D) → Type 0
-AreHeldLogs slots = AllByRecursion (λ s. IsHeldState s.state) slots
+abbrev pub AreHeldParts : {D : Type 0} → List (PartSlot D) → Type 0
+AreHeldParts slots = AllByRecursion (λ s. IsHeldState s.state) slots
 
 -- each shard can be called
 pub record AreOpen {D : Type 0} (hosts : HostsParts D) : Type 0 where
-  pub logs : AreOpenLogs hosts.logs
+  pub parts : AreOpenParts hosts.parts
   pub foreign : IsOpen hosts.foreign
 
 -- each has its disks
 pub record AreHeld {D : Type 0} (hosts : HostsParts D) : Type 0 where
-  pub logs : AreHeldLogs hosts.logs
+  pub parts : AreHeldParts hosts.parts
   pub foreign : IsHeld hosts.foreign
 
 -- ---- names
 
-abbrev pub slot_names : {D : Type 0} → List (LogSlot D) → List (List ℕ)
-slot_names slots = map (λ s. s.name) slots
-
--- the disks of these logs, and those of foreign state
-abbrev pub all_names : List (List ℕ) → List (List ℕ)
-all_names logs = logs ++ state_a ∷ state_b ∷ []
+-- the disks of these partitions, three for each, and those of foreign state
+abbrev pub all_names : List Hosted → List (List ℕ)
+all_names hosted = part_disks hosted ++ state_a ∷ state_b ∷ []
 
 abbrev pub NotIn : List (List ℕ) → List ℕ → Type 0
 NotIn [] name = Unit {0}
@@ -93,13 +118,21 @@ AreDistinct [] = Unit {0}
 AreDistinct (n ∷ names) = NotIn names n × AreDistinct names
 
 abbrev pub AreApart : {D : Type 0} → HostsParts D → Type 0
-AreApart hosts = AreDistinct (all_names (slot_names hosts.logs))
+AreApart hosts = AreDistinct (all_names (hosted_slots hosts.parts))
+
+-- its disks have names
+pub record IsNamed (h : Hosted) : Type 0 where
+  pub topic : IsTopicName h.topic
+  pub part : h.conf.part < most_partitions
+
+abbrev pub AreNamed : List Hosted → Type 0
+AreNamed hosted = AllByRecursion IsNamed hosted
 
 -- ---- disks
 
--- the disks that are held: those of the logs under their names, and the two of foreign state
+-- the disks that are held: those of the partitions under their names, three for each, and the two of foreign state
 pub record LeftDisks (D : Type 0) : Type 0 where
-  pub logs : List (List ℕ × Option D)
+  pub parts : List (List ℕ × Option D)
   pub foreign : Option (D × D)
 
 abbrev pub foreign_disks : {D : Type 0} → ForeignSlot D → Option (D × D)
@@ -107,16 +140,31 @@ foreign_disks (foreign.Open store) = Some (store.journal.live.disk, store.journa
 foreign_disks (foreign.Shut first second) = Some (first, second)
 foreign_disks foreign.Gone = None
 
-abbrev pub log_disk : {D : Type 0} → LogState D → Option D
-log_disk (log.Open parts) = Some parts.journal.disk
-log_disk (log.Shut disk) = Some disk
-log_disk log.Gone = None
+-- one of a partition's three
+abbrev pub open_disk : {D : Type 0} → OpenPart D → DiskPlace → D
+open_disk shard Log = shard.log.journal.disk
+open_disk shard StateA = shard.states.journal.live.disk
+open_disk shard StateB = shard.states.journal.idle
 
-abbrev pub log_disks : {D : Type 0} → List (LogSlot D) → List (List ℕ × Option D)
-log_disks slots = map (λ s. (s.name, log_disk s.state)) slots
+abbrev pub shut_disk : {D : Type 0} → (log first second : D) → DiskPlace → D
+shut_disk log first second Log = log
+shut_disk log first second StateA = first
+shut_disk log first second StateB = second
+
+abbrev pub part_disk : {D : Type 0} → PartState D → DiskPlace → Option D
+part_disk (part.Open shard) place = Some (open_disk shard place)
+part_disk (part.Shut log first second) place = Some (shut_disk log first second place)
+part_disk part.Gone place = None
+
+abbrev pub slot_disks : {D : Type 0} → PartSlot D → List (List ℕ × Option D)
+slot_disks slot = (log_of (hosted_slot slot), part_disk slot.state Log) ∷ (first_of (hosted_slot slot), part_disk slot.state StateA)
+    ∷ (second_of (hosted_slot slot), part_disk slot.state StateB) ∷ []
+
+abbrev pub slots_disks : {D : Type 0} → List (PartSlot D) → List (List ℕ × Option D)
+slots_disks slots = flat_map slot_disks slots
 
 abbrev pub disks_in : {D : Type 0} → HostsParts D → LeftDisks D
-disks_in hosts = record { logs = log_disks hosts.logs; foreign = foreign_disks hosts.foreign }
+disks_in hosts = record { parts = slots_disks hosts.parts; foreign = foreign_disks hosts.foreign }
 
 abbrev pub no_facts : Facts
 no_facts = record { faults = 0; losses = []; arms = 0; armed = Nothing }
@@ -140,29 +188,38 @@ facts_among faults losses arms armed disks other name = among (λ e. e.0) (λ e.
 
 abbrev pub facts_in : {D : Type 0} → (D → ℕ) → (D → List (ℕ × List ℕ)) → (D → ℕ) → (D → Armed) → LeftDisks D → Disks
 facts_in faults losses arms armed left name =
-    facts_among faults losses arms armed left.logs (foreign_facts faults losses arms armed left.foreign name) name
+    facts_among faults losses arms armed left.parts (foreign_facts faults losses arms armed left.foreign name) name
 
--- where the journals end, by the names of their disks
+-- where the journals end, by the names of their disks; nothing is written on the second disk of states
 abbrev pub foreign_end : {D : Type 0} → ForeignSlot D → List ℕ → ℕ
 foreign_end (foreign.Open store) name = by_name store.journal.live.end 0 name
 foreign_end (foreign.Shut first second) name = 0
 foreign_end foreign.Gone name = 0
 
-abbrev pub log_end : {D : Type 0} → LogState D → ℕ
-log_end (log.Open parts) = parts.journal.end
-log_end (log.Shut disk) = 0
-log_end log.Gone = 0
+abbrev pub open_end : {D : Type 0} → OpenPart D → DiskPlace → ℕ
+open_end shard Log = shard.log.journal.end
+open_end shard StateA = shard.states.journal.live.end
+open_end shard StateB = 0
 
-abbrev pub ends_among : {D : Type 0} → List (LogSlot D) → ℕ → List ℕ → ℕ
-ends_among slots other name = among (λ s. s.name) (λ s. log_end s.state) slots other name
+abbrev pub part_end : {D : Type 0} → PartState D → DiskPlace → ℕ
+part_end (part.Open shard) place = open_end shard place
+part_end (part.Shut log first second) place = 0
+part_end part.Gone place = 0
+
+abbrev pub slot_ends : {D : Type 0} → PartSlot D → List (List ℕ × ℕ)
+slot_ends slot = (log_of (hosted_slot slot), part_end slot.state Log) ∷ (first_of (hosted_slot slot), part_end slot.state StateA)
+    ∷ (second_of (hosted_slot slot), part_end slot.state StateB) ∷ []
+
+abbrev pub ends_among : {D : Type 0} → List (PartSlot D) → ℕ → List ℕ → ℕ
+ends_among slots other name = among (λ e. e.0) (λ e. e.1) (flat_map slot_ends slots) other name
 
 abbrev pub ends_in : {D : Type 0} → HostsParts D → List ℕ → ℕ
-ends_in hosts name = ends_among hosts.logs (foreign_end hosts.foreign name) name
+ends_in hosts name = ends_among hosts.parts (foreign_end hosts.foreign name) name
 
--- the count of faults of the disk of this name rose from the one to the other
-abbrev pub rose_in : {D : Type 0} → (D → ℕ) → (D → List (ℕ × List ℕ)) → (D → ℕ) → (D → Armed) → LeftDisks D → LeftDisks D → List ℕ → Type 0
-rose_in faults losses arms armed old new name =
-    Rose (facts_in faults losses arms armed old name).faults (facts_in faults losses arms armed new name).faults
+-- the counts of faults of the disk of this name, in the one and in the other
+abbrev pub counts_in : {D : Type 0} → (D → ℕ) → (D → List (ℕ × List ℕ)) → (D → ℕ) → (D → Armed) → LeftDisks D → LeftDisks D → Counts
+counts_in faults losses arms armed old new name =
+    ((facts_in faults losses arms armed old name).faults, (facts_in faults losses arms armed new name).faults)
 
 -- ---- what they stand for
 
@@ -171,20 +228,21 @@ IsSlot content image starved (foreign.Open store) shard = IsCarried content imag
 IsSlot content image starved (foreign.Shut first second) shard = ⊥
 IsSlot content image starved foreign.Gone shard = ⊥
 
-abbrev pub IsLogState : {D : Type 0} → (D → Option (List ℕ)) → (D → List ℕ → Type 0) → (D → Bool) → LogState D → LogShardState → Type 0
-IsLogState content image starved (log.Open parts) shard = IsLogCarried content image starved parts shard
-IsLogState content image starved (log.Shut disk) shard = ⊥
-IsLogState content image starved log.Gone shard = ⊥
+abbrev pub IsPartState : {D : Type 0} → (D → Option (List ℕ)) → (D → List ℕ → Type 0) → (D → Bool) → PartConfParts → PartState D → PartShardState → Type 0
+IsPartState content image starved conf (part.Open open_part) shard = IsPartCarried content image starved conf open_part shard
+IsPartState content image starved conf (part.Shut log first second) shard = ⊥
+IsPartState content image starved conf part.Gone shard = ⊥
 
--- the log in a slot stands for one of the machine's, which has the name of its disk
-pub record IsLogSlot {D : Type 0} (content : D → Option (List ℕ)) (image : D → List ℕ → Type 0) (starved : D → Bool) (slot : LogSlot D) (named : NamedLog) : Type 0 where
-  pub name : named.0 ≡ slot.name
-  pub state : IsLogState content image starved slot.state named.1
+-- the shard in a slot stands for that of the machine's, which is of the same partition
+pub record IsPartSlot {D : Type 0} (content : D → Option (List ℕ)) (image : D → List ℕ → Type 0) (starved : D → Bool) (slot : PartSlot D) (p : HostedPart) : Type 0 where
+  pub hosted : p.hosted ≡ hosted_slot slot
+  pub state : IsPartState content image starved slot.conf slot.state p.shard
 
 -- they stand for the machine's
 pub record AreCarried {D : Type 0} (content : D → Option (List ℕ)) (image : D → List ℕ → Type 0) (starved : D → Bool)
     (hosts : HostsParts D) (shards : Shards) : Type 0 where
-  pub logs : AllZip (IsLogSlot content image starved) hosts.logs shards.logs
+  pub parts : AllZip (IsPartSlot content image starved) hosts.parts shards.parts
+  pub members : shards.members ≡ hosts.members
   pub foreign : IsSlot content image starved hosts.foreign shards.foreign
 
 -- these disks tell their contents, and each image of the one beside one of the other stands for the state
@@ -193,34 +251,49 @@ pub record StandAlone {D : Type 0} (content : D → Option (List ℕ)) (image : 
   pub told : IsTold (content first)
   pub second_told : IsTold (content second)
 
--- this disk tells its content, and each image of it stands for the log
-pub record StandsAlone {D : Type 0} (content : D → Option (List ℕ)) (image : D → List ℕ → Type 0) (shard : LogShardState) (disk : D) : Type 0 where
-  pub stands : (c : List ℕ) → image disk c → IsLogOf shard c
-  pub told : IsTold (content disk)
+-- these three disks tell their contents, and images of all three stand for the shard, its log and its tables each with or without the
+-- pending write
+pub record PartStandsAlone {D : Type 0} (content : D → Option (List ℕ)) (image : D → List ℕ → Type 0) (conf : PartConfParts) (shard : PartShardState)
+    (log first second : D) : Type 0 where
+  pub stand : (l a b : List ℕ) → image log l → image first a → image second b → IsLeftOf conf shard l a b
+  pub log_told : IsTold (content log)
+  pub first_told : IsTold (content first)
+  pub second_told : IsTold (content second)
 
 abbrev pub ForeignStill : {D : Type 0} → (D → Option (List ℕ)) → (D → List ℕ → Type 0) → ForeignShardState → Option (D × D) → Type 0
 ForeignStill content image shard None = ⊥
 ForeignStill content image shard (Some disks) = StandAlone content image shard disks.0 disks.1
 
-abbrev pub StateStill : {D : Type 0} → (D → Option (List ℕ)) → (D → List ℕ → Type 0) → Option D → LogShardState → Type 0
-StateStill content image None shard = ⊥
-StateStill content image (Some disk) shard = StandsAlone content image shard disk
+-- these are the three disks of a partition, and stand for its shard
+pub record PartStill {D : Type 0} (content : D → Option (List ℕ)) (image : D → List ℕ → Type 0) (x y z : List ℕ × Option D) (p : HostedPart) : Type 0 where
+  pub log : D
+  pub first : D
+  pub second : D
+  pub log_is : x ≡ (log_of p.hosted, Some log)
+  pub first_is : y ≡ (first_of p.hosted, Some first)
+  pub second_is : z ≡ (second_of p.hosted, Some second)
+  pub alone : PartStandsAlone content image p.hosted.conf p.shard log first second
 
-pub record LogStill {D : Type 0} (content : D → Option (List ℕ)) (image : D → List ℕ → Type 0) (disk : List ℕ × Option D) (named : NamedLog) : Type 0 where
-  pub name : named.0 ≡ disk.0
-  pub still : StateStill content image disk.1 named.1
+-- three disks for each partition, in order
+abbrev pub PartsStill : {D : Type 0} → (D → Option (List ℕ)) → (D → List ℕ → Type 0) → List (List ℕ × Option D) → List HostedPart → Type 0
+PartsStill content image [] [] = Unit {0}
+PartsStill content image [] (p ∷ parts) = ⊥
+PartsStill content image (x ∷ []) parts = ⊥
+PartsStill content image (x ∷ y ∷ []) parts = ⊥
+PartsStill content image (x ∷ y ∷ z ∷ disks) [] = ⊥
+PartsStill content image (x ∷ y ∷ z ∷ disks) (p ∷ parts) = PartStill content image x y z p × PartsStill content image disks parts
 
--- the disks stand for the machine's shards, each with or without its pending write
+-- the disks stand for the machine's shards, each with or without its pending writes
 pub record StandStill {D : Type 0} (content : D → Option (List ℕ)) (image : D → List ℕ → Type 0) (shards : Shards) (left : LeftDisks D) : Type 0 where
-  pub logs : AllZip (LogStill content image) left.logs shards.logs
+  pub parts : PartsStill content image left.parts shards.parts
   pub foreign : ForeignStill content image shards.foreign left.foreign
 
 -- ---- calls
 
 -- a shard does this part, and answers it so
-abbrev pub Did : (List ℕ → Type 0) → (List ℕ → ℕ) → Part → PartAnswer → Shards → Option ShardCall → Shards → Type 0
-Did rose ends part answer old call new =
-    (did : ShardCall) × (call ≡ Some did) × (part_of did ≡ part) × (answer_of did ≡ answer) × StepsShards rose ends old did new
+abbrev pub Did : Counts → (ends : List ℕ → ℕ) → (now : ℕ) → Part → PartAnswer → Shards → Option ShardCall → Shards → Type 0
+Did counts ends now part answer old call new = (did : ShardCall) × (call ≡ Some did) × (answered_by did ≡ Some (record { part = part; answer = answer }))
+    × StepsShards counts ends now old did new
 
 -- From these shards, they stand for those now that this relation leads to, by a call or none.
 pub record Leads {D : Type 0} (content : D → Option (List ℕ)) (image : D → List ℕ → Type 0) (starved : D → Bool)
@@ -234,21 +307,84 @@ pub record Leads {D : Type 0} (content : D → Option (List ℕ)) (image : D →
       (facts_in faults losses arms armed (disks_in new) name)
   pub ends : (name : List ℕ) → calls call name ≡ false → ends_in new name ≡ ends_in old name
 
--- No memory was found: it was done in the shards, or not at all. The disks stand for what that left.
+-- the shard of this number is left in the midst of a call, and each other one stays
+pub record IsLeftIn (shard : ℕ) (Half : Hosted → PartShardState → PartShardState → Type 0) (old new : Shards) : Type 0 where
+  pub parts : ChangesAt shard (λ (p q : HostedPart). (q.hosted ≡ p.hosted) × Half p.hosted p.shard q.shard) old.parts new.parts
+  pub members : new.members ≡ old.members
+  pub foreign : new.foreign ≡ old.foreign
+
+-- a part in whose midst memory may run out: a visit behind its acknowledgements
+abbrev pub IsHalfDone : Counts → (ends : List ℕ → ℕ) → Part → Shards → Shards → Type 0
+IsHalfDone counts ends (Foreign op) old new = ⊥
+IsHalfDone counts ends (Produce shard batch) old new = ⊥
+IsHalfDone counts ends (PartVisit shard visit) old new = IsLeftIn shard (λ h a b. (ack : AckOutcome)
+    × StepsAcks h.conf (Rose (counts (first_of h)).0 (counts (first_of h)).1) (ends (first_of h)) a visit ack b) old new
+IsHalfDone counts ends (Look shard group) old new = ⊥
+IsHalfDone counts ends (Heartbeat request) old new = ⊥
+
+-- so is the part that is told to be asked
+abbrev pub HalvesNext : Counts → (ends : List ℕ → ℕ) → Next → Shards → Shards → Type 0
+HalvesNext counts ends next old new = (asked : Part) × (next ≡ Ask asked) × IsHalfDone counts ends asked old new
+
+-- so is that which this connection asks, if it is there
+abbrev pub HalvesServe : ConfigParts → Counts → (ends : List ℕ → ℕ) → Option ConnParts → Shards → Shards → Type 0
+HalvesServe conf counts ends None old new = ⊥
+HalvesServe conf counts ends (Some conn) old new = HalvesNext counts ends (turn conf conn).next old new
+
+-- an expiry at this moment was left behind some of the groups
+abbrev pub HalvesExpiry : Counts → (ends : List ℕ → ℕ) → (now shard : ℕ) → Shards → Shards → Type 0
+HalvesExpiry counts ends now shard old new =
+    IsLeftIn shard (λ h a b. ExpiresPart h.conf (counts (first_of h)).0 (counts (first_of h)).1 (ends (first_of h)) a now b) old new
+
+-- No memory was found: nothing was done in the shards, or it was done whole, or left in its midst. The disks stand for what that left.
 pub record Halts {D : Type 0} (content : D → Option (List ℕ)) (image : D → List ℕ → Type 0) (shards : Shards) (new : HostsParts D)
-    (Does : Shards → Option ShardCall → Shards → Type 0) : Type 0 where
+    (Does : Shards → Option ShardCall → Shards → Type 0) (Within : Shards → Shards → Type 0) : Type 0 where
   pub after : Shards
   pub still : StandStill content image after (disks_in new)
-  pub does : (after ≡ shards) ⊎ ((call : Option ShardCall) × Does shards call after)
+  pub does : (after ≡ shards) ⊎ (((call : Option ShardCall) × Does shards call after) ⊎ Within shards after)
+
+-- a visit is of a shard with a number below this
+abbrev pub IsThere : ℕ → Part → Type 0
+IsThere count (Foreign op) = Unit {0}
+IsThere count (Produce shard batch) = Unit {0}
+IsThere count (PartVisit shard visit) = shard < count
+IsThere count (Look shard group) = Unit {0}
+IsThere count (Heartbeat request) = Unit {0}
+
+-- the faults that are told of a part by its answer: that of a release that couldn't be stored
+abbrev pub faults_of_visit : ℕ → Then → PartAnswer → List Outcome
+faults_of_visit shard asked (AnswerForeign answer) = []
+faults_of_visit shard asked (AnswerProduce produced) = []
+faults_of_visit shard asked (AnswerVisit answer) = fault_of_release shard asked answer.then
+faults_of_visit shard asked (AnswerLook looked) = []
+faults_of_visit shard asked (AnswerHeartbeat reply) = []
+
+abbrev pub faults_in : Part → PartAnswer → List Outcome
+faults_in (Foreign op) answer = []
+faults_in (Produce shard batch) answer = []
+faults_in (PartVisit shard visit) answer = faults_of_visit shard visit.then answer
+faults_in (Look shard group) answer = []
+faults_in (Heartbeat request) answer = []
+
+-- an expiry of a shard at this moment, by its answer; the outcomes are the fault, if it met one
+abbrev pub ExpiresShard : Counts → (ends : List ℕ → ℕ) → (now shard : ℕ) → List Outcome → Shards → Option ShardCall → Shards → Type 0
+ExpiresShard counts ends now shard outcomes old call new = (hosted : Hosted) × (answer : ExpireAnswer)
+    × (call ≡ Some (CallPart shard hosted (Expires answer))) × StepsShards counts ends now old (CallPart shard hosted (Expires answer)) new
+    × (outcomes ≡ fault_of_expiry shard answer)
 
 -- ---- any disks
+
+-- the partitions, and the topics to which members subscribe, stay
+pub record StaysHosted {D : Type 0} (old new : HostsParts D) : Type 0 where
+  pub hosted : hosted_slots new.parts ≡ hosted_slots old.parts
+  pub topics : new.members.topics ≡ old.members.topics
 
 abbrev pub GoesOnIf : {D : Type 0} → (D → Option (List ℕ)) → (D → ℕ) → Option D → Option D → Type 0
 GoesOnIf content faults (Some old) (Some new) = GoesOn content faults old new
 GoesOnIf content faults (Some old) None = ⊥
 GoesOnIf content faults None new = Unit {0}
 
-pub record LogGoesOn {D : Type 0} (content : D → Option (List ℕ)) (faults : D → ℕ) (old new : List ℕ × Option D) : Type 0 where
+pub record DiskGoesOn {D : Type 0} (content : D → Option (List ℕ)) (faults : D → ℕ) (old new : List ℕ × Option D) : Type 0 where
   pub name : new.0 ≡ old.0
   pub goes : GoesOnIf content faults old.1 new.1
 
@@ -259,7 +395,7 @@ BothGoOn content faults None new = Unit {0}
 
 -- each disk goes on under its name: its count of faults doesn't fall, and it tells its content where it did
 pub record GoOn {D : Type 0} (content : D → Option (List ℕ)) (faults : D → ℕ) (old new : LeftDisks D) : Type 0 where
-  pub logs : AllZip (LogGoesOn content faults) old.logs new.logs
+  pub parts : AllZip (DiskGoesOn content faults) old.parts new.parts
   pub foreign : BothGoOn content faults old.foreign new.foreign
 
 abbrev pub RoseIf : {D : Type 0} → (D → ℕ) → Option D → Option D → Type 0
@@ -267,10 +403,10 @@ RoseIf faults (Some old) (Some new) = Rose (faults old) (faults new)
 RoseIf faults (Some old) None = ⊥
 RoseIf faults None new = ⊥
 
-abbrev pub LogRose : {D : Type 0} → (D → ℕ) → List (List ℕ × Option D) → List (List ℕ × Option D) → Type 0
-LogRose faults [] new = ⊥
-LogRose faults (e ∷ old) [] = ⊥
-LogRose faults (e ∷ old) (f ∷ new) = RoseIf faults e.1 f.1 ⊎ LogRose faults old new
+abbrev pub PartRose : {D : Type 0} → (D → ℕ) → List (List ℕ × Option D) → List (List ℕ × Option D) → Type 0
+PartRose faults [] new = ⊥
+PartRose faults (e ∷ old) [] = ⊥
+PartRose faults (e ∷ old) (f ∷ new) = RoseIf faults e.1 f.1 ⊎ PartRose faults old new
 
 abbrev pub BothRose : {D : Type 0} → (D → ℕ) → Option (D × D) → Option (D × D) → Type 0
 BothRose faults (Some old) (Some new) = Rose (faults old.0) (faults new.0) ⊎ Rose (faults old.1) (faults new.1)
@@ -279,39 +415,58 @@ BothRose faults None new = ⊥
 
 -- the count of one of them rose
 abbrev pub OneRose : {D : Type 0} → (D → ℕ) → LeftDisks D → LeftDisks D → Type 0
-OneRose faults old new = LogRose faults old.logs new.logs ⊎ BothRose faults old.foreign new.foreign
+OneRose faults old new = PartRose faults old.parts new.parts ⊎ BothRose faults old.foreign new.foreign
 
 -- ---- one slot
 
--- what a produced batch made of a slot
+-- what a call at this moment made of a slot
 pub record LeadsSlot {D : Type 0} (content : D → Option (List ℕ)) (image : D → List ℕ → Type 0) (starved : D → Bool) (faults : D → ℕ)
-    (losses : D → List (ℕ × List ℕ)) (arms : D → ℕ) (armed : D → Armed) (batch : List ℕ) (produced : Produced) (old new : LogSlot D) : Type 0 where
-  pub was : LogParts D
-  pub is : LogParts D
-  pub old_is : old.state ≡ log.Open was
-  pub new_is : new.state ≡ log.Open is
-  pub name : new.name ≡ old.name
-  pub goes : GoesOn content faults was.journal.disk is.journal.disk
-  pub leads : (s : LogShardState) → IsLogCarried content image starved was s → LeadsLog content image starved faults losses arms armed was s is batch produced
+    (losses : D → List (ℕ × List ℕ)) (arms : D → ℕ) (armed : D → Armed) (now : ℕ) (did : PartCall) (old new : PartSlot D) : Type 0 where
+  pub was : OpenPart D
+  pub is : OpenPart D
+  pub old_is : old.state ≡ part.Open was
+  pub new_is : new.state ≡ part.Open is
+  pub topic : new.topic ≡ old.topic
+  pub conf : new.conf ≡ old.conf
+  pub goes : PartGoesOn content faults was is
+  pub leads : (s : PartShardState) → IsPartCarried content image starved old.conf was s
+      → LeadsPart content image starved faults losses arms armed old.conf now did was s is
 
+-- no memory was found in such a call
 pub record HaltsSlot {D : Type 0} (content : D → Option (List ℕ)) (image : D → List ℕ → Type 0) (starved : D → Bool) (faults : D → ℕ)
-    (batch : List ℕ) (old new : LogSlot D) : Type 0 where
-  pub was : LogParts D
-  pub is : LogParts D
-  pub old_is : old.state ≡ log.Open was
-  pub new_is : new.state ≡ log.Open is
-  pub name : new.name ≡ old.name
-  pub goes : GoesOn content faults was.journal.disk is.journal.disk
-  pub halts : (s : LogShardState) → IsLogCarried content image starved was s → HaltsLog content image faults was s is batch
+    (now : ℕ) (Whole : PartCall → Type 0) (Half : Begun → Type 0) (old new : PartSlot D) : Type 0 where
+  pub was : OpenPart D
+  pub is : OpenPart D
+  pub old_is : old.state ≡ part.Open was
+  pub new_is : new.state ≡ part.Open is
+  pub topic : new.topic ≡ old.topic
+  pub conf : new.conf ≡ old.conf
+  pub goes : PartGoesOn content faults was is
+  pub halts : (s : PartShardState) → IsPartCarried content image starved old.conf was s
+      → HaltsPart content image faults old.conf now Whole Half was s is
 
--- a fault of the disk of a slot was armed, and nothing else has changed
+-- one of a partition's three disks was armed, and the others stay
+abbrev pub ArmsPlace : {D : Type 0} → (D → Option (List ℕ)) → (D → List ℕ → Type 0) → (D → List (ℕ × List ℕ)) → (D → ℕ) → (D → Armed) → (D → Bool)
+    → (D → ℕ) → (passes : ℕ) → FaultMode → OpenPart D → OpenPart D → DiskPlace → Type 0
+ArmsPlace content image losses arms armed starved faults passes mode was is Log =
+    ArmsAlone content image losses arms armed starved faults passes mode was.log.journal.disk is.log.journal.disk × (is.states ≡ was.states)
+ArmsPlace content image losses arms armed starved faults passes mode was is StateA =
+    ArmsAlone content image losses arms armed starved faults passes mode was.states.journal.live.disk is.states.journal.live.disk
+    × (is.states.journal.idle ≡ was.states.journal.idle) × (is.log ≡ was.log)
+ArmsPlace content image losses arms armed starved faults passes mode was is StateB =
+    ArmsAlone content image losses arms armed starved faults passes mode was.states.journal.idle is.states.journal.idle
+    × (is.states.journal.live ≡ was.states.journal.live) × (is.log ≡ was.log)
+
+-- a fault of a disk of a slot was armed, and nothing else has changed
 pub record ArmsSlot {D : Type 0} (content : D → Option (List ℕ)) (image : D → List ℕ → Type 0) (losses : D → List (ℕ × List ℕ)) (arms : D → ℕ)
-    (armed : D → Armed) (starved : D → Bool) (faults : D → ℕ) (passes : ℕ) (mode : FaultMode) (old new : LogSlot D) : Type 0 where
-  pub was : LogParts D
-  pub is : LogParts D
-  pub old_is : old.state ≡ log.Open was
-  pub new_is : new.state ≡ log.Open is
-  pub name : new.name ≡ old.name
-  pub arms_disk : ArmsAlone content image losses arms armed starved faults passes mode was.journal.disk is.journal.disk
-  pub end : is.journal.end ≡ was.journal.end
-  pub stays : (s : LogShardState) → CarriesLog image was s → CarriesLog image is s
+    (armed : D → Armed) (starved : D → Bool) (faults : D → ℕ) (place : DiskPlace) (passes : ℕ) (mode : FaultMode) (old new : PartSlot D) : Type 0 where
+  pub was : OpenPart D
+  pub is : OpenPart D
+  pub old_is : old.state ≡ part.Open was
+  pub new_is : new.state ≡ part.Open is
+  pub topic : new.topic ≡ old.topic
+  pub conf : new.conf ≡ old.conf
+  pub arms_disk : ArmsPlace content image losses arms armed starved faults passes mode was is place
+  pub ends : (is.log.journal.end ≡ was.log.journal.end) × (is.states.journal.live.end ≡ was.states.journal.live.end)
+  pub part_conf : is.conf ≡ was.conf
+  pub stays : (s : PartShardState) → Carries image holding was s → Carries image holding is s

@@ -1,32 +1,38 @@
 -- What an opening and a restart of a shard leave. This project's own.
--- For example after a power loss that left `00` on both disks of foreign state it has no keys, and nothing is pending.
-use Rattle.std.specs.Prelude.{◌≡◌, ◌≢◌, ◌⊎◌, ◌≤◌, ◌∷◌, ◌++◌, [], ℕ, List, Bool, true, false, None}
+-- For example after a power loss that left `00` on all disks foreign state has no keys, a partition has no batches and no tables, and
+-- nothing is pending.
+use Rattle.std.specs.Prelude.{◌≡◌, ◌≢◌, ◌⊎◌, ◌≤◌, ◌∷◌, ◌++◌, [], ℕ, List, Bool, true, false, Some, None, Contains}
 use Rattle.std.specs.declared.option.Option.{Option}
 use Rattle.edge_io.specs.declared.fault.Armed.{Armed}
+use Rattle.edge_io.specs.declared.fault.Armed.TheVariants.{Nothing}
+use Rattle.edge_io.specs.declared.name.DiskPlace.{DiskPlace}
 use Rattle.edge_io.specs.Armed.{Spends}
 use Rattle.edge_io.specs.Causes.{Rose}
 use Rattle.edge_io.specs.Disk.{IsTold, Within}
+use Rattle.edge_io.specs.Names.{hosted_name}
 use Rattle.gate_journal.specs.Frames.{StandsAs}
 use Rattle.share_model.specs.ForeignRules.{ShareStates}
+use Rattle.share_model.specs.Logs.{Batch}
+use Rattle.part_log.specs.Logs.{and_pending}
 use Rattle.share_coord.specs.Parts.{StoreParts}
 use Rattle.share_coord.specs.Stored.{AreDamaged}
 use Rattle.foreign_coord.specs.Shards.{ForeignShardState}
-use Rattle.part_log.specs.Logs.{IsLogText, IsNoLogText, LogParts, and_pending}
-use Rattle.part_log.specs.Shards.{LogShardState}
-use Rattle.share_model.specs.Logs.{Batch}
-use Rattle.share_model.specs.Pending.{WithPending}
+use Rattle.share_part.specs.Hosting.{ArePartText, PartConfParts}
+use Rattle.share_part.specs.Leaving.{IsOneOf}
+use Rattle.share_part.specs.Opening.{AreDamagedAt}
+use Rattle.share_part.specs.Shards.{PartShardState, shard_with}
 use Rattle.topic_conf.specs.Configs.{ConfigParts}
-use Rattle.broker_model.specs.Hosted.{IsOneOf, log_names, state_a, state_b}
+use Rattle.broker_model.specs.Hosted.{Hosted, first_of, hosted_of, log_of, second_of, state_a, state_b}
 use Rattle.broker_model.specs.Machine.{StandForStates, StandWith, Lands}
 use Rattle.broker_model.specs.Disks.{Facts, IsRestarted, facts_of}
 use Rattle.broker_core.specs.declared.fault.CoreOpen.{CoreOpen}
 use Rattle.broker_core.specs.declared.fault.CoreOpen.TheVariants.{Device, Bay, NoMemory}
 use Rattle.broker_core.specs.declared.fault.CoreFault.{CoreFault}
 use Rattle.broker_core.specs.declared.fault.CoreFault.TheVariants as event_fault
-use Rattle.broker_core.specs.declared.slot.LogSlot.{LogSlot}
-use Rattle.broker_core.specs.declared.slot.LogState.TheVariants as log
-use Rattle.broker_core.specs.Carried.{IsCarried, IsLogCarried, GoesOn}
-use Rattle.broker_core.specs.Hosts.{StandsAlone}
+use Rattle.broker_core.specs.declared.slot.PartSlot.{PartSlot}
+use Rattle.broker_core.specs.declared.slot.PartState.TheVariants as part
+use Rattle.broker_core.specs.Carried.{GoesOn, IsCarried, IsPartCarried, OpenPart, PartGoesOn}
+use Rattle.broker_core.specs.Hosts.{PartStandsAlone}
 
 -- how a disk stands behind an opening
 pub record IsOpenedDisk (was now : Facts) : Type 0 where
@@ -65,9 +71,15 @@ name_of true = state_b
 abbrev pub IsDamagedState : List ℕ → List ℕ → List ℕ → ℕ → Type 0
 IsDamagedState a b name place = (second : Bool) × (name ≡ name_of second) × AreDamaged a b second place
 
--- this disk of the broker stands for nothing, by this place: a log, or foreign state
+-- the disk of this name is one of the partition's three, and is damaged at this place
+abbrev pub IsDamagedPart : Hosted → (log first second : List ℕ) → (name : List ℕ) → (place : ℕ) → Type 0
+IsDamagedPart h log first second name place =
+    (disk : DiskPlace) × (name ≡ hosted_name h.topic h.conf.part disk) × AreDamagedAt h.conf log first second disk place
+
+-- this disk of the broker stands for nothing, by this place: one of a partition, or of foreign state
 abbrev pub IsDamagedDisk : ConfigParts → (List ℕ → List ℕ) → List ℕ → ℕ → Type 0
-IsDamagedDisk conf contents name place = (IsOneOf (log_names conf.topics) name × IsNoLogText (contents name) place)
+IsDamagedDisk conf contents name place =
+    ((h : Hosted) × Contains (hosted_of conf) h × IsDamagedPart h (contents (log_of h)) (contents (first_of h)) (contents (second_of h)) name place)
     ⊎ IsDamagedState (contents state_a) (contents state_b) name place
 
 -- The power of both disks was lost with this choice, and the shard was opened again: it is the old one, whose pending write landed or
@@ -95,63 +107,98 @@ pub record IsNotRestarted {D : Type 0} (content : D → Option (List ℕ)) (imag
   pub told : IsTold (content first)
   pub second_told : IsTold (content second)
 
--- ---- logs
+-- ---- partitions
 
--- A log was opened on a disk with this content: it stands for the batches that it stands for, with nothing pending.
-pub record IsOpenedLog {D : Type 0} (content : D → Option (List ℕ)) (image : D → List ℕ → Type 0) (starved : D → Bool)
-    (faults : D → ℕ) (losses : D → List (ℕ × List ℕ)) (arms : D → ℕ) (armed : D → Armed) (disk : D) (c : List ℕ) (log : LogParts D) : Type 0 where
-  pub shard : LogShardState
-  pub carried : IsLogCarried content image starved log shard
-  pub stands : IsLogText c shard.batches
-  pub only : (batches : List Batch) → IsLogText c batches → shard.batches ≡ batches
-  pub nothing : shard.pending ≡ None
-  pub on_disk : IsOpenedDisk (facts_of faults losses arms armed disk) (facts_of faults losses arms armed log.journal.disk)
+-- A partition was opened on disks with these contents: it stands for the log and the tables that they stand for, with nothing pending
+-- or held and the clock at 0.
+pub record IsOpenedPart {D : Type 0} (content : D → Option (List ℕ)) (image : D → List ℕ → Type 0) (starved : D → Bool)
+    (faults : D → ℕ) (losses : D → List (ℕ × List ℕ)) (arms : D → ℕ) (armed : D → Armed) (conf : PartConfParts)
+    (log first second : D) (l a b : List ℕ) (part : OpenPart D) : Type 0 where
+  pub batches : List Batch
+  pub states : ShareStates
+  pub carried : IsPartCarried content image starved conf part (shard_with batches states)
+  pub stands : ArePartText conf l a b batches states
+  pub only : (other : List Batch) (others : ShareStates) → ArePartText conf l a b other others → (batches ≡ other) × (states ≡ others)
+  pub on_log : IsOpenedDisk (facts_of faults losses arms armed log) (facts_of faults losses arms armed part.log.journal.disk)
+  pub on_first : IsOpenedDisk (facts_of faults losses arms armed first) (facts_of faults losses arms armed part.states.journal.live.disk)
+  pub on_second : IsOpenedDisk (facts_of faults losses arms armed second) (facts_of faults losses arms armed part.states.journal.idle)
 
--- a log whose pending write landed or didn't
-pub record LandsState (old new : LogShardState) : Type 0 where
-  pub batches : WithPending (λ (log : List Batch). new.batches ≡ log) old.batches (and_pending old.batches old.pending)
-  pub nothing : new.pending ≡ None
+-- each image of the log's disk and of the first of the states is one that it had or stands for the frames of one, and each of the second
+-- is one that it had
+pub record PartImagesStandAs {D : Type 0} (image : D → List ℕ → Type 0) (log first second new_log new_first new_second : D) : Type 0 where
+  pub on_log : (l : List ℕ) → image new_log l → StandsAs (image log) l
+  pub on_first : (a : List ℕ) → image new_first a → StandsAs (image first) a
+  pub on_second : Within (image second) (image new_second)
 
--- The power of its disk was lost with this choice, and the log was opened again: it is the old one, whose pending write landed or didn't.
-pub record IsRestartedLog {D : Type 0} (content : D → Option (List ℕ)) (image : D → List ℕ → Type 0) (starved : D → Bool)
+-- what a power loss with this choice left of a disk
+pub record IsLost {D : Type 0} (content : D → Option (List ℕ)) (image : D → List ℕ → Type 0) (faults : D → ℕ) (losses : D → List (ℕ × List ℕ))
+    (arms : D → ℕ) (armed : D → Armed) (choice : ℕ) (old new : D) (c : List ℕ) : Type 0 where
+  pub is : content new ≡ Some c
+  pub was : image old c
+  pub only : (d : List ℕ) → image new d → d ≡ c
+  pub lost : losses new ≡ losses old ++ (choice, c) ∷ []
+  pub same_arms : arms new ≡ arms old
+  pub disarmed : armed new ≡ Nothing
+  pub quiet : faults new ≡ faults old
+
+-- The power of its three disks was lost with this choice, and it was opened again: it is the old shard, whose pending writes landed or
+-- didn't.
+pub record IsRestartedPart {D : Type 0} (content : D → Option (List ℕ)) (image : D → List ℕ → Type 0) (starved : D → Bool)
     (faults : D → ℕ) (losses : D → List (ℕ × List ℕ)) (arms : D → ℕ) (armed : D → Armed)
-    (choice : ℕ) (old : LogParts D) (shard : LogShardState) (new : LogParts D) : Type 0 where
-  pub c : List ℕ
-  pub after : LogShardState
-  pub carried : IsLogCarried content image starved new after
-  pub lands : LandsState shard after
-  pub stands : IsLogText c after.batches
-  pub lost : losses new.journal.disk ≡ losses old.journal.disk ++ (choice, c) ∷ []
-  pub on_disk : IsRestarted (facts_of faults losses arms armed old.journal.disk) (facts_of faults losses arms armed new.journal.disk)
+    (choice : ℕ) (conf : PartConfParts) (old : OpenPart D) (shard : PartShardState) (new : OpenPart D) : Type 0 where
+  pub l : List ℕ
+  pub a : List ℕ
+  pub b : List ℕ
+  pub batches : List Batch
+  pub states : ShareStates
+  pub carried : IsPartCarried content image starved conf new (shard_with batches states)
+  pub log_is : IsOneOf shard.log.batches (and_pending shard.log.batches shard.log.pending) batches
+  pub states_are : IsOneOf shard.states shard.pending states
+  pub stands : ArePartText conf l a b batches states
+  pub log_lost : losses new.log.journal.disk ≡ losses old.log.journal.disk ++ (choice, l) ∷ []
+  pub first_lost : losses new.states.journal.live.disk ≡ losses old.states.journal.live.disk ++ (choice, a) ∷ []
+  pub second_lost : losses new.states.journal.idle ≡ losses old.states.journal.idle ++ (choice, b) ∷ []
+  pub on_log : IsRestarted (facts_of faults losses arms armed old.log.journal.disk) (facts_of faults losses arms armed new.log.journal.disk)
+  pub on_first : IsRestarted (facts_of faults losses arms armed old.states.journal.live.disk)
+      (facts_of faults losses arms armed new.states.journal.live.disk)
+  pub on_second : IsRestarted (facts_of faults losses arms armed old.states.journal.idle) (facts_of faults losses arms armed new.states.journal.idle)
 
--- the log in a slot was opened again
+-- the shard in a slot was opened again
 pub record ReopensSlot {D : Type 0} (content : D → Option (List ℕ)) (image : D → List ℕ → Type 0) (starved : D → Bool)
-    (faults : D → ℕ) (losses : D → List (ℕ × List ℕ)) (arms : D → ℕ) (armed : D → Armed) (choice : ℕ) (old new : LogSlot D) : Type 0 where
-  pub was : LogParts D
-  pub is : LogParts D
-  pub old_is : old.state ≡ log.Open was
-  pub new_is : new.state ≡ log.Open is
-  pub name : new.name ≡ old.name
-  pub goes : GoesOn content faults was.journal.disk is.journal.disk
-  pub reopens : (s : LogShardState) → IsLogCarried content image starved was s
-      → IsRestartedLog content image starved faults losses arms armed choice was s is
+    (faults : D → ℕ) (losses : D → List (ℕ × List ℕ)) (arms : D → ℕ) (armed : D → Armed) (choice : ℕ) (old new : PartSlot D) : Type 0 where
+  pub was : OpenPart D
+  pub is : OpenPart D
+  pub old_is : old.state ≡ part.Open was
+  pub new_is : new.state ≡ part.Open is
+  pub topic : new.topic ≡ old.topic
+  pub conf : new.conf ≡ old.conf
+  pub goes : PartGoesOn content faults was is
+  pub reopens : (s : PartShardState) → IsPartCarried content image starved old.conf was s
+      → IsRestartedPart content image starved faults losses arms armed choice old.conf was s is
 
--- It was not opened again, for this reason. A disk that tells its content stands for the log still, with or without its pending write.
+-- It was not opened again, for this reason. Disks that tell their contents stand for the shard still, with or without its pending writes.
 pub record ShutsSlot {D : Type 0} (content : D → Option (List ℕ)) (image : D → List ℕ → Type 0) (starved : D → Bool) (faults : D → ℕ)
-    (fault : CoreFault) (old new : LogSlot D) : Type 0 where
-  pub was : LogParts D
-  pub disk : D
-  pub old_is : old.state ≡ log.Open was
-  pub new_is : new.state ≡ log.Shut disk
-  pub name : new.name ≡ old.name
-  pub goes : GoesOn content faults was.journal.disk disk
-  pub shuts : (s : LogShardState) → IsLogCarried content image starved was s → StandsAlone content image s disk × (fault ≡ event_fault.NoMemory)
-  pub device : fault ≡ event_fault.Reopen Device → Rose (faults was.journal.disk) (faults disk)
+    (fault : CoreFault) (old new : PartSlot D) : Type 0 where
+  pub was : OpenPart D
+  pub log : D
+  pub first : D
+  pub second : D
+  pub old_is : old.state ≡ part.Open was
+  pub new_is : new.state ≡ part.Shut log first second
+  pub topic : new.topic ≡ old.topic
+  pub conf : new.conf ≡ old.conf
+  pub on_log : GoesOn content faults was.log.journal.disk log
+  pub on_first : GoesOn content faults was.states.journal.live.disk first
+  pub on_second : GoesOn content faults was.states.journal.idle second
+  pub shuts : (s : PartShardState) → IsPartCarried content image starved old.conf was s
+      → PartStandsAlone content image old.conf s log first second × (fault ≡ event_fault.NoMemory)
+  pub device : fault ≡ event_fault.Reopen Device → Rose (faults was.log.journal.disk) (faults log)
+      ⊎ (Rose (faults was.states.journal.live.disk) (faults first) ⊎ Rose (faults was.states.journal.idle) (faults second))
   pub never : (f : CoreOpen) → fault ≡ event_fault.Reopen f → (f ≢ Bay) × (f ≢ NoMemory)
 
--- logs up to one were opened again, that one was not, and those behind it are as they were
+-- shards up to one were opened again, that one was not, and those behind it are as they were
 abbrev pub StopsAt : {D : Type 0} → (D → Option (List ℕ)) → (D → List ℕ → Type 0) → (D → Bool) → (D → ℕ) → (D → List (ℕ × List ℕ)) → (D → ℕ)
-    → (D → Armed) → ℕ → CoreFault → List (LogSlot D) → List (LogSlot D) → Type 0
+    → (D → Armed) → ℕ → CoreFault → List (PartSlot D) → List (PartSlot D) → Type 0
 StopsAt content image starved faults losses arms armed choice fault [] new = ⊥
 StopsAt content image starved faults losses arms armed choice fault (x ∷ xs) [] = ⊥
 StopsAt content image starved faults losses arms armed choice fault (x ∷ xs) (y ∷ ys) =

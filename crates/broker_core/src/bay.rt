@@ -1,52 +1,72 @@
 // The disks of the shards are taken from a bay, and put back.
-ghost use Rattle.std.specs.Prelude.{◌≡◌, ◌≢◌, ◌⊎◌, ◌≤◌, ◌+◌, ◌++◌, ◌∷◌, [], List, ℕ, Bool, true, false, Some, None, IfOk, IfErr, OnOk, OnErr, Err};
+ghost use Rattle.std.specs.Prelude.{◌≡◌, ◌≢◌, ◌⊎◌, ◌≤◌, ◌++◌, ◌∷◌, [], List, ℕ, true, false, Some, IfOk, IfErr, OnOk};
 ghost use Rattle.edge_io.specs.Names.{IsTopicName, most_partitions};
+ghost use Rattle.edge_io.specs.declared.name.DiskPlace.TheVariants.{Log, StateA, StateB};
 ghost use Rattle.topic_conf.specs.Topics.{IsTopicList};
-ghost use Rattle.broker_model.specs.Hosted.{IsOneOf, log_names, logs_from, state_a, state_b};
-ghost use Rattle.broker_core.specs.Hosts.{AreDistinct, AreHeldLogs, IsHeldState, IsHeld, NotIn, foreign_disks, log_disk, slot_names};
+ghost use Rattle.broker_model.specs.Hosted.{IsOneOf, disks_of, hosted_from, hosted_of, part_disks, state_a, state_b};
+ghost use Rattle.broker_core.specs.Hosts.{AreDistinct, AreHeldParts, AreNamed, IsHeldState, IsHeld, IsNamed, foreign_disks, hosted_slot, hosted_slots, part_disk, slot_disks, slots_disks};
 ghost use Rattle.broker_core.specs.Bays.{AreOut};
-ghost use Rattle.broker_core.specs.declared.slot.LogSlot.{LogSlot};
-ghost use Rattle.broker_core.specs.Taking.{PutsForeignBack, PutsLogsBack, RefusesAt, RefusesForeign, RefusesLog, TakesForeign, TakesLog, TakesLogs};
+ghost use Rattle.broker_core.specs.declared.slot.PartSlot.{PartSlot};
+ghost use Rattle.broker_core.specs.Taking.{GetsAll, GetsNone, PutsAll, PutsForeignBack, RefusesAt, RefusesForeign, RefusesPart, TakesForeign, TakesPart, TakesParts};
 
 use crate::fault::CoreOpen;
-use crate::log::open_log;
+use crate::names::{PartNames, names_of};
+use crate::part::open_part;
 use crate::shard::open;
-use crate::slot::{ForeignSlot, LogSlot, LogState};
-use edge_io::{Bay, Disk, DiskName, DiskPlace};
-use share_model::NoMemory;
+use crate::slot::{ForeignSlot, PartSlot, PartState};
+use edge_io::{Bay, Disk, DiskName};
+use share_model::{Name, NoMemory};
+use share_part::PartConf;
 use std::alloc::Global;
-use topic_conf::Topic;
+use std::marker::Model;
+use topic_conf::{Config, Topic};
 
-// ---- names
+// ---- hosted partitions
 
-// The disks of a topic's logs are added.
-fn push_names(topic: &Topic, names: &mut Vec<DiskName>) -> Result<(), NoMemory>
+/// A hosted partition: its topic's name, and what its shard is configured with.
+#[derive(Drop)]
+pub struct HostedPart {
+    topic: Name,
+    conf: PartConf,
+}
+
+impl Model for HostedPart {
+    ghost use Rattle.broker_model.specs.Hosted.{Hosted};
+
+    ghost Value = { Hosted };
+
+    ghost view = { λ h. record { topic = h.topic; conf = h.conf } };
+}
+
+// The partitions of a topic are added.
+fn push_parts(conf: &Config, topic: &Topic, parts: &mut Vec<HostedPart>) -> Result<(), NoMemory>
     requires name { IsTopicName topic.now.name }
     requires few { topic.now.parts ≤ most_partitions }
-    ensures { OnOk result (names.new.items ≡ names.old.items ++ logs_from topic.now.name 0 topic.now.parts) }
+    ensures { OnOk result (parts.new.items ≡ parts.old.items ++ hosted_from conf.now topic.now 0 topic.now.parts) }
 {
     for part in 0..topic.parts {
-        let Some(name) = DiskName::hosted(topic.name.as_bytes(), part, DiskPlace::Log) else {
-            unreachable!()
-        };
-        names.push(name)?;
+        parts.push(HostedPart {
+            topic: topic.name,
+            conf: PartConf::new(topic.id, part, conf.reset(), conf.lock_ms(), conf.limit()),
+        })?;
     }
     Ok(())
 }
 
-/// The disks of the logs of these topics, in the order of their shards.
-pub fn names_of_logs(alloc: Global, topics: &[Topic]) -> Result<Vec<DiskName>, NoMemory>
-    requires { IsTopicList topics.now }
-    ensures { IfOk result (λ names. names.items ≡ log_names topics.now) }
+/// The hosted partitions of a configuration, in the order of their shards.
+pub fn hosted_parts(alloc: Global, conf: &Config) -> Result<Vec<HostedPart>, NoMemory>
+    ensures parts { IfOk result (λ parts. parts.items ≡ hosted_of conf.now) }
+    ensures list { IsTopicList conf.now.topics }
 {
-    let mut names = Vec::new(alloc);
+    let topics = conf.topics();
+    let mut parts = Vec::new(alloc);
     for topic in topics {
-        push_names(topic, &mut names)?;
+        push_parts(conf, topic, &mut parts)?;
     }
-    Ok(names)
+    Ok(parts)
 }
 
-// ---- logs
+// ---- disks
 
 // Why a bay gave no disk.
 fn no_disk<B: Bay>(bay: &B) -> CoreOpen
@@ -60,97 +80,182 @@ fn no_disk<B: Bay>(bay: &B) -> CoreOpen
     }
 }
 
-// The disk of a log is taken, and the log opened.
-fn take_log<D: Disk, B: Bay<D = D>>(
-    alloc: Global,
+// Takes two disks. After a refusal neither is out.
+fn take_two<D: Disk, B: Bay<D = D>>(
     bay: &mut B,
-    name: DiskName,
-) -> Result<LogSlot<D>, CoreOpen>
-    requires { B.out bay.old name ≡ false }
-    ensures ok { IfOk result (λ slot. TakesLog B.disk B.out B.taken B.steady B.faults D.content D.image D.starved D.faults D.losses D.arms D.armed
-        name bay.old slot bay.new) }
-    ensures err { IfErr result (λ e. RefusesLog B.disk B.out B.taken B.steady B.faults D.content D.starved D.faults D.arms D.armed name e bay.old bay.new) }
+    first_name: &DiskName,
+    second_name: &DiskName,
+) -> Result<(D, D), CoreOpen>
+    requires apart { AreDistinct (first_name.now ∷ second_name.now ∷ []) }
+    requires first { B.out bay.old first_name.now ≡ false }
+    requires second { B.out bay.old second_name.now ≡ false }
+    ensures ok { IfOk result (λ disks. GetsAll B.disk B.out B.taken B.steady B.faults D.faults
+        ((first_name.now, disks.0) ∷ (second_name.now, disks.1) ∷ []) bay.old bay.new) }
+    ensures err { IfErr result (λ e. GetsNone B.disk B.out B.taken B.steady B.faults (first_name.now ∷ second_name.now ∷ []) e bay.old bay.new) }
 {
-    let Ok(disk) = bay.take(&name) else {
+    let Ok(first) = bay.take(first_name) else {
         return Err(no_disk(bay));
     };
-    match open_log(alloc, &name, disk) {
-        Ok(log) => Ok(LogSlot {
-            name,
-            state: LogState::Open(log),
-        }),
-        Err((disk, fault)) => {
-            bay.put_back(&name, disk);
+    let Ok(second) = bay.take(second_name) else {
+        let fault = no_disk(bay);
+        bay.put_back(first_name, first);
+        return Err(fault);
+    };
+    Ok((first, second))
+}
+
+// Takes the three disks of a partition. After a refusal none is out.
+fn take_three<D: Disk, B: Bay<D = D>>(bay: &mut B, names: &PartNames) -> Result<(D, D, D), CoreOpen>
+    requires apart { AreDistinct (names.now.log ∷ names.now.first ∷ names.now.second ∷ []) }
+    requires log { B.out bay.old names.now.log ≡ false }
+    requires first { B.out bay.old names.now.first ≡ false }
+    requires second { B.out bay.old names.now.second ≡ false }
+    ensures ok { IfOk result (λ disks. GetsAll B.disk B.out B.taken B.steady B.faults D.faults
+        ((names.now.log, disks.0) ∷ (names.now.first, disks.1) ∷ (names.now.second, disks.2) ∷ []) bay.old bay.new) }
+    ensures err { IfErr result (λ e. GetsNone B.disk B.out B.taken B.steady B.faults
+        (names.now.log ∷ names.now.first ∷ names.now.second ∷ []) e bay.old bay.new) }
+{
+    let Ok(log) = bay.take(&names.log) else {
+        return Err(no_disk(bay));
+    };
+    match take_two(bay, &names.first, &names.second) {
+        Ok((first, second)) => Ok((log, first, second)),
+        Err(fault) => {
+            bay.put_back(&names.log, log);
             Err(fault)
         }
     }
 }
 
-// One log more.
-fn add_log<D: Disk, B: Bay<D = D>>(
+// Puts the three disks of a partition back.
+fn put_three<D: Disk, B: Bay<D = D>>(bay: &mut B, names: &PartNames, disks: (D, D, D))
+    requires apart { AreDistinct (names.now.log ∷ names.now.first ∷ names.now.second ∷ []) }
+    requires log { B.out bay.old names.now.log ≡ true }
+    requires first { B.out bay.old names.now.first ≡ true }
+    requires second { B.out bay.old names.now.second ≡ true }
+    ensures { PutsAll B.disk B.out B.taken B.steady B.faults D.faults
+        ((names.now.log, Some disks.0) ∷ (names.now.first, Some disks.1) ∷ (names.now.second, Some disks.2) ∷ []) bay.old bay.new }
+{
+    let (log, first, second) = disks;
+    bay.put_back(&names.log, log);
+    bay.put_back(&names.first, first);
+    bay.put_back(&names.second, second);
+}
+
+// ---- partitions
+
+// The disks of a partition are taken, and its shard opened.
+fn take_part<D: Disk, B: Bay<D = D>>(
     alloc: Global,
     bay: &mut B,
-    name: DiskName,
-    slots: &mut Vec<LogSlot<D>>,
+    part: HostedPart,
+) -> Result<PartSlot<D>, CoreOpen>
+    requires named { IsNamed part }
+    requires apart { AreDistinct (disks_of part) }
+    requires not_out { (name : List ℕ) → IsOneOf (disks_of part) name → B.out bay.old name ≡ false }
+    ensures ok { IfOk result (λ slot. TakesPart B.disk B.out B.taken B.steady B.faults D.content D.image D.starved D.faults D.losses D.arms D.armed
+        part bay.old slot bay.new) }
+    ensures err { IfErr result (λ e. RefusesPart B.disk B.out B.taken B.steady B.faults D.content D.starved D.faults D.arms D.armed part e bay.old bay.new) }
+{
+    let HostedPart { topic, conf } = part;
+    let names = names_of(&topic, &conf);
+    let disks = take_three(bay, &names)?;
+    match open_part(alloc, &topic, conf, disks) {
+        Ok(shard) => Ok(PartSlot {
+            topic,
+            conf,
+            state: PartState::Open(shard),
+        }),
+        Err((disks, fault)) => {
+            put_three(bay, &names, disks);
+            Err(fault)
+        }
+    }
+}
+
+// One partition more.
+fn add_part<D: Disk, B: Bay<D = D>>(
+    alloc: Global,
+    bay: &mut B,
+    part: HostedPart,
+    slots: &mut Vec<PartSlot<D>>,
 ) -> Result<(), CoreOpen>
-    requires { B.out bay.old name ≡ false }
-    ensures ok { OnOk result ((slot : LogSlot D) × TakesLog B.disk B.out B.taken B.steady B.faults D.content D.image D.starved D.faults D.losses D.arms D.armed
-        name bay.old slot bay.new × (slots.new.items ≡ slots.old.items ++ slot ∷ [])) }
-    ensures err { IfErr result (λ e. RefusesLog B.disk B.out B.taken B.steady B.faults D.content D.starved D.faults D.arms D.armed name e bay.old bay.new
+    requires named { IsNamed part }
+    requires apart { AreDistinct (disks_of part) }
+    requires not_out { (name : List ℕ) → IsOneOf (disks_of part) name → B.out bay.old name ≡ false }
+    ensures ok { OnOk result ((slot : PartSlot D) × TakesPart B.disk B.out B.taken B.steady B.faults D.content D.image D.starved D.faults D.losses D.arms D.armed
+        part bay.old slot bay.new × (slots.new.items ≡ slots.old.items ++ slot ∷ [])) }
+    ensures err { IfErr result (λ e. RefusesPart B.disk B.out B.taken B.steady B.faults D.content D.starved D.faults D.arms D.armed part e bay.old bay.new
         × (slots.new.items ≡ slots.old.items)) }
 {
     if let Err(_) = slots.reserve(1) {
         return Err(CoreOpen::NoMemory);
     }
-    let slot = take_log(alloc, bay, name)?;
+    let slot = take_part(alloc, bay, part)?;
     if let Err(_) = slots.push(slot) {
         unreachable!()
     }
     Ok(())
 }
 
-// The disk of a log that has it.
-fn disk_of<D: Disk>(state: LogState<D>) -> D
+// The disks of a partition that has them.
+fn disks_of_part<D: Disk>(state: PartState<D>) -> (D, D, D)
     requires { IsHeldState state }
-    ensures { log_disk state ≡ Some result }
+    ensures log { part_disk state Log ≡ Some result.0 }
+    ensures first { part_disk state StateA ≡ Some result.1 }
+    ensures second { part_disk state StateB ≡ Some result.2 }
 {
     match state {
-        LogState::Open(log) => log.into_disk(),
-        LogState::Shut(disk) => disk,
-        LogState::Gone => unreachable!(),
+        PartState::Open(shard) => shard.into_disks(),
+        PartState::Shut(log, first, second) => (log, first, second),
+        PartState::Gone => unreachable!(),
     }
 }
 
-/// Puts the disks of logs back.
-pub fn put_logs_back<D: Disk + Drop, B: Bay<D = D>>(slots: Vec<LogSlot<D>>, bay: &mut B)
-    requires held { AreHeldLogs slots.items }
-    requires distinct { AreDistinct (slot_names slots.items) }
-    requires out { (name : List ℕ) → IsOneOf (slot_names slots.items) name → B.out bay.old name ≡ true }
-    ensures { PutsLogsBack B.disk B.out B.taken B.steady B.faults D.faults slots.items bay.old bay.new }
+// Puts the disks of a partition back.
+fn put_part_back<D: Disk, B: Bay<D = D>>(slot: PartSlot<D>, bay: &mut B)
+    requires named { IsNamed (hosted_slot slot) }
+    requires held { IsHeldState slot.state }
+    requires apart { AreDistinct (disks_of (hosted_slot slot)) }
+    requires out { (name : List ℕ) → IsOneOf (disks_of (hosted_slot slot)) name → B.out bay.old name ≡ true }
+    ensures { PutsAll B.disk B.out B.taken B.steady B.faults D.faults (slot_disks slot) bay.old bay.new }
+{
+    let PartSlot { topic, conf, state } = slot;
+    let names = names_of(&topic, &conf);
+    put_three(bay, &names, disks_of_part(state));
+}
+
+/// Puts the disks of partitions back.
+pub fn put_parts_back<D: Disk + Drop, B: Bay<D = D>>(slots: Vec<PartSlot<D>>, bay: &mut B)
+    requires named { AreNamed (hosted_slots slots.items) }
+    requires held { AreHeldParts slots.items }
+    requires distinct { AreDistinct (part_disks (hosted_slots slots.items)) }
+    requires out { (name : List ℕ) → IsOneOf (part_disks (hosted_slots slots.items)) name → B.out bay.old name ≡ true }
+    ensures { PutsAll B.disk B.out B.taken B.steady B.faults D.faults (slots_disks slots.items) bay.old bay.new }
 {
     for slot in slots {
-        let LogSlot { name, state } = slot;
-        bay.put_back(&name, disk_of(state));
+        put_part_back(slot, bay);
     }
 }
 
-/// Takes the disks of these names, and opens their logs. After a refusal each of them is back in the bay.
-pub fn take_logs<D: Disk + Drop, B: Bay<D = D>>(
+/// Takes the disks of these partitions, and opens their shards, one partition after another. After a refusal each disk is back in the bay.
+pub fn take_parts<D: Disk + Drop, B: Bay<D = D>>(
     alloc: Global,
     bay: &mut B,
-    names: Vec<DiskName>,
-) -> Result<Vec<LogSlot<D>>, CoreOpen>
-    requires distinct { AreDistinct names.items }
+    parts: Vec<HostedPart>,
+) -> Result<Vec<PartSlot<D>>, CoreOpen>
+    requires named { AreNamed parts.items }
+    requires distinct { AreDistinct (part_disks parts.items) }
     requires out { AreOut B.out [] bay.old }
-    ensures ok { IfOk result (λ slots. TakesLogs B.disk B.out B.taken B.steady B.faults D.content D.image D.starved D.faults D.losses D.arms D.armed
-        names.items bay.old slots.items bay.new) }
+    ensures ok { IfOk result (λ slots. TakesParts B.disk B.out B.taken B.steady B.faults D.content D.image D.starved D.faults D.losses D.arms D.armed
+        parts.items bay.old slots.items bay.new) }
     ensures err { IfErr result (λ e. RefusesAt B.disk B.out B.taken B.steady B.faults D.content D.image D.starved D.faults D.losses D.arms D.armed
-        names.items e bay.old bay.new) }
+        parts.items e bay.old bay.new) }
 {
     let mut slots = Vec::new(alloc);
-    for name in names {
-        if let Err(fault) = add_log(alloc, bay, name, &mut slots) {
-            put_logs_back(slots, bay);
+    for part in parts {
+        if let Err(fault) = add_part(alloc, bay, part, &mut slots) {
+            put_parts_back(slots, bay);
             return Err(fault);
         }
     }
@@ -172,14 +277,7 @@ pub fn take_foreign<D: Disk, B: Bay<D = D>>(
 {
     let first_name = DiskName::foreign_state_a();
     let second_name = DiskName::foreign_state_b();
-    let Ok(first) = bay.take(&first_name) else {
-        return Err(no_disk(bay));
-    };
-    let Ok(second) = bay.take(&second_name) else {
-        let fault = no_disk(bay);
-        bay.put_back(&first_name, first);
-        return Err(fault);
-    };
+    let (first, second) = take_two(bay, &first_name, &second_name)?;
     match open(alloc, first, second) {
         Ok(shard) => Ok(ForeignSlot::Open(shard)),
         Err((first, second, fault)) => {
@@ -191,7 +289,7 @@ pub fn take_foreign<D: Disk, B: Bay<D = D>>(
 }
 
 // The two disks of foreign state, where it has them.
-fn disks_of<D: Disk>(slot: ForeignSlot<D>) -> (D, D)
+fn disks_of_foreign<D: Disk>(slot: ForeignSlot<D>) -> (D, D)
     requires { IsHeld slot }
     ensures { foreign_disks slot ≡ Some result }
 {
@@ -209,7 +307,7 @@ pub fn put_foreign_back<D: Disk, B: Bay<D = D>>(slot: ForeignSlot<D>, bay: &mut 
     requires second { B.out bay.old state_b ≡ true }
     ensures { PutsForeignBack B.disk B.out B.taken B.steady B.faults D.faults slot bay.old bay.new }
 {
-    let (first, second) = disks_of(slot);
+    let (first, second) = disks_of_foreign(slot);
     bay.put_back(&DiskName::foreign_state_a(), first);
     bay.put_back(&DiskName::foreign_state_b(), second);
 }

@@ -1,23 +1,28 @@
-ghost use Rattle.std.specs.Prelude.{◌≡◌, ◌≢◌, ◌⊎◌, ◌≤◌, [], List, ℕ, IfOk, IfErr, OnOk, OnErr, Err};
+ghost use Rattle.std.specs.Prelude.{◌≡◌, ◌≢◌, ◌⊎◌, ◌≤◌, [], List, ℕ, All, IfOk, IfErr, OnOk, OnErr, Err, length};
 ghost use Rattle.edge_io.specs.Bays.{IsSound};
 ghost use Rattle.edge_io.specs.Causes.{Rose};
 ghost use Rattle.session_script.specs.declared.event.Event.TheVariants.{Power};
-ghost use Rattle.topic_conf.specs.Topics.{IsTopicList};
+ghost use Rattle.session_script.specs.Output.{IsTold};
+ghost use Rattle.topic_conf.specs.Topics.{IsTopicList, partitions};
 ghost use Rattle.broker_model.specs.Machine.{Machine};
 ghost use Rattle.broker_model.specs.Disks.{Disks};
-ghost use Rattle.broker_core.specs.Hosts.{AreApart, AreHeld, AreOpen, GoOn, OneRose, all_names, disks_in, parts_of, slot_names};
+ghost use Rattle.broker_core.specs.Hosts.{AreApart, AreHeld, AreNamed, AreOpen, GoOn, OneRose, StaysHosted, all_names, disks_in, hosted_slots, parts_of};
 ghost use Rattle.broker_core.specs.Restarts.{IsDamagedDisk};
 ghost use Rattle.broker_core.specs.Bays.{AreOut, ArePutBack, AreTakenFrom, HasLastCount, HasRisen, IsFirst, StandForAll, TellsDisks, TellsStill};
 ghost use Rattle.broker_core.specs.Taking.{RefusesAll, TakesAll, PutsAllBack};
-ghost use Rattle.broker_core.specs.Cores.{Advances, IsCore, IsWhole, StopsIn, core_of, state_of};
+ghost use Rattle.broker_core.specs.Cores.{Advances, HasMoment, IsCore, IsWhole, StopsIn, core_of, state_of};
 
-use crate::bay::{names_of_logs, put_foreign_back, put_logs_back, take_foreign, take_logs};
+use crate::arms::arm;
+use crate::bay::{hosted_parts, put_foreign_back, put_parts_back, take_foreign, take_parts};
 use crate::client::{connect, disconnect, one, send, serve};
 use crate::fault::{CoreFault, CoreOpen};
-use crate::hosts::{Hosts, arm, lose_power};
+use crate::hosts::Hosts;
+use crate::power::lose_power;
+use crate::timers::{expire, tick};
 use conn_core::Conn;
 use edge_io::{Bay, Disk};
 use session_script::{Event, Outcome};
+use share_members::GroupShard;
 use std::alloc::Global;
 use std::collections::BTreeMap;
 use std::marker::Model;
@@ -26,8 +31,8 @@ use topic_conf::Config;
 /// The broker over its disks: who is connected, and the shards.
 ///
 /// It is opened by [`Core::start`], does one event at a time, and gives its disks back by [`Core::finish`]. A contract sees its
-/// configuration, the connections in the order of their numbers, the logs of the hosted partitions in the order of their shards, and
-/// foreign state.
+/// configuration, the connections in the order of their numbers, the hosted partitions in the order of their shards, the members of all
+/// groups, and foreign state.
 #[derive(Drop)]
 pub struct Core<D: Disk> {
     conf: Config,
@@ -60,14 +65,21 @@ fn take_hosts<D: Disk + Drop, B: Bay<D = D>>(
         conf.now e bay.old bay.new) }
     ensures list { IsTopicList conf.now.topics }
 {
-    let Ok(names) = names_of_logs(alloc, conf.topics()) else {
+    let Ok(hosted) = hosted_parts(alloc, conf) else {
         return Err(CoreOpen::NoMemory);
     };
-    let logs = take_logs(alloc, bay, names)?;
+    let Ok(members) = GroupShard::new(alloc, conf) else {
+        return Err(CoreOpen::NoMemory);
+    };
+    let parts = take_parts(alloc, bay, hosted)?;
     match take_foreign(alloc, bay) {
-        Ok(foreign) => Ok(Hosts { logs, foreign }),
+        Ok(foreign) => Ok(Hosts {
+            parts,
+            members,
+            foreign,
+        }),
         Err(fault) => {
-            put_logs_back(logs, bay);
+            put_parts_back(parts, bay);
             Err(fault)
         }
     }
@@ -75,13 +87,14 @@ fn take_hosts<D: Disk + Drop, B: Bay<D = D>>(
 
 // Puts the disks of all shards back.
 fn put_hosts_back<D: Disk + Drop, B: Bay<D = D>>(hosts: Hosts<D>, bay: &mut B)
+    requires named { AreNamed (hosted_slots (parts_of hosts).parts) }
     requires held { AreHeld (parts_of hosts) }
     requires apart { AreApart (parts_of hosts) }
-    requires out { AreOut B.out (all_names (slot_names (parts_of hosts).logs)) bay.old }
+    requires out { AreOut B.out (all_names (hosted_slots (parts_of hosts).parts)) bay.old }
     ensures { PutsAllBack B.disk B.out B.taken B.steady B.faults D.faults (parts_of hosts) bay.old bay.new }
 {
-    let Hosts { logs, foreign } = hosts;
-    put_logs_back(logs, bay);
+    let Hosts { parts, foreign, .. } = hosts;
+    put_parts_back(parts, bay);
     put_foreign_back(foreign, bay);
 }
 
@@ -95,12 +108,16 @@ fn advance<D: Disk + Drop>(
     hosts: &mut Hosts<D>,
 ) -> Result<Vec<Outcome>, CoreFault>
     requires open { AreOpen (parts_of hosts.old) }
+    requires moment { HasMoment event.now }
     requires whole { IsWhole (core_of conf.now clients.old.entries (parts_of hosts.old)) }
     requires apart { AreApart (parts_of hosts.old) }
+    requires hosted { length hosts.old.parts.items ≡ partitions conf.now.topics }
     ensures ok { IfOk result (λ outcomes. Advances D.content D.image D.starved D.faults D.losses D.arms D.armed
         (core_of conf.now clients.old.entries (parts_of hosts.old)) event.now outcomes.items (core_of conf.now clients.new.entries (parts_of hosts.new))) }
+    ensures told { IfOk result (λ outcomes. All (IsTold conf.now.topics) outcomes.items) }
     ensures open { OnOk result (AreOpen (parts_of hosts.new)) }
     ensures held { AreHeld (parts_of hosts.new) }
+    ensures stays { StaysHosted (parts_of hosts.old) (parts_of hosts.new) }
     ensures stopped { IfErr result (λ e. (m : Machine) → IsCore D.content D.image D.starved (core_of conf.now clients.old.entries (parts_of hosts.old)) m →
         StopsIn D.content D.image D.faults D.losses D.arms D.armed (core_of conf.now clients.old.entries (parts_of hosts.old)) m event.now (core_of conf.now clients.new.entries (parts_of hosts.new)) × (e ≡ CoreFault.NoMemory)) }
     ensures reopen { (f : CoreOpen) → result ≡ Err (CoreFault.Reopen f) → ((choice : ℕ) × (event.now ≡ Power choice)) × (f ≢ CoreOpen.Bay) × (f ≢ CoreOpen.NoMemory) }
@@ -120,9 +137,17 @@ fn advance<D: Disk + Drop>(
             disconnect(*conn, clients);
             Ok(Vec::new(alloc))
         }
-        Event::Step { conn, .. } => {
-            let outcomes = serve(alloc, conf, *conn, clients, hosts)?;
+        Event::Step { conn, now } => {
+            let outcomes = serve(alloc, conf, *conn, *now, clients, hosts)?;
             Ok(outcomes)
+        }
+        Event::Expire { topic, part, now } => {
+            let outcomes = expire(alloc, conf, topic, *part, *now, hosts)?;
+            Ok(outcomes)
+        }
+        Event::Tick { now } => {
+            tick(*now, hosts);
+            Ok(Vec::new(alloc))
         }
         Event::Arm { disk, after, mode } => {
             arm(disk, *after, *mode, hosts);
@@ -130,7 +155,7 @@ fn advance<D: Disk + Drop>(
         }
         Event::Power { choice } => {
             let outcomes = one(alloc, Outcome::Restarted)?;
-            lose_power(alloc, *choice, hosts)?;
+            lose_power(alloc, conf, *choice, hosts)?;
             *clients = BTreeMap::new(alloc);
             Ok(outcomes)
         }
@@ -139,7 +164,7 @@ fn advance<D: Disk + Drop>(
 
 impl<D: Disk + Drop> Core<D> {
     /// Takes the broker's disks from the bay, and opens its shards: those that the disks stand for, with nothing pending, to which nobody
-    /// is connected. The logs of the hosted partitions come first, in the order of the configuration, and foreign state last.
+    /// is connected. The hosted partitions come first, in the order of the configuration, and foreign state last.
     ///
     /// After a refusal each disk is back in the bay.
     pub fn start<B: Bay<D = D>>(
@@ -152,11 +177,11 @@ impl<D: Disk + Drop> Core<D> {
             TellsDisks B.disk D.content D.faults D.losses D.arms D.armed conf bay.old contents was → (m : Machine) × IsCore D.content D.image D.starved core m
             × IsFirst conf contents was (state_of D.faults D.losses D.arms D.armed m core)) }
         ensures open { IfOk result (λ core. AreOpen core.hosts × (core.conf ≡ conf)) }
-        ensures taken { IfOk result (λ core. AreOut B.out (all_names (slot_names core.hosts.logs)) bay.new) }
+        ensures taken { IfOk result (λ core. AreOut B.out (all_names (hosted_slots core.hosts.parts)) bay.new) }
         ensures counts { IfOk result (λ core. AreTakenFrom B.disk B.taken D.faults conf bay.old bay.new (disks_in core.hosts)) }
         ensures back { OnErr result (AreOut B.out [] bay.new) }
 
-        // Each refusal has its cause. Contents that stand for logs and states are never damaged.
+        // Each refusal has its cause. Contents that stand for logs, tables and states are never damaged.
         ensures damaged { (disk : List ℕ) (place : ℕ) → result ≡ Err (CoreOpen.Damaged disk place) → (contents : List ℕ → List ℕ) (was : Disks) →
             TellsDisks B.disk D.content D.faults D.losses D.arms D.armed conf bay.old contents was → IsDamagedDisk conf contents disk place }
         ensures recovers { (contents : List ℕ → List ℕ) (was : Disks) →
@@ -180,7 +205,7 @@ impl<D: Disk + Drop> Core<D> {
 
     /// Puts the disks back into the bay from which they were taken.
     pub fn finish<B: Bay<D = D>>(self, bay: &mut B)
-        requires { AreOut B.out (all_names (slot_names self.hosts.logs)) bay.old }
+        requires { AreOut B.out (all_names (hosted_slots self.hosts.parts)) bay.old }
         ensures back { ArePutBack B.disk bay.old bay.new (disks_in self.hosts) }
         ensures in_again { AreOut B.out [] bay.new }
         ensures rises { HasRisen B.taken D.faults bay.old (disks_in self.hosts) → Rose (B.faults bay.old) (B.faults bay.new) }
@@ -191,22 +216,33 @@ impl<D: Disk + Drop> Core<D> {
         put_hosts_back(hosts, bay);
     }
 
+    /// Its configuration.
+    pub fn conf(&self) -> &Config
+        ensures { result.now ≡ self.now.conf }
+    {
+        &self.conf
+    }
+
     /// Does one event, and gives what comes of it, in order.
     ///
-    /// An event on a connection or a disk that isn't there, and an open of a connection that is, change nothing and give nothing. At an
-    /// `Err` the part in hand was done whole or not at all; no event may follow, and `finish` puts the disks back.
+    /// An event on a connection, a partition or a disk that isn't there, and an open of a connection that is, change nothing and give
+    /// nothing. At an `Err` the part in hand was done whole, or not at all, or up to one of its writes; no event may follow, and `finish`
+    /// puts the disks back.
     pub fn event(&mut self, event: &Event) -> Result<Vec<Outcome>, CoreFault>
-        requires { AreOpen self.old.hosts }
+        requires open { AreOpen self.old.hosts }
+        requires moment { HasMoment event.now }
 
         // It is a step of the machine that the broker stands for, where its disks tell their contents.
         ensures ok { IfOk result (λ outcomes. Advances D.content D.image D.starved D.faults D.losses D.arms D.armed self.old event.now outcomes.items self.new) }
         ensures open { OnOk result (AreOpen self.new.hosts) }
 
-        // On such disks it fails for want of memory alone, and the disks stand for the machine before the event or behind it.
+        // On such disks it fails for want of memory alone, and the disks stand for the machine before the event, or behind it, or behind
+        // some of its writes.
         ensures stopped { IfErr result (λ e. (m : Machine) → IsCore D.content D.image D.starved self.old m →
             StopsIn D.content D.image D.faults D.losses D.arms D.armed self.old m event.now self.new × (e ≡ CoreFault.NoMemory)) }
 
-        // On any disks: why it was not opened again, which comes of a power loss alone.
+        // On any disks: a fault that is told is that of a hosted partition. Why it was not opened again, which comes of a power loss alone.
+        ensures told { IfOk result (λ outcomes. All (IsTold self.old.conf.topics) outcomes.items) }
         ensures reopen { (f : CoreOpen) → result ≡ Err (CoreFault.Reopen f) → ((choice : ℕ) × (event.now ≡ Power choice)) × (f ≢ CoreOpen.Bay) × (f ≢ CoreOpen.NoMemory) }
         ensures device { result ≡ Err (CoreFault.Reopen CoreOpen.Device) → OneRose D.faults (disks_in self.old.hosts) (disks_in self.new.hosts) }
         ensures disks { GoOn D.content D.faults (disks_in self.old.hosts) (disks_in self.new.hosts) }

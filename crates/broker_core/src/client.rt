@@ -1,15 +1,18 @@
 // The clients that are connected, each under the number of its connection.
-ghost use Rattle.std.specs.Prelude.{◌≡◌, ◌≤◌, ◌∷◌, [], List, ℕ, OnOk, OnErr, IfOk, if◌then◌else◌};
+ghost use Rattle.std.specs.Prelude.{◌≡◌, ◌≤◌, ◌^◌, ◌∷◌, ◌++◌, [], List, ℕ, All, OnOk, OnErr, IfOk, length, if◌then◌else◌};
 ghost use Rattle.std.specs.Map.{remove_entry};
 ghost use Rattle.session_script.specs.declared.event.Outcome.{Outcome};
+ghost use Rattle.session_script.specs.Output.{IsTold};
+ghost use Rattle.topic_conf.specs.Topics.{partitions};
 ghost use Rattle.conn_core.specs.Conns.{ConnParts, conn_after_bytes, without_replies, is_gone};
 ghost use Rattle.conn_core.specs.Turning.{Awaits, turn};
 ghost use Rattle.broker_model.specs.Shards.{Shards};
 ghost use Rattle.broker_model.specs.Machine.{Machine, named, opened, at_connection, conn_at, ended_in};
 ghost use Rattle.broker_model.specs.Steps.{Does, DoesTurn, Serves, replies_to};
-ghost use Rattle.broker_core.specs.Hosts.{AreApart, AreCarried, AreOpen, GoOn, Halts, Leads, disks_in, ends_in, parts_of, rose_in};
+ghost use Rattle.broker_core.specs.Hosts.{AreApart, AreCarried, AreOpen, GoOn, Halts, HalvesNext, HalvesServe, Leads, StaysHosted, counts_in, disks_in, ends_in, parts_of};
 
 use crate::hosts::{Hosts, act};
+use crate::told::{fault_in, told};
 use conn_core::{Conn, Next, Part};
 use edge_io::Disk;
 use session_script::Outcome;
@@ -28,15 +31,14 @@ pub fn one(alloc: Global, outcome: Outcome) -> Result<Vec<Outcome>, NoMemory>
 
 // The finished replies are sent.
 #[tactic(auto, using(crate::proofs::Stepping::none_waiting))]
-fn replies(alloc: Global, id: u32, conn: &mut Conn) -> Result<Vec<Outcome>, NoMemory>
-    ensures told { IfOk result (λ outcomes. outcomes.items ≡ replies_to id conn.old) }
+fn replies(id: u32, conn: &mut Conn, outcomes: &mut Vec<Outcome>) -> Result<(), NoMemory>
+    ensures told { OnOk result (outcomes.new.items ≡ outcomes.old.items ++ replies_to id conn.old) }
     ensures conn { OnOk result (conn.new ≡ without_replies conn.old) }
 {
-    let mut outcomes = Vec::new(alloc);
     while let Some(frame) = conn.take_reply() {
         outcomes.push(Outcome::Reply { conn: id, frame })?;
     }
-    Ok(outcomes)
+    Ok(())
 }
 
 // The part that the connection asks is done.
@@ -44,26 +46,34 @@ fn ask<D: Disk>(
     alloc: Global,
     conf: &Config,
     id: u32,
+    now: u64,
     part: Part,
     conn: &mut Conn,
     hosts: &mut Hosts<D>,
 ) -> Result<Vec<Outcome>, NoMemory>
     requires asked { Awaits (Next.Ask part) conn.old }
+    requires now { now ≤ 2 ^ 62 }
     requires open { AreOpen (parts_of hosts.old) }
     requires apart { AreApart (parts_of hosts.old) }
+    requires hosted { length hosts.old.parts.items ≡ partitions conf.now.topics }
     ensures ok { IfOk result (λ outcomes. (s : Shards) → AreCarried D.content D.image D.starved (parts_of hosts.old) s →
         Leads D.content D.image D.starved D.faults D.losses D.arms D.armed (parts_of hosts.old) s (parts_of hosts.new)
-        (λ a call b. Does (rose_in D.faults D.losses D.arms D.armed (disks_in (parts_of hosts.old)) (disks_in (parts_of hosts.new))) (ends_in (parts_of hosts.old)) id (Next.Ask part) conn.old a b call outcomes.items conn.new)) }
+        (λ a call b. Does (counts_in D.faults D.losses D.arms D.armed (disks_in (parts_of hosts.old)) (disks_in (parts_of hosts.new))) (ends_in (parts_of hosts.old)) id now (Next.Ask part) conn.old a b call outcomes.items conn.new)) }
     ensures stopped { OnErr result ((s : Shards) → AreCarried D.content D.image D.starved (parts_of hosts.old) s →
         Halts D.content D.image s (parts_of hosts.new)
         (λ a call b. (outcomes : List Outcome) × (after : ConnParts)
-        × Does (rose_in D.faults D.losses D.arms D.armed (disks_in (parts_of hosts.old)) (disks_in (parts_of hosts.new))) (ends_in (parts_of hosts.old)) id (Next.Ask part) conn.old a b call outcomes after)) }
+        × Does (counts_in D.faults D.losses D.arms D.armed (disks_in (parts_of hosts.old)) (disks_in (parts_of hosts.new))) (ends_in (parts_of hosts.old)) id now (Next.Ask part) conn.old a b call outcomes after)
+        (HalvesNext (counts_in D.faults D.losses D.arms D.armed (disks_in (parts_of hosts.old)) (disks_in (parts_of hosts.new))) (ends_in (parts_of hosts.old)) (Next.Ask part))) }
+    ensures told { IfOk result (λ outcomes. All (IsTold conf.now.topics) outcomes.items) }
     ensures disks { GoOn D.content D.faults (disks_in (parts_of hosts.old)) (disks_in (parts_of hosts.new)) }
     ensures open { AreOpen (parts_of hosts.new) }
+    ensures stays { StaysHosted (parts_of hosts.old) (parts_of hosts.new) }
 {
-    let answer = act(part, hosts)?;
+    let answer = act(alloc, now, &part, hosts)?;
+    let mut outcomes = told(alloc, fault_in(&part, &answer))?;
     conn.give(conf, answer)?;
-    replies(alloc, id, conn)
+    replies(id, conn, &mut outcomes)?;
+    Ok(outcomes)
 }
 
 // What the connection tells is done.
@@ -71,26 +81,36 @@ fn done<D: Disk>(
     alloc: Global,
     conf: &Config,
     id: u32,
+    now: u64,
     next: Next,
     conn: &mut Conn,
     hosts: &mut Hosts<D>,
 ) -> Result<Vec<Outcome>, NoMemory>
     requires asked { Awaits next conn.old }
+    requires now { now ≤ 2 ^ 62 }
     requires open { AreOpen (parts_of hosts.old) }
     requires apart { AreApart (parts_of hosts.old) }
+    requires hosted { length hosts.old.parts.items ≡ partitions conf.now.topics }
     ensures ok { IfOk result (λ outcomes. (s : Shards) → AreCarried D.content D.image D.starved (parts_of hosts.old) s →
         Leads D.content D.image D.starved D.faults D.losses D.arms D.armed (parts_of hosts.old) s (parts_of hosts.new)
-        (λ a call b. Does (rose_in D.faults D.losses D.arms D.armed (disks_in (parts_of hosts.old)) (disks_in (parts_of hosts.new))) (ends_in (parts_of hosts.old)) id next conn.old a b call outcomes.items conn.new)) }
+        (λ a call b. Does (counts_in D.faults D.losses D.arms D.armed (disks_in (parts_of hosts.old)) (disks_in (parts_of hosts.new))) (ends_in (parts_of hosts.old)) id now next conn.old a b call outcomes.items conn.new)) }
     ensures stopped { OnErr result ((s : Shards) → AreCarried D.content D.image D.starved (parts_of hosts.old) s →
         Halts D.content D.image s (parts_of hosts.new)
         (λ a call b. (outcomes : List Outcome) × (after : ConnParts)
-        × Does (rose_in D.faults D.losses D.arms D.armed (disks_in (parts_of hosts.old)) (disks_in (parts_of hosts.new))) (ends_in (parts_of hosts.old)) id next conn.old a b call outcomes after)) }
+        × Does (counts_in D.faults D.losses D.arms D.armed (disks_in (parts_of hosts.old)) (disks_in (parts_of hosts.new))) (ends_in (parts_of hosts.old)) id now next conn.old a b call outcomes after)
+        (HalvesNext (counts_in D.faults D.losses D.arms D.armed (disks_in (parts_of hosts.old)) (disks_in (parts_of hosts.new))) (ends_in (parts_of hosts.old)) next)) }
+    ensures told { IfOk result (λ outcomes. All (IsTold conf.now.topics) outcomes.items) }
     ensures disks { GoOn D.content D.faults (disks_in (parts_of hosts.old)) (disks_in (parts_of hosts.new)) }
     ensures open { AreOpen (parts_of hosts.new) }
+    ensures stays { StaysHosted (parts_of hosts.old) (parts_of hosts.new) }
 {
     match next {
-        Next::Ask(part) => ask(alloc, conf, id, part, conn, hosts),
-        Next::Ready => replies(alloc, id, conn),
+        Next::Ask(part) => ask(alloc, conf, id, now, part, conn, hosts),
+        Next::Ready => {
+            let mut outcomes = Vec::new(alloc);
+            replies(id, conn, &mut outcomes)?;
+            Ok(outcomes)
+        }
         Next::Closed(cause) => one(alloc, Outcome::Closed { conn: id, cause }),
         Next::Idle | Next::Gone => Ok(Vec::new(alloc)),
     }
@@ -102,24 +122,30 @@ fn step<D: Disk>(
     alloc: Global,
     conf: &Config,
     id: u32,
+    now: u64,
     conn: &mut Conn,
     hosts: &mut Hosts<D>,
 ) -> Result<(Vec<Outcome>, bool), NoMemory>
+    requires now { now ≤ 2 ^ 62 }
     requires open { AreOpen (parts_of hosts.old) }
     requires apart { AreApart (parts_of hosts.old) }
+    requires hosted { length hosts.old.parts.items ≡ partitions conf.now.topics }
     ensures ok { IfOk result (λ did. (s : Shards) → AreCarried D.content D.image D.starved (parts_of hosts.old) s →
         Leads D.content D.image D.starved D.faults D.losses D.arms D.armed (parts_of hosts.old) s (parts_of hosts.new)
-        (λ a call b. DoesTurn (rose_in D.faults D.losses D.arms D.armed (disks_in (parts_of hosts.old)) (disks_in (parts_of hosts.new))) (ends_in (parts_of hosts.old)) id (turn conf.now conn.old) a b call did.0.items conn.new)) }
+        (λ a call b. DoesTurn (counts_in D.faults D.losses D.arms D.armed (disks_in (parts_of hosts.old)) (disks_in (parts_of hosts.new))) (ends_in (parts_of hosts.old)) id now (turn conf.now conn.old) a b call did.0.items conn.new)) }
     ensures stopped { OnErr result ((s : Shards) → AreCarried D.content D.image D.starved (parts_of hosts.old) s →
         Halts D.content D.image s (parts_of hosts.new)
         (λ a call b. (outcomes : List Outcome) × (after : ConnParts)
-        × DoesTurn (rose_in D.faults D.losses D.arms D.armed (disks_in (parts_of hosts.old)) (disks_in (parts_of hosts.new))) (ends_in (parts_of hosts.old)) id (turn conf.now conn.old) a b call outcomes after)) }
+        × DoesTurn (counts_in D.faults D.losses D.arms D.armed (disks_in (parts_of hosts.old)) (disks_in (parts_of hosts.new))) (ends_in (parts_of hosts.old)) id now (turn conf.now conn.old) a b call outcomes after)
+        (HalvesNext (counts_in D.faults D.losses D.arms D.armed (disks_in (parts_of hosts.old)) (disks_in (parts_of hosts.new))) (ends_in (parts_of hosts.old)) (turn conf.now conn.old).next)) }
+    ensures told { IfOk result (λ did. All (IsTold conf.now.topics) did.0.items) }
     ensures gone { IfOk result (λ did. did.1 ≡ is_gone conn.new) }
     ensures disks { GoOn D.content D.faults (disks_in (parts_of hosts.old)) (disks_in (parts_of hosts.new)) }
     ensures open { AreOpen (parts_of hosts.new) }
+    ensures stays { StaysHosted (parts_of hosts.old) (parts_of hosts.new) }
 {
     let next = conn.next_part(conf)?;
-    let outcomes = done(alloc, conf, id, next, conn, hosts)?;
+    let outcomes = done(alloc, conf, id, now, next, conn, hosts)?;
     Ok((outcomes, conn.is_gone()))
 }
 
@@ -137,27 +163,33 @@ pub fn serve<D: Disk>(
     alloc: Global,
     conf: &Config,
     id: u32,
+    now: u64,
     clients: &mut BTreeMap<u32, Conn>,
     hosts: &mut Hosts<D>,
 ) -> Result<Vec<Outcome>, NoMemory>
+    requires now { now ≤ 2 ^ 62 }
     requires open { AreOpen (parts_of hosts.old) }
     requires apart { AreApart (parts_of hosts.old) }
+    requires hosted { length hosts.old.parts.items ≡ partitions conf.now.topics }
     ensures ok { IfOk result (λ outcomes. (s : Shards) → AreCarried D.content D.image D.starved (parts_of hosts.old) s →
         Leads D.content D.image D.starved D.faults D.losses D.arms D.armed (parts_of hosts.old) s (parts_of hosts.new)
-        (λ a call b. Serves conf.now (rose_in D.faults D.losses D.arms D.armed (disks_in (parts_of hosts.old)) (disks_in (parts_of hosts.new))) (ends_in (parts_of hosts.old)) (record { connections = clients.old.entries; shards = a }) id
+        (λ a call b. Serves conf.now (counts_in D.faults D.losses D.arms D.armed (disks_in (parts_of hosts.old)) (disks_in (parts_of hosts.new))) (ends_in (parts_of hosts.old)) (record { connections = clients.old.entries; shards = a }) id now
         (conn_at id clients.old.entries) call outcomes.items (record { connections = clients.new.entries; shards = b }))) }
     ensures stopped { OnErr result ((s : Shards) → AreCarried D.content D.image D.starved (parts_of hosts.old) s →
         Halts D.content D.image s (parts_of hosts.new)
         (λ a call b. (outcomes : List Outcome) × (after : Machine) × (after.shards ≡ b)
-        × Serves conf.now (rose_in D.faults D.losses D.arms D.armed (disks_in (parts_of hosts.old)) (disks_in (parts_of hosts.new))) (ends_in (parts_of hosts.old)) (record { connections = clients.old.entries; shards = a }) id
-        (conn_at id clients.old.entries) call outcomes after)) }
+        × Serves conf.now (counts_in D.faults D.losses D.arms D.armed (disks_in (parts_of hosts.old)) (disks_in (parts_of hosts.new))) (ends_in (parts_of hosts.old)) (record { connections = clients.old.entries; shards = a }) id now
+        (conn_at id clients.old.entries) call outcomes after)
+        (HalvesServe conf.now (counts_in D.faults D.losses D.arms D.armed (disks_in (parts_of hosts.old)) (disks_in (parts_of hosts.new))) (ends_in (parts_of hosts.old)) (conn_at id clients.old.entries))) }
+    ensures told { IfOk result (λ outcomes. All (IsTold conf.now.topics) outcomes.items) }
     ensures disks { GoOn D.content D.faults (disks_in (parts_of hosts.old)) (disks_in (parts_of hosts.new)) }
     ensures open { AreOpen (parts_of hosts.new) }
+    ensures stays { StaysHosted (parts_of hosts.old) (parts_of hosts.new) }
 {
     let Some(conn) = clients.get_mut(&id) else {
         return Ok(Vec::new(alloc));
     };
-    let (outcomes, gone) = step(alloc, conf, id, conn, hosts)?;
+    let (outcomes, gone) = step(alloc, conf, id, now, conn, hosts)?;
     let_go(gone, id, clients);
     Ok(outcomes)
 }

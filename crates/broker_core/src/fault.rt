@@ -1,4 +1,8 @@
-ghost use Rattle.std.specs.Prelude.{◌≡◌, ◌≢◌, ◌⊎◌, true, false};
+ghost use Rattle.std.specs.Prelude.{◌≡◌, ◌≢◌, ◌⊎◌, List, ℕ, true, false, IfErr, OnOk, OnErr};
+ghost use Rattle.edge_io.specs.Causes.{Rose};
+ghost use Rattle.edge_io.specs.Disk.{IsTold, Within};
+ghost use Rattle.broker_core.specs.Carried.{GoesOn};
+ghost use Rattle.broker_core.specs.Restarts.{IsLost};
 ghost use Rattle.broker_core.specs.Causes.{no_memory};
 
 use edge_io::{Disk, DiskName};
@@ -44,6 +48,21 @@ pub fn fault_of_call<D: Disk>(disk: &D) -> CoreOpen
         CoreOpen::NoMemory
     } else {
         CoreOpen::Device
+    }
+}
+
+/// Loses the power of a disk.
+pub fn lose<D: Disk>(choice: u64, disk: &mut D) -> Result<(), CoreOpen>
+    ensures lost { OnOk result (IsTold (D.content disk.old) → (c : List ℕ) × IsLost D.content D.image D.faults D.losses D.arms D.armed choice disk.old disk.new c) }
+    ensures images { Within (D.image disk.old) (D.image disk.new) }
+    ensures memory { IsTold (D.content disk.old) → IfErr result (λ e. e ≡ CoreOpen.NoMemory) }
+    ensures only { IfErr result (λ e. (e ≡ CoreOpen.Device) ⊎ (e ≡ CoreOpen.NoMemory)) }
+    ensures device { OnErr result (Rose (D.faults disk.old) (D.faults disk.new)) }
+    ensures goes { GoesOn D.content D.faults disk.old disk.new }
+{
+    match disk.power_loss(choice) {
+        Ok(()) => Ok(()),
+        Err(_) => Err(fault_of_call(disk)),
     }
 }
 

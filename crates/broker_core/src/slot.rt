@@ -1,7 +1,9 @@
 // One shard as a broker holds it.
-use edge_io::{Disk, DiskName};
+use edge_io::Disk;
 use foreign_coord::ForeignShard;
-use part_log::PartLog;
+use share_model::Name;
+use share_part::{PartConf, PartShard};
+use window_rows::WindowRows;
 
 /// The shard of foreign state as a broker holds it.
 #[derive(Drop)]
@@ -14,20 +16,21 @@ pub enum ForeignSlot<D: Disk> {
     Gone,
 }
 
-/// The log of a hosted partition as a broker holds it.
+/// The shard of a hosted partition as a broker holds it.
 #[derive(Drop)]
-pub enum LogState<D: Disk> {
+pub enum PartState<D: Disk> {
     /// It can be called.
-    Open(PartLog<D>),
-    /// Its disk, after a restart that failed.
-    Shut(D),
+    Open(PartShard<D, WindowRows>),
+    /// Its disks, after a restart that failed: that of its log, and the two of its states.
+    Shut(D, D, D),
     /// Nothing, within a call alone.
     Gone,
 }
 
-/// The log of a hosted partition, and the name of its disk.
+/// A hosted partition: its topic's name, what its shard is configured with, and the shard.
 #[derive(Drop)]
-pub struct LogSlot<D: Disk> {
-    pub name: DiskName,
-    pub state: LogState<D>,
+pub struct PartSlot<D: Disk> {
+    pub topic: Name,
+    pub conf: PartConf,
+    pub state: PartState<D>,
 }

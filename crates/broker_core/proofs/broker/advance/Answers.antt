@@ -1,12 +1,12 @@
 use Rattle.std.proofs.Common.{◌≡◌, [], refl, ap, ◌∙◌, Err, rules}
-use Rattle.session_script.specs.declared.event.Event.TheVariants.{Open, Bytes, Close, Step, Arm, Power}
+use Rattle.session_script.specs.declared.event.Event.TheVariants.{Open, Bytes, Close, Step, Expire, Tick, Arm, Power}
 use Rattle.conn_core.specs.Conns.{conn_after_bytes}
 use Rattle.broker_model.specs.Machine.{at_connection}
 use Rattle.broker_core.specs.Causes.{no_memory}
 use Rattle.broker_core.specs.Hosts.{disks_in, parts_of}
 use Rattle.broker_core.specs.Cores.{core_of}
 use Rattle.broker_core.proofs.Leading.{go_on_same}
-use Rattle.broker_core.proofs.Events.{opens, sends, closes, steps, arms_one, restarts, stops_still, stops_step, advances_at, memory_stops, power_stops, open_held}
+use Rattle.broker_core.proofs.Events.{opens, sends, closes, steps, expires, ticks, arms_one, restarts, stops_still, stops_step, stops_expire, advances_at, memory_stops, power_stops, open_held, moment_at, restarted_told}
 use Rattle.broker_core.proofs.broker.advance.Goals as goal
 
 pub returns-in_err-connect-in-Open-clause-stopped : goal.returns-in_err-connect-in-Open-clause-stopped
@@ -93,3 +93,32 @@ returns-in_ok-lose_power-in-Power-clause-ok g c = advances_at g.D.Disk.content g
     c.in-Power.is refl
     (restarts g.D.Disk.content g.D.Disk.image g.D.Disk.starved g.D.Disk.faults g.D.Disk.losses g.D.Disk.arms g.D.Disk.armed (core_of c.args.conf.now c.args.clients.now.entries (parts_of c.args.hosts.now)) _ c.in-Power.choice c.in_ok-outcomes-in-Power.outcomes.items c.requires.whole c.in_ok-outcomes-in-Power.ensures c.new-in-Power.ensures.empty c.lose_power.ensures.disks
     c.in_ok-lose_power-in-Power.ensures.ok)
+
+pub returns-in_err-outcomes-in-Expire-clause-stopped : goal.returns-in_err-outcomes-in-Expire-clause-stopped
+returns-in_err-outcomes-in-Expire-clause-stopped g c =
+    let err : c.from_residual-in_err-outcomes-in-Expire.result ≡ Err no_memory = search rules in
+    memory_stops g.D.Disk.content g.D.Disk.image g.D.Disk.starved g.D.Disk.faults g.D.Disk.losses g.D.Disk.arms g.D.Disk.armed c.from_residual-in_err-outcomes-in-Expire.result (core_of c.args.conf.now c.args.clients.now.entries (parts_of c.args.hosts.now)) (Expire c.in-Expire.topic c.in-Expire.part c.in-Expire.now) c.args.event.now _ err c.in-Expire.is
+    (λ m k. stops_expire g.D.Disk.content g.D.Disk.image g.D.Disk.starved g.D.Disk.faults g.D.Disk.losses g.D.Disk.arms g.D.Disk.armed (core_of c.args.conf.now c.args.clients.now.entries (parts_of c.args.hosts.now)) _ m c.in-Expire.topic c.in-Expire.part c.in-Expire.now k (c.in_err-outcomes-in-Expire.ensures.stopped m.shards k.shards))
+
+pub returns-in_err-outcomes-in-Expire-clause-held : goal.returns-in_err-outcomes-in-Expire-clause-held
+returns-in_err-outcomes-in-Expire-clause-held g c = open_held (parts_of c.expire.new.hosts) c.expire.ensures.open
+
+pub returns-in_ok-outcomes-in-Expire-clause-held : goal.returns-in_ok-outcomes-in-Expire-clause-held
+returns-in_ok-outcomes-in-Expire-clause-held g c = open_held (parts_of c.expire.new.hosts) c.expire.ensures.open
+
+pub returns-in_ok-outcomes-in-Expire-clause-ok : goal.returns-in_ok-outcomes-in-Expire-clause-ok
+returns-in_ok-outcomes-in-Expire-clause-ok g c = advances_at g.D.Disk.content g.D.Disk.image g.D.Disk.starved g.D.Disk.faults g.D.Disk.losses g.D.Disk.arms g.D.Disk.armed (core_of c.args.conf.now c.args.clients.now.entries (parts_of c.args.hosts.now)) (Expire c.in-Expire.topic c.in-Expire.part c.in-Expire.now) c.args.event.now c.in_ok-outcomes-in-Expire.outcomes.items c.in_ok-outcomes-in-Expire.outcomes.items _ c.in-Expire.is refl
+    (expires g.D.Disk.content g.D.Disk.image g.D.Disk.starved g.D.Disk.faults g.D.Disk.losses g.D.Disk.arms g.D.Disk.armed (core_of c.args.conf.now c.args.clients.now.entries (parts_of c.args.hosts.now)) _ c.in-Expire.topic c.in-Expire.part c.in-Expire.now c.in_ok-outcomes-in-Expire.outcomes.items c.requires.whole refl c.expire.ensures.disks c.in_ok-outcomes-in-Expire.ensures.ok)
+
+pub returns-in-Tick-clause-ok : goal.returns-in-Tick-clause-ok
+returns-in-Tick-clause-ok g c = advances_at g.D.Disk.content g.D.Disk.image g.D.Disk.starved g.D.Disk.faults g.D.Disk.losses g.D.Disk.arms g.D.Disk.armed (core_of c.args.conf.now c.args.clients.now.entries (parts_of c.args.hosts.now)) (Tick c.in-Tick.now) c.args.event.now [] c.new-in-Tick.result.items _ c.in-Tick.is c.new-in-Tick.ensures.items
+    (ticks g.D.Disk.content g.D.Disk.image g.D.Disk.starved g.D.Disk.faults g.D.Disk.losses g.D.Disk.arms g.D.Disk.armed (core_of c.args.conf.now c.args.clients.now.entries (parts_of c.args.hosts.now)) _ c.in-Tick.now c.requires.whole refl c.tick.ensures.disks c.tick.ensures.ok)
+
+pub returns-in-Tick-clause-held : goal.returns-in-Tick-clause-held
+returns-in-Tick-clause-held g c = open_held (parts_of c.tick.new.hosts) c.tick.ensures.open
+
+pub serve-requires-clause-now : goal.serve-requires-clause-now
+serve-requires-clause-now g c = moment_at c.args.event.now (Step c.in-Step.conn c.in-Step.now) c.in-Step.is c.requires.moment
+
+pub expire-requires-clause-now : goal.expire-requires-clause-now
+expire-requires-clause-now g c = moment_at c.args.event.now (Expire c.in-Expire.topic c.in-Expire.part c.in-Expire.now) c.in-Expire.is c.requires.moment

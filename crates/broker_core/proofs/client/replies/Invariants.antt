@@ -5,7 +5,7 @@ use Rattle.broker_core.proofs.client.replies.Given as goal
 
 abbrev pub invariant-loop-frame : goal.invariant-loop-frame
 invariant-loop-frame l = record {
-  told : l.outcomes.items ++ replies_to l.id l.conn ≡ replies_to l.id l.fn.conn;
+  told : l.outcomes.items ++ replies_to l.id l.conn ≡ l.fn.outcomes.items ++ replies_to l.id l.fn.conn;
   rest : without_replies l.conn ≡ without_replies l.fn.conn;
 }
 

@@ -1,12 +1,15 @@
 use Rattle.std.proofs.Common.{refl, subst, IfOk}
 use Rattle.broker_core.specs.Hosts.{parts_of}
 use Rattle.broker_core.specs.Cores.{Advances, CoreParts, core_of}
-use Rattle.broker_core.proofs.Events.{still_whole}
+use Rattle.broker_core.proofs.Events.{parts_many, still_whole}
 use Rattle.broker_core.proofs.broker.Core.event.Goals as goal
+
+pub advance-requires-clause-hosted : goal.advance-requires-clause-hosted
+advance-requires-clause-hosted g c = parts_many (core_of c.self.inside.conf c.self.inside.clients.entries (parts_of c.self.inside.hosts)) c.self.invariant
 
 pub invariant_of-self : goal.invariant_of-self
 invariant_of-self g c = still_whole g.D.Disk.content g.D.Disk.image g.D.Disk.starved g.D.Disk.faults g.D.Disk.losses g.D.Disk.arms g.D.Disk.armed
-    (core_of c.self.inside.conf c.self.inside.clients.entries (parts_of c.self.inside.hosts)) _ c.self.invariant refl c.advance.ensures.disks c.advance.ensures.held
+    (core_of c.self.inside.conf c.self.inside.clients.entries (parts_of c.self.inside.hosts)) _ c.self.invariant refl c.advance.ensures.stays c.advance.ensures.held
 
 pub returns-clause-ok : goal.returns-clause-ok
 returns-clause-ok g c = subst (λ (x : CoreParts g.row.D.Denot). IfOk c.advance.result (λ outcomes. Advances g.D.Disk.content g.D.Disk.image g.D.Disk.starved g.D.Disk.faults g.D.Disk.losses g.D.Disk.arms g.D.Disk.armed x c.args.event.now outcomes.items

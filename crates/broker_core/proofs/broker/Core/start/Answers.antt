@@ -1,4 +1,5 @@
-use Rattle.std.proofs.Common.{◌≡◌, refl, sym, ◌∙◌, subst, ℕ, List, Err, rules}
+use Rattle.std.proofs.Common.{◌≡◌, refl, sym, ap, ◌∙◌, subst, ℕ, List, Err, rules}
+use Rattle.share_members.specs.Groups.{Memberships}
 use Rattle.conn_core.specs.Conns.{ConnParts}
 use Rattle.broker_model.specs.Machine.{Machine}
 use Rattle.broker_core.specs.declared.fault.CoreOpen.TheVariants.{Damaged, Device, Bay}
@@ -6,7 +7,7 @@ use Rattle.broker_core.specs.Bays.{IsFirst}
 use Rattle.broker_core.specs.Cores.{IsCore, core_of, state_of}
 use Rattle.broker_core.specs.Hosts.{parts_of}
 use Rattle.broker_core.proofs.Stepping.{err_same, on_err}
-use Rattle.broker_core.proofs.Starting.{all_counted, all_moves, all_out, hosts_apart, hosts_are, hosts_held, hosts_open, refused, started}
+use Rattle.broker_core.proofs.Starting.{all_counted, all_moves, all_out, hosts_apart, hosts_are, hosts_held, hosts_named, hosts_open, refused, started}
 use Rattle.broker_core.proofs.broker.Core.start.Goals as goal
 
 pub returns-in_err-hosts-clause-back : goal.returns-in_err-hosts-clause-back
@@ -65,7 +66,10 @@ invariant_of-result g c = record {
       c.args.conf c.in_ok-hosts.ensures.list c.args.bay.now (parts_of c.in_ok-hosts.hosts) c.take_hosts.new.bay c.in_ok-hosts.ensures.ok;
   hosts = hosts_are g.B.Bay.disk g.B.Bay.out g.B.Bay.taken g.B.Bay.steady g.B.Bay.faults g.D.Disk.content g.D.Disk.image g.D.Disk.starved g.D.Disk.faults g.D.Disk.losses g.D.Disk.arms g.D.Disk.armed
       c.args.conf c.in_ok-hosts.ensures.list c.args.bay.now (parts_of c.in_ok-hosts.hosts) c.take_hosts.new.bay c.in_ok-hosts.ensures.ok;
+  topics = ap (λ (m : Memberships). m.topics) c.in_ok-hosts.ensures.ok.members;
   apart = hosts_apart g.B.Bay.disk g.B.Bay.out g.B.Bay.taken g.B.Bay.steady g.B.Bay.faults g.D.Disk.content g.D.Disk.image g.D.Disk.starved g.D.Disk.faults g.D.Disk.losses g.D.Disk.arms g.D.Disk.armed
+      c.args.conf c.in_ok-hosts.ensures.list c.args.bay.now (parts_of c.in_ok-hosts.hosts) c.take_hosts.new.bay c.in_ok-hosts.ensures.ok;
+  named = hosts_named g.B.Bay.disk g.B.Bay.out g.B.Bay.taken g.B.Bay.steady g.B.Bay.faults g.D.Disk.content g.D.Disk.image g.D.Disk.starved g.D.Disk.faults g.D.Disk.losses g.D.Disk.arms g.D.Disk.armed
       c.args.conf c.in_ok-hosts.ensures.list c.args.bay.now (parts_of c.in_ok-hosts.hosts) c.take_hosts.new.bay c.in_ok-hosts.ensures.ok;
 }
 

@@ -1,0 +1,478 @@
+-- Calls on the shard of a hosted partition, seen by all shards.
+use Rattle.std.proofs.Common.{◌≡◌, ◌⊎◌, inl, inr, refl, sym, ap, ◌∙◌, subst, ℕ, zero, suc, List, [], ◌∷◌, Bool, false, Some}
+use Rattle.std.specs.List.{AllByRecursion, AllZip, flat_map}
+use Rattle.std.specs.declared.option.Option.{Option}
+use Rattle.edge_io.specs.declared.fault.Armed.{Armed}
+use Rattle.edge_io.specs.declared.name.DiskPlace.{DiskPlace}
+use Rattle.edge_io.specs.declared.name.DiskPlace.TheVariants.{Log, StateA, StateB}
+use Rattle.share_part.specs.Hosting.{PartConfParts}
+use Rattle.share_part.specs.Shards.{PartShardState}
+use Rattle.share_model.specs.declared.visit.Visit.{Visit}
+use Rattle.call_fold.specs.declared.part.Part.{Part}
+use Rattle.call_fold.specs.declared.part.Part.TheVariants.{Produce, Visit as PartVisit, Look, Heartbeat}
+use Rattle.call_fold.specs.declared.part.PartAnswer.TheVariants.{Produce as AnswerProduce, Visit as AnswerVisit, Look as AnswerLook, Heartbeat as AnswerHeartbeat}
+use Rattle.call_fold.specs.declared.part.Looked.{Looked}
+use Rattle.call_fold.specs.declared.part.Produced.{Produced}
+use Rattle.msgs_group.specs.declared.heartbeat_request.HeartbeatRequest.{HeartbeatRequest}
+use Rattle.msgs_group.specs.declared.heartbeat_reply.HeartbeatReply.{HeartbeatReply}
+use Rattle.share_model.specs.declared.visit.ExpireAnswer.{ExpireAnswer}
+use Rattle.share_model.specs.declared.visit.VisitAnswer.{VisitAnswer}
+use Rattle.broker_model.specs.Hosted.{ChangesAt, HoldsAt, Hosted, first_of, log_of, part_disks, second_of}
+use Rattle.broker_model.specs.Shards.{Counts, HostedPart, PartCall, Shards, ShardCall, StepsHosted, StepsShards, calls, fault_of_expiry, part_calls}
+use Rattle.broker_model.specs.Shards.ShardCall.{CallPart, CallMembers}
+use Rattle.broker_model.specs.Shards.MembersCall.{Beats}
+use Rattle.broker_model.specs.Shards.PartCall.{Visits, Produces, Looks, Expires}
+use Rattle.broker_model.specs.Disks.{Facts, OnCalled}
+use Rattle.broker_model.proofs.Lists.{change_of, changes_so}
+use Rattle.broker_core.specs.declared.slot.PartState.{PartState}
+use Rattle.broker_core.specs.declared.slot.PartState.TheVariants as part
+use Rattle.broker_core.specs.declared.slot.PartSlot.{PartSlot}
+use Rattle.broker_core.specs.Carried.{Begun, GoesOn, HaltsPart, HalvesOn, IsPartCarried, LeadsPart, OpenPart, PartGoesOn, StepsOn, Uses}
+use Rattle.broker_core.specs.Carried.Begun.{BeginsVisit, BeginsExpiry}
+use Rattle.broker_core.specs.Hosts.{AreApart, AreCarried, AreDistinct, AreOpen, Did, DiskGoesOn, ExpiresShard, GoesOnIf, GoOn, Halts, HaltsSlot, HalvesExpiry, HostsParts, IsHalfDone, IsLeftIn, IsOpenState, IsPartSlot, IsPartState, Leads, LeadsSlot, PartsStill, StandStill, StaysHosted, among, counts_in, disks_in, ends_in, facts_at, facts_in, foreign_disks, foreign_end, foreign_facts, hosted_slot, hosted_slots, open_disk, part_disk, slot_disks, slot_ends, slots_disks}
+use Rattle.broker_core.proofs.Flats.{among_changed, zip_flat}
+use Rattle.broker_core.proofs.Leading.{StillSlot, halts_still, least_on, open_still, parts_apart, parts_still, same_both, same_goes, slot_still, still_foreign, still_parts}
+use Rattle.broker_core.proofs.Places.{Changed, changed, changes_all, changes_either, changes_not, changes_same, changes_zip, zip_same}
+use Rattle.broker_core.proofs.Slots.{AreOf, Halves, Turns, are_of, called_same, half_named, slot_end_stays, slot_used, step_named}
+
+module _ {D : Type 0} (content : D → Option (List ℕ)) (image : D → List ℕ → Type 0) (starved : D → Bool) (faults : D → ℕ)
+    (losses : D → List (ℕ × List ℕ)) (arms : D → ℕ) (armed : D → Armed) where
+  abbrev F : HostsParts D → List ℕ → Facts
+  F hosts name = facts_in faults losses arms armed (disks_in hosts) name
+
+  abbrev N : HostsParts D → HostsParts D → Counts
+  N old new = counts_in faults losses arms armed (disks_in old) (disks_in new)
+
+  abbrev K : HostsParts D → Shards → Type 0
+  K hosts s = AreCarried content image starved hosts s
+
+  abbrev T : PartSlot D → PartSlot D → OpenPart D → OpenPart D → Type 0
+  T x y was is = Turns content image starved faults losses arms armed x y was is
+
+  abbrev LeadsS : ℕ → PartCall → PartSlot D → PartSlot D → Type 0
+  LeadsS now did x y = LeadsSlot content image starved faults losses arms armed now did x y
+
+  abbrev HaltsS : ℕ → (PartCall → Type 0) → (Begun → Type 0) → PartSlot D → PartSlot D → Type 0
+  HaltsS now Whole Half x y = HaltsSlot content image starved faults now Whole Half x y
+
+  -- the same partition, with other parts of one hosts
+  abbrev pub with_parts : HostsParts D → List (PartSlot D) → HostsParts D
+  with_parts old ys = record { parts = ys; members = old.members; foreign = old.foreign }
+
+  -- ---- what any call leaves
+
+  -- a slot whose shard was called
+  pub record Turned (x y : PartSlot D) : Type 0 where
+    pub was : OpenPart D
+    pub is : OpenPart D
+    pub turns : T x y was is
+    pub goes : PartGoesOn content faults was is
+
+  pub turned_leads : (now : ℕ) (did : PartCall) (x y : PartSlot D) → LeadsS now did x y → Turned x y
+  turned_leads now did x y p = record {
+    was = p.was;
+    is = p.is;
+    turns = record { old_is = p.old_is; new_is = p.new_is; hosted = λ i. record { topic = p.topic i; conf = p.conf i } };
+    goes = p.goes;
+  }
+
+  pub turned_halts : (now : ℕ) (Whole : PartCall → Type 0) (Half : Begun → Type 0) (x y : PartSlot D) → HaltsS now Whole Half x y → Turned x y
+  turned_halts now Whole Half x y p = record {
+    was = p.was;
+    is = p.is;
+    turns = record { old_is = p.old_is; new_is = p.new_is; hosted = λ i. record { topic = p.topic i; conf = p.conf i } };
+    goes = p.goes;
+  }
+
+  abbrev SlotGoesOn : PartSlot D → PartSlot D → Type 0
+  SlotGoesOn x y = AllZip (DiskGoesOn content faults) (slot_disks x) (slot_disks y)
+
+  pub open_goes : (x y : PartSlot D) (was is : OpenPart D) → T x y was is → (place : DiskPlace) → GoesOn content faults (open_disk was place) (open_disk is place)
+      → GoesOnIf content faults (part_disk x.state place) (part_disk y.state place)
+  open_goes x y was is t place g =
+      subst (λ (s : PartState D). GoesOnIf content faults (part_disk s place) (part_disk y.state place)) (sym t.old_is)
+      (subst (λ (s : PartState D). GoesOnIf content faults (Some (open_disk was place)) (part_disk s place)) (sym t.new_is) g)
+
+  pub slot_goes : (x y : PartSlot D) → Turned x y → SlotGoesOn x y
+  slot_goes x y t = (
+    record { name = ap (λ (h : Hosted). log_of h) t.turns.hosted; goes = open_goes x y t.was t.is t.turns Log t.goes.log },
+    (
+      record { name = ap (λ (h : Hosted). first_of h) t.turns.hosted; goes = open_goes x y t.was t.is t.turns StateA t.goes.first },
+      (record { name = ap (λ (h : Hosted). second_of h) t.turns.hosted; goes = open_goes x y t.was t.is t.turns StateB t.goes.second }, tt),
+    ),
+  )
+
+  slot_same : (x : PartSlot D) → SlotGoesOn x x
+  slot_same x = zip_same (DiskGoesOn content faults) (same_goes content image starved faults losses arms armed) (slot_disks x)
+
+  pub turned_on : (old : HostsParts D) (ys : List (PartSlot D)) (n : ℕ) → ChangesAt n Turned old.parts ys
+      → GoOn content faults (disks_in old) (disks_in (with_parts old ys))
+  turned_on old ys n c = record {
+    parts = zip_flat SlotGoesOn (DiskGoesOn content faults) slot_disks slot_disks (λ x y z. z) old.parts ys
+        (changes_zip Turned SlotGoesOn slot_same slot_goes n old.parts ys c);
+    foreign = same_both content image starved faults losses arms armed (foreign_disks old.foreign);
+  }
+
+  pub turned_hosted : (old : HostsParts D) (ys : List (PartSlot D)) (n : ℕ) → ChangesAt n Turned old.parts ys → StaysHosted old (with_parts old ys)
+  turned_hosted old ys n c = record { hosted = changes_same hosted_slot Turned (λ x y t. t.turns.hosted) n old.parts ys c; topics = refl }
+
+  pub turned_open : (old : HostsParts D) (ys : List (PartSlot D)) (n : ℕ) → ChangesAt n Turned old.parts ys → AreOpen old → AreOpen (with_parts old ys)
+  turned_open old ys n c o = record {
+    parts = changes_all Turned (λ s. IsOpenState s.state) (λ x y t. subst IsOpenState (sym t.turns.new_is) tt) n old.parts ys c o.parts;
+    foreign = o.foreign;
+  }
+
+  -- ---- a call that was done
+
+  record GoesPart (now : ℕ) (did : PartCall) (x y : PartSlot D) (e f : HostedPart) : Type 0 where
+    was : OpenPart D
+    is : OpenPart D
+    turns : T x y was is
+    e_is : e.hosted ≡ hosted_slot x
+    f_is : f.hosted ≡ hosted_slot x
+    step : StepsOn faults x.conf was is now e.shard did f.shard
+    used : Uses faults losses arms armed was is did
+
+  slot_leads : (now : ℕ) (did : PartCall) (x y : PartSlot D) (e : HostedPart) → LeadsS now did x y → IsPartSlot content image starved x e
+      → (f : HostedPart) × IsPartSlot content image starved y f × GoesPart now did x y e f
+  unfolding turned_leads
+  slot_leads now did x y e p k =
+      let l = p.leads e.shard (subst (λ (s : PartState D). IsPartState content image starved x.conf s e.shard) p.old_is k.state) in (
+        record { hosted = hosted_slot x; shard = l.after },
+        record {
+          hosted = λ i. record { topic = sym p.topic i; conf = sym p.conf i };
+          state =
+              subst (λ (c : PartConfParts). IsPartState content image starved c y.state l.after) (sym p.conf)
+              (subst (λ (s : PartState D). IsPartState content image starved x.conf s l.after) (sym p.new_is) l.carried);
+        },
+        record {
+          was = p.was;
+          is = p.is;
+          turns = (turned_leads now did x y p).turns;
+          e_is = k.hosted;
+          f_is = refl;
+          step = l.step;
+          used = l.used;
+        },
+      )
+
+  keep_slot : (x : PartSlot D) (e : HostedPart) → IsPartSlot content image starved x e → IsPartSlot content image starved x e
+  keep_slot x e k = k
+
+  -- one slot changed
+  module _ (old : HostsParts D) (ys : List (PartSlot D)) (n : ℕ) (x y : PartSlot D) (there : HoldsAt n (λ z. z ≡ x) old.parts)
+      (here : HoldsAt n (λ z. z ≡ y) ys) (exact : ChangesAt n (λ a b. (a ≡ x) × (b ≡ y)) old.parts ys) (hosted : hosted_slot y ≡ hosted_slot x)
+      (apart : AreApart old) where
+    abbrev Is : PartSlot D → PartSlot D → Type 0
+    Is a b = (a ≡ x) × (b ≡ y)
+
+    hosted_then : hosted_slots ys ≡ hosted_slots old.parts
+    hosted_then = changes_same hosted_slot Is (λ a b is. ap hosted_slot is.1 ∙ hosted ∙ sym (ap hosted_slot is.0)) n old.parts ys exact
+
+    pub of_slot : (was is : OpenPart D) → T x y was is
+        → AreOf content image starved faults losses arms armed (hosted_slot x) was is (N old (with_parts old ys)) (ends_in old)
+    of_slot was is t = are_of content image starved faults losses arms armed old (with_parts old ys) n x y was is there here t
+        (parts_apart (hosted_slots old.parts) apart)
+        (subst (λ (hs : List Hosted). AreDistinct (part_disks hs)) (sym hosted_then) (parts_apart (hosted_slots old.parts) apart))
+
+    pub named_step : (now : ℕ) (did : PartCall) (e f : HostedPart) (was is : OpenPart D) → T x y was is → e.hosted ≡ hosted_slot x → f.hosted ≡ hosted_slot x
+        → StepsOn faults x.conf was is now e.shard did f.shard → StepsHosted (N old (with_parts old ys)) (ends_in old) now (hosted_slot x) did e f
+    named_step now did e f was is t e_is f_is step = record {
+      was = e_is;
+      is = f_is;
+      step = step_named content image starved faults losses arms armed (hosted_slot x) was is (N old (with_parts old ys)) (ends_in old) (of_slot was is t)
+          now e.shard did f.shard step;
+    }
+
+    pub on_disks : (did : PartCall) (was is : OpenPart D) → T x y was is → Uses faults losses arms armed was is did → (name : List ℕ)
+        → OnCalled (part_calls (hosted_slot x) did name) (F old name) (F (with_parts old ys) name)
+    on_disks did was is t used name =
+        among_changed (λ (e : List ℕ × Option D). e.0) (λ e. facts_at faults losses arms armed e.1) slot_disks
+        (OnCalled (part_calls (hosted_slot x) did name)) (called_same (part_calls (hosted_slot x) did name)) name n old.parts ys
+        (changes_so n Is (λ a b. (o : Facts) → OnCalled (part_calls (hosted_slot x) did name) (found a o) (found b o))
+        (λ a b i o. subst (λ (s : PartSlot D). OnCalled (part_calls (hosted_slot x) did name) (found s o) (found b o)) (sym i.0)
+        (subst (λ (s : PartSlot D). OnCalled (part_calls (hosted_slot x) did name) (found x o) (found s o)) (sym i.1)
+        (slot_used content image starved faults losses arms armed x y was is did t used name o))) old.parts ys exact)
+        (foreign_facts faults losses arms armed (foreign_disks old.foreign) name)
+      where
+        found : PartSlot D → Facts → Facts
+        found s o = among (λ (e : List ℕ × Option D). e.0) (λ e. facts_at faults losses arms armed e.1) (slot_disks s) o name
+
+    pub on_ends : (did : PartCall) (was is : OpenPart D) → T x y was is → Uses faults losses arms armed was is did → (name : List ℕ)
+        → part_calls (hosted_slot x) did name ≡ false → ends_in (with_parts old ys) name ≡ ends_in old name
+    on_ends did was is t used name away =
+        among_changed (λ (e : List ℕ × ℕ). e.0) (λ (e : List ℕ × ℕ). e.1) slot_ends (λ (a b : ℕ). b ≡ a) (λ a. refl) name n old.parts ys
+        (changes_so n Is (λ a b. (o : ℕ) → found b o ≡ found a o)
+        (λ a b i o. ap (λ (s : PartSlot D). found s o) i.1 ∙ slot_end_stays content image starved faults losses arms armed x y was is did t used name o away
+        ∙ sym (ap (λ (s : PartSlot D). found s o) i.0)) old.parts ys exact)
+        (foreign_end old.foreign name)
+      where
+        found : PartSlot D → ℕ → ℕ
+        found s o = among (λ (e : List ℕ × ℕ). e.0) (λ (e : List ℕ × ℕ). e.1) (slot_ends s) o name
+
+  -- the call on the shard of this number, by a hosted partition
+  abbrev pub DidPart : Counts → (ends : List ℕ → ℕ) → (now n : ℕ) → PartCall → Shards → Option ShardCall → Shards → Type 0
+  DidPart counts ends now n did a call b = (h : Hosted) × (call ≡ Some (CallPart n h did)) × StepsShards counts ends now a (CallPart n h did) b
+
+  pub part_leads : (old : HostsParts D) (ys : List (PartSlot D)) (n now : ℕ) (did : PartCall) → ChangesAt n (LeadsS now did) old.parts ys → AreApart old
+      → (s : Shards) → K old s
+      → Leads content image starved faults losses arms armed old s (with_parts old ys) (DidPart (N old (with_parts old ys)) (ends_in old) now n did)
+  part_leads old ys n now did changes apart s k =
+      let c = changed (IsPartSlot content image starved) (IsPartSlot content image starved) keep_slot (LeadsS now did) (GoesPart now did) (slot_leads now did)
+      n old.parts ys s.parts changes k.parts in
+      let t = turned_leads now did c.x c.y c.change in
+      record {
+        after = record { parts = c.after; members = s.members; foreign = s.foreign };
+        call = Some (CallPart n (hosted_slot c.x) did);
+        carried = record { parts = c.zip; members = k.members; foreign = k.foreign };
+        does = (
+          hosted_slot c.x,
+          refl,
+          (
+            changes_so n (GoesPart now did c.x c.y) (StepsHosted (N old (with_parts old ys)) (ends_in old) now (hosted_slot c.x) did)
+                (λ e f g. named_step old ys n c.x c.y c.there c.here c.exact t.turns.hosted apart now did e f g.was g.is g.turns g.e_is g.f_is g.step)
+                s.parts c.after c.goes,
+            refl,
+            refl,
+          ),
+        );
+        disks = λ name. change_of n (GoesPart now did c.x c.y)
+            (λ e f g. on_disks old ys n c.x c.y c.there c.here c.exact t.turns.hosted apart did g.was g.is g.turns g.used name) s.parts c.after c.goes;
+        ends = λ name away. change_of n (GoesPart now did c.x c.y)
+            (λ e f g. on_ends old ys n c.x c.y c.there c.here c.exact t.turns.hosted apart did g.was g.is g.turns g.used name away) s.parts c.after c.goes;
+      }
+
+  -- ---- a call in which no memory was found
+
+  record HaltedPart (now : ℕ) (Whole : PartCall → Type 0) (Half : Begun → Type 0) (x y : PartSlot D) (e f : HostedPart) : Type 0 where
+    was : OpenPart D
+    is : OpenPart D
+    turns : T x y was is
+    e_is : e.hosted ≡ hosted_slot x
+    f_is : f.hosted ≡ hosted_slot x
+    does : (f.shard ≡ e.shard) ⊎ (((did : PartCall) × Whole did × StepsOn faults x.conf was is now e.shard did f.shard)
+        ⊎ ((begun : Begun) × Half begun × HalvesOn faults x.conf was is now e.shard begun f.shard))
+
+  slot_halts : (now : ℕ) (Whole : PartCall → Type 0) (Half : Begun → Type 0) (x y : PartSlot D) (e : HostedPart) → HaltsS now Whole Half x y
+      → IsPartSlot content image starved x e
+      → (f : HostedPart) × StillSlot content image starved faults losses arms armed y f × HaltedPart now Whole Half x y e f
+  unfolding turned_halts
+  slot_halts now Whole Half x y e p k =
+      let h = p.halts e.shard (subst (λ (s : PartState D). IsPartState content image starved x.conf s e.shard) p.old_is k.state) in (
+        record { hosted = hosted_slot x; shard = h.after },
+        open_still content image starved faults losses arms armed y (record { hosted = hosted_slot x; shard = h.after }) p.is p.new_is
+            (λ i. record { topic = sym p.topic i; conf = sym p.conf i }) (h.conf_is ∙ sym p.conf) h.carries h.log_told h.first_told h.second_told,
+        record {
+          was = p.was;
+          is = p.is;
+          turns = (turned_halts now Whole Half x y p).turns;
+          e_is = k.hosted;
+          f_is = refl;
+          does = h.does;
+        },
+      )
+
+  -- the slot was left in the midst of a call
+  abbrev LeftAt : Counts → (ends : List ℕ → ℕ) → ℕ → Begun → HostedPart → HostedPart → Type 0
+  LeftAt counts ends now begun e f =
+      (f.hosted ≡ e.hosted) × Halves content image starved faults losses arms armed counts ends now begun e.hosted e.shard f.shard
+
+  module _ (old : HostsParts D) (ys : List (PartSlot D)) (n now : ℕ) (Whole : PartCall → Type 0) (Half : Begun → Type 0)
+      (changes : ChangesAt n (HaltsS now Whole Half) old.parts ys) (apart : AreApart old) (s : Shards) (k : K old s) where
+    abbrev c : Changed (IsPartSlot content image starved) (StillSlot content image starved faults losses arms armed)
+        (slot_still content image starved faults losses arms armed) (HaltsS now Whole Half) (HaltedPart now Whole Half) (slot_halts now Whole Half)
+        n old.parts ys s.parts
+    c = changed (IsPartSlot content image starved) (StillSlot content image starved faults losses arms armed)
+        (slot_still content image starved faults losses arms armed) (HaltsS now Whole Half) (HaltedPart now Whole Half) (slot_halts now Whole Half)
+        n old.parts ys s.parts changes k.parts
+
+    abbrev new : HostsParts D
+    new = with_parts old ys
+
+    -- it was done whole, or left half done
+    abbrev Does : PartCall ⊎ Begun → HostedPart → HostedPart → Type 0
+    Does (inl did) e f = Whole did × StepsHosted (N old new) (ends_in old) now (hosted_slot c.x) did e f
+    Does (inr begun) e f = Half begun × LeftAt (N old new) (ends_in old) now begun e f
+
+    hosted_is : hosted_slot c.y ≡ hosted_slot c.x
+    hosted_is = (turned_halts now Whole Half c.x c.y c.change).turns.hosted
+
+    halted : (e f : HostedPart) → HaltedPart now Whole Half c.x c.y e f → (f ≡ e) ⊎ ((d : PartCall ⊎ Begun) × Does d e f)
+    halted e f g = go g.does where
+      go : (f.shard ≡ e.shard) ⊎ (((did : PartCall) × Whole did × StepsOn faults c.x.conf g.was g.is now e.shard did f.shard)
+          ⊎ ((begun : Begun) × Half begun × HalvesOn faults c.x.conf g.was g.is now e.shard begun f.shard))
+          → (f ≡ e) ⊎ ((d : PartCall ⊎ Begun) × Does d e f)
+      go (inl same) = inl (λ i. record { hosted = (g.f_is ∙ sym g.e_is) i; shard = same i })
+      go (inr (inl d)) = inr (
+        inl d.0,
+        (
+          d.1,
+          named_step old ys n c.x c.y c.there c.here c.exact hosted_is apart now d.0 e f g.was g.is g.turns g.e_is g.f_is d.2,
+        ),
+      )
+      go (inr (inr b)) = inr (
+        inr b.0,
+        (
+          b.1,
+          (
+            g.f_is ∙ sym g.e_is,
+            subst (λ (h : Hosted). Halves content image starved faults losses arms armed (N old new) (ends_in old) now b.0 h e.shard f.shard) (sym g.e_is)
+                (half_named content image starved faults losses arms armed (hosted_slot c.x) g.was g.is (N old new) (ends_in old)
+                (of_slot old ys n c.x c.y c.there c.here c.exact hosted_is apart g.was g.is g.turns) now e.shard b.0 f.shard b.2),
+          ),
+        ),
+      )
+
+    abbrev DoesAll : Shards → Option ShardCall → Shards → Type 0
+    DoesAll a call b = (did : PartCall) × Whole did × DidPart (N old new) (ends_in old) now n did a call b
+
+    abbrev LeavesAll : Shards → Shards → Type 0
+    LeavesAll a b = (begun : Begun) × Half begun
+        × IsLeftIn n (Halves content image starved faults losses arms armed (N old new) (ends_in old) now begun) a b
+
+    abbrev after : Shards
+    after = record { parts = c.after; members = s.members; foreign = s.foreign }
+
+    whole_or_half : (d : PartCall ⊎ Begun) → ChangesAt n (Does d) s.parts c.after
+        → (after ≡ s) ⊎ (((call : Option ShardCall) × DoesAll s call after) ⊎ LeavesAll s after)
+    whole_or_half (inl did) g = inr (inl (
+      Some (CallPart n (hosted_slot c.x) did),
+      (
+        did,
+        change_of n (Does (inl did)) (λ e f q. q.0) s.parts c.after g,
+        (
+          hosted_slot c.x,
+          refl,
+          (
+            changes_so n (Does (inl did)) (StepsHosted (N old new) (ends_in old) now (hosted_slot c.x) did) (λ e f q. q.1) s.parts c.after g,
+            refl,
+            refl,
+          ),
+        ),
+      ),
+    ))
+    whole_or_half (inr begun) g = inr (inr (
+      begun,
+      change_of n (Does (inr begun)) (λ e f q. q.0) s.parts c.after g,
+      record {
+        parts = changes_so n (Does (inr begun)) (LeftAt (N old new) (ends_in old) now begun) (λ e f q. q.1) s.parts c.after g;
+        members = refl;
+        foreign = refl;
+      },
+    ))
+
+    what_was_done : ChangesAt n (λ e f. f ≡ e) s.parts c.after ⊎ ((d : PartCall ⊎ Begun) × ChangesAt n (Does d) s.parts c.after)
+        → (after ≡ s) ⊎ (((call : Option ShardCall) × DoesAll s call after) ⊎ LeavesAll s after)
+    what_was_done (inl none) = inl (λ i. record { parts = changes_not n s.parts c.after none i; members = s.members; foreign = s.foreign })
+    what_was_done (inr d) = whole_or_half d.0 d.1
+
+    pub halted_at : Halts content image s new DoesAll LeavesAll
+    halted_at = record {
+      after = after;
+      still = record {
+        parts = parts_still content image starved faults losses arms armed ys c.after c.zip;
+        foreign = still_foreign content image starved faults losses arms armed old.foreign s.foreign k.foreign;
+      };
+      does = what_was_done (changes_either (λ e f. f ≡ e) Does n s.parts c.after
+          (changes_so n (HaltedPart now Whole Half c.x c.y) (λ e f. (f ≡ e) ⊎ ((d : PartCall ⊎ Begun) × Does d e f)) halted s.parts c.after c.goes));
+    }
+
+  -- a part whose shard isn't there is left as it was
+  abbrev pub MayHalt : ℕ → ℕ → (PartCall → Type 0) → (Begun → Type 0) → List (PartSlot D) → List (PartSlot D) → Type 0
+  MayHalt n now Whole Half xs ys = (ys ≡ xs) ⊎ ChangesAt n (HaltsS now Whole Half) xs ys
+
+  pub part_halts : (old : HostsParts D) (ys : List (PartSlot D)) (n now : ℕ) (Whole : PartCall → Type 0) (Half : Begun → Type 0)
+      → MayHalt n now Whole Half old.parts ys → AreApart old → (s : Shards) → K old s
+      → Halts content image s (with_parts old ys)
+      (λ a call b. (did : PartCall) × Whole did × DidPart (N old (with_parts old ys)) (ends_in old) now n did a call b)
+      (λ a b. (begun : Begun) × Half begun
+      × IsLeftIn n (Halves content image starved faults losses arms armed (N old (with_parts old ys)) (ends_in old) now begun) a b)
+  part_halts old ys n now Whole Half (inl same) apart s k =
+      subst (λ (zs : List (PartSlot D)). Halts content image s (with_parts old zs)
+      (λ a call b. (did : PartCall) × Whole did × DidPart (N old (with_parts old zs)) (ends_in old) now n did a call b)
+      (λ a b. (begun : Begun) × Half begun
+      × IsLeftIn n (Halves content image starved faults losses arms armed (N old (with_parts old zs)) (ends_in old) now begun) a b)) (sym same)
+      (halts_still content image starved faults losses arms armed old s _ _ k)
+  part_halts old ys n now Whole Half (inr changes) apart s k = halted_at old ys n now Whole Half changes apart s k
+
+  -- what holds of the disks either way
+  pub may_on : (old : HostsParts D) (ys : List (PartSlot D)) (n now : ℕ) (Whole : PartCall → Type 0) (Half : Begun → Type 0)
+      → MayHalt n now Whole Half old.parts ys → (Q : HostsParts D → Type 0) → Q old → (ChangesAt n Turned old.parts ys → Q (with_parts old ys))
+      → Q (with_parts old ys)
+  may_on old ys n now Whole Half (inl same) Q q f = subst (λ (zs : List (PartSlot D)). Q (with_parts old zs)) (sym same) q
+  may_on old ys n now Whole Half (inr changes) Q q f =
+      f (changes_so n (HaltsS now Whole Half) Turned (turned_halts now Whole Half) old.parts ys changes)
+
+  pub led_turned : (n now : ℕ) (did : PartCall) (xs ys : List (PartSlot D)) → ChangesAt n (LeadsS now did) xs ys → ChangesAt n Turned xs ys
+  led_turned n now did xs ys c = changes_so n (LeadsS now did) Turned (turned_leads now did) xs ys c
+
+  -- ---- a look changes nothing
+
+  pub looked_at : (n : ℕ) (P : PartSlot D → PartSlot D → Type 0) (xs : List (PartSlot D)) → HoldsAt n (λ s. P s s) xs → ChangesAt n P xs xs
+  looked_at n P [] h = absurd h
+  looked_at zero P (x ∷ xs) h = (h, refl)
+  looked_at (suc n) P (x ∷ xs) h = (refl, looked_at n P xs h)
+
+  -- ---- a visit that was left half done
+
+  pub half_of_visit : (counts : Counts) (ends : List ℕ → ℕ) (now : ℕ) (asked : Part) (shard : ℕ) (visit : Visit) → asked ≡ PartVisit shard visit
+      → (begun : Begun) → begun ≡ BeginsVisit visit → (a b : Shards)
+      → IsLeftIn shard (Halves content image starved faults losses arms armed counts ends now begun) a b → IsHalfDone counts ends asked a b
+  half_of_visit counts ends now asked shard visit is begun begins a b left =
+      subst (λ (p : Part). IsHalfDone counts ends p a b) (sym is)
+      (subst (λ (g : Begun). IsLeftIn shard (Halves content image starved faults losses arms armed counts ends now g) a b) begins left)
+
+  -- an expiry that was left half done
+  pub half_of_expiry : (counts : Counts) (ends : List ℕ → ℕ) (now shard : ℕ) (begun : Begun) → begun ≡ BeginsExpiry → (a b : Shards)
+      → IsLeftIn shard (Halves content image starved faults losses arms armed counts ends now begun) a b → HalvesExpiry counts ends now shard a b
+  half_of_expiry counts ends now shard begun begins a b left =
+      subst (λ (g : Begun). IsLeftIn shard (Halves content image starved faults losses arms armed counts ends now g) a b) begins left
+
+  pub expiry_halts : (counts : Counts) (ends : List ℕ → ℕ) (now shard : ℕ) (did : PartCall) (answer : ExpireAnswer) → did ≡ Expires answer → (a : Shards)
+      (call : Option ShardCall) (b : Shards) → DidPart counts ends now shard did a call b
+      → ExpiresShard counts ends now shard (fault_of_expiry shard answer) a call b
+  expiry_halts counts ends now shard did answer is a call b d =
+      let e = subst (λ (q : PartCall). DidPart counts ends now shard q a call b) is d in (e.0, answer, e.1, e.2, refl)
+
+  pub visit_halts : (counts : Counts) (ends : List ℕ → ℕ) (now shard : ℕ) (part : Part) (visit : Visit) → part ≡ PartVisit shard visit → (did : PartCall)
+      (answer : VisitAnswer) → did ≡ Visits visit answer → (a : Shards) (call : Option ShardCall) (b : Shards) → DidPart counts ends now shard did a call b
+      → Did counts ends now part (AnswerVisit answer) a call b
+  visit_halts counts ends now shard part visit is did answer did_is a call b d =
+      let e = subst (λ (q : PartCall). DidPart counts ends now shard q a call b) did_is d in (
+        CallPart shard e.0 (Visits visit answer),
+        e.1,
+        ap (λ (p : Part). Some (record { part = p; answer = AnswerVisit answer })) (sym is),
+        e.2,
+      )
+
+  pub produce_halts : (counts : Counts) (ends : List ℕ → ℕ) (now shard : ℕ) (part : Part) (batch : List ℕ) → part ≡ Produce shard batch → (did : PartCall)
+      (produced : Produced) → did ≡ Produces batch produced → (a : Shards) (call : Option ShardCall) (b : Shards) → DidPart counts ends now shard did a call b
+      → Did counts ends now part (AnswerProduce produced) a call b
+  produce_halts counts ends now shard part batch is did produced did_is a call b d =
+      let e = subst (λ (q : PartCall). DidPart counts ends now shard q a call b) did_is d in (
+        CallPart shard e.0 (Produces batch produced),
+        e.1,
+        ap (λ (p : Part). Some (record { part = p; answer = AnswerProduce produced })) (sym is),
+        e.2,
+      )
+
+  pub look_does : (counts : Counts) (ends : List ℕ → ℕ) (now shard : ℕ) (part : Part) (group : List ℕ) → part ≡ Look shard group → (looked : Looked) → (a : Shards)
+      (call : Option ShardCall) (b : Shards) → DidPart counts ends now shard (Looks group looked) a call b
+      → Did counts ends now part (AnswerLook looked) a call b
+  look_does counts ends now shard part group is looked a call b d = (
+    CallPart shard d.0 (Looks group looked),
+    d.1,
+    ap (λ (p : Part). Some (record { part = p; answer = AnswerLook looked })) (sym is),
+    d.2,
+  )
+
+  pub beat_does : (counts : Counts) (ends : List ℕ → ℕ) (now : ℕ) (part : Part) (request : HeartbeatRequest) → part ≡ Heartbeat request → (reply : HeartbeatReply)
+      → (a : Shards) (call : Option ShardCall) (b : Shards)
+      → (call ≡ Some (CallMembers (Beats request reply))) × StepsShards counts ends now a (CallMembers (Beats request reply)) b
+      → Did counts ends now part (AnswerHeartbeat reply) a call b
+  beat_does counts ends now part request is reply a call b d = (
+    CallMembers (Beats request reply),
+    d.0,
+    ap (λ (p : Part). Some (record { part = p; answer = AnswerHeartbeat reply })) (sym is),
+    d.1,
+  )

@@ -1,0 +1,318 @@
+-- Calls on the shard of a hosted partition.
+use Rattle.std.proofs.Common.{◌≡◌, ◌≢◌, ◌≤◌, ◌<◌, ◌^◌, ◌⊎◌, arith, inl, inr, refl, sym, ap, ◌∙◌, subst, ℕ, List, [], ◌∷◌, Bool, false, Some, None, is_some, Result, Ok, Err}
+use Rattle.std.specs.List.{AllByRecursion}
+use Rattle.std.specs.Prelude.{All}
+use Rattle.std.proofs.lemmas.List.Elements.{All-from_recursion}
+use Rattle.std.specs.declared.option.Option.{Option}
+use Rattle.edge_io.specs.declared.fault.Armed.{Armed}
+use Rattle.edge_io.specs.Armed.{RunsOn}
+use Rattle.edge_io.specs.Causes.{Rose}
+use Rattle.edge_io.specs.Disk.{IsTold}
+use Rattle.share_model.specs.ForeignRules.{share_state_at}
+use Rattle.share_model.specs.declared.fault.LogFault.{LogFault}
+use Rattle.share_model.specs.declared.fault.LogFault.TheVariants.{Batch as BadBatch, Behind, Store as Unstored, NoMemory}
+use Rattle.share_model.specs.declared.hold.Grant.{Grant}
+use Rattle.share_model.specs.declared.visit.ExpireAnswer.{ExpireAnswer}
+use Rattle.share_model.specs.declared.visit.Visit.{Visit}
+use Rattle.share_model.specs.declared.visit.VisitAnswer.{VisitAnswer}
+use Rattle.part_log.specs.Logs.{LogParts}
+use Rattle.share_coord.specs.Parts.{StoreParts}
+use Rattle.share_part.specs.Hosting.{PartConfParts, key_of, states_of}
+use Rattle.share_part.specs.Once.{AcksStand, Expired, PartStands, Produced as ProducedSo, Visited}
+use Rattle.share_part.specs.Shards.{Carries, PartShardState}
+use Rattle.share_part.specs.Walks.{IsSmallGrant}
+use Rattle.call_fold.specs.Parts.{IsTellableGrant, IsTellableVisit}
+use Rattle.call_fold.specs.declared.part.Looked.{Looked}
+use Rattle.call_fold.specs.declared.part.Produced.{Produced}
+use Rattle.call_fold.specs.declared.part.Produced.TheVariants.{Base, Batch, Store}
+use Rattle.broker_model.specs.Shards.{PartCall, look_at, result_of}
+use Rattle.broker_model.specs.Shards.PartCall.{Visits, Produces, Looks, Expires}
+use Rattle.broker_core.specs.Carried.{Begun, GoesOn, HaltsPart, IsPartCarried, LeadsPart, OpenPart, PartGoesOn, StepsOn, Uses, UsesStates, holding}
+use Rattle.broker_core.specs.Carried.Begun.{BeginsVisit, BeginsExpiry}
+
+-- ---- what is told
+
+-- an answer isn't want of memory
+not_memory : (produced : Produced) (added : Result ℕ LogFault) → result_of produced ≡ added → added ≢ Err NoMemory
+not_memory (Base base) added e f = let bad : ◌≡◌ {A = Result ℕ LogFault} (Ok base) (Err NoMemory) = e ∙ f in cc
+not_memory (Batch fault) added e f = let bad : ◌≡◌ {A = Result ℕ LogFault} (Err (BadBatch fault)) (Err NoMemory) = e ∙ f in cc
+not_memory (Store fault) added e f = let bad : ◌≡◌ {A = Result ℕ LogFault} (Err (Unstored fault)) (Err NoMemory) = e ∙ f in cc
+
+-- grants that were taken can be told
+small_told : (grants : List Grant) → AllByRecursion IsSmallGrant grants → AllByRecursion IsTellableGrant grants
+small_told [] a = tt
+small_told (g ∷ grants) a = (
+  record {
+    first = (let e = a.0.0 in let l = a.0.1 in omega (arith, e, l));
+    last = (let l = a.0.1 in omega (arith, l));
+    count = (let c = a.0.2 in omega (arith, c));
+  },
+  small_told grants a.1,
+)
+
+pub grants_told : (grants : List Grant) → AllByRecursion IsSmallGrant grants → All IsTellableGrant grants
+grants_told grants a = All-from_recursion IsTellableGrant grants (small_told grants a)
+
+module _ {D : Type 0} (content : D → Option (List ℕ)) (image : D → List ℕ → Type 0) (starved : D → Bool) (faults : D → ℕ)
+    (losses : D → List (ℕ × List ℕ)) (arms : D → ℕ) (armed : D → Armed) where
+  abbrev Runs : D → D → Type 0
+  Runs old new = RunsOn content losses arms armed starved faults old new
+
+  abbrev Carried : PartConfParts → OpenPart D → PartShardState → Type 0
+  Carried conf part s = IsPartCarried content image starved conf part s
+
+  -- its own configuration is that of the slot
+  pub of_conf : (conf : PartConfParts) (was : OpenPart D) (Q : PartConfParts → PartShardState → Type 0)
+      → ((s : PartShardState) → Carried was.conf was s → Q was.conf s) → (s : PartShardState) → Carried conf was s → Q conf s
+  of_conf conf was Q f s k = subst (λ (c : PartConfParts). Q c s) k.conf_is
+      (f s (record { conf_is = refl; carries = k.carries; log = k.log; first = k.first; second = k.second }))
+
+  least_on : (d : D) → GoesOn content faults d d
+  least_on d = record { later = (let n = faults d in omega arith); told = refl }
+
+  pub same_goes_on : (p : OpenPart D) → PartGoesOn content faults p p
+  same_goes_on p = record {
+    log = least_on p.log.journal.disk;
+    first = least_on p.states.journal.live.disk;
+    second = least_on p.states.journal.idle;
+  }
+
+  -- ---- calls on the tables
+
+  -- the log and the second disk stay
+  pub record OnStates (old new : OpenPart D) : Type 0 where
+    pub runs : Runs old.states.journal.live.disk new.states.journal.live.disk
+    pub log : new.log ≡ old.log
+    pub idle : new.states.journal.idle ≡ old.states.journal.idle
+    pub conf : new.conf ≡ old.conf
+
+  pub states_go : (old new : OpenPart D) → OnStates old new → PartGoesOn content faults old new
+  states_go old new o = record {
+    log = subst (λ (l : LogParts D). GoesOn content faults old.log.journal.disk l.journal.disk) (sym o.log) (least_on old.log.journal.disk);
+    first = record { later = o.runs.later; told = o.runs.told };
+    second = subst (λ (d : D). GoesOn content faults old.states.journal.idle d) (sym o.idle) (least_on old.states.journal.idle);
+  }
+
+  log_told : (old new : OpenPart D) → OnStates old new → IsTold (content old.log.journal.disk) → IsTold (content new.log.journal.disk)
+  log_told old new o told = ap (λ (l : LogParts D). is_some (content l.journal.disk)) o.log ∙ told
+
+  second_told : (old new : OpenPart D) → OnStates old new → IsTold (content old.states.journal.idle) → IsTold (content new.states.journal.idle)
+  second_told old new o told = ap (λ (d : D). is_some (content d)) o.idle ∙ told
+
+  abbrev Steps : OpenPart D → OpenPart D → ℕ → PartCall → Type 0
+  Steps old new now did = (t : PartShardState) → Carries image holding old t → (n : PartShardState) × Carries image holding new n
+      × StepsOn faults old.conf old new now t did n
+
+  abbrev Fed : OpenPart D → Type 0
+  Fed new = (starved new.log.journal.disk ≡ false) × (starved new.states.journal.live.disk ≡ false) × (starved new.states.journal.idle ≡ false)
+
+  states_lead : (old new : OpenPart D) (now : ℕ) (did : PartCall) → OnStates old new → Steps old new now did → Fed new
+      → (UsesStates faults losses arms armed old new → Uses faults losses arms armed old new did)
+      → (s : PartShardState) → Carried old.conf old s
+      → LeadsPart content image starved faults losses arms armed old.conf now did old s new
+  states_lead old new now did o steps fed uses s k =
+      let r = steps s k.carries in
+      record {
+        after = r.0;
+        carried = record {
+          conf_is = o.conf;
+          carries = r.1;
+          log = record { told = log_told old new o k.log.told; fed = fed.0 };
+          first = record { told = o.runs.told ∙ k.first.told; fed = fed.1 };
+          second = record { told = second_told old new o k.second.told; fed = fed.2 };
+        };
+        step = r.2;
+        used = uses (record {
+          used = record { losses = o.runs.same_losses; arms = o.runs.same_arms; spends = o.runs.spends k.first.told fed.1 };
+          log = o.log;
+          second = o.idle;
+        });
+      }
+
+  states_whole : (old new : OpenPart D) (now : ℕ) (did : PartCall) (Whole : PartCall → Type 0) (Half : Begun → Type 0) → Whole did → OnStates old new
+      → Steps old new now did → (s : PartShardState) → Carried old.conf old s
+      → HaltsPart content image faults old.conf now Whole Half old s new
+  states_whole old new now did Whole Half is o steps s k =
+      let r = steps s k.carries in
+      record {
+        after = r.0;
+        conf_is = o.conf;
+        carries = r.1;
+        does = inr (inl (did, is, r.2));
+        log_told = log_told old new o k.log.told;
+        first_told = o.runs.told ∙ k.first.told;
+        second_told = second_told old new o k.second.told;
+      }
+
+  states_none : (old new : OpenPart D) (now : ℕ) (Whole : PartCall → Type 0) (Half : Begun → Type 0) → OnStates old new → (s : PartShardState)
+      → Carried old.conf old s → Carries image holding new s → HaltsPart content image faults old.conf now Whole Half old s new
+  states_none old new now Whole Half o s k carries = record {
+    after = s;
+    conf_is = o.conf;
+    carries = carries;
+    does = inl refl;
+    log_told = log_told old new o k.log.told;
+    first_told = o.runs.told ∙ k.first.told;
+    second_told = second_told old new o k.second.told;
+  }
+
+  pub visit_leads : (old new : OpenPart D) (now : ℕ) (visit : Visit) (answer : VisitAnswer) → OnStates old new
+      → Visited image faults holding now visit old new answer → Fed new → (s : PartShardState) → Carried old.conf old s
+      → LeadsPart content image starved faults losses arms armed old.conf now (Visits visit answer) old s new
+  visit_leads old new now visit answer o steps fed = states_lead old new now (Visits visit answer) o steps fed (λ u. u)
+
+  abbrev pub IsVisit : Visit → PartCall → Type 0
+  IsVisit visit did = (answer : VisitAnswer) × (did ≡ Visits visit answer)
+
+  pub visit_whole : (old new : OpenPart D) (now : ℕ) (visit : Visit) (answer : VisitAnswer) (Half : Begun → Type 0) → OnStates old new
+      → Visited image faults holding now visit old new answer → (s : PartShardState) → Carried old.conf old s
+      → HaltsPart content image faults old.conf now (IsVisit visit) Half old s new
+  visit_whole old new now visit answer Half o steps = states_whole old new now (Visits visit answer) (IsVisit visit) Half (answer, refl) o steps
+
+  pub visit_refused : (old new : OpenPart D) (now : ℕ) (visit : Visit) → OnStates old new
+      → ((t : PartShardState) → Carries image holding old t → Carries image holding new t ⊎ AcksStand image faults holding visit old new t)
+      → (s : PartShardState) → Carried old.conf old s
+      → HaltsPart content image faults old.conf now (IsVisit visit) (λ begun. begun ≡ BeginsVisit visit) old s new
+  visit_refused old new now visit o memory s k = go (memory s k.carries) where
+    go : Carries image holding new s ⊎ AcksStand image faults holding visit old new s
+        → HaltsPart content image faults old.conf now (IsVisit visit) (λ begun. begun ≡ BeginsVisit visit) old s new
+    go (inl same) = states_none old new now (IsVisit visit) (λ begun. begun ≡ BeginsVisit visit) o s k same
+    go (inr a) = record {
+      after = a.1;
+      conf_is = o.conf;
+      carries = a.2;
+      does = inr (inr (BeginsVisit visit, refl, (a.0, a.3)));
+      log_told = log_told old new o k.log.told;
+      first_told = o.runs.told ∙ k.first.told;
+      second_told = second_told old new o k.second.told;
+    }
+
+  pub expire_leads : (old new : OpenPart D) (now : ℕ) (answer : ExpireAnswer) → OnStates old new
+      → Expired image faults holding now old new answer → Fed new → (s : PartShardState) → Carried old.conf old s
+      → LeadsPart content image starved faults losses arms armed old.conf now (Expires answer) old s new
+  expire_leads old new now answer o steps fed = states_lead old new now (Expires answer) o steps fed (λ u. u)
+
+  abbrev pub IsExpiry : PartCall → Type 0
+  IsExpiry did = (answer : ExpireAnswer) × (did ≡ Expires answer)
+
+  pub expire_whole : (old new : OpenPart D) (now : ℕ) (answer : ExpireAnswer) (Half : Begun → Type 0) → OnStates old new
+      → Expired image faults holding now old new answer → (s : PartShardState) → Carried old.conf old s
+      → HaltsPart content image faults old.conf now IsExpiry Half old s new
+  expire_whole old new now answer Half o steps = states_whole old new now (Expires answer) IsExpiry Half (answer, refl) o steps
+
+  pub expire_refused : (old new : OpenPart D) (now : ℕ) → OnStates old new
+      → ((t : PartShardState) → Carries image holding old t → Carries image holding new t ⊎ PartStands image faults holding now old new t)
+      → (s : PartShardState) → Carried old.conf old s
+      → HaltsPart content image faults old.conf now IsExpiry (λ begun. begun ≡ BeginsExpiry) old s new
+  expire_refused old new now o memory s k = go (memory s k.carries) where
+    go : Carries image holding new s ⊎ PartStands image faults holding now old new s
+        → HaltsPart content image faults old.conf now IsExpiry (λ begun. begun ≡ BeginsExpiry) old s new
+    go (inl same) = states_none old new now IsExpiry (λ begun. begun ≡ BeginsExpiry) o s k same
+    go (inr a) = record {
+      after = a.0;
+      conf_is = o.conf;
+      carries = a.1;
+      does = inr (inr (BeginsExpiry, refl, a.2));
+      log_told = log_told old new o k.log.told;
+      first_told = o.runs.told ∙ k.first.told;
+      second_told = second_told old new o k.second.told;
+    }
+
+  -- ---- batches
+
+  pub record OnLog (old new : OpenPart D) : Type 0 where
+    pub runs : Runs old.log.journal.disk new.log.journal.disk
+    pub states : new.states ≡ old.states
+    pub conf : new.conf ≡ old.conf
+
+  pub log_goes : (old new : OpenPart D) → OnLog old new → PartGoesOn content faults old new
+  log_goes old new o = record {
+    log = record { later = o.runs.later; told = o.runs.told };
+    first = subst (λ (t : StoreParts D). GoesOn content faults old.states.journal.live.disk t.journal.live.disk) (sym o.states) (least_on old.states.journal.live.disk);
+    second = subst (λ (t : StoreParts D). GoesOn content faults old.states.journal.idle t.journal.idle) (sym o.states) (least_on old.states.journal.idle);
+  }
+
+  first_told : (old new : OpenPart D) → OnLog old new → IsTold (content old.states.journal.live.disk) → IsTold (content new.states.journal.live.disk)
+  first_told old new o told = ap (λ (t : StoreParts D). is_some (content t.journal.live.disk)) o.states ∙ told
+
+  idle_told : (old new : OpenPart D) → OnLog old new → IsTold (content old.states.journal.idle) → IsTold (content new.states.journal.idle)
+  idle_told old new o told = ap (λ (t : StoreParts D). is_some (content t.journal.idle)) o.states ∙ told
+
+  abbrev Adds : OpenPart D → OpenPart D → (now : ℕ) → List ℕ → Result ℕ LogFault → Type 0
+  Adds old new now batch added = added ≢ Err NoMemory → ProducedSo image faults holding now batch old new added
+
+  abbrev pub IsBatch : List ℕ → PartCall → Type 0
+  IsBatch batch did = (produced : Produced) × (did ≡ Produces batch produced)
+
+  pub produce_leads : (old new : OpenPart D) (now : ℕ) (batch : List ℕ) (added : Result ℕ LogFault) (produced : Produced) → result_of produced ≡ added
+      → OnLog old new → Adds old new now batch added → Fed new → (s : PartShardState) → Carried old.conf old s
+      → LeadsPart content image starved faults losses arms armed old.conf now (Produces batch produced) old s new
+  produce_leads old new now batch added produced is o steps fed s k =
+      let r = subst (λ (x : Result ℕ LogFault). ProducedSo image faults holding now batch old new x) (sym is) (steps (not_memory produced added is)) s k.carries in
+      record {
+        after = r.0;
+        carried = record {
+          conf_is = o.conf;
+          carries = r.1;
+          log = record { told = o.runs.told ∙ k.log.told; fed = fed.0 };
+          first = record { told = first_told old new o k.first.told; fed = fed.1 };
+          second = record { told = idle_told old new o k.second.told; fed = fed.2 };
+        };
+        step = r.2;
+        used = record {
+          used = record { losses = o.runs.same_losses; arms = o.runs.same_arms; spends = o.runs.spends k.log.told fed.0 };
+          states = o.states;
+        };
+      }
+
+  abbrev HaltsBatch : OpenPart D → OpenPart D → (now : ℕ) → List ℕ → PartShardState → Type 0
+  HaltsBatch old new now batch s = HaltsPart content image faults old.conf now (IsBatch batch) (λ begun. ⊥) old s new
+
+  produced_whole : (old new : OpenPart D) (now : ℕ) (batch : List ℕ) (produced : Produced) → OnLog old new
+      → ProducedSo image faults holding now batch old new (result_of produced) → (s : PartShardState) → Carried old.conf old s → HaltsBatch old new now batch s
+  produced_whole old new now batch produced o steps s k =
+      let r = steps s k.carries in
+      record {
+        after = r.0;
+        conf_is = o.conf;
+        carries = r.1;
+        does = inr (inl (Produces batch produced, (produced, refl), r.2));
+        log_told = o.runs.told ∙ k.log.told;
+        first_told = first_told old new o k.first.told;
+        second_told = idle_told old new o k.second.told;
+      }
+
+  pub produce_halts : (old new : OpenPart D) (now : ℕ) (batch : List ℕ) (added : Result ℕ LogFault) → ((end : ℕ) → added ≢ Err (Behind end))
+      → OnLog old new → Adds old new now batch added → (added ≡ Err NoMemory → new ≡ old) → (s : PartShardState) → Carried old.conf old s
+      → HaltsBatch old new now batch s
+  produce_halts old new now batch (Ok base) behind o steps same s k =
+      produced_whole old new now batch (Base base) o (steps (λ e. let never : ⊥ = cc in never)) s k
+  produce_halts old new now batch (Err (BadBatch f)) behind o steps same s k =
+      produced_whole old new now batch (Batch f) o (steps (λ e. let never : ⊥ = cc in never)) s k
+  produce_halts old new now batch (Err (Unstored f)) behind o steps same s k =
+      produced_whole old new now batch (Store f) o (steps (λ e. let never : ⊥ = cc in never)) s k
+  produce_halts old new now batch (Err (Behind end)) behind o steps same s k = absurd (behind end refl)
+  produce_halts old new now batch (Err NoMemory) behind o steps same s k = record {
+    after = s;
+    conf_is = o.conf;
+    carries = subst (λ (p : OpenPart D). Carries image holding p s) (sym (same refl)) k.carries;
+    does = inl refl;
+    log_told = o.runs.told ∙ k.log.told;
+    first_told = first_told old new o k.first.told;
+    second_told = idle_told old new o k.second.told;
+  }
+
+  -- ---- looks
+
+  pub look_leads : (conf : PartConfParts) (now : ℕ) (group : List ℕ) (looked : Looked) (is : OpenPart D)
+      → looked ≡ look_at (share_state_at (states_of is.states.entries) (key_of is.conf group)) → (s : PartShardState) → Carried conf is s
+      → LeadsPart content image starved faults losses arms armed conf now (Looks group looked) is s is
+  look_leads conf now group looked is told s k = record {
+    after = s;
+    carried = k;
+    step = (
+      told ∙ (λ i. look_at (share_state_at (sym k.carries.states i) (key_of (k.conf_is i) group))),
+      refl,
+    );
+    used = refl;
+  }

@@ -1,0 +1,246 @@
+-- Openings and restarts of a hosted partition.
+use Rattle.std.proofs.Common.{◌≡◌, ◌≢◌, ◌≤◌, ◌⊎◌, arith, inl, inr, refl, sym, ap, ◌∙◌, subst, ℕ, List, Bool, true, false, Some, is_some, Result, Ok, Err, IfErr, MatchResult, ◌↔◌}
+use Rattle.std.specs.declared.option.Option.{Option}
+use Rattle.edge_io.specs.declared.fault.Armed.{Armed}
+use Rattle.edge_io.specs.declared.fault.Armed.TheVariants.{Nothing}
+use Rattle.edge_io.specs.Armed.{RunsOn}
+use Rattle.edge_io.specs.Disk.{IsTold, Within}
+use Rattle.gate_journal.specs.Frames.{StandsAs, StandsFor}
+use Rattle.gate_journal.proofs.Once.{once}
+use Rattle.share_model.specs.ForeignRules.{ShareStates}
+use Rattle.share_model.specs.Logs.{Batch as LogBatch}
+use Rattle.part_log.specs.Logs.{IsLogText, and_pending, frames_of}
+use Rattle.share_part.specs.Hosting.{ArePartText, AreStates, PartConfParts, states_of}
+use Rattle.share_part.specs.Leaving.{IsLeftOf, IsOneOf}
+use Rattle.share_part.specs.Opening.{IsOpened}
+use Rattle.share_part.specs.Shards.{Carries, PartShardState}
+use Rattle.share_part.proofs.Leavings.{left_of}
+use Rattle.broker_core.specs.declared.fault.CoreOpen.{CoreOpen}
+use Rattle.broker_core.specs.declared.fault.CoreOpen.TheVariants as fault
+use Rattle.broker_core.specs.Carried.{GoesOn, IsPartCarried, OpenPart, holding}
+use Rattle.broker_core.specs.Hosts.{PartStandsAlone}
+use Rattle.broker_core.specs.Restarts.{IsLost, IsOpenedPart, IsRestartedPart, PartImagesStandAs}
+use Rattle.broker_core.proofs.Opening.{one_fault_left, opened_disk, restarted_disk, told_of}
+
+-- contents that are the same, or are read as the same frames
+abbrev pub AreAlike : List ℕ → List ℕ → Type 0
+AreAlike c x = (c ≡ x) ⊎ ((frames : List (List ℕ)) × StandsFor c frames × StandsFor x frames)
+
+-- they stand for the same log
+pub same_text : (c x : List ℕ) (b : List LogBatch) → AreAlike c x → IsLogText c b → IsLogText x b
+same_text c x b (inl e) h = subst (λ y. IsLogText y b) e h
+same_text c x b (inr f) h = record {
+  frames = subst (λ fs. StandsFor x fs) (once c f.0 (frames_of b) f.1 h.frames) f.2;
+  sound = h.sound;
+}
+
+-- and for the same states
+same_states : (a c b : List ℕ) (states : ShareStates) → AreAlike a c → AreStates a b states → AreStates c b states
+same_states a c b states (inl e) h = subst (λ x. AreStates x b states) e h
+same_states a c b states (inr f) h = record {
+  entries = h.entries;
+  stored = record {
+    frames = h.stored.frames;
+    listed = record {
+      listed = subst (λ fs. StandsFor c fs) (once a f.0 h.stored.frames f.1 h.stored.listed.listed) f.2;
+      bare = h.stored.listed.bare;
+    };
+    accepted = h.stored.accepted;
+  };
+  is = h.is;
+}
+
+pub same_part : (conf : PartConfParts) (l x a y b : List ℕ) (batches : List LogBatch) (states : ShareStates) → AreAlike l x → AreAlike a y
+    → ArePartText conf l a b batches states → ArePartText conf x y b batches states
+same_part conf l x a y b batches states on_log on_first t = record {
+  log_is = same_text l x batches on_log t.log_is;
+  states_are = same_states a y b states on_first t.states_are;
+  hosted = t.hosted;
+}
+
+unless : (b : Bool) → (b ≡ true → ⊥) → b ≡ false
+unless true h = absurd (h refl)
+unless false h = refl
+
+-- no disk is starved where none of three is
+pub fed_three : (starves a b c : Bool) → starves ≡ false → ((starves ≡ true) ↔ ((a ≡ true) ⊎ ((b ≡ true) ⊎ (c ≡ true))))
+    → (a ≡ false) × (b ≡ false) × (c ≡ false)
+fed_three starves a b c not either = (
+  unless a (λ e. clash (sym not ∙ either.1 (inl e))),
+  unless b (λ e. clash (sym not ∙ either.1 (inr (inl e)))),
+  unless c (λ e. clash (sym not ∙ either.1 (inr (inr e)))),
+)
+  where
+    clash : false ≡ true → ⊥
+    clash e = cc
+
+module _ {D : Type 0} (content : D → Option (List ℕ)) (image : D → List ℕ → Type 0) (starved : D → Bool) (faults : D → ℕ)
+    (losses : D → List (ℕ × List ℕ)) (arms : D → ℕ) (armed : D → Armed) where
+  abbrev Runs : D → D → Type 0
+  Runs old new = RunsOn content losses arms armed starved faults old new
+
+  abbrev Carried : PartConfParts → OpenPart D → PartShardState → Type 0
+  Carried conf part s = IsPartCarried content image starved conf part s
+
+  abbrev Lost : ℕ → D → D → List ℕ → Type 0
+  Lost choice old new c = IsLost content image faults losses arms armed choice old new c
+
+  -- the images of a partition that is carried
+  pub images_left : (conf : PartConfParts) (part : OpenPart D) (s : PartShardState) → part.conf ≡ conf → Carries image holding part s → (l a b : List ℕ)
+      → image part.log.journal.disk l → image part.states.journal.live.disk a → image part.states.journal.idle b → IsLeftOf conf s l a b
+  images_left conf part s conf_is k l a b on_log on_first on_second =
+      subst (λ (c : PartConfParts). IsLeftOf c s l a b) conf_is (left_of image holding part l a b on_log on_first on_second s k)
+
+  pub part_left : (conf : PartConfParts) (part : OpenPart D) (s : PartShardState) → Carried conf part s → (l a b : List ℕ)
+      → image part.log.journal.disk l → image part.states.journal.live.disk a → image part.states.journal.idle b → IsLeftOf conf s l a b
+  part_left conf part s k = images_left conf part s k.conf_is k.carries
+
+  pub opened_part : (conf : PartConfParts) (log first second : D) (l a b : List ℕ) (part : OpenPart D) → content log ≡ Some l → content first ≡ Some a
+      → content second ≡ Some b → IsOpened content image holding conf log first second part → Runs log part.log.journal.disk
+      → Runs first part.states.journal.live.disk → Runs second part.states.journal.idle → starved part.log.journal.disk ≡ false
+      → starved part.states.journal.live.disk ≡ false → starved part.states.journal.idle ≡ false
+      → IsOpenedPart content image starved faults losses arms armed conf log first second l a b part
+  opened_part conf log first second l a b part is is_first is_second o runs first_runs second_runs fed first_fed second_fed = record {
+    batches = part.log.batches;
+    states = states_of part.states.entries;
+    carried = record {
+      conf_is = o.conf_is;
+      carries = o.carries;
+      log = record { told = runs.told ∙ told_of (content log) l is; fed = fed };
+      first = record { told = first_runs.told ∙ told_of (content first) a is_first; fed = first_fed };
+      second = record { told = second_runs.told ∙ told_of (content second) b is_second; fed = second_fed };
+    };
+    stands = o.opens l a b is is_first is_second;
+    only = λ other others h. let e = o.only l a b other others is is_first is_second h in (sym e.0, sym e.1);
+    on_log = opened_disk content image starved faults losses arms armed log part.log.journal.disk runs (told_of (content log) l is) fed;
+    on_first = opened_disk content image starved faults losses arms armed first part.states.journal.live.disk first_runs (told_of (content first) a is_first) first_fed;
+    on_second = opened_disk content image starved faults losses arms armed second part.states.journal.idle second_runs (told_of (content second) b is_second) second_fed;
+  }
+
+  -- ---- restarts
+
+  pub restarted_part : (choice : ℕ) (conf : PartConfParts) (part : OpenPart D) (s : PartShardState) (log first second : D) (l a b : List ℕ) (new : OpenPart D)
+      → Carried conf part s → Lost choice part.log.journal.disk log l → Lost choice part.states.journal.live.disk first a
+      → Lost choice part.states.journal.idle second b
+      → IsOpenedPart content image starved faults losses arms armed conf log first second l a b new
+      → IsRestartedPart content image starved faults losses arms armed choice conf part s new
+  restarted_part choice conf part s log first second l a b new k p q r o =
+      let t = part_left conf part s k l a b p.was q.was r.was in
+      let e = o.only t.batches t.states t.text in
+      let on_log = restarted_disk content image starved faults losses arms armed choice part.log.journal.disk log new.log.journal.disk l p o.on_log in
+      let on_first = restarted_disk content image starved faults losses arms armed choice part.states.journal.live.disk first new.states.journal.live.disk a q o.on_first in
+      let on_second = restarted_disk content image starved faults losses arms armed choice part.states.journal.idle second new.states.journal.idle b r o.on_second in
+      record {
+        l = l;
+        a = a;
+        b = b;
+        batches = o.batches;
+        states = o.states;
+        carried = o.carried;
+        log_is = subst (λ (bs : List LogBatch). IsOneOf s.log.batches (and_pending s.log.batches s.log.pending) bs) (sym e.0) t.log_is;
+        states_are = subst (λ (st : ShareStates). IsOneOf s.states s.pending st) (sym e.1) t.states_are;
+        stands = o.stands;
+        log_lost = o.on_log.losses ∙ p.lost;
+        first_lost = o.on_first.losses ∙ q.lost;
+        second_lost = o.on_second.losses ∙ r.lost;
+        on_log = record { arms = on_log.0; disarmed = on_log.1; quiet = on_log.2 };
+        on_first = record { arms = on_first.0; disarmed = on_first.1; quiet = on_first.2 };
+        on_second = record { arms = on_second.0; disarmed = on_second.1; quiet = on_second.2 };
+      }
+
+  -- disks that have no other images than before
+  pub stands_within : (conf : PartConfParts) (part : OpenPart D) (s : PartShardState) (log first second : D) → Carried conf part s
+      → Within (image part.log.journal.disk) (image log) → Within (image part.states.journal.live.disk) (image first)
+      → Within (image part.states.journal.idle) (image second) → GoesOn content faults part.log.journal.disk log
+      → GoesOn content faults part.states.journal.live.disk first → GoesOn content faults part.states.journal.idle second
+      → PartStandsAlone content image conf s log first second
+  stands_within conf part s log first second k p q r on_log on_first on_second = record {
+    stand = λ l a b x y z. part_left conf part s k l a b (p l x) (q a y) (r b z);
+    log_told = on_log.told ∙ k.log.told;
+    first_told = on_first.told ∙ k.first.told;
+    second_told = on_second.told ∙ k.second.told;
+  }
+
+  -- an image that stands as the one that a loss left
+  alike : (choice : ℕ) (old mid : D) (c x : List ℕ) → Lost choice old mid c → StandsAs (image mid) x → AreAlike c x
+  alike choice old mid c x l (d, on, inl e) = inl (sym (l.only d on) ∙ e)
+  alike choice old mid c x l (d, on, inr f) = inr (f.0, subst (λ (z : List ℕ). StandsFor z f.0) (l.only d on) f.1, f.2)
+
+  -- behind three losses, the opening failed
+  module _ (choice : ℕ) (conf : PartConfParts) (part : OpenPart D) (s : PartShardState) (log first second : D) (l a b : List ℕ) (k : Carried conf part s)
+      (p : Lost choice part.log.journal.disk log l) (q : Lost choice part.states.journal.live.disk first a) (r : Lost choice part.states.journal.idle second b) where
+    left : IsLeftOf conf s l a b
+    left = part_left conf part s k l a b p.was q.was r.was
+
+    not_opened : (new_log new_first new_second : D) → PartImagesStandAs image log first second new_log new_first new_second
+        → IsTold (content new_log) → IsTold (content new_first) → IsTold (content new_second)
+        → PartStandsAlone content image conf s new_log new_first new_second
+    not_opened new_log new_first new_second i told first_told second_told = record {
+      stand = λ x y z on_log on_first on_second. record {
+        batches = left.batches;
+        states = left.states;
+        log_is = left.log_is;
+        states_are = left.states_are;
+        text = subst (λ (w : List ℕ). ArePartText conf x y w left.batches left.states) (sym (r.only z (i.on_second z on_second)))
+            (same_part conf l x a y b left.batches left.states (alike choice part.log.journal.disk log l x p (i.on_log x on_log))
+            (alike choice part.states.journal.live.disk first a y q (i.on_first y on_first)) left.text);
+      };
+      log_told = told;
+      first_told = first_told;
+      second_told = second_told;
+    }
+
+    only_memory : (e : CoreOpen)
+        → ((x y z : List ℕ) (batches : List LogBatch) (states : ShareStates) → content log ≡ Some x → content first ≡ Some y → content second ≡ Some z
+        → ArePartText conf x y z batches states → (name : List ℕ) (place : ℕ) → e ≢ fault.Damaged name place)
+        → (IsTold (content log) → IsTold (content first) → IsTold (content second) → armed log ≡ Nothing → armed first ≡ Nothing → armed second ≡ Nothing
+        → e ≢ fault.Device) → e ≢ fault.Bay → e ≡ fault.NoMemory
+    only_memory e recovers sound no_bay =
+        one_fault_left e (recovers l a b left.batches left.states p.is q.is r.is left.text)
+        (sound (told_of (content log) l p.is) (told_of (content first) a q.is) (told_of (content second) b r.is) p.disarmed q.disarmed r.disarmed) no_bay
+
+    pub part_stays_shut : {T : Type 0} (result : Result T ((D × D × D) × CoreOpen))
+        → IfErr result (λ e. PartImagesStandAs image log first second e.0.0 e.0.1 e.0.2)
+        → ((x y z : List ℕ) (batches : List LogBatch) (states : ShareStates) → content log ≡ Some x → content first ≡ Some y → content second ≡ Some z
+        → ArePartText conf x y z batches states → IfErr result (λ e. (name : List ℕ) (place : ℕ) → e.1 ≢ fault.Damaged name place))
+        → (IsTold (content log) → IsTold (content first) → IsTold (content second) → armed log ≡ Nothing → armed first ≡ Nothing → armed second ≡ Nothing
+        → IfErr result (λ e. e.1 ≢ fault.Device)) → IfErr result (λ e. e.1 ≢ fault.Bay)
+        → IfErr result (λ e. is_some (content e.0.0) ≡ is_some (content log)) → IfErr result (λ e. is_some (content e.0.1) ≡ is_some (content first))
+        → IfErr result (λ e. is_some (content e.0.2) ≡ is_some (content second))
+        → IfErr result (λ e. PartStandsAlone content image conf s e.0.0 e.0.1 e.0.2 × (e.1 ≡ fault.NoMemory))
+    part_stays_shut (Ok x) images recovers sound no_bay told first_told second_told = tt
+    part_stays_shut (Err e) images recovers sound no_bay told first_told second_told = (
+      not_opened e.0.0 e.0.1 e.0.2 images (told ∙ told_of (content log) l p.is) (first_told ∙ told_of (content first) a q.is)
+          (second_told ∙ told_of (content second) b r.is),
+      only_memory e.1 recovers sound no_bay,
+    )
+
+  pub told_at : {T : Type 0} (of : T → D) (at : (D × D × D) → D) (mid : D) (result : Result T ((D × D × D) × CoreOpen))
+      → MatchResult result (λ new. GoesOn content faults mid (of new)) (λ e. GoesOn content faults mid (at e.0))
+      → IfErr result (λ e. is_some (content (at e.0)) ≡ is_some (content mid))
+  told_at of at mid (Ok x) h = tt
+  told_at of at mid (Err e) h = h.told
+
+  -- ---- disks as they are handed on
+
+  pub goes_still : (live old new : D) → old ≡ live → GoesOn content faults old new → GoesOn content faults live new
+  goes_still live old new same g = subst (λ (d : D). GoesOn content faults d new) same g
+
+  pub goes_same : (live now : D) → now ≡ live → GoesOn content faults live now
+  goes_same live now same = subst (λ (d : D). GoesOn content faults d now) same (record { later = least (faults now); told = refl }) where
+    least : (n : ℕ) → n ≤ n
+    least n = omega arith
+
+  pub within_on : (live old new : D) → old ≡ live → Within (image old) (image new) → Within (image live) (image new)
+  within_on live old new same w = subst (λ (d : D). Within (image d) (image new)) same w
+
+  pub within_same : (live now : D) → now ≡ live → Within (image live) (image now)
+  within_same live now same = subst (λ (d : D). Within (image d) (image now)) same (λ x on. on)
+
+  pub told_same : (live now : D) → now ≡ live → IsTold (content live) → IsTold (content now)
+  told_same live now same told = subst (λ (d : D). IsTold (content d)) (sym same) told
+
+  pub lost_still : (choice : ℕ) (live old new : D) → old ≡ live → IsTold (content live) → (IsTold (content old) → (c : List ℕ) × Lost choice old new c)
+      → (c : List ℕ) × Lost choice live new c
+  lost_still choice live old new same told lost =
+      let l = lost (told_same live old same told) in (l.0, subst (λ (d : D). Lost choice d new l.0) same l.1)

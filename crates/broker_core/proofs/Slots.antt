@@ -1,0 +1,271 @@
+-- One slot of a hosted partition that a call changes: what is known of its disks by name, and the machine's step.
+use Rattle.std.proofs.Common.{◌≡◌, inl, refl, sym, ap, ◌∙◌, subst, ℕ, List, [], ◌∷◌, map, Bool, true, false, cond, Some}
+use Rattle.std.specs.List.{AllByRecursion, flat_map}
+use Rattle.std.specs.declared.option.Option.{Option}
+use Rattle.edge_io.specs.declared.fault.Armed.{Armed}
+use Rattle.edge_io.specs.declared.name.DiskPlace.{DiskPlace}
+use Rattle.edge_io.specs.declared.name.DiskPlace.TheVariants.{Log, StateA, StateB}
+use Rattle.edge_io.specs.Causes.{Rose}
+use Rattle.share_model.specs.declared.visit.AckOutcome.{AckOutcome}
+use Rattle.part_log.specs.Logs.{LogParts}
+use Rattle.share_coord.specs.Parts.{StoreParts}
+use Rattle.share_part.specs.Expiring.{ExpiresPart, StepsExpire}
+use Rattle.share_part.specs.Shards.{PartShardState, StepsProduce}
+use Rattle.share_part.specs.Visits.{StepsAcks, StepsVisit}
+use Rattle.broker_model.specs.Hosted.{Hosted, HoldsAt, first_of, log_of, part_disks, same_name, second_of}
+use Rattle.broker_model.specs.Shards.{Counts, PartCall, StepsPart, part_calls, result_of}
+use Rattle.broker_model.specs.Shards.PartCall.{Visits, Produces, Looks, Expires}
+use Rattle.broker_model.specs.Disks.{Facts, IsUsed, OnCalled, facts_of}
+use Rattle.broker_core.specs.declared.slot.PartSlot.{PartSlot}
+use Rattle.broker_core.specs.declared.slot.PartState.{PartState}
+use Rattle.broker_core.specs.declared.slot.PartState.TheVariants as part
+use Rattle.broker_core.specs.Carried.{Begun, HalvesOn, OpenPart, StepsOn, Uses, UsesLog, UsesStates}
+use Rattle.broker_core.specs.Carried.Begun.{BeginsVisit, BeginsExpiry}
+use Rattle.broker_core.specs.Hosts.{AreDistinct, HostsParts, among, counts_in, disks_in, ends_in, facts_at, facts_in, foreign_disks, foreign_end, foreign_facts, hosted_slot, hosted_slots, open_disk, open_end, part_disk, part_end, slot_disks, slot_ends, slots_disks}
+use Rattle.broker_core.proofs.Flats.{pieces_at}
+use Rattle.broker_core.proofs.Places.{each_found}
+
+-- ---- names
+
+pub disk_names : {D : Type 0} (slots : List (PartSlot D)) → map (λ e. e.0) (slots_disks slots) ≡ part_disks (hosted_slots slots)
+disk_names [] = refl
+disk_names (s ∷ slots) =
+    ap (λ (l : List (List ℕ)). log_of (hosted_slot s) ∷ first_of (hosted_slot s) ∷ second_of (hosted_slot s) ∷ l) (disk_names slots)
+
+pub end_names : {D : Type 0} (slots : List (PartSlot D)) → map (λ e. e.0) (flat_map slot_ends slots) ≡ part_disks (hosted_slots slots)
+end_names [] = refl
+end_names (s ∷ slots) =
+    ap (λ (l : List (List ℕ)). log_of (hosted_slot s) ∷ first_of (hosted_slot s) ∷ second_of (hosted_slot s) ∷ l) (end_names slots)
+
+-- what stays as it is, counts as used
+pub stays_used : (f : Facts) → IsUsed f f
+stays_used f = record {
+  losses = refl;
+  arms = refl;
+  spends = record { disarmed = λ none. (none, refl); one_shot = λ one. inl (one, refl) };
+}
+
+pub called_same : (b : Bool) (f : Facts) → OnCalled b f f
+called_same true f = stays_used f
+called_same false f = refl
+
+pair : {A B : Type 0} {a c : A} {b d : B} → a ≡ c → b ≡ d → ◌≡◌ {A = A × B} (a, b) (c, d)
+pair e f = λ i. (e i, f i)
+
+-- ---- three by name
+
+-- what one of the three disks of a partition has, by its name, or else this
+abbrev pub three : {A : Type 0} → Hosted → A → A → A → A → List ℕ → A
+three h l a b o name = cond (same_name name (log_of h)) l (cond (same_name name (first_of h)) a (cond (same_name name (second_of h)) b o))
+
+on_log : (h : Hosted) (l m a b o : Facts) (name : List ℕ) → IsUsed l m → OnCalled (same_name name (log_of h)) (three h l a b o name) (three h m a b o name)
+on_log h l m a b o name used = go (same_name name (log_of h)) where
+  go : (p : Bool) → OnCalled p (cond p l (cond (same_name name (first_of h)) a (cond (same_name name (second_of h)) b o)))
+      (cond p m (cond (same_name name (first_of h)) a (cond (same_name name (second_of h)) b o)))
+  go true = used
+  go false = refl
+
+on_first : (h : Hosted) (l a c b o : Facts) (name : List ℕ) → IsUsed a c → OnCalled (same_name name (first_of h)) (three h l a b o name) (three h l c b o name)
+on_first h l a c b o name used = go (same_name name (log_of h)) (same_name name (first_of h)) where
+  go : (p q : Bool) → OnCalled q (cond p l (cond q a (cond (same_name name (second_of h)) b o))) (cond p l (cond q c (cond (same_name name (second_of h)) b o)))
+  go true q = called_same q l
+  go false true = used
+  go false false = refl
+
+past_log : (h : Hosted) (l m a b o : ℕ) (name : List ℕ) → same_name name (log_of h) ≡ false → three h m a b o name ≡ three h l a b o name
+past_log h l m a b o name away = go (same_name name (log_of h)) away where
+  go : (p : Bool) → p ≡ false → cond p m (cond (same_name name (first_of h)) a (cond (same_name name (second_of h)) b o))
+      ≡ cond p l (cond (same_name name (first_of h)) a (cond (same_name name (second_of h)) b o))
+  go true is = absurd (let bad : true ≡ false = is in cc)
+  go false is = refl
+
+past_first : (h : Hosted) (l a c b o : ℕ) (name : List ℕ) → same_name name (first_of h) ≡ false → three h l c b o name ≡ three h l a b o name
+past_first h l a c b o name away = go (same_name name (log_of h)) (same_name name (first_of h)) away where
+  go : (p q : Bool) → q ≡ false → cond p l (cond q c (cond (same_name name (second_of h)) b o)) ≡ cond p l (cond q a (cond (same_name name (second_of h)) b o))
+  go true q is = refl
+  go false true is = absurd (let bad : true ≡ false = is in cc)
+  go false false is = refl
+
+module _ {D : Type 0} (content : D → Option (List ℕ)) (image : D → List ℕ → Type 0) (starved : D → Bool) (faults : D → ℕ)
+    (losses : D → List (ℕ × List ℕ)) (arms : D → ℕ) (armed : D → Armed) where
+  abbrev facts : D → Facts
+  facts disk = facts_of faults losses arms armed disk
+
+  abbrev F : HostsParts D → List ℕ → Facts
+  F hosts name = facts_in faults losses arms armed (disks_in hosts) name
+
+  abbrev entry_facts : List ℕ × Option D → Facts
+  entry_facts e = facts_at faults losses arms armed e.1
+
+  abbrev pub slot_facts : PartSlot D → DiskPlace → Facts
+  slot_facts slot place = facts_at faults losses arms armed (part_disk slot.state place)
+
+  abbrev pub open_facts : OpenPart D → DiskPlace → Facts
+  open_facts p place = facts (open_disk p place)
+
+  abbrev All3 : (HostsParts D → List ℕ → Facts) → HostsParts D → PartSlot D → Type 0
+  All3 f hosts x = (f hosts (log_of (hosted_slot x)) ≡ slot_facts x Log) × (f hosts (first_of (hosted_slot x)) ≡ slot_facts x StateA)
+      × (f hosts (second_of (hosted_slot x)) ≡ slot_facts x StateB)
+
+  -- what is known by the names of a slot's disks
+  pub known_at : (hosts : HostsParts D) (n : ℕ) (x : PartSlot D) → HoldsAt n (λ z. z ≡ x) hosts.parts
+      → AreDistinct (part_disks (hosted_slots hosts.parts)) → All3 F hosts x
+  known_at hosts n x there apart =
+      let p = pieces_at slot_disks (λ (e : List ℕ × Option D). among (λ (d : List ℕ × Option D). d.0) entry_facts (slots_disks hosts.parts)
+      (foreign_facts faults losses arms armed (foreign_disks hosts.foreign) e.0) e.0 ≡ entry_facts e) n hosts.parts x there
+      (each_found (λ (d : List ℕ × Option D). d.0) entry_facts (slots_disks hosts.parts)
+      (λ name. foreign_facts faults losses arms armed (foreign_disks hosts.foreign) name)
+      (subst AreDistinct (sym (disk_names hosts.parts)) apart)) in
+      (p.0, p.1.0, p.1.1.0)
+
+  pub ends_at : (hosts : HostsParts D) (n : ℕ) (x : PartSlot D) → HoldsAt n (λ z. z ≡ x) hosts.parts
+      → AreDistinct (part_disks (hosted_slots hosts.parts))
+      → (ends_in hosts (log_of (hosted_slot x)) ≡ part_end x.state Log) × (ends_in hosts (first_of (hosted_slot x)) ≡ part_end x.state StateA)
+  ends_at hosts n x there apart =
+      let p = pieces_at slot_ends (λ (e : List ℕ × ℕ). among (λ (d : List ℕ × ℕ). d.0) (λ (d : List ℕ × ℕ). d.1) (flat_map slot_ends hosts.parts)
+      (foreign_end hosts.foreign e.0) e.0 ≡ e.1) n hosts.parts x there
+      (each_found (λ (d : List ℕ × ℕ). d.0) (λ (d : List ℕ × ℕ). d.1) (flat_map slot_ends hosts.parts) (λ name. foreign_end hosts.foreign name)
+      (subst AreDistinct (sym (end_names hosts.parts)) apart)) in
+      (p.0, p.1.0)
+
+  -- ---- what a call uses
+
+  uses_states : (h : Hosted) (was is : OpenPart D) → UsesStates faults losses arms armed was is → (name : List ℕ) (o : Facts)
+      → OnCalled (same_name name (first_of h)) (three h (open_facts was Log) (open_facts was StateA) (open_facts was StateB) o name)
+      (three h (open_facts is Log) (open_facts is StateA) (open_facts is StateB) o name)
+  uses_states h was is u name o =
+      subst (λ (l : LogParts D). OnCalled (same_name name (first_of h)) (three h (open_facts was Log) (open_facts was StateA) (open_facts was StateB) o name)
+      (three h (facts l.journal.disk) (open_facts is StateA) (open_facts is StateB) o name)) (sym u.log)
+      (subst (λ (b : D). OnCalled (same_name name (first_of h)) (three h (open_facts was Log) (open_facts was StateA) (open_facts was StateB) o name)
+      (three h (open_facts was Log) (open_facts is StateA) (facts b) o name)) (sym u.second)
+      (on_first h (open_facts was Log) (open_facts was StateA) (open_facts is StateA) (open_facts was StateB) o name u.used))
+
+  uses_log : (h : Hosted) (was is : OpenPart D) → UsesLog faults losses arms armed was is → (name : List ℕ) (o : Facts)
+      → OnCalled (same_name name (log_of h)) (three h (open_facts was Log) (open_facts was StateA) (open_facts was StateB) o name)
+      (three h (open_facts is Log) (open_facts is StateA) (open_facts is StateB) o name)
+  uses_log h was is u name o =
+      subst (λ (s : StoreParts D). OnCalled (same_name name (log_of h)) (three h (open_facts was Log) (open_facts was StateA) (open_facts was StateB) o name)
+      (three h (open_facts is Log) (facts s.journal.live.disk) (facts s.journal.idle) o name)) (sym u.states)
+      (on_log h (open_facts was Log) (open_facts is Log) (open_facts was StateA) (open_facts was StateB) o name u.used)
+
+  open_used : (h : Hosted) (was is : OpenPart D) (did : PartCall) → Uses faults losses arms armed was is did → (name : List ℕ) (o : Facts)
+      → OnCalled (part_calls h did name) (three h (open_facts was Log) (open_facts was StateA) (open_facts was StateB) o name)
+      (three h (open_facts is Log) (open_facts is StateA) (open_facts is StateB) o name)
+  open_used h was is (Visits visit answer) u name o = uses_states h was is u name o
+  open_used h was is (Produces batch produced) u name o = uses_log h was is u name o
+  open_used h was is (Looks group looked) u name o =
+      ap (λ (p : OpenPart D). three h (open_facts p Log) (open_facts p StateA) (open_facts p StateB) o name) u
+  open_used h was is (Expires answer) u name o = uses_states h was is u name o
+
+  ends_states : (h : Hosted) (was is : OpenPart D) → UsesStates faults losses arms armed was is → (name : List ℕ) (o : ℕ) → same_name name (first_of h) ≡ false
+      → three h (open_end is Log) (open_end is StateA) (open_end is StateB) o name ≡ three h (open_end was Log) (open_end was StateA) (open_end was StateB) o name
+  ends_states h was is u name o away =
+      ap (λ (l : LogParts D). three h l.journal.end (open_end is StateA) 0 o name) u.log
+      ∙ past_first h (open_end was Log) (open_end was StateA) (open_end is StateA) 0 o name away
+
+  open_ends : (h : Hosted) (was is : OpenPart D) (did : PartCall) → Uses faults losses arms armed was is did → (name : List ℕ) (o : ℕ)
+      → part_calls h did name ≡ false
+      → three h (open_end is Log) (open_end is StateA) (open_end is StateB) o name ≡ three h (open_end was Log) (open_end was StateA) (open_end was StateB) o name
+  open_ends h was is (Visits visit answer) u name o away = ends_states h was is u name o away
+  open_ends h was is (Produces batch produced) u name o away =
+      ap (λ (s : StoreParts D). three h (open_end is Log) s.journal.live.end 0 o name) u.states
+      ∙ past_log h (open_end was Log) (open_end is Log) (open_end was StateA) 0 o name away
+  open_ends h was is (Looks group looked) u name o away =
+      ap (λ (p : OpenPart D). three h (open_end p Log) (open_end p StateA) (open_end p StateB) o name) u
+  open_ends h was is (Expires answer) u name o away = ends_states h was is u name o away
+
+  -- ---- one slot
+
+  -- a slot of one partition before and after, both open
+  pub record Turns (x y : PartSlot D) (was is : OpenPart D) : Type 0 where
+    pub old_is : x.state ≡ part.Open was
+    pub new_is : y.state ≡ part.Open is
+    pub hosted : hosted_slot y ≡ hosted_slot x
+
+  abbrev Found : PartSlot D → Facts → List ℕ → Facts
+  Found x o name = among (λ (d : List ℕ × Option D). d.0) entry_facts (slot_disks x) o name
+
+  abbrev End : PartSlot D → ℕ → List ℕ → ℕ
+  End x o name = among (λ (d : List ℕ × ℕ). d.0) (λ (d : List ℕ × ℕ). d.1) (slot_ends x) o name
+
+  -- what is found of an open slot
+  abbrev Of : Hosted → PartState D → Facts → List ℕ → Facts
+  Of h state o name = three h (facts_at faults losses arms armed (part_disk state Log)) (facts_at faults losses arms armed (part_disk state StateA))
+      (facts_at faults losses arms armed (part_disk state StateB)) o name
+
+  abbrev EndOf : Hosted → PartState D → ℕ → List ℕ → ℕ
+  EndOf h state o name = three h (part_end state Log) (part_end state StateA) (part_end state StateB) o name
+
+  pub slot_used : (x y : PartSlot D) (was is : OpenPart D) (did : PartCall) → Turns x y was is → Uses faults losses arms armed was is did
+      → (name : List ℕ) (o : Facts) → OnCalled (part_calls (hosted_slot x) did name) (Found x o name) (Found y o name)
+  slot_used x y was is did t u name o =
+      subst (λ (h : Hosted). OnCalled (part_calls (hosted_slot x) did name) (Found x o name) (Of h y.state o name)) (sym t.hosted)
+      (subst (λ (s : PartState D). OnCalled (part_calls (hosted_slot x) did name) (Of (hosted_slot x) s o name) (Of (hosted_slot x) y.state o name)) (sym t.old_is)
+      (subst (λ (s : PartState D). OnCalled (part_calls (hosted_slot x) did name) (Of (hosted_slot x) (part.Open was) o name) (Of (hosted_slot x) s o name)) (sym t.new_is)
+      (open_used (hosted_slot x) was is did u name o)))
+
+  pub slot_end_stays : (x y : PartSlot D) (was is : OpenPart D) (did : PartCall) → Turns x y was is → Uses faults losses arms armed was is did
+      → (name : List ℕ) (o : ℕ) → part_calls (hosted_slot x) did name ≡ false → End y o name ≡ End x o name
+  slot_end_stays x y was is did t u name o away =
+      subst (λ (h : Hosted). EndOf h y.state o name ≡ End x o name) (sym t.hosted)
+      (subst (λ (s : PartState D). EndOf (hosted_slot x) y.state o name ≡ EndOf (hosted_slot x) s o name) (sym t.old_is)
+      (subst (λ (s : PartState D). EndOf (hosted_slot x) s o name ≡ EndOf (hosted_slot x) (part.Open was) o name) (sym t.new_is)
+      (open_ends (hosted_slot x) was is did u name o away)))
+
+  -- ---- steps by name
+
+  -- counts and ends by name are those of the shard's own disks
+  pub record AreOf (h : Hosted) (was is : OpenPart D) (counts : Counts) (ends : List ℕ → ℕ) : Type 0 where
+    pub log : counts (log_of h) ≡ (faults was.log.journal.disk, faults is.log.journal.disk)
+    pub first : counts (first_of h) ≡ (faults was.states.journal.live.disk, faults is.states.journal.live.disk)
+    pub log_end : ends (log_of h) ≡ was.log.journal.end
+    pub first_end : ends (first_of h) ≡ was.states.journal.live.end
+
+  pub step_named : (h : Hosted) (was is : OpenPart D) (counts : Counts) (ends : List ℕ → ℕ) → AreOf h was is counts ends → (now : ℕ) (old : PartShardState)
+      (did : PartCall) (new : PartShardState) → StepsOn faults h.conf was is now old did new → StepsPart counts ends now h old did new
+  step_named h was is counts ends a now old (Visits visit answer) new step =
+      subst (λ (c : ℕ × ℕ). StepsVisit h.conf c.0 c.1 (ends (first_of h)) old now visit answer new) (sym a.first)
+      (subst (λ (e : ℕ). StepsVisit h.conf (faults was.states.journal.live.disk) (faults is.states.journal.live.disk) e old now visit answer new) (sym a.first_end) step)
+  step_named h was is counts ends a now old (Produces batch produced) new step =
+      subst (λ (c : ℕ × ℕ). StepsProduce (Rose c.0 c.1) (ends (log_of h)) old now batch (result_of produced) new) (sym a.log)
+      (subst (λ (e : ℕ). StepsProduce (Rose (faults was.log.journal.disk) (faults is.log.journal.disk)) e old now batch (result_of produced) new) (sym a.log_end) step)
+  step_named h was is counts ends a now old (Looks group looked) new step = step
+  step_named h was is counts ends a now old (Expires answer) new step =
+      subst (λ (c : ℕ × ℕ). StepsExpire h.conf c.0 c.1 (ends (first_of h)) old now answer new) (sym a.first)
+      (subst (λ (e : ℕ). StepsExpire h.conf (faults was.states.journal.live.disk) (faults is.states.journal.live.disk) e old now answer new) (sym a.first_end) step)
+
+  -- a call that was left half done, by name
+  abbrev pub Halves : Counts → (ends : List ℕ → ℕ) → (now : ℕ) → Begun → Hosted → PartShardState → PartShardState → Type 0
+  Halves counts ends now (BeginsVisit visit) h old new =
+      (ack : AckOutcome) × StepsAcks h.conf (Rose (counts (first_of h)).0 (counts (first_of h)).1) (ends (first_of h)) old visit ack new
+  Halves counts ends now BeginsExpiry h old new = ExpiresPart h.conf (counts (first_of h)).0 (counts (first_of h)).1 (ends (first_of h)) old now new
+
+  pub half_named : (h : Hosted) (was is : OpenPart D) (counts : Counts) (ends : List ℕ → ℕ) → AreOf h was is counts ends → (now : ℕ) (old : PartShardState)
+      (begun : Begun) (new : PartShardState) → HalvesOn faults h.conf was is now old begun new → Halves counts ends now begun h old new
+  half_named h was is counts ends a now old (BeginsVisit visit) new half = (
+    half.0,
+    subst (λ (c : ℕ × ℕ). StepsAcks h.conf (Rose c.0 c.1) (ends (first_of h)) old visit half.0 new) (sym a.first)
+        (subst (λ (e : ℕ). StepsAcks h.conf (Rose (faults was.states.journal.live.disk) (faults is.states.journal.live.disk)) e old visit half.0 new) (sym a.first_end)
+        half.1),
+  )
+  half_named h was is counts ends a now old BeginsExpiry new half =
+      subst (λ (c : ℕ × ℕ). ExpiresPart h.conf c.0 c.1 (ends (first_of h)) old now new) (sym a.first)
+      (subst (λ (e : ℕ). ExpiresPart h.conf (faults was.states.journal.live.disk) (faults is.states.journal.live.disk) e old now new) (sym a.first_end) half)
+
+  -- the counts and ends of two hosts of which one slot changed
+  pub are_of : (old new : HostsParts D) (n : ℕ) (x y : PartSlot D) (was is : OpenPart D) → HoldsAt n (λ z. z ≡ x) old.parts → HoldsAt n (λ z. z ≡ y) new.parts
+      → Turns x y was is → AreDistinct (part_disks (hosted_slots old.parts)) → AreDistinct (part_disks (hosted_slots new.parts))
+      → AreOf (hosted_slot x) was is (counts_in faults losses arms armed (disks_in old) (disks_in new)) (ends_in old)
+  are_of old new n x y was is there here t apart apart_then =
+      let a = known_at old n x there apart in
+      let b = subst (λ (h : Hosted). (F new (log_of h) ≡ slot_facts y Log) × (F new (first_of h) ≡ slot_facts y StateA)
+      × (F new (second_of h) ≡ slot_facts y StateB)) t.hosted (known_at new n y here apart_then) in
+      let e = ends_at old n x there apart in
+      let on_old : (place : DiskPlace) → slot_facts x place ≡ open_facts was place = λ place. ap (λ (s : PartState D). facts_at faults losses arms armed (part_disk s place)) t.old_is in
+      let on_new : (place : DiskPlace) → slot_facts y place ≡ open_facts is place = λ place. ap (λ (s : PartState D). facts_at faults losses arms armed (part_disk s place)) t.new_is in
+      record {
+        log = pair (ap (λ (f : Facts). f.faults) (a.0 ∙ on_old Log)) (ap (λ (f : Facts). f.faults) (b.0 ∙ on_new Log));
+        first = pair (ap (λ (f : Facts). f.faults) (a.1 ∙ on_old StateA)) (ap (λ (f : Facts). f.faults) (b.1 ∙ on_new StateA));
+        log_end = e.0 ∙ ap (λ (s : PartState D). part_end s Log) t.old_is;
+        first_end = e.1 ∙ ap (λ (s : PartState D). part_end s StateA) t.old_is;
+      }

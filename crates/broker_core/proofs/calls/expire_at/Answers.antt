@@ -1,0 +1,28 @@
+use Rattle.std.proofs.Common.{◌≡◌, ◌<◌, inr, length, get_or, rules}
+use Rattle.call_fold.specs.declared.part.Produced.{Produced}
+use Rattle.share_model.specs.declared.visit.ExpireAnswer.{ExpireAnswer}
+use Rattle.share_model.specs.declared.visit.VisitAnswer.{VisitAnswer}
+use Rattle.broker_model.specs.Shards.PartCall.{Expires}
+use Rattle.broker_core.specs.Carried.Begun.{BeginsVisit, BeginsExpiry}
+use Rattle.broker_core.specs.Hosts.{LeadsSlot, HaltsSlot}
+use Rattle.broker_core.proofs.Stepping.{ok_weaker, on_err_weaker}
+use Rattle.broker_core.proofs.Places.{changes_set}
+use Rattle.broker_core.proofs.calls.expire_at.Goals as goal
+
+pub returns-clause-ok : goal.returns-clause-ok
+returns-clause-ok g c =
+    let lt : c.args.shard < length c.args.parts.now.items = search rules in
+    let is : c.in-Some.slot.now ≡ get_or c.args.parts.now.items c.args.shard c.in-Some.slot.now = search rules in
+    ok_weaker _ _ c.expire_in.result
+    (λ answer p. changes_set (LeadsSlot g.D.Disk.content g.D.Disk.image g.D.Disk.starved g.D.Disk.faults g.D.Disk.losses g.D.Disk.arms g.D.Disk.armed c.args.now (Expires answer))
+    c.args.shard c.args.parts.now.items c.in-Some.slot.now c.expire_in.new.slot lt is p)
+    c.expire_in.ensures.ok
+
+pub returns-clause-stopped : goal.returns-clause-stopped
+returns-clause-stopped g c =
+    let lt : c.args.shard < length c.args.parts.now.items = search rules in
+    let is : c.in-Some.slot.now ≡ get_or c.args.parts.now.items c.args.shard c.in-Some.slot.now = search rules in
+    on_err_weaker c.expire_in.result
+    (λ p. inr (changes_set (HaltsSlot g.D.Disk.content g.D.Disk.image g.D.Disk.starved g.D.Disk.faults c.args.now (λ did. (answer : ExpireAnswer) × (did ≡ Expires answer)) (λ begun. begun ≡ BeginsExpiry))
+    c.args.shard c.args.parts.now.items c.in-Some.slot.now c.expire_in.new.slot lt is p))
+    c.expire_in.ensures.stopped

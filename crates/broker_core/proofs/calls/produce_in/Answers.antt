@@ -1,0 +1,40 @@
+use Rattle.std.proofs.Common.{◌≡◌, refl}
+use Rattle.call_fold.specs.declared.part.Produced.{Produced}
+use Rattle.share_model.specs.declared.visit.ExpireAnswer.{ExpireAnswer}
+use Rattle.share_model.specs.declared.visit.VisitAnswer.{VisitAnswer}
+use Rattle.broker_model.specs.Shards.PartCall.{Produces}
+use Rattle.broker_core.specs.Carried.{HaltsPart, LeadsPart}
+use Rattle.broker_core.specs.Carried.Begun.{BeginsVisit, BeginsExpiry}
+use Rattle.broker_core.proofs.Parting.{of_conf}
+use Rattle.broker_core.proofs.Stepping.{ok_weaker, on_err_weaker}
+use Rattle.broker_core.proofs.calls.produce_in.Goals as goal
+
+pub returns-clause-ok : goal.returns-clause-ok
+returns-clause-ok g c = ok_weaker _ _ c.produce.result
+    (λ answer h. record {
+      was = c.in-Open.part;
+      is = c.produce.new.part;
+      old_is = c.in-Open.is;
+      new_is = refl;
+      topic = refl;
+      conf = refl;
+      goes = c.produce.ensures.disks;
+      leads = of_conf g.D.Disk.content g.D.Disk.image g.D.Disk.starved g.D.Disk.faults g.D.Disk.losses g.D.Disk.arms g.D.Disk.armed c.args.slot.now.conf c.in-Open.part
+          (λ conf s. LeadsPart g.D.Disk.content g.D.Disk.image g.D.Disk.starved g.D.Disk.faults g.D.Disk.losses g.D.Disk.arms g.D.Disk.armed conf c.args.now (Produces c.args.batch.now answer) c.in-Open.part s c.produce.new.part) h;
+    })
+    c.produce.ensures.ok
+
+pub returns-clause-stopped : goal.returns-clause-stopped
+returns-clause-stopped g c = on_err_weaker c.produce.result
+    (λ h. record {
+      was = c.in-Open.part;
+      is = c.produce.new.part;
+      old_is = c.in-Open.is;
+      new_is = refl;
+      topic = refl;
+      conf = refl;
+      goes = c.produce.ensures.disks;
+      halts = of_conf g.D.Disk.content g.D.Disk.image g.D.Disk.starved g.D.Disk.faults g.D.Disk.losses g.D.Disk.arms g.D.Disk.armed c.args.slot.now.conf c.in-Open.part
+          (λ conf s. HaltsPart g.D.Disk.content g.D.Disk.image g.D.Disk.faults conf c.args.now (λ did. (produced : Produced) × (did ≡ Produces c.args.batch.now produced)) (λ begun. ⊥) c.in-Open.part s c.produce.new.part) h;
+    })
+    c.produce.ensures.stopped

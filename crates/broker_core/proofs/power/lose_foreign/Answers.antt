@@ -1,0 +1,33 @@
+use Rattle.std.proofs.Common.{◌≡◌, refl, sym, ◌∙◌, rules}
+use Rattle.broker_core.specs.declared.slot.ForeignSlot.TheVariants.{Open}
+use Rattle.broker_core.specs.declared.fault.CoreOpen.TheVariants.{Device}
+use Rattle.broker_core.proofs.power.lose_foreign.Goals as goal
+
+pub returns-in-Ok-clause-ok : goal.returns-in-Ok-clause-ok
+returns-in-Ok-clause-ok g c =
+    let is : c.args.slot.now ≡ Open c.in-Open.shard = search rules in
+    record {
+      was = c.in-Open.shard;
+      is = c.in-Ok.shard;
+      old_is = is;
+      new_is = refl;
+      first = c.in-Ok.ensures.first;
+      second = c.in-Ok.ensures.second;
+      reopens = c.in-Ok.ensures.ok;
+    }
+
+pub returns-in-Err-clause-stopped : goal.returns-in-Err-clause-stopped
+returns-in-Err-clause-stopped g c =
+    let is : c.args.slot.now ≡ Open c.in-Open.shard = search rules in
+    record {
+      was = c.in-Open.shard;
+      first = c.in-Err.first;
+      second = c.in-Err.second;
+      old_is = is;
+      new_is = refl;
+      on_first = c.in-Err.ensures.first;
+      on_second = c.in-Err.ensures.second;
+      shuts = λ s k. (let v = c.in-Err.ensures.err s k in (v.0, c.told.ensures.memory v.1));
+      device = λ e. c.in-Err.ensures.device (sym (c.told.ensures.reopen Device e).0);
+      never = λ f e. (let r = c.told.ensures.reopen f e in (λ b. c.in-Err.ensures.no_bay (sym r.0 ∙ b), r.1));
+    }

@@ -1,0 +1,165 @@
+// Calls on the shard in one of the slots of hosted partitions, by its number.
+ghost use Rattle.std.specs.Prelude.{◌≡◌, ◌⊎◌, ◌≤◌, ◌^◌, ℕ, IfOk, OnErr};
+ghost use Rattle.call_fold.specs.Parts.{HasTellableBase, IsTellableLook, IsTellableVisit};
+ghost use Rattle.call_fold.specs.declared.part.Produced.{Produced};
+ghost use Rattle.share_model.specs.declared.visit.ExpireAnswer.{ExpireAnswer};
+ghost use Rattle.share_model.specs.declared.visit.VisitAnswer.{VisitAnswer};
+ghost use Rattle.broker_model.specs.Hosted.{ChangesAt, HoldsAt};
+ghost use Rattle.broker_model.specs.Shards.PartCall.{Visits, Produces, Looks, Expires};
+ghost use Rattle.broker_core.specs.Carried.Begun.{BeginsVisit, BeginsExpiry};
+ghost use Rattle.broker_core.specs.Hosts.{AreOpenParts, HaltsSlot, IsOpenState, LeadsSlot};
+
+use crate::part::{expire, look, produce, visit};
+use crate::slot::{PartSlot, PartState};
+use call_fold::{Looked, Produced};
+use edge_io::Disk;
+use share_model::{ExpireAnswer, Name, NoMemory, Visit, VisitAnswer};
+use std::alloc::Global;
+
+// ---- batches
+
+fn produce_in<D: Disk>(now: u64, batch: &[u8], slot: &mut PartSlot<D>) -> Result<Produced, NoMemory>
+    requires now { now ≤ 2 ^ 62 }
+    requires open { IsOpenState slot.old.state }
+    ensures ok { IfOk result (λ produced.
+        LeadsSlot D.content D.image D.starved D.faults D.losses D.arms D.armed now (Produces batch.now produced) slot.old slot.new) }
+    ensures stopped { OnErr result (HaltsSlot D.content D.image D.starved D.faults now (λ did. (produced : Produced) × (did ≡ Produces batch.now produced))
+        (λ begun. ⊥) slot.old slot.new) }
+    ensures fair { IfOk result HasTellableBase }
+{
+    match &mut slot.state {
+        PartState::Open(part) => produce(now, batch, part),
+        _ => unreachable!(),
+    }
+}
+
+/// A batch for the log of the shard with this number.
+pub fn produce_at<D: Disk>(
+    now: u64,
+    shard: u32,
+    batch: &[u8],
+    parts: &mut Vec<PartSlot<D>>,
+) -> Result<Produced, NoMemory>
+    requires now { now ≤ 2 ^ 62 }
+    requires open { AreOpenParts parts.old.items }
+    ensures ok { IfOk result (λ produced. ChangesAt shard
+        (LeadsSlot D.content D.image D.starved D.faults D.losses D.arms D.armed now (Produces batch.now produced)) parts.old.items parts.new.items) }
+    ensures stopped { OnErr result ((parts.new.items ≡ parts.old.items) ⊎ ChangesAt shard (HaltsSlot D.content D.image D.starved D.faults now
+        (λ did. (produced : Produced) × (did ≡ Produces batch.now produced)) (λ begun. ⊥)) parts.old.items parts.new.items) }
+    ensures fair { IfOk result HasTellableBase }
+{
+    // Each shard that is asked is there.
+    let Some(slot) = parts.get_mut(shard as usize) else {
+        return Err(NoMemory);
+    };
+    produce_in(now, batch, slot)
+}
+
+// ---- visits
+
+fn visit_in<D: Disk>(
+    now: u64,
+    asked: &Visit,
+    slot: &mut PartSlot<D>,
+) -> Result<VisitAnswer, NoMemory>
+    requires now { now ≤ 2 ^ 62 }
+    requires open { IsOpenState slot.old.state }
+    ensures ok { IfOk result (λ answer.
+        LeadsSlot D.content D.image D.starved D.faults D.losses D.arms D.armed now (Visits asked.now answer) slot.old slot.new) }
+    ensures stopped { OnErr result (HaltsSlot D.content D.image D.starved D.faults now (λ did. (answer : VisitAnswer) × (did ≡ Visits asked.now answer))
+        (λ begun. begun ≡ BeginsVisit asked.now) slot.old slot.new) }
+    ensures fair { IfOk result IsTellableVisit }
+{
+    match &mut slot.state {
+        PartState::Open(part) => visit(now, asked, part),
+        _ => unreachable!(),
+    }
+}
+
+/// A visit to the shard with this number.
+pub fn visit_at<D: Disk>(
+    now: u64,
+    shard: u32,
+    asked: &Visit,
+    parts: &mut Vec<PartSlot<D>>,
+) -> Result<VisitAnswer, NoMemory>
+    requires now { now ≤ 2 ^ 62 }
+    requires open { AreOpenParts parts.old.items }
+    ensures ok { IfOk result (λ answer. ChangesAt shard
+        (LeadsSlot D.content D.image D.starved D.faults D.losses D.arms D.armed now (Visits asked.now answer)) parts.old.items parts.new.items) }
+    ensures stopped { OnErr result ((parts.new.items ≡ parts.old.items) ⊎ ChangesAt shard (HaltsSlot D.content D.image D.starved D.faults now
+        (λ did. (answer : VisitAnswer) × (did ≡ Visits asked.now answer)) (λ begun. begun ≡ BeginsVisit asked.now)) parts.old.items parts.new.items) }
+    ensures fair { IfOk result IsTellableVisit }
+{
+    let Some(slot) = parts.get_mut(shard as usize) else {
+        return Err(NoMemory);
+    };
+    visit_in(now, asked, slot)
+}
+
+// ---- looks
+
+fn look_in<D: Disk>(alloc: Global, group: &Name, slot: &PartSlot<D>) -> Result<Looked, NoMemory>
+    requires open { IsOpenState slot.now.state }
+    ensures ok { IfOk result (λ looked. (now : ℕ) →
+        LeadsSlot D.content D.image D.starved D.faults D.losses D.arms D.armed now (Looks group.now looked) slot.now slot.now) }
+    ensures fair { IfOk result IsTellableLook }
+{
+    match &slot.state {
+        PartState::Open(part) => look(alloc, group, part),
+        _ => unreachable!(),
+    }
+}
+
+/// A look at what is stored of a group on the shard with this number.
+pub fn look_at<D: Disk>(
+    alloc: Global,
+    shard: u32,
+    group: &Name,
+    parts: &[PartSlot<D>],
+) -> Result<Looked, NoMemory>
+    requires open { AreOpenParts parts.now }
+    ensures ok { IfOk result (λ looked. (now : ℕ) → HoldsAt shard
+        (λ slot. LeadsSlot D.content D.image D.starved D.faults D.losses D.arms D.armed now (Looks group.now looked) slot slot) parts.now) }
+    ensures fair { IfOk result IsTellableLook }
+{
+    let Some(slot) = parts.get(shard as usize) else {
+        return Err(NoMemory);
+    };
+    look_in(alloc, group, slot)
+}
+
+// ---- expiries
+
+fn expire_in<D: Disk>(now: u64, slot: &mut PartSlot<D>) -> Result<ExpireAnswer, NoMemory>
+    requires now { now ≤ 2 ^ 62 }
+    requires open { IsOpenState slot.old.state }
+    ensures ok { IfOk result (λ answer.
+        LeadsSlot D.content D.image D.starved D.faults D.losses D.arms D.armed now (Expires answer) slot.old slot.new) }
+    ensures stopped { OnErr result (HaltsSlot D.content D.image D.starved D.faults now (λ did. (answer : ExpireAnswer) × (did ≡ Expires answer))
+        (λ begun. begun ≡ BeginsExpiry) slot.old slot.new) }
+{
+    match &mut slot.state {
+        PartState::Open(part) => expire(now, part),
+        _ => unreachable!(),
+    }
+}
+
+/// An expiry of the shard with this number.
+pub fn expire_at<D: Disk>(
+    now: u64,
+    shard: u32,
+    parts: &mut Vec<PartSlot<D>>,
+) -> Result<ExpireAnswer, NoMemory>
+    requires now { now ≤ 2 ^ 62 }
+    requires open { AreOpenParts parts.old.items }
+    ensures ok { IfOk result (λ answer. ChangesAt shard
+        (LeadsSlot D.content D.image D.starved D.faults D.losses D.arms D.armed now (Expires answer)) parts.old.items parts.new.items) }
+    ensures stopped { OnErr result ((parts.new.items ≡ parts.old.items) ⊎ ChangesAt shard (HaltsSlot D.content D.image D.starved D.faults now
+        (λ did. (answer : ExpireAnswer) × (did ≡ Expires answer)) (λ begun. begun ≡ BeginsExpiry)) parts.old.items parts.new.items) }
+{
+    let Some(slot) = parts.get_mut(shard as usize) else {
+        return Err(NoMemory);
+    };
+    expire_in(now, slot)
+}

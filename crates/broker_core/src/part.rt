@@ -1,0 +1,255 @@
+// Calls, openings and restarts of the shard of a hosted partition on its three disks.
+ghost use Rattle.std.specs.Prelude.{◌≡◌, ◌≢◌, ◌⊎◌, ◌≤◌, ◌<◌, ◌+◌, ◌^◌, List, ℕ, true, false, Some, None, Err, IfOk, IfErr, OnOk, OnErr, MatchResult, length};
+ghost use Rattle.edge_io.specs.declared.fault.Armed.TheVariants.{Nothing};
+ghost use Rattle.edge_io.specs.declared.name.DiskPlace.{DiskPlace};
+ghost use Rattle.edge_io.specs.Causes.{Rose};
+ghost use Rattle.edge_io.specs.Disk.{IsTold};
+ghost use Rattle.edge_io.specs.Names.{IsTopicName, hosted_name};
+ghost use Rattle.share_model.specs.ForeignRules.{ShareStates, share_state_at};
+ghost use Rattle.share_model.specs.Logs.{Batch};
+ghost use Rattle.share_model.specs.declared.visit.ExpireAnswer.{ExpireAnswer};
+ghost use Rattle.share_model.specs.declared.visit.VisitAnswer.{VisitAnswer};
+ghost use Rattle.call_fold.specs.Parts.{HasTellableBase, IsTellableLook, IsTellableVisit};
+ghost use Rattle.call_fold.specs.declared.part.Produced.{Produced};
+ghost use Rattle.share_part.specs.Hosting.{ArePartText, key_of, states_of};
+ghost use Rattle.share_part.specs.Shards.{PartShardState};
+ghost use Rattle.broker_model.specs.Shards.{PartCall, look_at, result_of};
+ghost use Rattle.broker_model.specs.Shards.PartCall.{Visits, Produces, Expires};
+ghost use Rattle.broker_core.specs.Carried.{Begun, GoesOn, HaltsPart, IsPartCarried, LeadsPart, PartGoesOn};
+ghost use Rattle.broker_core.specs.Carried.Begun.{BeginsVisit, BeginsExpiry};
+ghost use Rattle.broker_core.specs.Hosts.{PartStandsAlone};
+ghost use Rattle.broker_core.specs.Restarts.{IsOpenedPart, IsDamagedPart, IsRestartedPart, PartImagesStandAs};
+
+use crate::fault::{CoreOpen, lose};
+use crate::names::disk_name;
+use call_fold::{Looked, Produced};
+use edge_io::Disk;
+use flex_fields::Items;
+use share_model::{ExpireAnswer, LogFault, Name, NoMemory, Visit, VisitAnswer};
+use share_part::{PartConf, PartFault, PartShard};
+use std::alloc::Global;
+use window_rows::WindowRows;
+
+// ---- calls
+
+// What is told of a batch that was added or refused.
+fn told(added: Result<u64, LogFault>) -> Result<Produced, NoMemory>
+    requires not_behind { (end : ℕ) → added ≢ Err (LogFault.Behind end) }
+    requires below { IfOk added (λ base. base ≤ 2 ^ 62) }
+    ensures ok { IfOk result (λ produced. result_of produced ≡ added) }
+    ensures fair { IfOk result HasTellableBase }
+    ensures memory { OnErr result (added ≡ Err LogFault.NoMemory) }
+{
+    match added {
+        Ok(base) => Ok(Produced::Base(base)),
+        Err(LogFault::Batch(fault)) => Ok(Produced::Batch(fault)),
+        Err(LogFault::Store(fault)) => Ok(Produced::Store(fault)),
+        Err(LogFault::NoMemory) => Err(NoMemory),
+        Err(LogFault::Behind { .. }) => unreachable!(),
+    }
+}
+
+/// Adds a produced batch to the log of a partition. Where a disk has found no memory, it answers want of memory.
+pub fn produce<D: Disk>(
+    now: u64,
+    batch: &[u8],
+    part: &mut PartShard<D, WindowRows>,
+) -> Result<Produced, NoMemory>
+    requires { now ≤ 2 ^ 62 }
+    ensures ok { IfOk result (λ produced. (s : PartShardState) → IsPartCarried D.content D.image D.starved part.old.conf part.old s →
+        LeadsPart D.content D.image D.starved D.faults D.losses D.arms D.armed part.old.conf now (Produces batch.now produced) part.old s part.new) }
+    ensures stopped { OnErr result ((s : PartShardState) → IsPartCarried D.content D.image D.starved part.old.conf part.old s →
+        HaltsPart D.content D.image D.faults part.old.conf now (λ did. (produced : Produced) × (did ≡ Produces batch.now produced)) (λ begun. ⊥)
+        part.old s part.new) }
+    ensures fair { IfOk result HasTellableBase }
+    ensures disks { PartGoesOn D.content D.faults part.old part.new }
+    ensures conf { part.new.conf ≡ part.old.conf }
+{
+    let added = part.produce(now, batch);
+    if part.starved() {
+        return Err(NoMemory);
+    }
+    told(added)
+}
+
+// Whether batches are so few that a reply can have them. It has, as no request asks for more bytes than an i32 tells.
+fn is_tellable(answer: &VisitAnswer) -> bool
+    ensures { result ≡ true → length answer.now.batches + 1 < 2 ^ 32 }
+{
+    answer.batches.as_slice().len() < u32::MAX as usize
+}
+
+/// Does a visit to a partition. Where a disk has found no memory, it answers want of memory.
+pub fn visit<D: Disk>(
+    now: u64,
+    visit: &Visit,
+    part: &mut PartShard<D, WindowRows>,
+) -> Result<VisitAnswer, NoMemory>
+    requires { now ≤ 2 ^ 62 }
+    ensures ok { IfOk result (λ answer. (s : PartShardState) → IsPartCarried D.content D.image D.starved part.old.conf part.old s →
+        LeadsPart D.content D.image D.starved D.faults D.losses D.arms D.armed part.old.conf now (Visits visit.now answer) part.old s part.new) }
+    ensures stopped { OnErr result ((s : PartShardState) → IsPartCarried D.content D.image D.starved part.old.conf part.old s →
+        HaltsPart D.content D.image D.faults part.old.conf now (λ did. (answer : VisitAnswer) × (did ≡ Visits visit.now answer))
+        (λ begun. begun ≡ BeginsVisit visit.now) part.old s part.new) }
+    ensures fair { IfOk result IsTellableVisit }
+    ensures disks { PartGoesOn D.content D.faults part.old part.new }
+    ensures conf { part.new.conf ≡ part.old.conf }
+{
+    let answer = part.visit(now, visit)?;
+    if part.starved() || !is_tellable(&answer) {
+        return Err(NoMemory);
+    }
+    Ok(answer)
+}
+
+/// Releases what is locked no longer on a partition. Where a disk has found no memory, it answers want of memory.
+pub fn expire<D: Disk>(
+    now: u64,
+    part: &mut PartShard<D, WindowRows>,
+) -> Result<ExpireAnswer, NoMemory>
+    requires { now ≤ 2 ^ 62 }
+    ensures ok { IfOk result (λ answer. (s : PartShardState) → IsPartCarried D.content D.image D.starved part.old.conf part.old s →
+        LeadsPart D.content D.image D.starved D.faults D.losses D.arms D.armed part.old.conf now (Expires answer) part.old s part.new) }
+    ensures stopped { OnErr result ((s : PartShardState) → IsPartCarried D.content D.image D.starved part.old.conf part.old s →
+        HaltsPart D.content D.image D.faults part.old.conf now (λ did. (answer : ExpireAnswer) × (did ≡ Expires answer))
+        (λ begun. begun ≡ BeginsExpiry) part.old s part.new) }
+    ensures disks { PartGoesOn D.content D.faults part.old part.new }
+    ensures conf { part.new.conf ≡ part.old.conf }
+{
+    let answer = part.expire(now)?;
+    if part.starved() {
+        return Err(NoMemory);
+    }
+    Ok(answer)
+}
+
+/// Looks at what is stored of a group on a partition.
+pub fn look<D: Disk>(
+    alloc: Global,
+    group: &Name,
+    part: &PartShard<D, WindowRows>,
+) -> Result<Looked, NoMemory>
+    ensures ok { IfOk result (λ looked. looked ≡ look_at (share_state_at (states_of part.now.states.entries) (key_of part.now.conf group.now))) }
+    ensures fair { IfOk result IsTellableLook }
+{
+    let Some(view) = part.look_state(group) else {
+        return Ok(Looked::Absent);
+    };
+    view.known();
+    let runs = view.runs.list().to_vec(alloc)?;
+    Ok(Looked::There {
+        state_epoch: view.state_epoch,
+        leader_epoch: view.leader_epoch,
+        start: view.start,
+        runs: Items::new(runs),
+    })
+}
+
+// ---- openings
+
+// Why a partition was not opened, where none of its disks has found no memory.
+fn fault_of_open(topic: &Name, conf: &PartConf, fault: PartFault) -> CoreOpen
+    requires { IsTopicName topic.now }
+    ensures no_bay { result ≢ CoreOpen.Bay }
+    ensures device { result ≡ CoreOpen.Device → (disk : DiskPlace) × (fault ≡ PartFault.Device disk) }
+    ensures damaged { (name : List ℕ) (place : ℕ) → result ≡ CoreOpen.Damaged name place →
+        (disk : DiskPlace) × (fault ≡ PartFault.Damaged disk place) × (name ≡ hosted_name topic.now conf.now.part disk) }
+{
+    match fault {
+        PartFault::Damaged { disk, place } => CoreOpen::Damaged {
+            disk: disk_name(topic, conf, disk),
+            place,
+        },
+        PartFault::Device { .. } => CoreOpen::Device,
+        PartFault::NoMemory => CoreOpen::NoMemory,
+    }
+}
+
+// Whether one of three disks has found no memory.
+fn one_starved<D: Disk>(disks: &(D, D, D)) -> bool
+    ensures { result ≡ false → (D.starved disks.now.0 ≡ false) × (D.starved disks.now.1 ≡ false) × (D.starved disks.now.2 ≡ false) }
+{
+    disks.0.starved() || disks.1.starved() || disks.2.starved()
+}
+
+/// Opens the partition of a topic on its disks, which come back at an `Err`: that of its log, and the two of its states.
+pub fn open_part<D: Disk>(
+    alloc: Global,
+    topic: &Name,
+    conf: PartConf,
+    disks: (D, D, D),
+) -> Result<PartShard<D, WindowRows>, ((D, D, D), CoreOpen)>
+    requires { IsTopicName topic.now }
+    ensures opens { IfOk result (λ part. (l a b : List ℕ) → D.content disks.0 ≡ Some l → D.content disks.1 ≡ Some a → D.content disks.2 ≡ Some b →
+        IsOpenedPart D.content D.image D.starved D.faults D.losses D.arms D.armed conf disks.0 disks.1 disks.2 l a b part) }
+    // Contents that stand for a log and tables are opened, where memory is found and nothing is armed; and these come.
+    ensures recovers { (l a b : List ℕ) (batches : List Batch) (states : ShareStates) → D.content disks.0 ≡ Some l → D.content disks.1 ≡ Some a →
+        D.content disks.2 ≡ Some b → ArePartText conf l a b batches states →
+        IfErr result (λ e. (name : List ℕ) (place : ℕ) → e.1 ≢ CoreOpen.Damaged name place) }
+    ensures sound { IsTold (D.content disks.0) → IsTold (D.content disks.1) → IsTold (D.content disks.2) →
+        D.armed disks.0 ≡ Nothing → D.armed disks.1 ≡ Nothing → D.armed disks.2 ≡ Nothing → IfErr result (λ e. e.1 ≢ CoreOpen.Device) }
+    ensures damaged { IfErr result (λ e. (name : List ℕ) (place : ℕ) → e.1 ≡ CoreOpen.Damaged name place →
+        (l a b : List ℕ) → D.content disks.0 ≡ Some l → D.content disks.1 ≡ Some a → D.content disks.2 ≡ Some b →
+        IsDamagedPart (record { topic = topic.now; conf = conf }) l a b name place) }
+    ensures device { IfErr result (λ e. e.1 ≡ CoreOpen.Device →
+        Rose (D.faults disks.0) (D.faults e.0.0) ⊎ (Rose (D.faults disks.1) (D.faults e.0.1) ⊎ Rose (D.faults disks.2) (D.faults e.0.2))) }
+    ensures no_bay { IfErr result (λ e. e.1 ≢ CoreOpen.Bay) }
+    ensures images { IfErr result (λ e. PartImagesStandAs D.image disks.0 disks.1 disks.2 e.0.0 e.0.1 e.0.2) }
+    ensures log { MatchResult result (λ part. GoesOn D.content D.faults disks.0 part.log.journal.disk) (λ e. GoesOn D.content D.faults disks.0 e.0.0) }
+    ensures first { MatchResult result (λ part. GoesOn D.content D.faults disks.1 part.states.journal.live.disk)
+        (λ e. GoesOn D.content D.faults disks.1 e.0.1) }
+    ensures second { MatchResult result (λ part. GoesOn D.content D.faults disks.2 part.states.journal.idle)
+        (λ e. GoesOn D.content D.faults disks.2 e.0.2) }
+{
+    match PartShard::open(alloc, disks, conf) {
+        Ok(part) => {
+            if part.starved() {
+                return Err((part.into_disks(), CoreOpen::NoMemory));
+            }
+            Ok(part)
+        }
+        Err(refused) => {
+            if one_starved(&refused.disks) {
+                return Err((refused.disks, CoreOpen::NoMemory));
+            }
+            let fault = fault_of_open(topic, &conf, refused.fault);
+            Err((refused.disks, fault))
+        }
+    }
+}
+
+/// Loses the power of a partition's three disks, and opens it again. They come back at an `Err`.
+pub fn restart_part<D: Disk>(
+    alloc: Global,
+    topic: &Name,
+    conf: PartConf,
+    part: PartShard<D, WindowRows>,
+    choice: u64,
+) -> Result<PartShard<D, WindowRows>, ((D, D, D), CoreOpen)>
+    requires { IsTopicName topic.now }
+    ensures ok { IfOk result (λ new. (s : PartShardState) → IsPartCarried D.content D.image D.starved conf part s →
+        IsRestartedPart D.content D.image D.starved D.faults D.losses D.arms D.armed choice conf part s new) }
+    ensures err { IfErr result (λ e. (s : PartShardState) → IsPartCarried D.content D.image D.starved conf part s →
+        PartStandsAlone D.content D.image conf s e.0.0 e.0.1 e.0.2 × (e.1 ≡ CoreOpen.NoMemory)) }
+    ensures device { IfErr result (λ e. e.1 ≡ CoreOpen.Device → Rose (D.faults part.log.journal.disk) (D.faults e.0.0)
+        ⊎ (Rose (D.faults part.states.journal.live.disk) (D.faults e.0.1) ⊎ Rose (D.faults part.states.journal.idle) (D.faults e.0.2))) }
+    ensures no_bay { IfErr result (λ e. e.1 ≢ CoreOpen.Bay) }
+    ensures log { MatchResult result (λ new. GoesOn D.content D.faults part.log.journal.disk new.log.journal.disk)
+        (λ e. GoesOn D.content D.faults part.log.journal.disk e.0.0) }
+    ensures first { MatchResult result (λ new. GoesOn D.content D.faults part.states.journal.live.disk new.states.journal.live.disk)
+        (λ e. GoesOn D.content D.faults part.states.journal.live.disk e.0.1) }
+    ensures second { MatchResult result (λ new. GoesOn D.content D.faults part.states.journal.idle new.states.journal.idle)
+        (λ e. GoesOn D.content D.faults part.states.journal.idle e.0.2) }
+{
+    let (mut log, mut first, mut second) = part.into_disks();
+    if let Err(fault) = lose(choice, &mut log) {
+        return Err(((log, first, second), fault));
+    }
+    if let Err(fault) = lose(choice, &mut first) {
+        return Err(((log, first, second), fault));
+    }
+    if let Err(fault) = lose(choice, &mut second) {
+        return Err(((log, first, second), fault));
+    }
+    open_part(alloc, topic, conf, (log, first, second))
+}

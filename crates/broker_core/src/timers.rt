@@ -1,0 +1,98 @@
+// Locks and memberships that end by the clock.
+ghost use Rattle.std.specs.Prelude.{◌≡◌, ◌≤◌, ◌<◌, ◌^◌, ℕ, List, Some, IfOk, OnErr, All, length};
+ghost use Rattle.session_script.specs.declared.event.Outcome.{Outcome};
+ghost use Rattle.session_script.specs.Output.{IsTold};
+ghost use Rattle.topic_conf.specs.declared.topic.Topic.{Topic};
+ghost use Rattle.topic_conf.specs.Topics.{partitions, shard_named};
+ghost use Rattle.conn_core.specs.Conns.{ConnParts};
+ghost use Rattle.broker_model.specs.Shards.{Shards, StepsShards};
+ghost use Rattle.broker_model.specs.Shards.ShardCall.{CallMembers};
+ghost use Rattle.broker_model.specs.Shards.MembersCall.{Ticks};
+ghost use Rattle.broker_model.specs.Steps.{ExpiresAt};
+ghost use Rattle.broker_core.specs.Hosts.{AreApart, AreCarried, AreOpen, ExpiresShard, GoOn, Halts, HalvesExpiry, Leads, StaysHosted, counts_in, disks_in, ends_in, parts_of};
+
+use crate::calls::expire_at;
+use crate::hosts::Hosts;
+use crate::told::{fault_of_expiry, told};
+use edge_io::Disk;
+use session_script::Outcome;
+use share_model::{Name, NoMemory};
+use std::alloc::Global;
+use topic_conf::Config;
+
+// The locks of the partition with this shard that have ended are released.
+fn expire_shard<D: Disk>(
+    alloc: Global,
+    shard: u32,
+    now: u64,
+    hosts: &mut Hosts<D>,
+) -> Result<Vec<Outcome>, NoMemory>
+    requires now { now ≤ 2 ^ 62 }
+    requires open { AreOpen (parts_of hosts.old) }
+    requires apart { AreApart (parts_of hosts.old) }
+    ensures ok { IfOk result (λ outcomes. (s : Shards) → AreCarried D.content D.image D.starved (parts_of hosts.old) s →
+        Leads D.content D.image D.starved D.faults D.losses D.arms D.armed (parts_of hosts.old) s (parts_of hosts.new)
+        (ExpiresShard (counts_in D.faults D.losses D.arms D.armed (disks_in (parts_of hosts.old)) (disks_in (parts_of hosts.new))) (ends_in (parts_of hosts.old)) now shard outcomes.items)) }
+    ensures stopped { OnErr result ((s : Shards) → AreCarried D.content D.image D.starved (parts_of hosts.old) s →
+        Halts D.content D.image s (parts_of hosts.new) (λ a call b. (outcomes : List Outcome)
+        × ExpiresShard (counts_in D.faults D.losses D.arms D.armed (disks_in (parts_of hosts.old)) (disks_in (parts_of hosts.new))) (ends_in (parts_of hosts.old)) now shard outcomes a call b)
+        (HalvesExpiry (counts_in D.faults D.losses D.arms D.armed (disks_in (parts_of hosts.old)) (disks_in (parts_of hosts.new))) (ends_in (parts_of hosts.old)) now shard)) }
+    ensures told { IfOk result (λ outcomes. (topics : List Topic) → length hosts.old.parts.items ≡ partitions topics → All (IsTold topics) outcomes.items) }
+    ensures disks { GoOn D.content D.faults (disks_in (parts_of hosts.old)) (disks_in (parts_of hosts.new)) }
+    ensures open { AreOpen (parts_of hosts.new) }
+    ensures stays { StaysHosted (parts_of hosts.old) (parts_of hosts.new) }
+{
+    let answer = expire_at(now, shard, &mut hosts.parts)?;
+    told(alloc, fault_of_expiry(shard, &answer))
+}
+
+/// The locks of a partition that have ended are released. Where it isn't hosted nothing happens.
+pub fn expire<D: Disk>(
+    alloc: Global,
+    conf: &Config,
+    topic: &Name,
+    part: u32,
+    now: u64,
+    hosts: &mut Hosts<D>,
+) -> Result<Vec<Outcome>, NoMemory>
+    requires now { now ≤ 2 ^ 62 }
+    requires open { AreOpen (parts_of hosts.old) }
+    requires apart { AreApart (parts_of hosts.old) }
+    requires hosted { length hosts.old.parts.items ≡ partitions conf.now.topics }
+    ensures ok { IfOk result (λ outcomes. (s : Shards) → AreCarried D.content D.image D.starved (parts_of hosts.old) s →
+        Leads D.content D.image D.starved D.faults D.losses D.arms D.armed (parts_of hosts.old) s (parts_of hosts.new)
+        (λ a call b. (connections : List (ℕ × ConnParts))
+        → ExpiresAt (counts_in D.faults D.losses D.arms D.armed (disks_in (parts_of hosts.old)) (disks_in (parts_of hosts.new))) (ends_in (parts_of hosts.old)) now
+        (record { connections = connections; shards = a }) (shard_named topic.now part conf.now.topics) call outcomes.items
+        (record { connections = connections; shards = b }))) }
+    ensures stopped { OnErr result ((s : Shards) → AreCarried D.content D.image D.starved (parts_of hosts.old) s →
+        Halts D.content D.image s (parts_of hosts.new) (λ a call b. (outcomes : List Outcome) × ((connections : List (ℕ × ConnParts))
+        → ExpiresAt (counts_in D.faults D.losses D.arms D.armed (disks_in (parts_of hosts.old)) (disks_in (parts_of hosts.new))) (ends_in (parts_of hosts.old)) now
+        (record { connections = connections; shards = a }) (shard_named topic.now part conf.now.topics) call outcomes
+        (record { connections = connections; shards = b })))
+        (λ a b. (shard : ℕ) × (shard_named topic.now part conf.now.topics ≡ Some shard)
+        × HalvesExpiry (counts_in D.faults D.losses D.arms D.armed (disks_in (parts_of hosts.old)) (disks_in (parts_of hosts.new))) (ends_in (parts_of hosts.old)) now shard a b)) }
+    ensures told { IfOk result (λ outcomes. All (IsTold conf.now.topics) outcomes.items) }
+    ensures disks { GoOn D.content D.faults (disks_in (parts_of hosts.old)) (disks_in (parts_of hosts.new)) }
+    ensures open { AreOpen (parts_of hosts.new) }
+    ensures stays { StaysHosted (parts_of hosts.old) (parts_of hosts.new) }
+{
+    match conf.shard_of(topic.as_str(), part) {
+        Some(shard) => expire_shard(alloc, shard, now, hosts),
+        None => Ok(Vec::new(alloc)),
+    }
+}
+
+/// Members that are heard of no longer are removed. It takes no memory.
+pub fn tick<D: Disk>(now: u64, hosts: &mut Hosts<D>)
+    requires open { AreOpen (parts_of hosts.old) }
+    ensures ok { (s : Shards) → AreCarried D.content D.image D.starved (parts_of hosts.old) s →
+        Leads D.content D.image D.starved D.faults D.losses D.arms D.armed (parts_of hosts.old) s (parts_of hosts.new)
+        (λ a call b. (call ≡ Some (CallMembers Ticks)) × StepsShards
+        (counts_in D.faults D.losses D.arms D.armed (disks_in (parts_of hosts.old)) (disks_in (parts_of hosts.new))) (ends_in (parts_of hosts.old)) now a (CallMembers Ticks) b) }
+    ensures disks { GoOn D.content D.faults (disks_in (parts_of hosts.old)) (disks_in (parts_of hosts.new)) }
+    ensures open { AreOpen (parts_of hosts.new) }
+    ensures stays { StaysHosted (parts_of hosts.old) (parts_of hosts.new) }
+{
+    hosts.members.expire(now);
+}
