@@ -4,16 +4,18 @@ use Rattle.std.proofs.lemmas.Bool.{cases_Bool}
 use Rattle.std.specs.List.{AllByRecursion, AllZip}
 use Rattle.std.specs.declared.option.Option.{Option}
 use Rattle.edge_io.specs.Causes.{Rose}
+use Rattle.edge_io.specs.declared.name.DiskPlace.{DiskPlace}
+use Rattle.edge_io.specs.declared.name.DiskPlace.TheVariants.{Log, StateA, StateB}
 use Rattle.topic_conf.specs.Configs.{ConfigParts}
 use Rattle.broker_model.specs.Hosted.{IsTaken, state_a, state_b}
 use Rattle.broker_core.specs.declared.slot.ForeignSlot.{ForeignSlot}
 use Rattle.broker_core.specs.declared.slot.ForeignSlot.TheVariants as foreign
-use Rattle.broker_core.specs.declared.slot.LogState.{LogState}
-use Rattle.broker_core.specs.declared.slot.LogState.TheVariants as log
-use Rattle.broker_core.specs.declared.slot.LogSlot.{LogSlot}
-use Rattle.broker_core.specs.Bays.{AreTakenFrom, TakenIf, BothTaken, IsTakenFrom, HasName, HasRisen, RisenIf, LogRisen, BothRisen}
+use Rattle.broker_core.specs.declared.slot.PartState.{PartState}
+use Rattle.broker_core.specs.declared.slot.PartState.TheVariants as part
+use Rattle.broker_core.specs.declared.slot.PartSlot.{PartSlot}
+use Rattle.broker_core.specs.Bays.{AreTakenFrom, TakenIf, BothTaken, IsTakenFrom, HasName, HasRisen, RisenIf, OneRisen, BothRisen}
 use Rattle.broker_core.specs.Carried.{GoesOn}
-use Rattle.broker_core.specs.Hosts.{HostsParts, LeftDisks, AreOpen, AreOpenLogs, IsOpen, IsOpenState, GoOn, GoesOnIf, LogGoesOn, BothGoOn, OneRose, RoseIf, LogRose, BothRose, disks_in, foreign_disks, log_disk, log_disks}
+use Rattle.broker_core.specs.Hosts.{HostsParts, LeftDisks, AreOpen, AreOpenParts, IsOpen, IsOpenState, GoOn, GoesOnIf, DiskGoesOn, BothGoOn, OneRose, RoseIf, PartRose, BothRose, disks_in, foreign_disks, open_disk, part_disk, slots_disks}
 use Rattle.share_top.specs.Sessions.{CountRose}
 
 module _ {D : Type 0} (content : D → Option (List ℕ)) (faults : D → ℕ) where
@@ -31,16 +33,16 @@ module _ {D : Type 0} (content : D → Option (List ℕ)) (faults : D → ℕ) w
   if_then (Some a) (Some b) None p q = absurd q
   if_then (Some a) (Some b) (Some c) p q = disk_then a b c p q
 
-  log_then : (a b c : Named) → LogGoesOn content faults a b → LogGoesOn content faults b c → LogGoesOn content faults a c
-  log_then a b c p q = record { name = q.name ∙ p.name; goes = if_then a.1 b.1 c.1 p.goes q.goes }
+  named_then : (a b c : Named) → DiskGoesOn content faults a b → DiskGoesOn content faults b c → DiskGoesOn content faults a c
+  named_then a b c p q = record { name = q.name ∙ p.name; goes = if_then a.1 b.1 c.1 p.goes q.goes }
 
-  logs_then : (xs ys zs : List Named) → AllZip (LogGoesOn content faults) xs ys → AllZip (LogGoesOn content faults) ys zs → AllZip (LogGoesOn content faults) xs zs
-  logs_then [] [] [] p q = tt
-  logs_then [] [] (c ∷ zs) p q = absurd q
-  logs_then [] (b ∷ ys) zs p q = absurd p
-  logs_then (a ∷ xs) [] zs p q = absurd p
-  logs_then (a ∷ xs) (b ∷ ys) [] p q = absurd q
-  logs_then (a ∷ xs) (b ∷ ys) (c ∷ zs) p q = (log_then a b c p.0 q.0, logs_then xs ys zs p.1 q.1)
+  parts_then : (xs ys zs : List Named) → AllZip (DiskGoesOn content faults) xs ys → AllZip (DiskGoesOn content faults) ys zs → AllZip (DiskGoesOn content faults) xs zs
+  parts_then [] [] [] p q = tt
+  parts_then [] [] (c ∷ zs) p q = absurd q
+  parts_then [] (b ∷ ys) zs p q = absurd p
+  parts_then (a ∷ xs) [] zs p q = absurd p
+  parts_then (a ∷ xs) (b ∷ ys) [] p q = absurd q
+  parts_then (a ∷ xs) (b ∷ ys) (c ∷ zs) p q = (named_then a b c p.0 q.0, parts_then xs ys zs p.1 q.1)
 
   both_then : (a b c : Option (D × D)) → BothGoOn content faults a b → BothGoOn content faults b c → BothGoOn content faults a c
   both_then None b c p q = tt
@@ -50,7 +52,7 @@ module _ {D : Type 0} (content : D → Option (List ℕ)) (faults : D → ℕ) w
 
   pub go_on_then : (a b c : LeftDisks D) → GoOn content faults a b → GoOn content faults b c → GoOn content faults a c
   go_on_then a b c p q = record {
-    logs = logs_then a.logs b.logs c.logs p.logs q.logs;
+    parts = parts_then a.parts b.parts c.parts p.parts q.parts;
     foreign = both_then a.foreign b.foreign c.foreign p.foreign q.foreign;
   }
 
@@ -59,22 +61,33 @@ module _ {D : Type 0} (content : D → Option (List ℕ)) (faults : D → ℕ) w
   rose_then : (a b c : D) → GoesOn content faults a b → Rose (faults b) (faults c) → Rose (faults a) (faults c)
   rose_then a b c p rose = omega (arith, p.later, rose)
 
-  state_rises : (state : LogState D) (b c : Option D) → IsOpenState state → GoesOnIf content faults (log_disk state) b → RoseIf faults b c
-      → RoseIf faults (log_disk state) c
-  state_rises (log.Open parts) None c opened p rose = absurd p
-  state_rises (log.Open parts) (Some b) None opened p rose = absurd rose
-  state_rises (log.Open parts) (Some b) (Some c) opened p rose = rose_then parts.journal.disk b c p rose
-  state_rises (log.Shut disk) b c opened p rose = absurd opened
-  state_rises log.Gone b c opened p rose = absurd opened
+  abbrev IsThere : Named → Type 0
+  IsThere e = (d : D) × (e.1 ≡ Some d)
 
-  log_rises : (slots : List (LogSlot D)) (bs cs : List Named) → AreOpenLogs slots → AllZip (LogGoesOn content faults) (log_disks slots) bs
-      → LogRose faults bs cs → LogRose faults (log_disks slots) cs
-  log_rises [] [] cs opened p rose = absurd rose
-  log_rises [] (b ∷ bs) cs opened p rose = absurd p
-  log_rises (s ∷ slots) [] cs opened p rose = absurd rose
-  log_rises (s ∷ slots) (b ∷ bs) [] opened p rose = absurd rose
-  log_rises (s ∷ slots) (b ∷ bs) (c ∷ cs) opened p (inl rose) = inl (state_rises s.state b.1 c.1 opened.0 p.0.goes rose)
-  log_rises (s ∷ slots) (b ∷ bs) (c ∷ cs) opened p (inr rose) = inr (log_rises slots bs cs opened.1 p.1 rose)
+  there_rises : (a b c : Option D) → (d : D) × (a ≡ Some d) → GoesOnIf content faults a b → RoseIf faults b c → RoseIf faults a c
+  there_rises None b c there p rose = absurd (let bad : None ≡ Some there.0 = there.1 in cc)
+  there_rises (Some a) None c there p rose = absurd p
+  there_rises (Some a) (Some b) None there p rose = absurd rose
+  there_rises (Some a) (Some b) (Some c) there p rose = rose_then a b c p rose
+
+  parts_rise : (xs ys zs : List Named) → AllByRecursion IsThere xs → AllZip (DiskGoesOn content faults) xs ys → PartRose faults ys zs → PartRose faults xs zs
+  parts_rise [] [] zs there p rose = absurd rose
+  parts_rise [] (b ∷ ys) zs there p rose = absurd p
+  parts_rise (a ∷ xs) [] zs there p rose = absurd rose
+  parts_rise (a ∷ xs) (b ∷ ys) [] there p rose = absurd rose
+  parts_rise (a ∷ xs) (b ∷ ys) (c ∷ zs) there p (inl rose) = inl (there_rises a.1 b.1 c.1 there.0 p.0.goes rose)
+  parts_rise (a ∷ xs) (b ∷ ys) (c ∷ zs) there p (inr rose) = inr (parts_rise xs ys zs there.1 p.1 rose)
+
+  -- an open partition has its three disks
+  open_has : (state : PartState D) (place : DiskPlace) → IsOpenState state → (d : D) × (part_disk state place ≡ Some d)
+  open_has (part.Open shard) place opened = (open_disk shard place, refl)
+  open_has (part.Shut log first second) place opened = absurd opened
+  open_has part.Gone place opened = absurd opened
+
+  all_there : (slots : List (PartSlot D)) → AreOpenParts slots → AllByRecursion IsThere (slots_disks slots)
+  all_there [] opened = tt
+  all_there (s ∷ slots) opened =
+      (open_has s.state Log opened.0, (open_has s.state StateA opened.0, (open_has s.state StateB opened.0, all_there slots opened.1)))
 
   both_rise : (slot : ForeignSlot D) (b c : Option (D × D)) → IsOpen slot → BothGoOn content faults (foreign_disks slot) b → BothRose faults b c
       → BothRose faults (foreign_disks slot) c
@@ -87,7 +100,7 @@ module _ {D : Type 0} (content : D → Option (List ℕ)) (faults : D → ℕ) w
 
   pub rises : (hosts : HostsParts D) (b c : LeftDisks D) → AreOpen hosts → GoOn content faults (disks_in hosts) b → OneRose faults b c
       → OneRose faults (disks_in hosts) c
-  rises hosts b c opened p (inl rose) = inl (log_rises hosts.logs b.logs c.logs opened.logs p.logs rose)
+  rises hosts b c opened p (inl rose) = inl (parts_rise (slots_disks hosts.parts) b.parts c.parts (all_there hosts.parts opened.parts) p.parts rose)
   rises hosts b c opened p (inr rose) = inr (both_rise hosts.foreign b.foreign c.foreign opened.foreign p.foreign rose)
 
 -- ---- over a session
@@ -110,21 +123,21 @@ module _ {B D : Type 0} (disk : B → List ℕ → Option D) (content : D → Op
         let last : 2 ^ 64 - 1 ≤ faults t.given = let l : faults y ≤ taken mid name = search rules in let n = t.noted in let k = t.later in omega (arith, l, n, k, rose) in
         inr (name, t.given, is, t.as_told, last)
 
-  of_log : (e f : List ℕ × Option D) → TakenIf disk taken faults old mid e → f.0 ≡ e.0 → RoseIf faults e.1 f.1
+  of_entry : (e f : List ℕ × Option D) → TakenIf disk taken faults old mid e → f.0 ≡ e.0 → RoseIf faults e.1 f.1
       → (RisenIf taken faults mid f → Back) → bay_faults old ≤ bay_faults mid → IsTaken conf e.0 → Result
-  of_log (n, None) (m, o) t same rose back later is = absurd t
-  of_log (n, Some x) (m, None) t same rose back later is = absurd rose
-  of_log (n, Some x) (m, Some y) t same rose back later is =
+  of_entry (n, None) (m, o) t same rose back later is = absurd t
+  of_entry (n, Some x) (m, None) t same rose back later is = absurd rose
+  of_entry (n, Some x) (m, Some y) t same rose back later is =
       of_one n x y t rose (λ less. back (subst (λ (k : List ℕ). taken mid k < faults y) (sym same) less)) later is
 
-  of_logs : (es fs : List (List ℕ × Option D)) → AllByRecursion (TakenIf disk taken faults old mid) es → AllZip (LogGoesOn content faults) es fs
-      → LogRose faults es fs → (LogRisen taken faults mid fs → Back) → bay_faults old ≤ bay_faults mid
+  of_parts : (es fs : List (List ℕ × Option D)) → AllByRecursion (TakenIf disk taken faults old mid) es → AllZip (DiskGoesOn content faults) es fs
+      → PartRose faults es fs → (OneRisen taken faults mid fs → Back) → bay_faults old ≤ bay_faults mid
       → ((name : List ℕ) → HasName es name → IsTaken conf name) → Result
-  of_logs [] fs t goes rose back later names = absurd rose
-  of_logs (e ∷ es) [] t goes rose back later names = absurd rose
-  of_logs (e ∷ es) (f ∷ fs) t goes (inl rose) back later names = of_log e f t.0 goes.0.name rose (λ r. back (inl r)) later (names e.0 (inl refl))
-  of_logs (e ∷ es) (f ∷ fs) t goes (inr rose) back later names =
-      of_logs es fs t.1 goes.1 rose (λ r. back (inr r)) later (λ name has. names name (inr has))
+  of_parts [] fs t goes rose back later names = absurd rose
+  of_parts (e ∷ es) [] t goes rose back later names = absurd rose
+  of_parts (e ∷ es) (f ∷ fs) t goes (inl rose) back later names = of_entry e f t.0 goes.0.name rose (λ r. back (inl r)) later (names e.0 (inl refl))
+  of_parts (e ∷ es) (f ∷ fs) t goes (inr rose) back later names =
+      of_parts es fs t.1 goes.1 rose (λ r. back (inr r)) later (λ name has. names name (inr has))
 
   of_both : (before after : Option (D × D)) → BothTaken disk taken faults old mid before → BothRose faults before after
       → (BothRisen taken faults mid after → Back) → bay_faults old ≤ bay_faults mid → Result
@@ -135,5 +148,5 @@ module _ {B D : Type 0} (disk : B → List ℕ → Option D) (content : D → Op
 
   pub count_rose : (before after : LeftDisks D) → AreTakenFrom disk taken faults conf old mid before → GoOn content faults before after
       → OneRose faults before after → (HasRisen taken faults mid after → Back) → bay_faults old ≤ bay_faults mid → Result
-  count_rose before after t goes (inl rose) back later = of_logs before.logs after.logs t.logs goes.logs rose (λ r. back (inl r)) later t.names
+  count_rose before after t goes (inl rose) back later = of_parts before.parts after.parts t.parts goes.parts rose (λ r. back (inl r)) later t.names
   count_rose before after t goes (inr rose) back later = of_both before.foreign after.foreign t.foreign rose (λ r. back (inr r)) later

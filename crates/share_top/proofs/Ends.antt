@@ -1,11 +1,12 @@
 -- A session over a bay: what its replay says of the broker's disks is said of those of the bay.
-use Rattle.std.proofs.Common.{◌≡◌, ◌<◌, ◌+◌, ◌⊎◌, inl, inr, refl, sym, ap, ◌∙◌, subst, ℕ, zero, suc, List, [], ◌∷◌, All, Bool, true, false, Some, None, is_some, if◌then◌else◌, arith}
+use Rattle.std.proofs.Common.{◌≡◌, ◌<◌, ◌+◌, ◌++◌, map, ◌⊎◌, inl, inr, refl, sym, ap, ◌∙◌, subst, ℕ, zero, suc, List, [], ◌∷◌, All, Bool, true, false, Some, None, is_some, if◌then◌else◌, arith}
 use Rattle.std.proofs.lemmas.Bool.{cases_Bool}
 use Rattle.std.specs.List.{AllByRecursion, AllZip}
+use Rattle.std.proofs.lemmas.List.Concat.{flat_map-append}
 use Rattle.std.specs.declared.option.Option.{Option}
 use Rattle.edge_io.specs.declared.fault.Armed.{Armed}
 use Rattle.edge_io.specs.declared.name.DiskPlace.{DiskPlace}
-use Rattle.edge_io.specs.declared.name.DiskPlace.TheVariants.{Log}
+use Rattle.edge_io.specs.declared.name.DiskPlace.TheVariants.{Log, StateA, StateB}
 use Rattle.edge_io.specs.Bays.{IsSound}
 use Rattle.edge_io.specs.Disk.{IsTold}
 use Rattle.edge_io.specs.Names.{IsDiskName, hosted_name}
@@ -16,18 +17,18 @@ use Rattle.topic_conf.specs.declared.topic.Topic.{Topic}
 use Rattle.topic_conf.specs.Topics.{IsTopicList}
 use Rattle.topic_conf.specs.Configs.{ConfigParts}
 use Rattle.topic_conf.proofs.Lists.{have_disks}
-use Rattle.part_log.specs.Shards.{IsLogOf}
-use Rattle.broker_model.specs.Hosted.{IsOneOf, IsTaken, log_names, logs_from, same_name, state_a, state_b}
-use Rattle.broker_model.specs.Shards.{Shards, NamedLog, names_of}
-use Rattle.broker_model.specs.Machine.{Machine, StandWith, StandsFor}
+use Rattle.broker_model.specs.Hosted.{IsOneOf, IsTaken, disks_of, first_of, hosted_from, hosted_in, hosted_of, log_of, part_disks, same_name, second_of, state_a, state_b}
+use Rattle.broker_model.specs.Shards.{Shards, HostedPart, hosted_by}
+use Rattle.broker_model.specs.Machine.{Machine, StandWith, StandsFor, StandsForPart}
 use Rattle.broker_model.specs.Disks.{Facts, Disks, facts_of}
 use Rattle.broker_model.specs.States.{State}
 use Rattle.broker_model.proofs.Holds.{holds}
+use Rattle.broker_model.proofs.Passing.{openings_well}
 use Rattle.broker_core.specs.declared.fault.CoreOpen.{CoreOpen}
 use Rattle.broker_core.specs.declared.fault.CoreOpen.TheVariants as open_fault
-use Rattle.broker_core.specs.declared.slot.LogSlot.{LogSlot}
+use Rattle.broker_core.specs.declared.slot.PartSlot.{PartSlot}
 use Rattle.broker_core.specs.Bays.{TellsDisks, TellsStill, IsFirst, ArePutBack, HoldsIf, BothHold, HasName}
-use Rattle.broker_core.specs.Hosts.{LeftDisks, GoOn, LogGoesOn, IsLogSlot, StandStill, ForeignStill, LogStill, disks_in, facts_at, facts_in, facts_among, foreign_facts, log_disks, slot_names}
+use Rattle.broker_core.specs.Hosts.{LeftDisks, GoOn, DiskGoesOn, IsPartSlot, StandStill, ForeignStill, PartStill, PartsStill, disks_in, facts_at, facts_in, facts_among, foreign_facts, hosted_slot, hosted_slots, slots_disks}
 use Rattle.broker_core.specs.Cores.{CoreParts, IsCore, state_of}
 use Rattle.broker_core.specs.Restarts.{IsDamagedDisk}
 use Rattle.broker_core.proofs.Opening.{is_told}
@@ -65,8 +66,8 @@ module _ (conf : ConfigParts) (input : InputChange) (output : OutputChange)
     (leaves : (events : List Event) (Tells : List Outcome → Type 0) → S events Tells (Leaves conf) → T events Tells (Leaves conf))
     (within : (events : List Event) (Tells : List Outcome → Type 0) → S events Tells (LeavesWithin conf) → T events Tells (LeavesWithin conf))
     (never : Untold → Never) (rises : Rises → Rose_over) where
-  begun : IsBegun input (λ events. S events (WritesFront output) (LeavesWithin conf)) → IsBegun input (λ events. T events (WritesFront output) (LeavesWithin conf))
-  begun b = record { events = b.events; begins = b.begins; session = within b.events (WritesFront output) b.session }
+  begun : IsBegun input (λ events. S events (WritesFront conf output) (LeavesWithin conf)) → IsBegun input (λ events. T events (WritesFront conf output) (LeavesWithin conf))
+  begun b = record { events = b.events; begins = b.begins; session = within b.events (WritesFront conf output) b.session }
 
   refused : (Tells : ℕ → List Outcome → Type 0) → IsRefusedScript input (λ events fault. S events (Tells fault) (Leaves conf))
       → IsRefusedScript input (λ events fault. T events (Tells fault) (Leaves conf))
@@ -84,10 +85,10 @@ module _ (conf : ConfigParts) (input : InputChange) (output : OutputChange)
     script = d.script;
     whole = d.whole;
     ended = d.ended;
-    session = leaves d.events (Writes output) d.session;
+    session = leaves d.events (Writes conf output) d.session;
   }
   played Usage d = d
-  played Malformed r = refused (λ fault. WritesThen (malformed_line fault) output) r
+  played Malformed r = refused (λ fault. WritesThen conf (malformed_line fault) output) r
   played ReadFault r = (
     r.0,
     record {
@@ -95,16 +96,16 @@ module _ (conf : ConfigParts) (input : InputChange) (output : OutputChange)
       events = r.1.events;
       consumed = r.1.consumed;
       whole = r.1.whole;
-      session = leaves r.1.events (Writes output) r.1.session;
+      session = leaves r.1.events (Writes conf output) r.1.session;
     },
   )
   played WriteFault r = (r.0, stopped r.1) where
-    stopped : IsBegun input (λ events. S events (WritesFront output) (LeavesWithin conf))
-        ⊎ IsRefusedScript input (λ events fault. S events (WritesPart (malformed_line fault) output) (Leaves conf))
-        → IsBegun input (λ events. T events (WritesFront output) (LeavesWithin conf))
-        ⊎ IsRefusedScript input (λ events fault. T events (WritesPart (malformed_line fault) output) (Leaves conf))
+    stopped : IsBegun input (λ events. S events (WritesFront conf output) (LeavesWithin conf))
+        ⊎ IsRefusedScript input (λ events fault. S events (WritesPart conf (malformed_line fault) output) (Leaves conf))
+        → IsBegun input (λ events. T events (WritesFront conf output) (LeavesWithin conf))
+        ⊎ IsRefusedScript input (λ events fault. T events (WritesPart conf (malformed_line fault) output) (Leaves conf))
     stopped (inl b) = inl (begun b)
-    stopped (inr l) = inr (refused (λ fault. WritesPart (malformed_line fault) output) l)
+    stopped (inr l) = inr (refused (λ fault. WritesPart conf (malformed_line fault) output) l)
   played Damaged u = never u
   played Device u = (rises u.0, never u.1)
   played NoMemory b = begun b
@@ -119,33 +120,52 @@ others_of_all P x xs each = λ k d lt. each (suc k) d (omega (arith, lt))
 
 -- by which name a disk is looked for
 module _ {D : Type 0} where
-  slots_have : (content : D → Option (List ℕ)) (image : D → List ℕ → Type 0) (starved : D → Bool) (faults : D → ℕ)
-      → (slots : List (LogSlot D)) (logs : List NamedLog) (lefts : List (List ℕ × Option D)) → AllZip (IsLogSlot content image starved) slots logs
-      → AllZip (LogGoesOn content faults) (log_disks slots) lefts → (name : List ℕ)
-      → (IsOneOf (names_of logs) name → HasName lefts name) × (HasName lefts name → IsOneOf (names_of logs) name)
-  slots_have content image starved faults [] [] [] z g name = (λ one. one, λ has. has)
-  slots_have content image starved faults [] [] (l ∷ lefts) z g name = absurd g
-  slots_have content image starved faults [] (e ∷ logs) lefts z g name = absurd z
-  slots_have content image starved faults (s ∷ slots) [] lefts z g name = absurd z
-  slots_have content image starved faults (s ∷ slots) (e ∷ logs) [] z g name = absurd g
-  slots_have content image starved faults (s ∷ slots) (e ∷ logs) (l ∷ lefts) z g name =
-      let rest = slots_have content image starved faults slots logs lefts z.1 g.1 name in
-      let same : e.0 ≡ l.0 = z.0.name ∙ sym g.0.name in
-      (forth same rest.0, back same rest.1) where
-        forth : e.0 ≡ l.0 → (IsOneOf (names_of logs) name → HasName lefts name) → IsOneOf (names_of (e ∷ logs)) name → HasName (l ∷ lefts) name
-        forth same rest (inl is) = inl (is ∙ same)
-        forth same rest (inr one) = inr (rest one)
+  abbrev names_in : List (List ℕ × Option D) → List (List ℕ)
+  names_in es = map (λ (e : List ℕ × Option D). e.0) es
 
-        back : e.0 ≡ l.0 → (HasName lefts name → IsOneOf (names_of logs) name) → HasName (l ∷ lefts) name → IsOneOf (names_of (e ∷ logs)) name
-        back same rest (inl is) = inl (is ∙ sym same)
-        back same rest (inr has) = inr (rest has)
+  pub has_of_one : (es : List (List ℕ × Option D)) (name : List ℕ) → IsOneOf (names_in es) name → HasName es name
+  has_of_one [] name one = absurd one
+  has_of_one (e ∷ es) name (inl is) = inl is
+  has_of_one (e ∷ es) name (inr one) = inr (has_of_one es name one)
 
-  pub names_stay : (content : D → Option (List ℕ)) (faults : D → ℕ) (old new : List (LogSlot D))
-      → AllZip (LogGoesOn content faults) (log_disks old) (log_disks new) → slot_names new ≡ slot_names old
-  names_stay content faults [] [] z = refl
-  names_stay content faults [] (t ∷ new) z = absurd z
-  names_stay content faults (s ∷ old) [] z = absurd z
-  names_stay content faults (s ∷ old) (t ∷ new) z = λ i. z.0.name i ∷ names_stay content faults old new z.1 i
+  pub one_of_has : (es : List (List ℕ × Option D)) (name : List ℕ) → HasName es name → IsOneOf (names_in es) name
+  one_of_has [] name has = absurd has
+  one_of_has (e ∷ es) name (inl is) = inl is
+  one_of_has (e ∷ es) name (inr has) = inr (one_of_has es name has)
+
+  -- the disks go on under their names
+  pub names_go_on : (content : D → Option (List ℕ)) (faults : D → ℕ) (old new : List (List ℕ × Option D)) → AllZip (DiskGoesOn content faults) old new → names_in new ≡ names_in old
+  names_go_on content faults [] [] z = refl
+  names_go_on content faults [] (f ∷ new) z = absurd z
+  names_go_on content faults (e ∷ old) [] z = absurd z
+  names_go_on content faults (e ∷ old) (f ∷ new) z = λ i. z.0.name i ∷ names_go_on content faults old new z.1 i
+
+  -- those of a broker are those of its partitions
+  pub names_of_slots : (slots : List (PartSlot D)) → names_in (slots_disks slots) ≡ part_disks (hosted_slots slots)
+  names_of_slots [] = refl
+  names_of_slots (s ∷ slots) =
+      ap (λ (l : List (List ℕ)). log_of (hosted_slot s) ∷ first_of (hosted_slot s) ∷ second_of (hosted_slot s) ∷ l) (names_of_slots slots)
+
+  pub hosts_of_slots : (content : D → Option (List ℕ)) (image : D → List ℕ → Type 0) (starved : D → Bool) (slots : List (PartSlot D)) (parts : List HostedPart)
+      → AllZip (IsPartSlot content image starved) slots parts → hosted_by parts ≡ hosted_slots slots
+  hosts_of_slots content image starved [] [] z = refl
+  hosts_of_slots content image starved [] (p ∷ parts) z = absurd z
+  hosts_of_slots content image starved (s ∷ slots) [] z = absurd z
+  hosts_of_slots content image starved (s ∷ slots) (p ∷ parts) z = λ i. z.0.hosted i ∷ hosts_of_slots content image starved slots parts z.1 i
+
+  pub names_still : (content : D → Option (List ℕ)) (image : D → List ℕ → Type 0) (es : List (List ℕ × Option D)) (parts : List HostedPart)
+      → PartsStill content image es parts → names_in es ≡ part_disks (hosted_by parts)
+  names_still content image [] [] still = refl
+  names_still content image [] (p ∷ parts) still = absurd still
+  names_still content image (x ∷ []) parts still = absurd still
+  names_still content image (x ∷ y ∷ []) parts still = absurd still
+  names_still content image (x ∷ y ∷ z ∷ es) [] still = absurd still
+  names_still content image (x ∷ y ∷ z ∷ es) (p ∷ parts) still =
+      λ i. (still.0.log_is i).0 ∷ (still.0.first_is i).0 ∷ (still.0.second_is i).0 ∷ names_still content image es parts still.1 i
+
+  pub names_stay : (content : D → Option (List ℕ)) (faults : D → ℕ) (old new : List (PartSlot D))
+      → AllZip (DiskGoesOn content faults) (slots_disks old) (slots_disks new) → part_disks (hosted_slots new) ≡ part_disks (hosted_slots old)
+  names_stay content faults old new z = sym (names_of_slots new) ∙ names_go_on content faults (slots_disks old) (slots_disks new) z ∙ names_of_slots old
 
 -- ---- over a bay; the members of the bay and of its disks come first
 
@@ -154,13 +174,13 @@ module _ {B D : Type 0} (disk : B → List ℕ → Option D) (content : D → Op
   abbrev Tells : ConfigParts → B → (List ℕ → List ℕ) → Disks → Type 0
   Tells conf bay contents was = TellsDisks disk content faults losses arms armed conf bay contents was
 
-  abbrev first_of : Machine → CoreParts D → State
-  first_of m core = state_of faults losses arms armed m core
+  abbrev began : Machine → CoreParts D → State
+  began m core = state_of faults losses arms armed m core
 
   -- a start's own clause
   abbrev Opens : ConfigParts → B → CoreParts D → Type 0
   Opens conf old core = (contents : List ℕ → List ℕ) (was : Disks) → Tells conf old contents was →
-      (m : Machine) × IsCore content image starved core m × IsFirst conf contents was (first_of m core)
+      (m : Machine) × IsCore content image starved core m × IsFirst conf contents was (began m core)
 
   -- ---- what a bay has under a name
 
@@ -194,26 +214,36 @@ module _ {B D : Type 0} (disk : B → List ℕ → Option D) (content : D → Op
   has bay name d is told = (d, is, content_of bay name d is told, ap (facts_at faults losses arms armed) is)
 
   -- a sound bay has each disk of a broker
-  one_of_topic : (name topic : List ℕ) (from more : ℕ) → ((number : ℕ) → number < from + more → IsDiskName (hosted_name topic number Log))
-      → IsOneOf (logs_from topic from more) name → IsDiskName name
-  one_of_topic name topic from zero each one = absurd one
-  one_of_topic name topic from (suc more) each (inl is) = subst IsDiskName (sym is) (each from (omega arith))
-  one_of_topic name topic from (suc more) each (inr one) = one_of_topic name topic (suc from) more (λ number below. each number (omega (arith, below))) one
+  abbrev HasDisks : Topic → ℕ → Type 0
+  HasDisks topic below = (number : ℕ) → number < below → (place : DiskPlace) → IsDiskName (hosted_name topic.name number place)
 
-  abbrev HasDisks : Topic → Type 0
-  HasDisks topic = (number : ℕ) → number < topic.parts → (place : DiskPlace) → IsDiskName (hosted_name topic.name number place)
+  one_of_topic : (conf : ConfigParts) (name : List ℕ) (topic : Topic) (from more : ℕ) → HasDisks topic (from + more)
+      → IsOneOf (part_disks (hosted_from conf topic from more)) name → IsDiskName name
+  one_of_topic conf name topic from zero each one = absurd one
+  one_of_topic conf name topic from (suc more) each (inl is) = subst IsDiskName (sym is) (each from (omega arith) Log)
+  one_of_topic conf name topic from (suc more) each (inr (inl is)) = subst IsDiskName (sym is) (each from (omega arith) StateA)
+  one_of_topic conf name topic from (suc more) each (inr (inr (inl is))) = subst IsDiskName (sym is) (each from (omega arith) StateB)
+  one_of_topic conf name topic from (suc more) each (inr (inr (inr one))) =
+      one_of_topic conf name topic (suc from) more (λ number below. each number (omega (arith, below))) one
 
-  names_are : (topics : List Topic) → All HasDisks topics
-      → (name : List ℕ) → IsOneOf (log_names topics) name → IsDiskName name
-  names_are [] each name one = absurd one
-  names_are (topic ∷ topics) each name one = go (λ there. names_are topics (others_of_all HasDisks topic topics each) name there)
-      (one_in_either (logs_from topic.name 0 topic.parts) (log_names topics) name one) where
-        go : (IsOneOf (log_names topics) name → IsDiskName name) → IsOneOf (logs_from topic.name 0 topic.parts) name ⊎ IsOneOf (log_names topics) name → IsDiskName name
-        go rest (inl here) = one_of_topic name topic.name 0 topic.parts (λ number below. (first_of_all HasDisks topic topics each) number (omega (arith, below)) Log) here
-        go rest (inr there) = rest there
+  abbrev AllDisks : Topic → Type 0
+  AllDisks topic = HasDisks topic topic.parts
+
+  names_are : (conf : ConfigParts) (topics : List Topic) → All AllDisks topics → (name : List ℕ) → IsOneOf (part_disks (hosted_in conf topics)) name → IsDiskName name
+  names_are conf [] each name one = absurd one
+  names_are conf (topic ∷ topics) each name one =
+      let here = hosted_from conf topic 0 topic.parts in
+      let there = hosted_in conf topics in
+      let one_of : IsOneOf (part_disks here ++ part_disks there) name =
+      subst (λ (l : List (List ℕ)). IsOneOf l name) (flat_map-append disks_of here there) one in
+      go (λ behind. names_are conf topics (others_of_all AllDisks topic topics each) name behind) (one_in_either (part_disks here) (part_disks there) name one_of) where
+        go : (IsOneOf (part_disks (hosted_in conf topics)) name → IsDiskName name)
+            → IsOneOf (part_disks (hosted_from conf topic 0 topic.parts)) name ⊎ IsOneOf (part_disks (hosted_in conf topics)) name → IsDiskName name
+        go rest (inl one) = one_of_topic conf name topic 0 topic.parts (λ number below. (first_of_all AllDisks topic topics each) number (omega (arith, below))) one
+        go rest (inr behind) = rest behind
 
   taken_names : (conf : ConfigParts) → IsTopicList conf.topics → (name : List ℕ) → IsTaken conf name → IsDiskName name
-  taken_names conf list name (inl one) = names_are conf.topics (have_disks conf.topics list) name one
+  taken_names conf list name (inl one) = names_are conf conf.topics (have_disks conf.topics list) name one
   taken_names conf list name (inr state) = inr state
 
   pub sound_tells : (steady : B → Type 0) (bay : B) → IsSound disk steady content armed arms starved faults bay → (conf : ConfigParts) → IsTopicList conf.topics
@@ -234,20 +264,41 @@ module _ {B D : Type 0} (disk : B → List ℕ → Option D) (content : D → Op
     abbrev Known : List ℕ → Facts → Type 0
     Known name facts = (d : D) × (disk new name ≡ Some d) × IsTold (content d) × (facts ≡ facts_of faults losses arms armed d)
 
-    of_entry : (e : List ℕ × Option D) (log : NamedLog) → HoldsIf disk mid new e → LogStill content image e log → Told e.0
-        → Known e.0 (facts_at faults losses arms armed e.1)
-    of_entry (n, None) log back still told = absurd still.still
-    of_entry (n, Some d) log back still told = (d, back told, still.still.told, refl)
+    -- it is there, and tells its content
+    abbrev IsToldEntry : List ℕ × Option D → Type 0
+    IsToldEntry e = (d : D) × (e.1 ≡ Some d) × IsTold (content d)
+
+    told_entries : (es : List (List ℕ × Option D)) (parts : List HostedPart) → PartsStill content image es parts → AllByRecursion IsToldEntry es
+    told_entries [] [] still = tt
+    told_entries [] (p ∷ parts) still = absurd still
+    told_entries (x ∷ []) parts still = absurd still
+    told_entries (x ∷ y ∷ []) parts still = absurd still
+    told_entries (x ∷ y ∷ z ∷ es) [] still = absurd still
+    told_entries (x ∷ y ∷ z ∷ es) (p ∷ parts) still =
+        let s = still.0 in
+        let rest = told_entries es parts still.1 in (
+          (s.log, ap (λ (e : List ℕ × Option D). e.1) s.log_is, s.alone.log_told),
+          (
+            (s.first, ap (λ (e : List ℕ × Option D). e.1) s.first_is, s.alone.first_told),
+            ((s.second, ap (λ (e : List ℕ × Option D). e.1) s.second_is, s.alone.second_told), rest),
+          ),
+        )
+
+    of_entry : (e : List ℕ × Option D) → HoldsIf disk mid new e → IsToldEntry e → Told e.0 → Known e.0 (facts_at faults losses arms armed e.1)
+    of_entry (n, None) back entry told = absurd back
+    of_entry (n, Some d) back entry told =
+        let is : Some d ≡ Some entry.0 = entry.1 in
+        let same : entry.0 ≡ d = cc in
+        (d, back told, subst (λ (x : D). IsTold (content x)) same entry.2, refl)
 
     abbrev cond : Bool → Facts → Facts → Facts
     cond b f g = if b then f else g
 
-    of_logs : (es : List (List ℕ × Option D)) (logs : List NamedLog) → AllByRecursion (HoldsIf disk mid new) es → AllZip (LogStill content image) es logs
+    of_entries : (es : List (List ℕ × Option D)) → AllByRecursion (HoldsIf disk mid new) es → AllByRecursion IsToldEntry es
         → (name : List ℕ) → Told name → (other : Facts) → HasName es name ⊎ Known name other → Known name (facts_among faults losses arms armed es other name)
-    of_logs [] logs back still name told other (inl one) = absurd one
-    of_logs [] logs back still name told other (inr known) = known
-    of_logs (e ∷ es) [] back still name told other h = absurd still
-    of_logs (e ∷ es) (log ∷ logs) back still name told other h = go (λ r. of_logs es logs back.1 still.1 name told other r) (cases_Bool (same_name name e.0)) where
+    of_entries [] back entries name told other (inl one) = absurd one
+    of_entries [] back entries name told other (inr known) = known
+    of_entries (e ∷ es) back entries name told other h = go (λ r. of_entries es back.1 entries.1 name told other r) (cases_Bool (same_name name e.0)) where
       rest : same_name name e.0 ≡ false → HasName (e ∷ es) name ⊎ Known name other → HasName es name ⊎ Known name other
       rest differs (inl (inl is)) =
           let both : true ≡ false = sym (same_self e.0) ∙ subst (λ (n : List ℕ). same_name n e.0 ≡ false) is differs in
@@ -259,7 +310,7 @@ module _ {B D : Type 0} (disk : B → List ℕ → Option D) (content : D → Op
           → (same_name name e.0 ≡ true) ⊎ (same_name name e.0 ≡ false) → Known name (facts_among faults losses arms armed (e ∷ es) other name)
       go others (inl eq) =
           let is : name ≡ e.0 = is_same name e.0 eq in
-          let k = of_entry e log back.0 still.0 (subst Told is told) in
+          let k = of_entry e back.0 entries.0 (subst Told is told) in
           subst (λ (b : Bool). Known name (cond b (facts_at faults losses arms armed e.1) (facts_among faults losses arms armed es other name))) (sym eq)
           (subst (λ (n : List ℕ). Known n (facts_at faults losses arms armed e.1)) (sym is) k)
       go others (inr not) = subst (λ (b : Bool). Known name (cond b (facts_at faults losses arms armed e.1) (facts_among faults losses arms armed es other name))) (sym not)
@@ -279,15 +330,18 @@ module _ {B D : Type 0} (disk : B → List ℕ → Option D) (content : D → Op
       abbrev F : List ℕ → Facts
       F name = facts_in faults losses arms armed left name
 
-      logs_known : (name : List ℕ) → Told name → HasName left.logs name → Known name (F name)
-      logs_known name told one = of_logs left.logs shards.logs back.logs still.logs name told (foreign_facts faults losses arms armed left.foreign name) (inl one)
+      entries : AllByRecursion IsToldEntry left.parts
+      entries = told_entries left.parts shards.parts still.parts
+
+      parts_known : (name : List ℕ) → Told name → HasName left.parts name → Known name (F name)
+      parts_known name told one = of_entries left.parts back.parts entries name told (foreign_facts faults losses arms armed left.foreign name) (inl one)
 
       first_known : Told state_a → Known state_a (F state_a)
-      first_known told = of_logs left.logs shards.logs back.logs still.logs state_a told (foreign_facts faults losses arms armed left.foreign state_a)
+      first_known told = of_entries left.parts back.parts entries state_a told (foreign_facts faults losses arms armed left.foreign state_a)
           (inr (of_first left.foreign shards back.foreign still.foreign told))
 
       second_known : Told state_b → Known state_b (F state_b)
-      second_known told = of_logs left.logs shards.logs back.logs still.logs state_b told (foreign_facts faults losses arms armed left.foreign state_b)
+      second_known told = of_entries left.parts back.parts entries state_b told (foreign_facts faults losses arms armed left.foreign state_b)
           (inr (of_second left.foreign shards back.foreign still.foreign told))
 
     -- ---- what their contents stand for
@@ -299,19 +353,29 @@ module _ {B D : Type 0} (disk : B → List ℕ → Option D) (content : D → Op
           let c = is_told (content d) told in
           subst (λ (t : List ℕ). image d t) (sym (ap text_on is ∙ ap text c.1)) (read d c.0 c.1)
 
-      log_stands : (e : List ℕ × Option D) (log : NamedLog) → HoldsIf disk mid new e → LogStill content image e log → Told e.0 → IsLogOf log.1 (text_in new log.0)
-      log_stands (n, None) log back still told = absurd still.still
-      log_stands (n, Some d) log back still told = subst (λ (m : List ℕ). IsLogOf log.1 (text_in new m)) (sym still.name)
-          (still.still.stands (text_in new n) (is_text n d (back told) still.still.told))
+      -- a disk that was put back under its name, and which told its content
+      put_back : (e : List ℕ × Option D) (name : List ℕ) (d : D) → e ≡ (name, Some d) → HoldsIf disk mid new e → Told name → disk new name ≡ Some d
+      put_back e name d is back told = subst (λ (x : List ℕ × Option D). HoldsIf disk mid new x) is back told
 
-      logs_stand : (es : List (List ℕ × Option D)) (logs : List NamedLog) → AllByRecursion (HoldsIf disk mid new) es → AllZip (LogStill content image) es logs
-          → ((name : List ℕ) → HasName es name → Told name) → AllByRecursion (λ (log : NamedLog). IsLogOf log.1 (text_in new log.0)) logs
-      logs_stand [] [] back still told = tt
-      logs_stand [] (log ∷ logs) back still told = absurd still
-      logs_stand (e ∷ es) [] back still told = absurd still
-      logs_stand (e ∷ es) (log ∷ logs) back still told = (
-        log_stands e log back.0 still.0 (told e.0 (inl refl)),
-        logs_stand es logs back.1 still.1 (λ name one. told name (inr one)),
+      part_stands : (x y z : List ℕ × Option D) (p : HostedPart) → HoldsIf disk mid new x → HoldsIf disk mid new y → HoldsIf disk mid new z → PartStill content image x y z p
+          → Told (log_of p.hosted) → Told (first_of p.hosted) → Told (second_of p.hosted) → StandsForPart (text_in new) p
+      part_stands x y z p bx by bz s tx ty tz =
+          s.alone.stand (text_in new (log_of p.hosted)) (text_in new (first_of p.hosted)) (text_in new (second_of p.hosted))
+          (is_text (log_of p.hosted) s.log (put_back x (log_of p.hosted) s.log s.log_is bx tx) s.alone.log_told)
+          (is_text (first_of p.hosted) s.first (put_back y (first_of p.hosted) s.first s.first_is by ty) s.alone.first_told)
+          (is_text (second_of p.hosted) s.second (put_back z (second_of p.hosted) s.second s.second_is bz tz) s.alone.second_told)
+
+      parts_stand : (es : List (List ℕ × Option D)) (parts : List HostedPart) → AllByRecursion (HoldsIf disk mid new) es → PartsStill content image es parts
+          → ((name : List ℕ) → IsOneOf (part_disks (hosted_by parts)) name → Told name) → AllByRecursion (StandsForPart (text_in new)) parts
+      parts_stand [] [] back still told = tt
+      parts_stand [] (p ∷ parts) back still told = absurd still
+      parts_stand (x ∷ []) parts back still told = absurd still
+      parts_stand (x ∷ y ∷ []) parts back still told = absurd still
+      parts_stand (x ∷ y ∷ z ∷ es) [] back still told = absurd still
+      parts_stand (x ∷ y ∷ z ∷ es) (p ∷ parts) back still told = (
+        part_stands x y z p back.0 back.1.0 back.1.1.0 still.0 (told (log_of p.hosted) (inl refl)) (told (first_of p.hosted) (inr (inl refl)))
+            (told (second_of p.hosted) (inr (inr (inl refl)))),
+        parts_stand es parts back.1.1.1 still.1 (λ name one. told name (inr (inr (inr one)))),
       )
 
       state_stands : (left : Option (D × D)) (shards : Shards) → BothHold disk mid new left → ForeignStill content image shards.foreign left → Told state_a → Told state_b
@@ -320,10 +384,11 @@ module _ {B D : Type 0} (disk : B → List ℕ → Option D) (content : D → Op
       state_stands (Some (a, b)) shards back still first second = still.stand (text_in new state_a) (text_in new state_b)
           (is_text state_a a (back.0 first) still.told) (is_text state_b b (back.1 second) still.second_told)
 
-      all_stand : (left : LeftDisks D) (shards : Shards) → ArePutBack disk mid new left → ((name : List ℕ) → HasName left.logs name → Told name) → Told state_a → Told state_b
+      all_stand : (left : LeftDisks D) (shards : Shards) → ArePutBack disk mid new left
+          → ((name : List ℕ) → IsOneOf (part_disks (hosted_by shards.parts)) name → Told name) → Told state_a → Told state_b
           → StandStill content image shards left → StandsFor (text_in new) shards
       all_stand left shards back told first second still = record {
-        logs = logs_stand left.logs shards.logs back.logs still.logs told;
+        parts = parts_stand left.parts shards.parts back.parts still.parts told;
         foreign = state_stands left.foreign shards back.foreign still.foreign first second;
       }
 
@@ -340,9 +405,9 @@ module _ {B D : Type 0} (disk : B → List ℕ → Option D) (content : D → Op
 
     -- where the disk of this name is
     abbrev Place : List ℕ → Type 0
-    Place name = HasName left.logs name ⊎ ((name ≡ state_a) ⊎ (name ≡ state_b))
+    Place name = HasName left.parts name ⊎ ((name ≡ state_a) ⊎ (name ≡ state_b))
 
-    here : (name : List ℕ) → (IsOneOf (log_names conf.topics) name → HasName left.logs name) → IsTaken conf name → Place name
+    here : (name : List ℕ) → (IsOneOf (part_disks (hosted_of conf)) name → HasName left.parts name) → IsTaken conf name → Place name
     here name f (inl one) = inl (f one)
     here name f (inr state) = inr state
 
@@ -354,31 +419,33 @@ module _ {B D : Type 0} (disk : B → List ℕ → Option D) (content : D → Op
     of_known name k = (k.0, k.1, content_of new name k.0 k.1 k.2, k.3)
 
     tells_at : (shards : Shards) → StandStill content image shards left → (name : List ℕ) → is_some (disk mid name) ≡ true → Place name → TellsAt name
-    tells_at shards stands name told (inl one) = of_known name (logs_known mid new left shards back stands name told one)
+    tells_at shards stands name told (inl one) = of_known name (parts_known mid new left shards back stands name told one)
     tells_at shards stands name told (inr (inl is)) = subst TellsAt (sym is)
         (of_known state_a (first_known mid new left shards back stands (subst (λ (n : List ℕ). is_some (disk mid n) ≡ true) is told)))
     tells_at shards stands name told (inr (inr is)) = subst TellsAt (sym is)
         (of_known state_b (second_known mid new left shards back stands (subst (λ (n : List ℕ). is_some (disk mid n) ≡ true) is told)))
+
+    -- they have the names of the configuration's
+    left_names : (m : Machine) → IsCore content image starved core m → hosted_by m.shards.parts ≡ hosted_of conf → names_in left.parts ≡ part_disks (hosted_of conf)
+    left_names m k hosts = names_go_on content faults (slots_disks core.hosts.parts) left.parts goes.parts ∙ names_of_slots core.hosts.parts
+        ∙ ap part_disks (sym (hosts_of_slots content image starved core.hosts.parts m.shards.parts k.shards.parts) ∙ hosts)
 
     pub over : (Ends : Ending) → IsEnding Ends → (events : List Event) (Says : List Outcome → Type 0)
         → FromCore content image starved faults losses arms armed core left events Says Ends
         → OverBay disk content faults losses arms armed conf old new (IsSession conf events Says Ends)
     over Ends is events Says from = λ contents was t.
         let o = opens contents was t in
-        let r : Ran conf (first_of o.0 core) events Says (Before Ends) =
-        subst (λ (c : ConfigParts). Ran c (first_of o.0 core) events Says (Before Ends)) same (from o.0 o.1) in
+        let r : Ran conf (began o.0 core) events Says (Before Ends) =
+        subst (λ (c : ConfigParts). Ran c (began o.0 core) events Says (Before Ends)) same (from o.0 o.1) in
         let some = is.some (λ shards. StandStill content image shards left) (facts_in faults losses arms armed left) r.last r.ends in
         let told = told_in contents was t in
-        let names : (name : List ℕ) → (IsOneOf (names_of o.0.shards.logs) name → HasName left.logs name) × (HasName left.logs name → IsOneOf (names_of o.0.shards.logs) name) =
-        slots_have content image starved faults core.hosts.logs o.0.shards.logs left.logs o.1.shards.logs goes.logs in
-        let hosts : (name : List ℕ) → HasName left.logs name → IsTaken conf name =
-        λ name one. inl (subst (λ (l : List (List ℕ)). IsOneOf l name) o.2.opens.hosts ((names name).1 one)) in (
+        let names : names_in left.parts ≡ part_disks (hosted_of conf) = left_names o.0 o.1 o.2.opens.hosts in (
           text_in new,
           facts_in faults losses arms armed left,
           λ name taken. tells_at some.0 some.1 name (told name taken)
-              (here name (λ one. (names name).0 (subst (λ (l : List (List ℕ)). IsOneOf l name) (sym o.2.opens.hosts) one)) taken),
+              (here name (λ one. has_of_one left.parts name (subst (λ (l : List (List ℕ)). IsOneOf l name) (sym names) one)) taken),
           record {
-            first = first_of o.0 core;
+            first = began o.0 core;
             opens = o.2;
             ran = record {
               steps = r.steps;
@@ -387,10 +454,13 @@ module _ {B D : Type 0} (disk : B → List ℕ → Option D) (content : D → Op
               events_are = r.events_are;
               tells = r.tells;
               ends = is.along (λ shards. StandStill content image shards left) (StandsFor (text_in new)) (facts_in faults losses arms armed left) r.last
-                  (λ shards stands. all_stand mid new read left shards back (λ name one. told name (hosts name one))
+                  (λ shards stands. all_stand mid new read left shards back
+                  (λ name one. told name (inl (subst (λ (l : List (List ℕ)). IsOneOf l name)
+                  (sym (names_still content image left.parts shards.parts stands.parts) ∙ names) one)))
                   (told state_a (inr (inl refl))) (told state_b (inr (inr refl))) stands) r.ends;
             };
-            holds = holds conf (first_of o.0 core) r.last r.steps r.run;
+            holds = holds conf (began o.0 core) r.last r.steps r.run;
+            well = openings_well conf contents o.0 o.2.opens;
             unarmed = λ name taken none. ((o.2.disks name taken).spends.disarmed none).0;
           },
         )

@@ -5,15 +5,14 @@ use Rattle.std.proofs.lemmas.List.Concat.{flat_map-append}
 use Rattle.std.specs.Io.KnownBytes.{Appends, Keeps}
 use Rattle.std.proofs.KnownBytes.{Appends-trans}
 use Rattle.edge_io.specs.declared.fault.Armed.{Armed}
-use Rattle.edge_io.specs.Causes.{Rose}
 use Rattle.edge_io.specs.Streams.{AppendsFront}
 use Rattle.session_script.specs.declared.event.Event.{Event}
 use Rattle.session_script.specs.declared.event.Outcome.{Outcome}
 use Rattle.session_script.specs.Output.{outcome_line, output_of}
 use Rattle.topic_conf.specs.Configs.{ConfigParts}
-use Rattle.broker_model.specs.Shards.{Shards, ShardCall}
+use Rattle.broker_model.specs.Shards.{Shards}
 use Rattle.broker_model.specs.Machine.{Machine}
-use Rattle.broker_model.specs.Steps.{StepsTo}
+use Rattle.broker_model.specs.Disks.{Disks}
 use Rattle.broker_model.specs.States.{State, IsStep}
 use Rattle.broker_model.specs.Runs.{Step, outcomes_of}
 use Rattle.broker_core.specs.Hosts.{LeftDisks, StandStill, facts_in, ends_in, disks_in}
@@ -21,7 +20,7 @@ use Rattle.broker_core.specs.Cores.{CoreParts, IsCore, Reaches, state_of}
 use Rattle.broker_core.proofs.Leading.{still_all}
 use Rattle.broker_core.proofs.Events.{later as counts_later}
 use Rattle.share_top.specs.Changes.{OutputChange}
-use Rattle.share_top.specs.Sessions.{Leaves, LeavesWithin, Ran}
+use Rattle.share_top.specs.Sessions.{DoesMore, Leaves, LeavesWithin, Ran, counts_since}
 use Rattle.share_top.specs.Going.{Goes, Plays, Halts}
 use Rattle.share_top.proofs.Fronts.{front_behind, keeps_appends}
 use Rattle.share_top.proofs.Steps.{run_then, events_then, outcomes_then}
@@ -31,27 +30,34 @@ Held = Option (List ℕ)
 
 -- ---- texts of outcomes
 
-module _ (a b c : Held) where
-  pub text_behind : (xs ys : List Outcome) → Appends a b (output_of xs) → Appends b c (output_of ys) → Appends a c (output_of (xs ++ ys))
-  text_behind xs ys p q = subst (λ (l : List ℕ). Appends a c l) (sym (flat_map-append outcome_line xs ys)) (Appends-trans a b c (output_of xs) (output_of ys) p q)
+-- `now` is the configuration of the broker as it stands, which is the one with which it began
+module _ (a b c : Held) (conf : ConfigParts) where
+  abbrev text : List Outcome → List ℕ
+  text xs = output_of conf.topics xs
 
-  pub part_behind : (xs ys : List Outcome) → Appends a b (output_of xs) → (rest : List ℕ) × AppendsFront b c (output_of ys) rest
-      → (rest : List ℕ) × AppendsFront a c (output_of (xs ++ ys)) rest
-  part_behind xs ys p q = (
+  pub text_behind : (now : ConfigParts) → now ≡ conf → (xs ys : List Outcome) → Appends a b (text xs) → Appends b c (output_of now.topics ys)
+      → Appends a c (text (xs ++ ys))
+  text_behind now same xs ys p q = subst (λ (l : List ℕ). Appends a c l) (sym (flat_map-append (outcome_line conf.topics) xs ys))
+      (Appends-trans a b c (text xs) (text ys) p (subst (λ (k : ConfigParts). Appends b c (output_of k.topics ys)) same q))
+
+  pub part_behind : (now : ConfigParts) → now ≡ conf → (xs ys : List Outcome) → Appends a b (text xs)
+      → (rest : List ℕ) × AppendsFront b c (output_of now.topics ys) rest → (rest : List ℕ) × AppendsFront a c (text (xs ++ ys)) rest
+  part_behind now same xs ys p q = (
     q.0,
-    subst (λ (l : List ℕ). AppendsFront a c l q.0) (sym (flat_map-append outcome_line xs ys)) (front_behind a b c (output_of xs) (output_of ys) q.0 p q.1),
+    subst (λ (l : List ℕ). AppendsFront a c l q.0) (sym (flat_map-append (outcome_line conf.topics) xs ys))
+        (front_behind a b c (text xs) (text ys) q.0 p (subst (λ (k : ConfigParts). AppendsFront b c (output_of k.topics ys) q.0) same q.1)),
   )
 
-  pub line_behind : (xs : List Outcome) (line : List ℕ) → Appends a b (output_of xs) → Appends b c line → Appends a c (output_of xs ++ line)
-  line_behind xs line p q = Appends-trans a b c (output_of xs) line p q
+  pub line_behind : (xs : List Outcome) (line : List ℕ) → Appends a b (text xs) → Appends b c line → Appends a c (text xs ++ line)
+  line_behind xs line p q = Appends-trans a b c (text xs) line p q
 
-  pub kept_behind : (xs : List Outcome) → Appends a b (output_of xs) → Keeps b c → (rest : List ℕ) × AppendsFront a c (output_of xs) rest
+  pub kept_behind : (xs : List Outcome) → Appends a b (text xs) → Keeps b c → (rest : List ℕ) × AppendsFront a c (text xs) rest
   kept_behind xs p kept = (
     [],
     record {
-      front = output_of xs;
-      parts = append-nil (output_of xs);
-      grown = subst (λ (l : List ℕ). Appends a c l) (append-nil (output_of xs)) (Appends-trans a b c (output_of xs) [] p (keeps_appends b c kept));
+      front = text xs;
+      parts = append-nil (text xs);
+      grown = subst (λ (l : List ℕ). Appends a c l) (append-nil (text xs)) (Appends-trans a b c (text xs) [] p (keeps_appends b c kept));
     },
   )
 
@@ -135,19 +141,15 @@ module _ {D : Type 0} (content : D → Option (List ℕ)) (image : D → List �
 
   -- ---- no memory was found in an event
 
-  abbrev count_at : LeftDisks D → List ℕ → ℕ
-  count_at disks name = (facts_in faults losses arms armed disks name).faults
+  abbrev known : CoreParts D → Disks
+  known core = facts_in faults losses arms armed (disks_in core.hosts)
 
-  abbrev Rising : CoreParts D → CoreParts D → List ℕ → Type 0
-  Rising core next name = Rose (count_at (disks_in core.hosts) name) (count_at (disks_in next.hosts) name)
-
+  -- the event was done, or left within, or not begun
   reached : (conf : ConfigParts) (core next : CoreParts D) → core.conf ≡ conf → (old after : Machine) (e : Event)
-      → Reaches core.conf (Rising core next) (ends_in core.hosts) old e after
-      → (after ≡ old) ⊎ ((event : Event) × (call : Option ShardCall) × (outcomes : List Outcome)
-      × StepsTo conf (Rising core next) (ends_in core.hosts) old event call outcomes after)
+      → Reaches core.conf (counts_since (at old core) (known next)) (ends_in core.hosts) old e after
+      → (after ≡ old) ⊎ ((event : Event) × DoesMore conf (at old core) (known next) event after)
   reached conf core next same old after e (inl still) = inl still
-  reached conf core next same old after e (inr r) =
-      inr (e, r.0, r.1, subst (λ (c : ConfigParts). StepsTo c (Rising core next) (ends_in core.hosts) old e r.0 r.1 after) same r.2)
+  reached conf core next same old after e (inr more) = inr (e, subst (λ (c : ConfigParts). DoesMore c (at old core) (known next) e after) same more)
 
   pub halted : (conf : ConfigParts) (first : State) (events : List Event) (e : Event) (T U : List Outcome → Type 0) (output : OutputChange)
       → ((xs : List Outcome) → T xs → Keeps output.held output.held_after → U xs) → (core next : CoreParts D) → core.conf ≡ conf → G conf first events T core

@@ -89,13 +89,13 @@ module _ {D : Type 0} (content : D → Option (List ℕ)) (image : D → List �
         (retold content image starved faults losses arms armed first.conf (begun m) going.read.events T U f now (going.goes m k)))
 
     module _ (output : OutputChange) (U : List Outcome → Type 0) (e : Event) (next : CoreParts D)
-        (join : (xs ys : List Outcome) → T xs → WritesFront output ys → U (xs ++ ys))
+        (join : (xs ys : List Outcome) → T xs → WritesFront now.conf output ys → U (xs ++ ys))
         (keep : (xs : List Outcome) → T xs → Keeps output.held output.held_after → U xs)
         (t : Took (line_of e)) (is : IsEvent e) (le : v.place ≤ longest) where
       part : PlaysPart content image starved faults losses arms armed now e next output → IsBegun input (λ events. From first next events U (LeavesWithin first.conf))
       part (inl plays) = reads.begun_behind input mid u v going.read (λ events. From first next events U (LeavesWithin first.conf)) e t is le
           (λ m k. ran_within content image starved faults losses arms armed first.conf (begun m) (going.read.events ++ e ∷ []) U next
-          (goes_on content image starved faults losses arms armed first.conf (begun m) going.read.events e T (WritesFront output) U join now next going.conf
+          (goes_on content image starved faults losses arms armed first.conf (begun m) going.read.events e T (WritesFront now.conf output) U join now next going.conf
           (going.goes m k) plays))
       part (inr halts) = reads.begun_before input mid u v going.read (λ events. From first next events U (LeavesWithin first.conf)) e t is le
           (λ m k. halted content image starved faults losses arms armed first.conf (begun m) going.read.events e T U output keep now next going.conf
@@ -106,8 +106,8 @@ module _ {D : Type 0} (content : D → Option (List ℕ)) (image : D → List �
 
     -- an event ended so
     pub stopped : (output all : OutputChange) (e : Event) (next : CoreParts D)
-        → ((xs ys : List Outcome) → T xs → WritesFront output ys → WritesFront all (xs ++ ys))
-        → ((xs : List Outcome) → T xs → Keeps output.held output.held_after → WritesFront all xs)
+        → ((xs ys : List Outcome) → T xs → WritesFront now.conf output ys → WritesFront first.conf all (xs ++ ys))
+        → ((xs : List Outcome) → T xs → Keeps output.held output.held_after → WritesFront first.conf all xs)
         → (Rose output.faults output.faults_after → Rose all.faults all.faults_after) → AreOpen first.hosts
         → Took (line_of e) → IsEvent e → v.place ≤ longest → (status : Status)
         → IsNotPlayed content image starved faults losses arms armed now e next output status
@@ -117,10 +117,10 @@ module _ {D : Type 0} (content : D → Option (List ℕ)) (image : D → List �
     stopped output all e next join keep rose opened t is le Usage p = p
     stopped output all e next join keep rose opened t is le Malformed p = absurd p
     stopped output all e next join keep rose opened t is le ReadFault p = absurd p
-    stopped output all e next join keep rose opened t is le WriteFault p = (rose p.0, inl (part output (WritesFront all) e next join keep t is le p.1))
-    stopped output all e next join keep rose opened t is le Damaged p = never output (WritesFront all) e next join keep t is le p
+    stopped output all e next join keep rose opened t is le WriteFault p = (rose p.0, inl (part output (WritesFront first.conf all) e next join keep t is le p.1))
+    stopped output all e next join keep rose opened t is le Damaged p = never output (WritesFront first.conf all) e next join keep t is le p
     stopped output all e next join keep rose opened t is le Device p = (
       rises content faults first.hosts (disks_in now.hosts) (disks_in next.hosts) opened going.disks p.0,
-      never output (WritesFront all) e next join keep t is le p.1,
+      never output (WritesFront first.conf all) e next join keep t is le p.1,
     )
-    stopped output all e next join keep rose opened t is le NoMemory p = part output (WritesFront all) e next join keep t is le p
+    stopped output all e next join keep rose opened t is le NoMemory p = part output (WritesFront first.conf all) e next join keep t is le p

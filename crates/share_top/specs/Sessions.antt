@@ -1,7 +1,8 @@
 -- A recorded session on the disks of a bay: all that is promised of it is said of one run of the broker. This project's own.
--- For example the session `power 5` on empty disks is a run of one step, from the opening of empty logs and no keys to the opening of the
--- contents that are each disk's one loss, with choice 5; and what was written is its outcome's line `restarted`.
+-- For example the session `power 5` on empty disks is a run of one step, from the opening of empty logs, no tables and no keys to the
+-- opening of the contents that are each disk's one loss, with choice 5; and what was written is its outcome's line `restarted`.
 use Rattle.std.specs.Prelude.{◌≡◌, ◌⊎◌, ◌≤◌, ◌++◌, ℕ, List}
+use Rattle.std.specs.List.{AllByRecursion}
 use Rattle.std.specs.declared.option.Option.{Option}
 use Rattle.std.specs.Io.KnownBytes.{Appends}
 use Rattle.edge_io.specs.declared.fault.Armed.{Armed}
@@ -13,38 +14,39 @@ use Rattle.session_script.specs.declared.event.Outcome.{Outcome}
 use Rattle.session_script.specs.Output.{output_of, damaged_line}
 use Rattle.topic_conf.specs.Configs.{ConfigParts}
 use Rattle.broker_model.specs.Hosted.{IsTaken}
-use Rattle.broker_model.specs.Shards.{Shards, ShardCall}
+use Rattle.broker_model.specs.Shards.{Counts, Shards, ShardCall}
 use Rattle.broker_model.specs.Machine.{Machine, StandsFor}
 use Rattle.broker_model.specs.Disks.{Disks}
-use Rattle.broker_model.specs.Steps.{StepsTo}
+use Rattle.broker_model.specs.Steps.{StepsTo, StopsWithin}
 use Rattle.broker_model.specs.States.{State, faults_of}
 use Rattle.broker_model.specs.Runs.{Step, IsRun, events_of, outcomes_of}
 use Rattle.broker_model.specs.Laws.{HoldsOfRun}
+use Rattle.broker_model.specs.Starts.{IsWell}
 use Rattle.broker_core.specs.Bays.{TellsDisks, IsFirst, StandForAll, HasLastCount}
 use Rattle.broker_core.specs.Restarts.{IsDamagedDisk}
 use Rattle.share_top.specs.Changes.{OutputChange}
 
 -- ---- what was written of a run's outcomes
 
--- their text
-abbrev pub Writes : OutputChange → List Outcome → Type 0
-Writes output outcomes = Appends output.held output.held_after (output_of outcomes)
+-- their text; a fault is told by the name of its partition
+abbrev pub Writes : ConfigParts → OutputChange → List Outcome → Type 0
+Writes conf output outcomes = Appends output.held output.held_after (output_of conf.topics outcomes)
 
 -- their text, and this line behind it
-abbrev pub WritesThen : List ℕ → OutputChange → List Outcome → Type 0
-WritesThen line output outcomes = Appends output.held output.held_after (output_of outcomes ++ line)
+abbrev pub WritesThen : ConfigParts → List ℕ → OutputChange → List Outcome → Type 0
+WritesThen conf line output outcomes = Appends output.held output.held_after (output_of conf.topics outcomes ++ line)
 
 -- a front of a text
 abbrev pub WritesFrontOf : List ℕ → OutputChange → Type 0
 WritesFrontOf text output = (unwritten : List ℕ) × AppendsFront output.held output.held_after text unwritten
 
-abbrev pub WritesFront : OutputChange → List Outcome → Type 0
-WritesFront output outcomes = WritesFrontOf (output_of outcomes) output
+abbrev pub WritesFront : ConfigParts → OutputChange → List Outcome → Type 0
+WritesFront conf output outcomes = WritesFrontOf (output_of conf.topics outcomes) output
 
 -- their text, and a front of this line behind it
-abbrev pub WritesPart : List ℕ → OutputChange → List Outcome → Type 0
-WritesPart line output outcomes =
-    (front unwritten : List ℕ) × (front ++ unwritten ≡ line) × Appends output.held output.held_after (output_of outcomes ++ front)
+abbrev pub WritesPart : ConfigParts → List ℕ → OutputChange → List Outcome → Type 0
+WritesPart conf line output outcomes =
+    (front unwritten : List ℕ) × (front ++ unwritten ≡ line) × Appends output.held output.held_after (output_of conf.topics outcomes ++ front)
 
 -- ---- what a run leaves on the disks
 
@@ -57,11 +59,21 @@ pub record Leaves (conf : ConfigParts) (Stand : Shards → Type 0) (now : Disks)
   pub known : (name : List ℕ) → IsTaken conf name → now name ≡ last.disks name
   pub stands : Stand last.machine.shards
 
--- the disks stand for the last state's shards, or for those of one step more, of whose outcomes nothing was written
+-- of each disk, its count of faults in the last state, and the one that is known now
+abbrev pub counts_since : State → Disks → Counts
+counts_since last now name = (faults_of last name, (now name).faults)
+
+-- one event more was done, or it was left in the midst of its part
+abbrev pub DoesMore : ConfigParts → State → Disks → Event → Machine → Type 0
+DoesMore conf last now event after =
+    ((call : Option ShardCall) × (outcomes : List Outcome)
+    × StepsTo conf (counts_since last now) last.ends last.machine event call outcomes after)
+    ⊎ StopsWithin conf (counts_since last now) last.ends last.machine event after
+
+-- the disks stand for the last state's shards, or for those of one event more, done or left within, of whose outcomes nothing was written
 pub record LeavesWithin (conf : ConfigParts) (Stand : Shards → Type 0) (now : Disks) (last : State) : Type 0 where
   pub after : Machine
-  pub reaches : (after ≡ last.machine) ⊎ ((event : Event) × (call : Option ShardCall) × (outcomes : List Outcome)
-      × StepsTo conf (λ name. Rose (faults_of last name) (now name).faults) last.ends last.machine event call outcomes after)
+  pub reaches : (after ≡ last.machine) ⊎ ((event : Event) × DoesMore conf last now event after)
   pub later : (name : List ℕ) → IsTaken conf name → faults_of last name ≤ (now name).faults
   pub stands : Stand after.shards
 
@@ -84,8 +96,11 @@ pub record IsSession (conf : ConfigParts) (events : List Event) (Tells : List Ou
   -- it begins with the opening of the contents
   pub opens : IsFirst conf contents was first
   pub ran : Ran conf first events Tells (Ends (StandsFor left) now)
-  -- its losses, arms and counts
+  -- its losses, arms and counts, and what it promises of records: locks are exclusive, starts pass what was acknowledged or archived alone,
+  -- and an acknowledgement of what its member holds is refused by the store alone
   pub holds : HoldsOfRun conf first ran.steps ran.last
+  -- its partitions begin well, which is the premise of what `holds` says of starts
+  pub well : AllByRecursion IsWell first.machine.shards.parts
   -- a disk with nothing armed begins so: its count rises only behind an arm, as `holds` says
   pub unarmed : (name : List ℕ) → IsTaken conf name → (was name).armed ≡ Nothing → (first.disks name).armed ≡ Nothing
 

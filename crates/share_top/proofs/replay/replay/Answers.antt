@@ -17,7 +17,7 @@ use Rattle.share_top.proofs.replay.replay.Goals as goal
 pub events-init : goal.events-init
 events-init g c = record {
   going = rw c.new-reader.ensures (starts g.D.Disk.content g.D.Disk.image g.D.Disk.starved g.D.Disk.faults g.D.Disk.losses g.D.Disk.arms g.D.Disk.armed
-      (g.I.Source.left c.args.input.now) c.args.core.now (Writes (output_change g.O.Sink.held g.O.Sink.faults c.args.output.now c.args.output.now)) c.requires
+      (g.I.Source.left c.args.input.now) c.args.core.now (Writes c.args.core.now.conf (output_change g.O.Sink.held g.O.Sink.faults c.args.output.now c.args.output.now)) c.requires
       (appends_none (g.O.Sink.held c.args.output.now)));
   read = omega arith;
   counted = refl;
@@ -36,9 +36,9 @@ returns-in-Ok-clause-played g c =
     let says = rw c.in-Err-Malformed.field-0-is at c.in-Err-Malformed.ensures.answer in
     malformed g.D.Disk.content g.D.Disk.image g.D.Disk.starved g.D.Disk.faults g.D.Disk.losses g.D.Disk.arms g.D.Disk.armed
     _ _ _ _ _ _ _ c.events.invariant.going
-    (λ (fault : ℕ). WritesThen (malformed_line fault) (output_change g.O.Sink.held g.O.Sink.faults c.args.output.now c.write_malformed.new.output)) _
+    (λ (fault : ℕ). WritesThen c.args.core.now.conf (malformed_line fault) (output_change g.O.Sink.held g.O.Sink.faults c.args.output.now c.write_malformed.new.output)) _
     (λ (xs : List Outcome) told. line_behind (g.O.Sink.held c.args.output.now) (g.O.Sink.held c.events.output) (g.O.Sink.held c.write_malformed.new.output)
-    xs _ told c.in-Ok.ensures.whole) c.in-Err-Malformed.ensures.taken says
+    c.args.core.now.conf xs _ told c.in-Ok.ensures.whole) c.in-Err-Malformed.ensures.taken says
 
 pub returns-in-Err-Write-clause-played : goal.returns-in-Err-Write-clause-played
 returns-in-Err-Write-clause-played g c =
@@ -48,13 +48,13 @@ returns-in-Err-Write-clause-played g c =
           (c.in-Err-Write.ensures.cause (ap (λ (e : LineFault). Err e) c.in-Err-Write.field-0-is)),
       inr (malformed g.D.Disk.content g.D.Disk.image g.D.Disk.starved g.D.Disk.faults g.D.Disk.losses g.D.Disk.arms g.D.Disk.armed
           _ _ _ _ _ _ _ c.events.invariant.going
-          (λ (fault : ℕ). WritesPart (malformed_line fault) (output_change g.O.Sink.held g.O.Sink.faults c.args.output.now c.write_malformed.new.output)) _
+          (λ (fault : ℕ). WritesPart c.args.core.now.conf (malformed_line fault) (output_change g.O.Sink.held g.O.Sink.faults c.args.output.now c.write_malformed.new.output)) _
           (λ (xs : List Outcome) told. (
             f.1.front,
             f.0,
             f.1.parts,
             line_behind (g.O.Sink.held c.args.output.now) (g.O.Sink.held c.events.output) (g.O.Sink.held c.write_malformed.new.output)
-                xs f.1.front told f.1.grown,
+                c.args.core.now.conf xs f.1.front told f.1.grown,
           )) c.in-Err-Malformed.ensures.taken says),
     )
 
@@ -62,9 +62,9 @@ pub returns-in-Err-NoMemory-write_malformed-clause-played : goal.returns-in-Err-
 returns-in-Err-NoMemory-write_malformed-clause-played g c =
     still g.D.Disk.content g.D.Disk.image g.D.Disk.starved g.D.Disk.faults g.D.Disk.losses g.D.Disk.arms g.D.Disk.armed
     _ _ _ _ _ _ _ c.events.invariant.going
-    (WritesFront (output_change g.O.Sink.held g.O.Sink.faults c.args.output.now c.write_malformed.new.output))
+    (WritesFront c.args.core.now.conf (output_change g.O.Sink.held g.O.Sink.faults c.args.output.now c.write_malformed.new.output))
     (λ (xs : List Outcome) told. kept_behind (g.O.Sink.held c.args.output.now) (g.O.Sink.held c.events.output) (g.O.Sink.held c.write_malformed.new.output)
-    xs told (c.in-Err-NoMemory-write_malformed.ensures.nothing (ap (λ (e : LineFault). Err e) c.in-Err-NoMemory-write_malformed.field-0-is)))
+    c.args.core.now.conf xs told (c.in-Err-NoMemory-write_malformed.ensures.nothing (ap (λ (e : LineFault). Err e) c.in-Err-NoMemory-write_malformed.field-0-is)))
     c.in-Err-Malformed.ensures.taken
 
 pub returns-in-Err-Read-clause-played : goal.returns-in-Err-Read-clause-played
@@ -80,9 +80,9 @@ pub returns-in-Err-NoMemory-clause-played : goal.returns-in-Err-NoMemory-clause-
 returns-in-Err-NoMemory-clause-played g c =
     still g.D.Disk.content g.D.Disk.image g.D.Disk.starved g.D.Disk.faults g.D.Disk.losses g.D.Disk.arms g.D.Disk.armed
     _ _ _ _ _ _ _ c.events.invariant.going
-    (WritesFront (output_change g.O.Sink.held g.O.Sink.faults c.args.output.now c.events.output))
+    (WritesFront c.args.core.now.conf (output_change g.O.Sink.held g.O.Sink.faults c.args.output.now c.events.output))
     (λ (xs : List Outcome) told. kept_behind (g.O.Sink.held c.args.output.now) (g.O.Sink.held c.events.output) (g.O.Sink.held c.events.output)
-    xs told (keeps_same _)) c.in-Err-NoMemory.ensures.taken
+    c.args.core.now.conf xs told (keeps_same _)) c.in-Err-NoMemory.ensures.taken
 
 pub returns-in-Err-clause-played : goal.returns-in-Err-clause-played
 returns-in-Err-clause-played g c =
@@ -93,8 +93,9 @@ returns-in-Err-clause-played g c =
     _ _ _ _ _ _ _ c.events.invariant.going
     (output_change g.O.Sink.held g.O.Sink.faults c.events.output c.play_event.new.output)
     (output_change g.O.Sink.held g.O.Sink.faults c.args.output.now c.play_event.new.output) c.in-Ok-Event.event c.play_event.new.core
-    (part_behind (g.O.Sink.held c.args.output.now) (g.O.Sink.held c.events.output) (g.O.Sink.held c.play_event.new.output))
-    (kept_behind (g.O.Sink.held c.args.output.now) (g.O.Sink.held c.events.output) (g.O.Sink.held c.play_event.new.output))
+    (part_behind (g.O.Sink.held c.args.output.now) (g.O.Sink.held c.events.output) (g.O.Sink.held c.play_event.new.output)
+    c.args.core.now.conf c.events.core.conf c.events.invariant.going.conf)
+    (kept_behind (g.O.Sink.held c.args.output.now) (g.O.Sink.held c.events.output) (g.O.Sink.held c.play_event.new.output) c.args.core.now.conf)
     (subst (λ (n : ℕ). Rose n (g.O.Sink.faults c.play_event.new.output)) c.events.invariant.counted)
     c.requires taken says.0 says.1 c.in-Err.status c.in-Err.ensures.stopped
 
@@ -106,7 +107,8 @@ events-preserved g c =
     record {
       going = goes g.D.Disk.content g.D.Disk.image g.D.Disk.starved g.D.Disk.faults g.D.Disk.losses g.D.Disk.arms g.D.Disk.armed
           _ _ _ _ _ _ _ c.events.invariant.going _ _ _
-          (text_behind (g.O.Sink.held c.args.output.now) (g.O.Sink.held c.events.output) (g.O.Sink.held c.play_event.new.output))
+          (text_behind (g.O.Sink.held c.args.output.now) (g.O.Sink.held c.events.output) (g.O.Sink.held c.play_event.new.output)
+          c.args.core.now.conf c.events.core.conf c.events.invariant.going.conf)
           _ _ taken says.0 says.1 c.in-Ok-play_event.ensures.done c.play_event.ensures.conf c.play_event.ensures.disks c.in-Ok-play_event.ensures.open;
       read = omega (arith, c.events.invariant.read, c.take_event.ensures.later);
       counted = c.play_event.ensures.counted (λ e. absurd cc) ∙ c.events.invariant.counted;

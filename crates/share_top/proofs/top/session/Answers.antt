@@ -1,6 +1,7 @@
-use Rattle.std.proofs.Common.{inl, inr, ⊎_elim, refl, ap, ◌∙◌, Err, sym, subst, ℕ, List}
+use Rattle.std.proofs.Common.{inl, inr, ⊎_elim, refl, ap, ◌∙◌, Err, sym, subst, ℕ, List, [], ◌∷◌, ◌++◌}
 use Rattle.broker_core.specs.declared.fault.CoreOpen.{CoreOpen}
-use Rattle.broker_core.specs.Hosts.{OneRose, all_names, disks_in}
+use Rattle.broker_model.specs.Hosted.{state_a, state_b}
+use Rattle.broker_core.specs.Hosts.{OneRose, disks_in}
 use Rattle.broker_core.specs.Bays.{AreOut}
 use Rattle.share_top.specs.Sessions.{CountRose}
 use Rattle.share_top.proofs.Counts.{count_rose}
@@ -9,8 +10,8 @@ use Rattle.share_top.proofs.Ends.{names_stay, played_over, not_opened, sound_tel
 use Rattle.share_top.proofs.top.session.Goals as goal
 
 pub finish-requires : goal.finish-requires
-finish-requires g c = subst (λ (l : List (List ℕ)). AreOut g.B.Bay.out (all_names l) c.start.new.bay)
-    (sym (names_stay g.B.D.Disk.content g.B.D.Disk.faults c.in-Ok.core.hosts.logs c.replay-status.new.core.hosts.logs c.replay-status.ensures.disks.logs))
+finish-requires g c = subst (λ (l : List (List ℕ)). AreOut g.B.Bay.out (l ++ state_a ∷ state_b ∷ []) c.start.new.bay)
+    (sym (names_stay g.B.D.Disk.content g.B.D.Disk.faults c.in-Ok.core.hosts.parts c.replay-status.new.core.hosts.parts c.replay-status.ensures.disks.parts))
     c.in-Ok.ensures.taken
 
 pub returns-in-Ok-clause-replay : goal.returns-in-Ok-clause-replay
