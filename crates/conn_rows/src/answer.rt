@@ -2,17 +2,25 @@
 ghost use Rattle.std.specs.Prelude.{All, IsTrue};
 ghost use Rattle.call_fold.specs.Parts.{IsTellable, HasTellableBase};
 
+use crate::visited::Visited;
 use call_fold::Produced;
+use msgs_group::HeartbeatReply;
 use share_model::{BatchFault, RowState, Run, StoreFault};
 use std::alloc::Global;
 use std::io;
 
-/// What a shard answers: to a call on a state, or to a batch.
+/// What a shard answers: to a call on a state, a batch, a visit, a look, or a heartbeat.
 #[derive(Drop)]
 pub enum Answer {
     State(StateAnswer),
     Log(Produced),
+    Visit(Visited),
+    Stored(Stored),
+    Members(HeartbeatReply),
 }
+
+/// What is stored of a group, `None` where it has no table.
+pub type Stored = Option<StateAnswer>;
 
 /// A code, and what a granted read tells.
 #[derive(Drop)]
@@ -55,7 +63,7 @@ fn words_of<'a>(alloc: Global, text: &'a str) -> io::Result<Vec<&'a str>> {
 }
 
 /// Reads a code, a state epoch, a start offset and runs.
-pub fn read_answer(alloc: Global, text: &str) -> io::Result<Answer> {
+pub fn read_answer(alloc: Global, text: &str) -> io::Result<StateAnswer> {
     let (code, rest) = text.split_once(' ').unwrap_or((text, ""));
     let (state_epoch, rest) = rest.split_once(' ').unwrap_or((rest, ""));
     let (start, rest) = rest.split_once(' ').unwrap_or((rest, ""));
@@ -65,12 +73,23 @@ pub fn read_answer(alloc: Global, text: &str) -> io::Result<Answer> {
             runs.push(run)?;
         }
     }
-    Ok(Answer::State(StateAnswer {
+    Ok(StateAnswer {
         code: code.parse().unwrap_or(-1),
         state_epoch: state_epoch.parse().unwrap_or(-1),
         start: start.parse().unwrap_or(-1),
         runs,
-    }))
+    })
+}
+
+/// Reads what is stored of a group: `absent`, or its leader epoch, its state epoch, its start offset and its runs.
+pub fn read_stored(alloc: Global, text: &str) -> io::Result<Stored> {
+    match text {
+        "absent" => Ok(None),
+        _ => {
+            let state = read_answer(alloc, text)?;
+            Ok(Some(state))
+        }
+    }
 }
 
 /// The fault of this name, by which a batch is refused.
@@ -91,8 +110,8 @@ fn fault_of(name: &str) -> Option<BatchFault> {
 }
 
 /// Reads what a log says: an offset, the name of a fault of a batch, `Full`, or any other word for a device's fault.
-pub fn read_log(text: &str) -> Answer {
-    let produced = match text.parse() {
+pub fn read_log(text: &str) -> Produced {
+    match text.parse() {
         Ok(base) => Produced::Base(base),
         Err(_) => match fault_of(text) {
             Some(fault) => Produced::Batch(fault),
@@ -101,8 +120,7 @@ pub fn read_log(text: &str) -> Answer {
                 _ => Produced::Store(StoreFault::Device),
             },
         },
-    };
-    Answer::Log(produced)
+    }
 }
 
 /// Whether a batch of a reply can tell each run.

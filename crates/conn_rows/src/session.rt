@@ -1,14 +1,15 @@
 // One connection, and what it is called with.
-ghost use Rattle.std.specs.Prelude.{◌≡◌, All, IfSome, Some};
-ghost use Rattle.call_fold.specs.Parts.{IsTellable, HasTellableBase, IsAnswerTo};
+ghost use Rattle.std.specs.Prelude.{◌≡◌, Some};
 ghost use Rattle.conn_core.specs.Turning.{awaited_part};
 
-use crate::answer::{Answer, StateAnswer, are_tellable, has_tellable_base, read_answer, read_log};
-use call_fold::Produced;
-use conn_core::{Conn, Next, Part, PartAnswer};
-use flex_fields::Items;
+use crate::answer::{Answer, read_answer, read_log, read_stored};
+use crate::shard::shard_answer;
+use crate::telling::part_text;
+use crate::visited::read_visited;
+use conn_core::{Conn, Next, Part};
+use msgs_group::read_heartbeat_reply;
 use row_text::{Rows, Taken, bytes_of, compared, without_blanks};
-use share_model::{CloseCause, Code, ForeignAnswer, ForeignOp, Key, StateBatch};
+use share_model::CloseCause;
 use std::alloc::Global;
 use std::collections::VecDeque;
 use std::io;
@@ -40,75 +41,6 @@ fn push_line(out: &mut String, word: &str, text: &str) -> io::Result<()> {
     Ok(out.push_str("\n")?)
 }
 
-fn key_text(alloc: Global, key: &Key) -> io::Result<String> {
-    let (group, topic, part) = (key.group.as_str(), key.topic, key.part);
-    Ok(format!(in alloc; "{group} {topic} {part}")?)
-}
-
-/// Adds the numbers of each batch.
-fn push_batches(alloc: Global, text: &mut String, batches: &[StateBatch]) -> io::Result<()> {
-    for batch in batches {
-        let StateBatch {
-            first,
-            last,
-            state,
-            count,
-        } = *batch;
-        let numbers = format!(in alloc; " {first} {last} {state} {count}")?;
-        text.push_str(numbers.as_str())?;
-    }
-    Ok(())
-}
-
-/// A call on a state, in the words of the state calls.
-fn op_text(alloc: Global, op: &ForeignOp) -> io::Result<String> {
-    match op {
-        ForeignOp::Init {
-            key,
-            state_epoch,
-            start,
-        } => {
-            let key = key_text(alloc, key)?;
-            Ok(format!(in alloc; "initialize {key} state-epoch {state_epoch} start {start}")?)
-        }
-        ForeignOp::Read { key, leader_epoch } => {
-            let key = key_text(alloc, key)?;
-            Ok(format!(in alloc; "read {key} leader-epoch {leader_epoch}")?)
-        }
-        ForeignOp::Write {
-            key,
-            state_epoch,
-            leader_epoch,
-            start,
-            batches,
-        } => {
-            let key = key_text(alloc, key)?;
-            let mut text = format!(in alloc;
-                "write {key} state-epoch {state_epoch} leader-epoch {leader_epoch} start {start} batches"
-            )?;
-            push_batches(alloc, &mut text, batches.as_slice())?;
-            Ok(text)
-        }
-        ForeignOp::Delete { key } => {
-            let key = key_text(alloc, key)?;
-            Ok(format!(in alloc; "delete {key}")?)
-        }
-    }
-}
-
-/// A part: a call on a state, a batch for the log of a shard, or what share groups ask of one.
-fn part_text(alloc: Global, part: &Part) -> io::Result<String> {
-    match part {
-        Part::Foreign(op) => op_text(alloc, op),
-        Part::Produce { shard, batch } => {
-            let digits = hex::encode(alloc, batch.as_slice())?;
-            Ok(format!(in alloc; "produce {shard} {digits}")?)
-        }
-        Part::Visit { shard, .. } => Ok(format!(in alloc; "visit {shard}")?),
-        Part::Look { shard, .. } => Ok(format!(in alloc; "look {shard}")?),
-    }
-}
-
 fn cause_text(alloc: Global, cause: CloseCause) -> io::Result<String> {
     match cause {
         CloseCause::TooLong { size } => Ok(format!(in alloc; "too-long {size}")?),
@@ -118,49 +50,6 @@ fn cause_text(alloc: Global, cause: CloseCause) -> io::Result<String> {
         CloseCause::BadBody { place } => Ok(format!(in alloc; "bad-body {place}")?),
         CloseCause::BadHeader => Ok(String::from_str(alloc, "bad-header")?),
         CloseCause::LongReply => Ok(String::from_str(alloc, "long-reply")?),
-    }
-}
-
-/// What the foreign shard answers. `None` where a reply can't tell it.
-fn state_answer(answer: StateAnswer) -> Option<ForeignAnswer>
-    ensures { IfSome result (λ told. All IsTellable told.runs) }
-{
-    if answer.runs.len() >= 1000 || !are_tellable(answer.runs.as_slice()) {
-        return None;
-    }
-    Some(ForeignAnswer {
-        code: Code(answer.code),
-        state_epoch: answer.state_epoch,
-        start: answer.start,
-        runs: Items::new(answer.runs),
-    })
-}
-
-/// What a log answers. `None` where a reply can't tell it.
-fn log_answer(produced: Produced) -> Option<Produced>
-    ensures { IfSome result HasTellableBase }
-{
-    if has_tellable_base(produced) {
-        Some(produced)
-    } else {
-        None
-    }
-}
-
-/// What a shard answers to this part. `None` where the answer is of another kind, or a reply can't tell it.
-fn shard_answer(part: &Part, answer: Answer) -> Option<PartAnswer>
-    ensures { IfSome result (IsAnswerTo part.now) }
-{
-    match part {
-        Part::Foreign(_) => match answer {
-            Answer::State(answer) => state_answer(answer).map(PartAnswer::Foreign),
-            Answer::Log(_) => None,
-        },
-        Part::Produce { .. } => match answer {
-            Answer::State(_) => None,
-            Answer::Log(produced) => log_answer(produced).map(PartAnswer::Produce),
-        },
-        Part::Visit { .. } | Part::Look { .. } => None,
     }
 }
 
@@ -326,11 +215,34 @@ impl Session {
         }
     }
 
+    /// The members of the groups answer with the heartbeat's reply of this body.
+    fn members(&mut self, alloc: Global, text: &str) -> io::Result<Taken> {
+        let Some(bytes) = bytes_of(alloc, text)? else {
+            return Ok(Taken::Unknown);
+        };
+        match read_heartbeat_reply(alloc, &bytes) {
+            Ok(reply) => {
+                self.answers.push_back(Answer::Members(reply))?;
+                Ok(Taken::Noted)
+            }
+            Err(_) => Ok(Taken::Unknown),
+        }
+    }
+
     /// Takes what the client or a shard does.
     fn act(&mut self, alloc: Global, kind: &str, text: &str) -> io::Result<Taken> {
         match kind {
-            "answer" => self.answers.push_back(read_answer(alloc, text)?)?,
-            "log" => self.answers.push_back(read_log(text))?,
+            "answer" => self
+                .answers
+                .push_back(Answer::State(read_answer(alloc, text)?))?,
+            "log" => self.answers.push_back(Answer::Log(read_log(text)))?,
+            "visited" => self
+                .answers
+                .push_back(Answer::Visit(read_visited(alloc, text)?))?,
+            "stored" => self
+                .answers
+                .push_back(Answer::Stored(read_stored(alloc, text)?))?,
+            "members" => return self.members(alloc, text),
             "send" => return self.send(alloc, usize::MAX, text),
             "pieces" => {
                 let (length, digits) = text.split_once(' ').unwrap_or((text, ""));

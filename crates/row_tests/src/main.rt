@@ -11,7 +11,7 @@
 //! | `cut TEXT` | text without a line feed |
 //! | `segment HEX ..` | bytes of the input, behind the script; blanks in the hex are for reading |
 //! | `read-fault N`, `write-fault N` | the call of the input or output that fails, counted from 0 |
-//! | `bay-fault N` | the call for a disk that fails, counted from 0; of a replay the logs of the partitions come first, in their order, and then `foreign/state-a` and `foreign/state-b`; of a load there is the log alone |
+//! | `bay-fault N` | the call for a disk that fails, counted from 0; of a replay the disks of the partitions come first, in their order, of each its `log`, `state-a` and `state-b`, and then `foreign/state-a` and `foreign/state-b`; of a load there is the log alone |
 //! | `disk NAME HEX ..` | the content of a disk before the run; one that has no such line is empty |
 //! | `armed NAME N MODE` | a fault of a disk that is armed before the run |
 //! | `left NAME HEX ..` | the content that a disk is wanted to have behind the run |

@@ -14,6 +14,7 @@
 // The entries are those of `sessions.rt`. A visit is told as its shard, what follows the acknowledgements, with `fetch` the records and the
 // bytes that are left and `first`, and how many acknowledgement batches it has. A reply is told as `replies.rt` has it.
 ghost use Rattle.call_fold.specs.Parts.{IsTellableVisit};
+ghost use Rattle.share_calls.specs.Changes.{Fits};
 
 use crate::answer::{given_of, visit_answer};
 use crate::hosted::config_of;
@@ -31,7 +32,7 @@ use share_calls::{
     AckHand, AckStage, FetchHand, FetchRow, FetchStage, Visiting, ack_call, fetch_call,
 };
 use share_model::{NoMemory, Then, VisitAnswer};
-use share_session::Sessions;
+use share_session::{SessionChange, Sessions};
 use std::alloc::Global;
 use std::io;
 use topic_conf::Config;
@@ -113,6 +114,16 @@ fn take_ack(alloc: Global, asking: Acknowledging, answer: VisitAnswer) -> Result
     take(alloc, asking, PartAnswer::Visit(answer))
 }
 
+/// A request changes its session.
+fn changed(sessions: &mut Sessions, change: Option<SessionChange>) -> Result<(), NoMemory>
+    requires { Fits change sessions.old }
+{
+    match change {
+        Some(change) => sessions.apply(change),
+        None => Ok(()),
+    }
+}
+
 impl Serving {
     fn fetch_stage(
         &mut self,
@@ -153,12 +164,18 @@ impl Serving {
     }
 
     fn fetch(&mut self, alloc: Global, request: &ShareFetchRequest) -> io::Result<String> {
-        let stage = fetch_call(alloc, &self.conf, &mut self.sessions, request);
+        let stage = match fetch_call(alloc, &self.conf, &self.sessions, request) {
+            Ok((stage, change)) => changed(&mut self.sessions, change).map(|()| stage),
+            Err(_) => Err(NoMemory),
+        };
         self.fetch_stage(alloc, stage)
     }
 
     fn acknowledge(&mut self, alloc: Global, request: &ShareAckRequest) -> io::Result<String> {
-        let stage = ack_call(alloc, &self.conf, &mut self.sessions, request);
+        let stage = match ack_call(alloc, &self.conf, &self.sessions, request) {
+            Ok((stage, change)) => changed(&mut self.sessions, change).map(|()| stage),
+            Err(_) => Err(NoMemory),
+        };
         self.ack_stage(alloc, stage)
     }
 

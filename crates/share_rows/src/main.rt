@@ -2,13 +2,14 @@
 //! sessions of connections, and their requests in hand.
 //!
 //! A case is lines that are done one after another: `KIND WORDS gives TEXT`, and `gives ok` where a line ends before that. The files
-//! say which there are: `windows.rt`, `parts.rt`, `members.rt`, `sessions.rt` and `calls.rt`.
+//! say which there are: `windows.rt`, `parts.rt`, `locks.rt`, `members.rt`, `sessions.rt` and `calls.rt`.
 #![tactic(auto)]
 
 mod answer;
 mod calls;
 mod case;
 mod hosted;
+mod locks;
 mod members;
 mod parts;
 mod replies;

@@ -1,4 +1,5 @@
 // The shard of a hosted partition, with disks in memory. It is partition 0 of the topic whose id has the byte 0x22 sixteen times.
+// `locks.rt` has the lines on acknowledgements, releases and expiries.
 //
 // | Line | Gives |
 // |---|---|
@@ -13,6 +14,7 @@
 // | `groups` | the groups that have a table |
 // | `arm DISK N MODE` | N calls of `log`, `state-a` or `state-b` pass, and the next fails: `once`, `torn` or `dead` |
 // | `power K` | the disks lose power, each keeps the first K changes since its last sync, and the partition is opened again |
+use crate::locks;
 use crate::words::{field, no_acks, number};
 use edge_io::{Disk, DiskPlace, FaultMode};
 use edge_mem::MemDisk;
@@ -20,8 +22,8 @@ use part_log::PartLog;
 use rec_batch::{Rec, fits_batch, write_batch};
 use row_text::bytes_of;
 use share_model::{
-    Blob, Grant, LogFault, Name, Reset, RowState, Run, StoreFault, Then, ThenOutcome, Visit,
-    VisitAnswer,
+    AckList, Blob, Grant, LogFault, Name, Reset, RowState, Run, StoreFault, Then, ThenOutcome,
+    Visit, VisitAnswer,
 };
 use share_part::{PartConf, PartFault, PartOpen, PartShard};
 use std::alloc::Global;
@@ -29,7 +31,7 @@ use std::io;
 use uuid::Uuid;
 use window_rows::WindowRows;
 
-type Shard = PartShard<MemDisk, WindowRows>;
+pub type Shard = PartShard<MemDisk, WindowRows>;
 
 #[derive(Drop)]
 pub struct Part {
@@ -104,7 +106,7 @@ fn records_of(alloc: Global, count: u64) -> io::Result<Option<Blob>> {
     Ok(write_batch(alloc, &records).ok())
 }
 
-fn store_text(alloc: Global, fault: StoreFault) -> io::Result<String> {
+pub fn store_text(alloc: Global, fault: StoreFault) -> io::Result<String> {
     match fault {
         StoreFault::Device => word(alloc, "fails"),
         StoreFault::Full { end } => Ok(format!(in alloc; "full {end}")?),
@@ -136,7 +138,7 @@ fn push_grant(alloc: Global, text: &mut String, grant: &Grant) -> io::Result<()>
     Ok(text.push_str(grant.as_str())?)
 }
 
-fn answer_text(alloc: Global, answer: &VisitAnswer) -> io::Result<String> {
+pub fn answer_text(alloc: Global, answer: &VisitAnswer) -> io::Result<String> {
     if let ThenOutcome::Store(fault) = answer.then {
         return store_text(alloc, fault);
     }
@@ -154,24 +156,34 @@ fn answer_text(alloc: Global, answer: &VisitAnswer) -> io::Result<String> {
     Ok(text)
 }
 
-fn visit(alloc: Global, shard: &mut Shard, text: &str, then: Then) -> io::Result<String> {
+/// The answer to a visit of the member of a group, behind the moment. `None` where the moment or a name isn't one, or memory runs out.
+pub fn visited(
+    shard: &mut Shard,
+    text: &str,
+    acks: AckList,
+    then: Then,
+) -> io::Result<Option<VisitAnswer>> {
     let (now, rest) = number(text);
     let (group, rest) = field(rest);
     let (Some(group), Some(member)) = (Name::new(group), Name::new(field(rest).0)) else {
-        return word(alloc, "no name");
+        return Ok(None);
     };
     if now > 1 << 62 {
-        return word(alloc, "too late");
+        return Ok(None);
     }
     let visit = Visit {
         group,
         member,
-        acks: no_acks(alloc),
+        acks,
         then,
     };
-    match shard.visit(now, &visit) {
-        Ok(answer) => answer_text(alloc, &answer),
-        Err(_) => word(alloc, "no memory"),
+    Ok(shard.visit(now, &visit).ok())
+}
+
+fn visit(alloc: Global, shard: &mut Shard, text: &str, then: Then) -> io::Result<String> {
+    match visited(shard, text, no_acks(alloc), then)? {
+        Some(answer) => answer_text(alloc, &answer),
+        None => word(alloc, "no answer"),
     }
 }
 
@@ -265,7 +277,7 @@ fn shard_told(
             arm(shard, text);
             word(alloc, "ok")?
         }
-        _ => return Ok(None),
+        _ => return locks::told(alloc, shard, kind, text),
     };
     Ok(Some(told))
 }
