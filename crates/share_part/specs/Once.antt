@@ -1,6 +1,6 @@
 -- What a call on the shard of a partition does, as one record. This project's own.
 -- For example a visit without acknowledgements that finds no memory leaves what the shard and its disks stand for.
-use Rattle.std.specs.Prelude.{◌≡◌, ◌≢◌, ◌⊎◌, max, ℕ, List, Bool, Option, Some, Result, Ok, Err, IfOk, OnErr}
+use Rattle.std.specs.Prelude.{◌≡◌, ◌≢◌, ◌⊎◌, ◌≤◌, max, ℕ, List, Bool, Option, Some, Result, Ok, Err, IfOk, OnErr}
 use Rattle.edge_io.specs.Armed.{StarvesUnarmed}
 use Rattle.edge_io.specs.Causes.{Rose}
 use Rattle.edge_io.specs.Moments.{LeavesOnly}
@@ -39,6 +39,8 @@ pub record FollowsOnce {D W : Type 0} (content : D → Option (List ℕ)) (image
   -- with nothing armed, a device fault comes only where the disk finds no memory
   pub sound : IfOk result (λ answer. answer.then ≡ Store Device →
       StarvesUnarmed content armed starved before.states.journal.live.disk after.states.journal.live.disk)
+  -- the journal of the states never ends before where it did
+  pub ends : (old : PartShardState) → Carries image holding before old → before.states.journal.live.end ≤ after.states.journal.live.end
   -- the log, its disk and the second state disk stay
   pub log : after.log ≡ before.log
   pub idle : after.states.journal.idle ≡ before.states.journal.idle
@@ -48,7 +50,8 @@ pub record FollowsOnce {D W : Type 0} (content : D → Option (List ℕ)) (image
 abbrev pub Visited : {D W : Type 0} → (D → List ℕ → Type 0) → (D → ℕ) → (W → Held) → ℕ → Visit → PartParts D W → PartParts D W → VisitAnswer → Type 0
 Visited image faults holding now visit before after answer = (old : PartShardState) → Carries image holding before old → (new : PartShardState)
     × Carries image holding after new
-    × StepsVisit before.conf (faults before.states.journal.live.disk) (faults after.states.journal.live.disk) before.states.journal.live.end old now visit answer new
+    × StepsVisit before.conf (faults before.states.journal.live.disk) (faults after.states.journal.live.disk) before.states.journal.live.end
+    after.states.journal.live.end old now visit answer new
 
 -- the acknowledgements were done alone
 abbrev pub AcksStand : {D W : Type 0} → (D → List ℕ → Type 0) → (D → ℕ) → (W → Held) → Visit → PartParts D W → PartParts D W → PartShardState → Type 0
@@ -68,6 +71,8 @@ pub record VisitsOnce {D W : Type 0} (content : D → Option (List ℕ)) (image 
   -- with nothing armed, a device fault comes only where the disk finds no memory
   pub sound : IfOk result (λ answer. answer.then ≡ Store Device →
       StarvesUnarmed content armed starved before.states.journal.live.disk after.states.journal.live.disk)
+  -- the journal of the states never ends before where it did
+  pub ends : (old : PartShardState) → Carries image holding before old → before.states.journal.live.end ≤ after.states.journal.live.end
   -- the log, its disk and the second state disk stay
   pub log : after.log ≡ before.log
   pub idle : after.states.journal.idle ≡ before.states.journal.idle
@@ -77,12 +82,14 @@ pub record VisitsOnce {D W : Type 0} (content : D → Option (List ℕ)) (image 
 abbrev pub Expired : {D W : Type 0} → (D → List ℕ → Type 0) → (D → ℕ) → (W → Held) → ℕ → PartParts D W → PartParts D W → ExpireAnswer → Type 0
 Expired image faults holding now before after answer = (old : PartShardState) → Carries image holding before old → (new : PartShardState)
     × Carries image holding after new
-    × StepsExpire before.conf (faults before.states.journal.live.disk) (faults after.states.journal.live.disk) before.states.journal.live.end old now answer new
+    × StepsExpire before.conf (faults before.states.journal.live.disk) (faults after.states.journal.live.disk) before.states.journal.live.end
+    after.states.journal.live.end old now answer new
 
 -- some groups were done alone
 abbrev pub PartStands : {D W : Type 0} → (D → List ℕ → Type 0) → (D → ℕ) → (W → Held) → ℕ → PartParts D W → PartParts D W → PartShardState → Type 0
 PartStands image faults holding now before after old = (new : PartShardState) × Carries image holding after new
-    × ExpiresPart before.conf (faults before.states.journal.live.disk) (faults after.states.journal.live.disk) before.states.journal.live.end old now new
+    × ExpiresPart before.conf (faults before.states.journal.live.disk) (faults after.states.journal.live.disk) before.states.journal.live.end
+    after.states.journal.live.end old now new
 
 -- nothing that any group holds has ended by a moment
 abbrev pub IsNothingDue : {W : Type 0} → (W → Held) → List (List ℕ × W) → (clock : ℕ) → Type 0
@@ -102,6 +109,8 @@ pub record ExpiresOnce {D W : Type 0} (content : D → Option (List ℕ)) (image
   -- with nothing armed, a device fault comes only where the disk finds no memory
   pub sound : IfOk result (λ answer. (freed : ℕ) (group : List ℕ) → answer ≡ expire_store freed group Device →
       StarvesUnarmed content armed starved before.states.journal.live.disk after.states.journal.live.disk)
+  -- the journal of the states never ends before where it did
+  pub ends : (old : PartShardState) → Carries image holding before old → before.states.journal.live.end ≤ after.states.journal.live.end
   -- the log, its disk and the second state disk stay
   pub log : after.log ≡ before.log
   pub idle : after.states.journal.idle ≡ before.states.journal.idle
@@ -122,6 +131,8 @@ pub record ProducesOnce {D W : Type 0} (content : D → Option (List ℕ)) (imag
   -- at each moment since it began a crash leaves the log at entry, with or without its pending batch, or with this one
   pub any_moment : (old : PartShardState) → Carries image holding before old → LeavesOnly moment since before.log.journal.disk after.log.journal.disk
       (λ c. IsLogOf old.log c ⊎ IsLogOf (record { batches = old.log.batches; pending = Some (at_end old.log.batches bytes) }) c)
+  -- its journal never ends before where it did
+  pub ends : (old : PartShardState) → Carries image holding before old → before.log.journal.end ≤ after.log.journal.end
   -- the states and their disks stay
   pub states : after.states ≡ before.states
   pub conf : after.conf ≡ before.conf

@@ -94,6 +94,7 @@ pub record ReleasesOnce {D W : Type 0} (content : D → Option (List ℕ)) (imag
   pub memory : OnErr result ((old : PartShardState) → Carries image holding before old → Carries image holding after old)
   pub sound : IfOk result (λ released. released ≡ Store Device →
       StarvesUnarmed content armed starved before.states.journal.live.disk after.states.journal.live.disk)
+  pub ends : (old : PartShardState) → Carries image holding before old → before.states.journal.live.end ≤ after.states.journal.live.end
   pub log : after.log ≡ before.log
   pub idle : after.states.journal.idle ≡ before.states.journal.idle
   pub conf : after.conf ≡ before.conf

@@ -23,9 +23,9 @@ pub record StepsAcks (conf : PartConfParts) (rose : Type 0) (end : ℕ) (old : P
 abbrev pub AreToWrite : PartShardState → Visit → Type 0
 AreToWrite old visit = AreTheirs old visit × NameOne (kind_at visit.acks)
 
--- A visit at the moment `now`. `count` and `later` are the faults of the first state disk before it and behind it, `end` is where its journal ends
--- before it.
-pub record StepsVisit (conf : PartConfParts) (count later end : ℕ) (old : PartShardState) (now : ℕ) (visit : Visit) (answer : VisitAnswer)
+-- A visit at the moment `now`. `count` and `later` are the faults of the first state disk before it and behind it, `end` and `last` are where its
+-- journal ends before it and behind it.
+pub record StepsVisit (conf : PartConfParts) (count later end last : ℕ) (old : PartShardState) (now : ℕ) (visit : Visit) (answer : VisitAnswer)
     (new : PartShardState) : Type 0 where
   -- what the acknowledgements left, the faults by then, and where the journal ended then
   pub between : PartShardState
@@ -33,6 +33,7 @@ pub record StepsVisit (conf : PartConfParts) (count later end : ℕ) (old : Part
   pub at : ℕ
   pub acks : StepsAcks conf (Rose count counted) end old visit answer.ack between
   pub counts : (count ≤ counted) × (counted ≤ later)
+  pub ends : (end ≤ at) × (at ≤ last)
   pub unwritten : (AreToWrite old visit → ⊥) → at ≡ end
   pub does : Does conf (Rose counted later) at between visit answer new visit.then
   pub clock : new.clock ≡ max old.clock now
