@@ -93,6 +93,7 @@ pub record IsRestartedShard {D : Type 0} (content : D → Option (List ℕ)) (im
   pub carried : IsCarried content image starved new after
   pub lands : Lands shard after
   pub stands : StandForStates a b after.states
+  pub were : image old.journal.live.disk a × image old.journal.idle b
   pub lost : losses new.journal.live.disk ≡ losses old.journal.live.disk ++ (choice, a) ∷ []
   pub second_lost : losses new.journal.idle ≡ losses old.journal.idle ++ (choice, b) ∷ []
   pub on_first : IsRestarted (facts_of faults losses arms armed old.journal.live.disk) (facts_of faults losses arms armed new.journal.live.disk)
@@ -155,6 +156,7 @@ pub record IsRestartedPart {D : Type 0} (content : D → Option (List ℕ)) (ima
   pub log_is : IsOneOf shard.log.batches (and_pending shard.log.batches shard.log.pending) batches
   pub states_are : IsOneOf shard.states shard.pending states
   pub stands : ArePartText conf l a b batches states
+  pub were : image old.log.journal.disk l × image old.states.journal.live.disk a × image old.states.journal.idle b
   pub log_lost : losses new.log.journal.disk ≡ losses old.log.journal.disk ++ (choice, l) ∷ []
   pub first_lost : losses new.states.journal.live.disk ≡ losses old.states.journal.live.disk ++ (choice, a) ∷ []
   pub second_lost : losses new.states.journal.idle ≡ losses old.states.journal.idle ++ (choice, b) ∷ []
@@ -173,6 +175,8 @@ pub record ReopensSlot {D : Type 0} (content : D → Option (List ℕ)) (image :
   pub topic : new.topic ≡ old.topic
   pub conf : new.conf ≡ old.conf
   pub goes : PartGoesOn content faults was is
+  pub images : PartImagesStandAs image was.log.journal.disk was.states.journal.live.disk was.states.journal.idle
+      is.log.journal.disk is.states.journal.live.disk is.states.journal.idle
   pub reopens : (s : PartShardState) → IsPartCarried content image starved old.conf was s
       → IsRestartedPart content image starved faults losses arms armed choice old.conf was s is
 
@@ -190,6 +194,7 @@ pub record ShutsSlot {D : Type 0} (content : D → Option (List ℕ)) (image : D
   pub on_log : GoesOn content faults was.log.journal.disk log
   pub on_first : GoesOn content faults was.states.journal.live.disk first
   pub on_second : GoesOn content faults was.states.journal.idle second
+  pub images : PartImagesStandAs image was.log.journal.disk was.states.journal.live.disk was.states.journal.idle log first second
   pub shuts : (s : PartShardState) → IsPartCarried content image starved old.conf was s
       → PartStandsAlone content image old.conf s log first second × (fault ≡ event_fault.NoMemory)
   pub device : fault ≡ event_fault.Reopen Device → Rose (faults was.log.journal.disk) (faults log)

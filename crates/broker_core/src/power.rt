@@ -1,9 +1,9 @@
 // Power losses: all disks lose their power, and each shard is opened again.
-ghost use Rattle.std.specs.Prelude.{◌≡◌, ◌≢◌, ◌⊎◌, IfErr, OnOk, Err};
+ghost use Rattle.std.specs.Prelude.{◌≡◌, ◌≢◌, ◌⊎◌, ◌-◌, IfErr, OnOk, Err};
 ghost use Rattle.std.specs.List.{AllZip};
 ghost use Rattle.edge_io.specs.Names.{IsTopicName};
 ghost use Rattle.broker_model.specs.Shards.{Shards};
-ghost use Rattle.broker_core.specs.Hosts.{AreApart, AreCarried, AreHeld, AreNamed, AreOpen, AreOpenParts, GoOn, IsOpen, IsOpenState, OneRose, StandStill, StaysHosted, disks_in, hosted_slots, parts_of};
+ghost use Rattle.broker_core.specs.Hosts.{AreApart, AreCarried, AreHeld, AreNamed, AreOpen, AreOpenParts, DisksReach, GoOn, IsOpen, IsOpenState, OneRose, StandStill, StaysHosted, disks_in, ends_in, hosted_slots, parts_of};
 ghost use Rattle.broker_core.specs.Restarts.{ReopensSlot, ShutsSlot, StopsAt};
 ghost use Rattle.broker_core.specs.Cores.{AreReopened};
 ghost use Rattle.broker_core.specs.Foreign.{ReopensForeign, ShutsForeign};
@@ -102,7 +102,8 @@ pub fn lose_power<D: Disk + Drop>(
     ensures ok { OnOk result ((s : Shards) → AreCarried D.content D.image D.starved (parts_of hosts.old) s →
         AreReopened D.content D.image D.starved D.faults D.losses D.arms D.armed choice (parts_of hosts.old) s (parts_of hosts.new)) }
     ensures stopped { IfErr result (λ e. (s : Shards) → AreCarried D.content D.image D.starved (parts_of hosts.old) s →
-        StandStill D.content D.image s (disks_in (parts_of hosts.new)) × (e ≡ CoreFault.NoMemory)) }
+        StandStill D.content D.image s (disks_in (parts_of hosts.new))
+        × DisksReach D.image (disks_in (parts_of hosts.new)) (λ name. ends_in (parts_of hosts.old) name - 1) × (e ≡ CoreFault.NoMemory)) }
     ensures device { result ≡ Err (CoreFault.Reopen CoreOpen.Device) → OneRose D.faults (disks_in (parts_of hosts.old)) (disks_in (parts_of hosts.new)) }
     ensures never { (f : CoreOpen) → result ≡ Err (CoreFault.Reopen f) → (f ≢ CoreOpen.Bay) × (f ≢ CoreOpen.NoMemory) }
     ensures disks { GoOn D.content D.faults (disks_in (parts_of hosts.old)) (disks_in (parts_of hosts.new)) }
