@@ -15,6 +15,7 @@ use Rattle.share_coord.specs.Stored.{Entries, Follows}
 use Rattle.share_coord.specs.Holding.{Holds, IsHeld, WritesOnce}
 use Rattle.share_coord.specs.declared.fault.CoordFault.{CoordFault}
 use Rattle.share_coord.specs.declared.fault.CoordFault.TheVariants.{Store, NoMemory}
+use Rattle.share_coord.proofs.Ends.{later_end, same_end}
 use Rattle.share_coord.proofs.Faults.{ok_is_no_err, err_of}
 use Rattle.share_coord.proofs.Held.{accepts, done, lost, moments}
 
@@ -31,6 +32,7 @@ untouched image moment since Failed only_now Written store e other = record {
   failed = λ pending held. inl held;
   device = λ is. absurd (other Device (err_of e _ is));
   full = λ end is. absurd (other (Full end) (err_of e _ is));
+  ends = λ pending held. refl;
   any_moment = λ pending held. record {
     later_a = omega arith;
     later_b = omega arith;
@@ -56,6 +58,9 @@ module _ {D T : Type 0} (image : D → List ℕ → Type 0) (moment : D → ℕ)
     failed = tt;
     device = λ e. absurd (ok_is_no_err x _ e);
     full = λ end e. absurd (ok_is_no_err x _ e);
+    ends = λ pending held.
+        later_end image old.live new.live held.frames held.unwritten None (record_bytes record_is) held.keeps.stands
+        (keeps held.frames held.unwritten held.keeps).0.stands;
     any_moment = moments image record_is old new entries next Written follows is moment since old.live.disk new.live.disk old.idle new.idle run;
   }
 
@@ -86,6 +91,10 @@ module _ {D T : Type 0} (image : D → List ℕ → Type 0) (moment : D → ℕ)
     full = λ end at.
         let f = full end (from ∙ ap Err (err_of e _ at)) in
         (f.0, (record_bytes record_is, next, is, accepts image record_is old new entries next f.1 follows, f.2));
+    ends = λ pending held. ⊎_elim
+        (λ k. same_end image old.live new.live held.frames held.unwritten held.unwritten held.keeps.stands k.stands)
+        (λ k. same_end image old.live new.live held.frames held.unwritten (Some (record_bytes record_is)) held.keeps.stands k.1.stands)
+        (keeps held.frames held.unwritten held.keeps);
     any_moment = moments image record_is old new entries next Written follows is moment since old.live.disk new.live.disk old.idle new.idle run;
   }
     where
@@ -116,6 +125,7 @@ rewritten image moment since Failed P Q old new r f once = record {
   failed = on_err_weaker r (λ h pending held. ⊎_elim (λ x. inl x) (λ x. inr (x.0, f x.0 x.1, x.2)) (h pending held)) once.failed;
   device = λ at. let x = once.device at in (x.0, (x.1.0, f x.1.0 x.1.1));
   full = λ end at. let x = once.full end at in (x.0, (x.1.0, x.1.1, f x.1.1 x.1.2, x.1.3, x.1.4));
+  ends = once.ends;
   any_moment = λ pending held. let run = once.any_moment pending held in record {
     later_a = run.later_a;
     later_b = run.later_b;
