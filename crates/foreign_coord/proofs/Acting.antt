@@ -1,5 +1,5 @@
 -- From what the store does to what the shard does.
-use Rattle.std.proofs.Common.{◌≡◌, ◌≢◌, ◌⊎◌, ⊎_elim, ◌<◌, ◌+◌, ◌^◌, inl, inr, refl, sym, ap, subst, arith, ℕ, List, length}
+use Rattle.std.proofs.Common.{◌≡◌, ◌≢◌, ◌⊎◌, ⊎_elim, ◌<◌, ◌≤◌, ◌+◌, ◌^◌, inl, inr, refl, sym, ap, subst, arith, ℕ, List, length}
 use Rattle.std.proofs.Common.{Bool, false, Option, Some, None, Result, Ok, Err, IfOk, IfErr, OnErr, IsErr, if◌then◌else◌}
 use Rattle.std.specs.Option.{option_map}
 use Rattle.std.proofs.lemmas.Result.{IfOk-weaker}
@@ -27,6 +27,7 @@ use Rattle.share_coord.specs.States.{states_of, AreStates}
 use Rattle.foreign_coord.specs.Codes.{Tells, TellsFault, code_in}
 use Rattle.foreign_coord.specs.Once.{ActsOnce, Carried}
 use Rattle.foreign_coord.specs.Shards.{ForeignShardState, StepsForeign, Grants, IsFull, Carries, IsFound, writes}
+use Rattle.share_coord.proofs.Ends.{later_once}
 use Rattle.share_coord.proofs.Keys.{clash}
 use Rattle.foreign_coord.proofs.Rules.{IsNumeric, IsOther, other_code, none_code}
 
@@ -193,6 +194,9 @@ module _ {D T : Type 0} (content : D → Option (List ℕ)) (image : D → List 
         each = λ a b left right. found_in op Written old.entries pending a b grants (pairs.each a b left right);
       })
 
+  ends_by : (done : Result T CoordFault) → Once done → (s : ForeignShardState) → Carries image old s → old.journal.live.end ≤ new.journal.live.end
+  ends_by done once s c = later_once image moment since (HasFailed content armed starved faults) Written old new done once c.pending c.holds
+
   memory_by : Once (Err NoMemory) → (s : ForeignShardState) → Carries image old s → Carries image new s
   memory_by once = carried image old (λ s. Carries image new s) (λ pending held.
       carries_on image old new pending once.same (once.stays (apart_device NoMemory tt) pending held))
@@ -204,6 +208,7 @@ module _ {D T : Type 0} (content : D → Option (List ℕ)) (image : D → List 
     ok = answered (Carried image faults op old new) _ result is (refused_by e apart by once);
     memory = told _ result ((s : ForeignShardState) → Carries image old s → Carries image new s) is;
     sound = answered (Sound content image armed starved faults op old new) _ result is (λ at. absurd (other_code e other at));
+    ends = ends_by (Err e) once;
     any_moment = moments_by (Err e) once;
   }
 
@@ -219,12 +224,14 @@ module _ {D T : Type 0} (content : D → Option (List ℕ)) (image : D → List 
     ok = answered (Carried image faults op old new) _ result is (stored_by fault once);
     memory = told _ result ((s : ForeignShardState) → Carries image old s → Carries image new s) is;
     sound = answered (Sound content image armed starved faults op old new) _ result is (sound_by fault once);
+    ends = ends_by (Err (Store fault)) once;
     any_moment = moments_by (Err (Store fault)) once;
   }
   by_fault NoMemory result is once f many = record {
     ok = none_told (Carried image faults op old new) result is;
     memory = on_err result ((s : ForeignShardState) → Carries image old s → Carries image new s) (memory_by once);
     sound = none_told (Sound content image armed starved faults op old new) result is;
+    ends = ends_by (Err NoMemory) once;
     any_moment = moments_by (Err NoMemory) once;
   }
 
@@ -237,6 +244,7 @@ module _ {D T : Type 0} (content : D → Option (List ℕ)) (image : D → List 
     ok = answered (Carried image faults op old new) _ result is (done_by x once);
     memory = told _ result ((s : ForeignShardState) → Carries image old s → Carries image new s) is;
     sound = answered (Sound content image armed starved faults op old new) _ result is (λ at. absurd (none_code at));
+    ends = ends_by (Ok x) once;
     any_moment = moments_by (Ok x) once;
   }
   acts (Err e) result is once refused many = by_fault e result is once (refused e refl) (λ n at. many e n refl at)
@@ -259,6 +267,7 @@ idle content image moment since armed starved faults only_now op store result do
       ))) does;
   memory = on_err result ((s : ForeignShardState) → Carries image store s → Carries image store s) (λ s c. c);
   sound = IfOk-weaker result _ _ (λ answer h at. absurd (h.2 at)) does;
+  ends = λ s c. omega arith;
   any_moment = carried image store
       (λ s. LeavesPairs moment since moment since store.journal.live.disk store.journal.live.disk store.journal.idle store.journal.idle (IsFound s op))
       (λ pending held. record {

@@ -1,4 +1,4 @@
-ghost use Rattle.std.specs.Prelude.{◌≡◌, ◌⊎◌, ◌↔◌, true, None, IfOk, IfErr, OnErr, slice_get, MatchResult};
+ghost use Rattle.std.specs.Prelude.{◌≡◌, ◌⊎◌, ◌↔◌, ◌≤◌, true, None, IfOk, IfErr, OnErr, slice_get, MatchResult};
 ghost use Rattle.std.specs.Option.{option_map, option_copied};
 ghost use Rattle.std.specs.Map.{keys_of};
 ghost use Rattle.std.specs.declared.option.Option.{Option};
@@ -183,6 +183,9 @@ impl<D: Disk> ForeignShard<D> {
         ensures sound { IfOk result (λ answer. answer.code ≡ Code.KAFKA_STORAGE_ERROR →
             StarvesUnarmed D.content D.armed D.starved self.old.journal.live.disk self.new.journal.live.disk
             ⊎ IsFull self.old.journal.live.end (states_of self.old.entries) op.now) }
+
+        // Its journal never ends before where it did.
+        ensures ends { (old : ForeignShardState) → Carries D.image self.old old → self.old.journal.live.end ≤ self.new.journal.live.end }
 
         // At each moment since it began, a crash leaves what stood at entry, or what it leaves where it is granted.
         ensures any_moment { (old : ForeignShardState) → Carries D.image self.old old → LeavesPairs D.moment D.since D.moment D.since
