@@ -25,6 +25,7 @@ use Rattle.share_model.specs.declared.visit.VisitAnswer.{VisitAnswer}
 use Rattle.part_log.specs.Logs.{IsStoredLog}
 use Rattle.share_coord.specs.Parts.{StoreParts}
 use Rattle.share_coord.specs.Stored.{Entries}
+use Rattle.share_coord.proofs.Ends.{EndsLater, later_same}
 use Rattle.share_part.specs.Acknowledging.{Acknowledges, AreTheirs, NameNone, NameOne, StoresActs}
 use Rattle.share_part.specs.Following.{Acquires, Does, Fetches, IsEmptyAnswer, MakesTable}
 use Rattle.share_part.specs.Hosting.{PartConfParts, AreHosted, key_of, states_of}
@@ -35,7 +36,7 @@ use Rattle.share_part.specs.Storing.{AcksOnce, SettlesGroup, StoresGroup}
 use Rattle.share_part.specs.Visits.{AreToWrite, StepsAcks}
 use Rattle.share_part.specs.declared.limits.Limits.{Limits}
 use Rattle.share_part.proofs.Holding.{AreKept}
-use Rattle.share_part.proofs.Storage.{behind, same_carried, stands_same, stands_stored, still, stored_device, stored_steps}
+use Rattle.share_part.proofs.Storage.{behind, same_carried, stands_same, stands_stored, still, stored_device, stored_later, stored_steps}
 use Rattle.share_part.proofs.Visiting.{carried, shard_of}
 
 -- ---- an answer with another outcome of the acknowledgements
@@ -121,6 +122,10 @@ module _ {D W : Type 0} (content : D → Option (List ℕ)) (image : D → List 
       → StoresGroup image moment since Failed old.conf old.log.batches visit.group acts was old.states states Same Ends r → Stands
   stored_stand r h = stands_stored content image moment since armed starved faults holding visit.group acts old states windows old.clock sound few hosted kept r h
 
+  later_stored : (r : Result (Option StoreFault) want)
+      → StoresGroup image moment since Failed old.conf old.log.batches visit.group acts was old.states states Same Ends r → EndsLater image old.states states
+  later_stored r h = stored_later content image moment since armed starved faults holding visit.group acts old states windows old.clock sound few hosted kept r h
+
   stands_settled : (r : Result AckOutcome want) → Settles r → Stands
   stands_settled (Ok (NotHeld o)) h = same_stand h.1 h.2
   stands_settled (Ok (Malformed f)) h = absurd h
@@ -198,6 +203,19 @@ module _ {D W : Type 0} (content : D → Option (List ℕ)) (image : D → List 
   pub unwritten : (ack : AckOutcome) → Acked (Ok ack) → (s : PartShardState) → Carries image holding old s → (AreToWrite s visit → ⊥) → states.journal.live.end ≡ old.states.journal.live.end
   unwritten ack h = carried image holding old (λ s. (AreToWrite s visit → ⊥) → states.journal.live.end ≡ old.states.journal.live.end) (λ batch pending k nothing. ends ack h batch pending nothing)
 
+  -- the journal never ends before where it did
+  later_settled : (r : Result AckOutcome want) → Settles r → EndsLater image old.states states
+  later_settled (Ok (NotHeld o)) h = later_same image old.states states h.1
+  later_settled (Ok (Malformed f)) h = absurd h
+  later_settled (Ok Done) h = later_stored (Ok None) h.1
+  later_settled (Ok (Store fault)) h = later_stored (Ok (Some fault)) h.1
+  later_settled (Err e) h = later_stored (Err e) h
+
+  later : (r : Result AckOutcome want) → Acked r → EndsLater image old.states states
+  later r (inl m) = later_same image old.states states m.3.0
+  later r (inr (inl n)) = later_same image old.states states n.3.0
+  later r (inr (inr g)) = later_settled r g.2
+
   -- a device fault
   abbrev Starves : Type 0
   Starves = StarvesUnarmed content armed starved old.states.journal.live.disk states.journal.live.disk
@@ -219,7 +237,7 @@ module _ {D W : Type 0} (content : D → Option (List ℕ)) (image : D → List 
   unanswered e (inl m) = absurd (not_ok e (Malformed m.0) m.1)
   unanswered e (inr (inl n)) = absurd (not_ok e Done n.2)
   unanswered e (inr (inr g)) = carried image holding old (λ s. Carries image holding mid s) (λ batch pending k.
-      same_carried content image moment since armed starved faults holding visit.group acts old states windows old.clock sound few hosted kept batch pending pending k g.2.0 (g.2.1 pending k.holds) k.pending_hosted g.2.2)
+      same_carried content image moment since armed starved faults holding visit.group acts old states windows old.clock sound few hosted kept batch pending pending k g.2.0 (g.2.1 pending k.holds).0 k.pending_hosted g.2.2)
 
   pub none_acked : (now : ℕ) (r : Result AckOutcome want) (e : want) → r ≡ Err e → Acked r → states.journal.idle ≡ old.states.journal.idle → (result : Result VisitAnswer want) → IsErr result
       → VisitsOnce content image armed starved faults holding now visit old mid result
@@ -229,6 +247,7 @@ module _ {D W : Type 0} (content : D → Option (List ℕ)) (image : D → List 
     memory = λ s c. inl (unanswered e (subst Acked is h) s c);
     ack_sound = tt;
     sound = tt;
+    ends = λ s c. later r h c.pending c.holds;
     log = refl;
     idle = idle;
     conf = refl;
@@ -278,6 +297,7 @@ module _ {D W : Type 0} (content : D → Option (List ℕ)) (image : D → List 
                   at = states.journal.live.end;
                   acks = first.2;
                   counts = (runs.later, more.later);
+                  ends = (later r r_acked c.pending c.holds, o.ends first.0 first.1);
                   unwritten = unwritten ack acked s c;
                   does = does_as old.conf (Rose (faults states.journal.live.disk) (faults new.states.journal.live.disk)) states.journal.live.end first.0 visit ack inner then.0 visit.then then.2.does;
                   clock = then.2.clock ∙ ap (λ (n : ℕ). max n now) first.2.clock;
@@ -287,6 +307,11 @@ module _ {D W : Type 0} (content : D → Option (List ℕ)) (image : D → List 
           memory = tt;
           ack_sound = λ fault told bare. more.stays (runs.told ∙ told) (device_sound ack acked fault told bare);
           sound = λ fault told bare. o.sound fault (runs.told ∙ told) (runs.unarmed told bare);
+          ends = λ s c.
+              let first = steps ack acked s c in
+              let before = later r r_acked c.pending c.holds in
+              let behind = o.ends first.0 first.1 in
+              omega (arith, before, behind);
           log = o.log;
           idle = o.idle ∙ idle;
           conf = o.conf;
@@ -302,6 +327,11 @@ module _ {D W : Type 0} (content : D → Option (List ℕ)) (image : D → List 
           memory = λ s c. let first = steps ack acked s c in inr (ack, first.0, o.memory first.0 first.1, steps_as s first.0 first.2);
           ack_sound = tt;
           sound = tt;
+          ends = λ s c.
+              let first = steps ack acked s c in
+              let before = later r r_acked c.pending c.holds in
+              let behind = o.ends first.0 first.1 in
+              omega (arith, before, behind);
           log = o.log;
           idle = o.idle ∙ idle;
           conf = o.conf;

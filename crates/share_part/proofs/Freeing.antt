@@ -26,7 +26,7 @@ use Rattle.share_part.specs.declared.release.Released.TheVariants.{Done, Store}
 use Rattle.share_part.specs.declared.settle.Whose.{Whose}
 use Rattle.share_part.specs.declared.settle.Whose.TheVariants.{Member}
 use Rattle.share_part.proofs.Holding.{AreKept}
-use Rattle.share_part.proofs.Storage.{Stores, same_carried, stands_stored, stored_device, stored_none, stored_steps}
+use Rattle.share_part.proofs.Storage.{Stores, same_carried, stands_stored, stored_device, stored_later, stored_none, stored_steps}
 use Rattle.share_part.proofs.Visiting.{carried}
 
 is_store : (r : Released) (fault : StoreFault) → fault_in r ≡ Some fault → r ≡ Store fault
@@ -78,6 +78,8 @@ module _ {D W : Type 0} (content : D → Option (List ℕ)) (image : D → List 
           unwritten = λ none. stored_none content image moment since armed starved faults holding group acts old states windows clock sound few hosted kept (fault_in r) h none;
           memory = tt;
           sound = λ fault. stored_device content image moment since armed starved faults holding group acts old states windows clock sound few hosted kept (fault_in r) h (ap fault_in fault);
+          ends = λ s c. stored_later content image moment since armed starved faults holding group acts old states windows clock sound few hosted kept (told_in (Ok r)) h
+              c.pending c.holds;
           log = refl;
           idle = idle;
           conf = refl;
@@ -92,8 +94,10 @@ module _ {D W : Type 0} (content : D → Option (List ℕ)) (image : D → List 
           steps = tt;
           unwritten = tt;
           memory = carried image holding old (λ s. Carries image holding (then old.clock) s) (λ batch pending k.
-              same_carried content image moment since armed starved faults holding group acts old states windows old.clock sound few hosted kept batch pending pending k h.0 (h.1 pending k.holds) k.pending_hosted h.2);
+              same_carried content image moment since armed starved faults holding group acts old states windows old.clock sound few hosted kept batch pending pending k h.0 (h.1 pending k.holds).0 k.pending_hosted h.2);
           sound = tt;
+          ends = λ s c. stored_later content image moment since armed starved faults holding group acts old states windows old.clock sound few hosted kept (told_in (Err f)) h
+              c.pending c.holds;
           log = refl;
           idle = idle;
           conf = refl;
@@ -137,6 +141,7 @@ module _ {D W : Type 0} (content : D → Option (List ℕ)) (image : D → List 
             );
         memory = tt;
         sound = λ fault. o.sound (is_store r Device (sym same ∙ (ap fault_of (sym empty.outcome_is) ∙ ap fault_of fault)));
+        ends = o.ends;
         log = o.log;
         idle = o.idle;
         conf = o.conf;
@@ -147,4 +152,4 @@ module _ {D W : Type 0} (content : D → Option (List ℕ)) (image : D → List 
   kept_back result e none once (Ok answer) failed = absurd (let clash : ⊥ = cc in clash)
   kept_back result e none once (Err f) failed =
       let o = subst Once none once in
-      record { steps = tt; memory = o.memory; sound = tt; log = o.log; idle = o.idle; conf = o.conf }
+      record { steps = tt; memory = o.memory; sound = tt; ends = o.ends; log = o.log; idle = o.idle; conf = o.conf }

@@ -1,5 +1,5 @@
 -- Acts on the table of a group, by what came of their write, as a step of the shard.
-use Rattle.std.proofs.Common.{◌≡◌, ⊎_elim, inl, inr, refl, sym, ap, subst, ℕ, ◌+◌, ◌^◌, ◌<◌, ◌≤◌, List, length, Option, Some, None, Bool}
+use Rattle.std.proofs.Common.{◌≡◌, ⊎_elim, inl, inr, refl, sym, ap, subst, arith, ℕ, ◌+◌, ◌^◌, ◌<◌, ◌≤◌, List, length, Option, Some, None, Bool}
 use Rattle.std.specs.Prelude.{Result, Ok, Err}
 use Rattle.std.specs.BTreeMap.{insert_entry}
 use Rattle.std.specs.Option.{option_map}
@@ -21,6 +21,7 @@ use Rattle.share_coord.specs.Parts.{StoreParts}
 use Rattle.share_coord.specs.Stored.{Entries}
 use Rattle.share_coord.specs.declared.fault.CoordFault.{CoordFault}
 use Rattle.share_coord.specs.declared.fault.CoordFault.TheVariants.{Store as coord_store}
+use Rattle.share_coord.proofs.Ends.{EndsLater, later_once, later_same}
 use Rattle.share_part.specs.Acknowledging.{AreSettled, NameNone, NameOne, StoresActs}
 use Rattle.share_part.specs.Hosting.{AreHosted, IsHosted, KeepsHolds, key_of, states_of}
 use Rattle.share_part.specs.Settling.{Acts, IsSettled, held_after}
@@ -232,6 +233,13 @@ module _ {D W : Type 0} (content : D → Option (List ℕ)) (image : D → List 
       clash_named : NameOne acts → NameNone acts → ⊥
       clash_named one none = let e = none one.0 in let some = one.1 in let clash : ⊥ = cc in clash
   stored_none (Some fault) h nothing = absurd (let e = nothing h.0.0 in let some = h.0.1 in let clash : ⊥ = cc in clash)
+
+  -- the journal never ends before where it did
+  pub stored_later : (r : Result (Option StoreFault) want) → Stores r → EndsLater image old.states states
+  stored_later (Ok None) (inl n) = later_same image old.states states n.1
+  stored_later (Ok None) (inr h) = later_once image moment since Failed _ old.states states (Ok tt) h.1.once
+  stored_later (Ok (Some fault)) h = later_once image moment since Failed _ old.states states (Err (coord_store fault)) h.1.once
+  stored_later (Err e) h = λ pending held. omega (arith, (h.1 pending held).1)
 
   -- a device fault
   pub stored_device : (fault : Option StoreFault) → Stores (Ok fault) → fault ≡ Some Device → StarvesUnarmed content armed starved old.states.journal.live.disk states.journal.live.disk

@@ -1,5 +1,5 @@
 -- A visit as a step of the shard.
-use Rattle.std.proofs.Common.{◌≡◌, ◌≢◌, ◌⊎◌, ⊎_elim, ◌∙◌, inl, inr, refl, sym, ap, subst, ℕ, pos, ◌+◌, ◌^◌, ◌<◌, max, List, [], length, Bool}
+use Rattle.std.proofs.Common.{◌≡◌, ◌≢◌, ◌⊎◌, ⊎_elim, ◌∙◌, inl, inr, refl, sym, ap, subst, arith, ℕ, pos, ◌+◌, ◌^◌, ◌<◌, max, List, [], length, Bool}
 use Rattle.std.specs.Prelude.{Option, Some, None, Result, Ok, Err, IsErr, IsSome, unwrap_or}
 use Rattle.std.specs.BTreeMap.{insert_entry}
 use Rattle.std.specs.Option.{option_map}
@@ -30,12 +30,14 @@ use Rattle.share_coord.specs.Stored.{Entries, kept_at}
 use Rattle.share_coord.specs.declared.fault.CoordFault.{CoordFault}
 use Rattle.share_coord.specs.declared.fault.CoordFault.TheVariants.{Invalid, Unknown, FencedLeader, FencedState, TooMany, Store, NoMemory}
 use Rattle.share_coord.specs.declared.view.Kept.{Kept}
+use Rattle.share_coord.proofs.Ends.{EndsLater, later_once, later_same}
 use Rattle.share_part.specs.declared.limits.Limits.{Limits}
 use Rattle.share_part.specs.Hosting.{PartConfParts, AreHosted, HoldsWell, KeepsHolds, key_of, states_of}
 use Rattle.share_part.specs.declared.plan.Plan.{Plan}
 use Rattle.share_part.specs.Collecting.{IsPlanOf}
 use Rattle.share_part.specs.Making.{MakesOnce, MakesTableOnce, Tells, numbered_bytes, state_for}
 use Rattle.share_part.specs.Once.{Followed, FollowsOnce}
+use Rattle.share_part.specs.Storing.{Stays}
 use Rattle.share_part.specs.Following.{Acquires, Does, Fetches, IsEmptyAnswer, MakesTable, StepsThen}
 use Rattle.share_part.specs.Shards.{PartShardState, PartParts, Carries, IsStill, IsPendingHosted, held_in, with_held, new_state, first_start}
 use Rattle.share_part.specs.Tables.{table_of, with_holds}
@@ -152,11 +154,13 @@ module _ {D W : Type 0} (content : D → Option (List ℕ)) (image : D → List 
   abbrev key : KeyParts
   key = key_of old.conf visit.group
 
-  answered : (answer : VisitAnswer) → Followed image faults holding now visit old new answer → (answer.then ≡ store_outcome Device → Starves) → Once (Ok answer)
-  answered answer visited sound = record { steps = visited; memory = tt; sound = sound; log = log; idle = idle; conf = conf }
+  answered : (answer : VisitAnswer) → EndsLater image old.states new.states → Followed image faults holding now visit old new answer
+      → (answer.then ≡ store_outcome Device → Starves) → Once (Ok answer)
+  answered answer later visited sound =
+      record { steps = visited; memory = tt; sound = sound; ends = λ s c. later c.pending c.holds; log = log; idle = idle; conf = conf }
 
   -- no memory was found
-  pub hungry : (e : want) → new.states.entries ≡ old.states.entries → ((pending : Option Entries) → Holds image old.states pending → Holds image new.states pending)
+  pub hungry : (e : want) → new.states.entries ≡ old.states.entries → Stays image old.states new.states
       → ((group : List ℕ) → held_in holding new.windows group ≡ held_in holding old.windows group) → new.clock ≡ old.clock → Once (Err e)
   hungry e entries stays held clock = record {
     steps = tt;
@@ -168,15 +172,16 @@ module _ {D W : Type 0} (content : D → Option (List ℕ)) (image : D → List 
           held = held_in holding old.windows;
           clock = c;
         })) clock
-        (carries_with image holding old new batch pending pending (held_in holding old.windows) k conf log entries (stays pending k.holds) k.pending_hosted
+        (carries_with image holding old new batch pending pending (held_in holding old.windows) k conf log entries (stays pending k.holds).0 k.pending_hosted
         (λ group. sym (held group))));
     sound = tt;
+    ends = λ s c. omega (arith, (stays c.pending c.holds).1);
     log = log;
     idle = idle;
     conf = conf;
   }
 
-  pub starved_so : (result : Result VisitAnswer want) → IsErr result → new.states.entries ≡ old.states.entries → ((pending : Option Entries) → Holds image old.states pending → Holds image new.states pending)
+  pub starved_so : (result : Result VisitAnswer want) → IsErr result → new.states.entries ≡ old.states.entries → Stays image old.states new.states
       → ((group : List ℕ) → held_in holding new.windows group ≡ held_in holding old.windows group) → new.clock ≡ old.clock → Once result
   starved_so (Ok answer) is entries stays held clock = absurd (let clash : ⊥ = cc in clash)
   starved_so (Err e) is entries stays held clock = hungry e entries stays held clock
@@ -184,7 +189,7 @@ module _ {D W : Type 0} (content : D → Option (List ℕ)) (image : D → List 
   -- nothing is fetched
   pub idly : (answer : VisitAnswer) → answer.ack ≡ acknowledged → IsEmptyAnswer Done answer → visit.then ≡ Nothing
       → new.states ≡ old.states → new.windows ≡ old.windows → new.clock ≡ max old.clock now → Once (Ok answer)
-  idly answer ack empty what states windows clock = answered answer
+  idly answer ack empty what states windows clock = answered answer (later_same image old.states new.states states)
       (carried image holding old (Leads answer) (λ batch pending k.
       let t : PartShardState = record {
         log = record { batches = old.log.batches; pending = batch };
@@ -247,7 +252,7 @@ module _ {D W : Type 0} (content : D → Option (List ℕ)) (image : D → List 
 
     -- the table was there
     pub acquired_there : (answer : VisitAnswer) (kept : Kept) → kept_at old.states.entries key ≡ Some kept → new.states ≡ old.states → Took answer kept.view → Once (Ok answer)
-    acquired_there answer kept is states took = answered answer
+    acquired_there answer kept is states took = answered answer (later_same image old.states new.states states)
         (carried image holding old (Leads answer) (λ batch pending k. (
           shard_then batch (states_of old.states.entries) (option_map states_of pending) kept.view,
           carries_with image holding old new batch pending pending (held_then kept.view) k conf log (ap (λ (s : StoreParts D). s.entries) states)
@@ -282,7 +287,7 @@ module _ {D W : Type 0} (content : D → Option (List ℕ)) (image : D → List 
 
     -- the table was made
     pub acquired_first : (answer : VisitAnswer) (done : Unit {0}) → kept_at old.states.entries key ≡ None → Wrote (Ok done) → Took answer made → Once (Ok answer)
-    acquired_first answer done none once took = answered answer
+    acquired_first answer done none once took = answered answer (later_once image moment since (HasFailed content armed starved faults) Written old.states new.states (Ok done) once)
         (carried image holding old (Leads answer) (λ batch pending k. (
           shard_then batch (states_of new.states.entries) None made,
           record {
@@ -346,7 +351,8 @@ module _ {D W : Type 0} (content : D → Option (List ℕ)) (image : D → List 
     pub unstored : (answer : VisitAnswer) (fault : StoreFault) → kept_at old.states.entries key ≡ None → Wrote (Err (Store fault)) → Refused answer fault → Once (Ok answer)
     unstored answer Device none once refused =
         let failed = once.device refl in
-        answered answer (carried image holding old (Leads answer) (λ batch pending k.
+        answered answer (later_once image moment since (HasFailed content armed starved faults) Written old.states new.states (Err (Store Device)) once)
+        (carried image holding old (Leads answer) (λ batch pending k.
         ⊎_elim
         (λ holds. unmade answer Device batch pending pending k refused once.same holds k.pending_hosted none
         (failed.0.0, refused.empty, record { states = refl; pending = inl refl; held = refl }))
@@ -356,7 +362,8 @@ module _ {D W : Type 0} (content : D → Option (List ℕ)) (image : D → List 
         (λ is. failed.0.1)
     unstored answer (Full at) none once refused =
         let full = once.full at refl in
-        answered answer (carried image holding old (Leads answer) (λ batch pending k.
+        answered answer (later_once image moment since (HasFailed content armed starved faults) Written old.states new.states (Err (Store (Full at))) once)
+        (carried image holding old (Leads answer) (λ batch pending k.
         unmade answer (Full at) batch pending pending k refused once.same (once.stays (λ e. let never : ⊥ = cc in never) pending k.holds) k.pending_hosted none (
           full.0,
           refused.empty,
@@ -406,10 +413,10 @@ module _ {D W : Type 0} (content : D → Option (List ℕ)) (image : D → List 
     hosted_after result end at made h = hosted_told result (kept_at old.states.entries key) (told result end at made (kept_at old.states.entries key) refl) h
 
     -- it found no memory
-    abbrev Stays : Type 0
-    Stays = (new.states.entries ≡ old.states.entries) × ((pending : Option Entries) → Holds image old.states pending → Holds image new.states pending)
+    abbrev AreStill : Type 0
+    AreStill = (new.states.entries ≡ old.states.entries) × Stays image old.states new.states
 
-    stays_done : (done : Result (Unit {0}) CoordFault) (result : Result ThenOutcome want) → IsErr result → Tells done result → Wrote done → Stays
+    stays_done : (done : Result (Unit {0}) CoordFault) (result : Result ThenOutcome want) → IsErr result → Tells done result → Wrote done → AreStill
     stays_done (Ok u) result is tells once = absurd (let clash : ⊥ = cc in clash)
     stays_done (Err Invalid) result is tells once = absurd tells
     stays_done (Err Unknown) result is tells once = absurd tells
@@ -417,9 +424,12 @@ module _ {D W : Type 0} (content : D → Option (List ℕ)) (image : D → List 
     stays_done (Err (FencedState n)) result is tells once = absurd tells
     stays_done (Err (TooMany n)) result is tells once = absurd tells
     stays_done (Err (Store fault)) result is tells once = absurd (let clash : ⊥ = cc in clash)
-    stays_done (Err NoMemory) result is tells once = (once.same, once.stays (λ e. let clash : ⊥ = cc in clash))
+    stays_done (Err NoMemory) result is tells once = (
+      once.same,
+      λ pending held. (once.stays (λ e. let clash : ⊥ = cc in clash) pending held, once.ends pending held),
+    )
 
-    stays_told : (result : Result ThenOutcome want) → IsErr result → (o : Option Kept) → Told o result → Stays
+    stays_told : (result : Result ThenOutcome want) → IsErr result → (o : Option Kept) → Told o result → AreStill
     stays_told result is None told = stays_done told.done result is told.tells told.once
     stays_told result is (Some kept) told = absurd (let e = told.1 in let clash : ⊥ = cc in clash)
 

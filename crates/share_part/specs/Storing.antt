@@ -57,6 +57,10 @@ pub record StoresOnce {D : Type 0} (image : D → List ℕ → Type 0) (moment :
   pub tells : TellsStored done result
   pub once : WritesOnce image moment since Failed Written old new done
 
+-- what the store held it holds, and its journal ends where it did
+abbrev pub Stays : {D : Type 0} → (D → List ℕ → Type 0) → StoreParts D → StoreParts D → Type 0
+Stays image old new = (pending : Option Entries) → Holds image old pending → Holds image new pending × (new.journal.live.end ≡ old.journal.live.end)
+
 -- ---- acts on the table of a group
 
 -- the group has a table, and this came of the write of what acts change of it
@@ -77,7 +81,7 @@ StoresGroup image moment since Failed conf log group acts was old new same ends 
 StoresGroup image moment since Failed conf log group acts was old new same ends (Ok (Some fault)) =
     NameOne acts × IsActsStored image moment since Failed conf log group acts was old new (Err (Store fault)) × same
 StoresGroup image moment since Failed conf log group acts was old new same ends (Err e) =
-    (new.entries ≡ old.entries) × ((pending : Option Entries) → Holds image old pending → Holds image new pending) × same
+    (new.entries ≡ old.entries) × Stays image old new × same
 
 -- ---- the acknowledgements of a group
 
