@@ -11,7 +11,7 @@ use Rattle.broker_model.specs.Hosted.{IsTaken}
 use Rattle.broker_model.specs.Shards.{ShardCall, failures_in}
 use Rattle.broker_model.specs.Machine.{Machine}
 use Rattle.broker_model.specs.Disks.{Disks, OnDisk, Covers}
-use Rattle.broker_model.specs.States.{State, IsStep, OnLosses, counts_of, faults_of}
+use Rattle.broker_model.specs.States.{State, IsStep, OnLosses, counts_of, faults_of, ends_of}
 use Rattle.broker_model.specs.Runs.{Step, IsRun, events_of, calls_of}
 use Rattle.broker_model.specs.Laws.{Loss, losses_on, TakesLoss, AreLosses, NoPower, NoArm, ArmsOne, arms_by, arms_after, HasArm, Rises, IsQuiet, RisesOnce, failures, HoldsOfRun}
 use Rattle.broker_model.proofs.Uses.{Kind, IsCalm, kind_of, same_losses, arms_step, quiet_step, still_none, calm_step, shot, armed_one}
@@ -29,14 +29,15 @@ Lengthens conf old new lost = (name : List ℕ) → IsTaken conf name → (new n
 abbrev OnDisks : ConfigParts → Event → Option ShardCall → Disks → Disks → Type 0
 OnDisks conf event call old new = (name : List ℕ) → IsTaken conf name → OnDisk name event call (old name) (new name)
 
-module _ (conf : ConfigParts) (call : Option ShardCall) (machine : Machine) (old new last : Disks) (rest : List Loss) (Rest : List Loss → Type 0) (more : Lengthens conf new last rest) where
+module _ (conf : ConfigParts) (call : Option ShardCall) (machine : Machine) (ends : List ℕ → ℕ) (old new last : Disks) (rest : List Loss) (Rest : List Loss → Type 0)
+    (more : Lengthens conf new last rest) where
   kept : (event : Event) → NoPower event → OnDisks conf event call old new → Lengthens conf old last rest
   kept event free disks name taken =
       more name taken
       ∙ ap (λ (l : List _). l ++ losses_on name rest)
       (same_losses name event (old name) (new name) (kind_of name call (old name) (new name) event (disks name taken)) free)
 
-  take_loss : (event : Event) → OnDisks conf event call old new → OnLosses conf event old new machine → Rest rest
+  take_loss : (event : Event) → OnDisks conf event call old new → OnLosses conf event ends old new machine → Rest rest
       → (lost : List Loss) × Lengthens conf old last lost × TakesLoss conf event machine lost Rest
   take_loss (Open conn) disks lost r = (rest, kept (Open conn) tt disks, r)
   take_loss (Bytes conn bytes) disks lost r = (rest, kept (Bytes conn bytes) tt disks, r)
@@ -58,7 +59,7 @@ module _ (conf : ConfigParts) where
   losses first last [] run = ([], λ name taken. ap (λ (s : State). (s.disks name).losses) run ∙ sym (append-nil (first.disks name).losses), refl)
   losses first last (s ∷ steps) run =
       let more = losses s.after last steps run.2 in
-      let p = take_loss conf s.call s.after.machine s.before.disks s.after.disks last.disks more.0 (λ rest. AreLosses conf steps rest) more.1
+      let p = take_loss conf s.call s.after.machine s.before.ends s.before.disks s.after.disks last.disks more.0 (λ rest. AreLosses conf steps rest) more.1
       s.event run.1.disks run.1.losses more.2 in
       (p.0, λ name taken. p.1 name taken ∙ ap (λ (x : State). (x.disks name).losses ++ losses_on name p.0) run.0, p.2)
 
@@ -67,7 +68,7 @@ module _ (conf : ConfigParts) where
   counted : (name : List ℕ) → IsTaken conf name → (s : Step) → IsStep conf s.before s.event s.call s.outcomes s.after
       → Covers (faults_of s.before name) (faults_of s.after name) (failures_in name s.call)
   counted name taken s step =
-      step_counts (counts_of s.before s.after) s.before.ends name (step.later name taken) conf s.before.machine s.event s.call s.outcomes
+      step_counts (counts_of s.before s.after) (ends_of s.before s.after) name (step.later name taken) conf s.before.machine s.event s.call s.outcomes
       s.after.machine step.machine
 
   covered : (name : List ℕ) → IsTaken conf name → (first last : State) (steps : List Step) → IsRun conf first steps last
