@@ -55,6 +55,7 @@ module _ (conf : PartConfParts) (rose : Type 0) (end : ℕ) (old new : PartShard
       is_before = h.3.is_before;
       is_after = record { state = h.3.is_after.state; next = h.3.is_after.next; known = h.3.is_after.known; settled = h.3.is_after.settled; is = h.3.is_after.is };
       accepted = h.3.accepted;
+      fits = h.3.fits;
       past = h.3.past;
     },
   )

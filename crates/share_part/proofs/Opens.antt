@@ -25,7 +25,7 @@ use Rattle.state_records.specs.declared.record.StateRecord.{StateRecord}
 use Rattle.state_records.specs.declared.record.StateRecord.TheVariants.{Snapshot, Update, Removal}
 use Rattle.share_part.specs.Faults.{fault_of_log, fault_of_states, state_disk}
 use Rattle.share_part.specs.Hosting.{PartConfParts, AreHosted, states_of}
-use Rattle.share_part.specs.Opening.{IsOpened, IsNotOpened, AreDamagedAt}
+use Rattle.share_part.specs.Opening.{IsOpened, IsNotOpened, AreDamagedAt, StandsForLog}
 use Rattle.share_part.specs.Shards.{PartParts, held_in}
 use Rattle.share_part.specs.declared.opening.PartFault.{PartFault}
 use Rattle.share_part.specs.declared.opening.PartFault.TheVariants.{Damaged, Device}
@@ -132,9 +132,9 @@ module _ {D W : Type 0} (content : D → Option (List ℕ)) (image : D → List 
     second_device = λ is. absurd (let clash : ⊥ = cc in clash);
   }
 
-  damaged_by : (second : Bool) (l x y : List ℕ) (place : ℕ) → AreDamaged x y second place → AreDamagedAt conf l x y (state_disk second) place
-  damaged_by false l x y place d = inl d
-  damaged_by true l x y place d = d
+  damaged_by : (second : Bool) (l x y : List ℕ) (place : ℕ) → StandsForLog l → AreDamaged x y second place → AreDamagedAt conf l x y (state_disk second) place
+  damaged_by false l x y place log d = (log, inl d)
+  damaged_by true l x y place log d = (log, d)
 
   device_by : (second : Bool) (a_now b_now : D) → states_not_opened content armed starved faults a b (a_now, b_now, states_device second)
       → (Device (state_disk second) ≡ Device StateA → HasFailed content armed starved faults a a_now)
@@ -143,18 +143,19 @@ module _ {D W : Type 0} (content : D → Option (List ℕ)) (image : D → List 
   device_by false a_now b_now n = (λ is. n.device refl, λ is. absurd (let clash : ⊥ = cc in clash), λ is. let clash : ⊥ = cc in clash)
   device_by true a_now b_now n = (λ is. absurd (let clash : ⊥ = cc in clash), λ is. n.second_device refl, λ is. let clash : ⊥ = cc in clash)
 
-  pub by_states : (disk_now a_now b_now : D) (fault : CoordOpen) → states_not_opened content armed starved faults a b (a_now, b_now, fault)
+  pub by_states : (disk_now a_now b_now : D) (fault : CoordOpen) (batches : List Batch) → ((c : List ℕ) → content disk ≡ Some c → IsLogText c batches)
+      → states_not_opened content armed starved faults a b (a_now, b_now, fault)
       → Not disk_now a_now b_now (fault_of_states fault)
-  by_states disk_now a_now b_now (states_damaged second at) n = record {
+  by_states disk_now a_now b_now (states_damaged second at) its_log opens n = record {
     damaged = λ place_disk place is l x y at_l at_x at_y.
         let d : state_disk second ≡ place_disk = cc in let p : at ≡ place = cc in
-        subst (λ (k : DiskPlace). AreDamagedAt conf l x y k place) d (damaged_by second l x y place (subst (AreDamaged x y second) p (n.damaged second at refl x y at_x at_y)));
+        subst (λ (k : DiskPlace). AreDamagedAt conf l x y k place) d (damaged_by second l x y place (its_log, opens l at_l) (subst (AreDamaged x y second) p (n.damaged second at refl x y at_x at_y)));
     sound = λ l x y batches states at_l at_x at_y text place_disk place is. n.sound x y text.states_are.entries at_x at_y text.states_are.stored second at refl;
     log_device = λ is. absurd (let clash : ⊥ = cc in clash);
     first_device = λ is. absurd (let clash : ⊥ = cc in clash);
     second_device = λ is. absurd (let clash : ⊥ = cc in clash);
   }
-  by_states disk_now a_now b_now (states_device second) n =
+  by_states disk_now a_now b_now (states_device second) its_log opens n =
       let d = device_by second a_now b_now n in
       record {
         damaged = λ place_disk place is. absurd (let clash : ⊥ = cc in clash);
@@ -163,7 +164,7 @@ module _ {D W : Type 0} (content : D → Option (List ℕ)) (image : D → List 
         first_device = d.0;
         second_device = d.1;
       }
-  by_states disk_now a_now b_now states_memory n = record {
+  by_states disk_now a_now b_now states_memory its_log opens n = record {
     damaged = λ place_disk place is. absurd (let clash : ⊥ = cc in clash);
     sound = λ l x y batches states at_l at_x at_y text place_disk place is. let clash : ⊥ = cc in clash;
     log_device = λ is. absurd (let clash : ⊥ = cc in clash);
@@ -179,16 +180,19 @@ module _ {D W : Type 0} (content : D → Option (List ℕ)) (image : D → List 
   misplaced disk_now a_now b_now log store opens only states broken = record {
     damaged = λ place_disk place is l x y at_l at_x at_y.
         let d : StateA ≡ place_disk = cc in let p : 0 ≡ place = cc in
-        subst (λ (k : DiskPlace). AreDamagedAt conf l x y k place) d (inr (
-          sym p,
-          record {
-            batches = log.batches;
-            states = states_of store.entries;
-            is_log = opens l at_l;
-            are_states = record { entries = store.entries; stored = states.opens x y at_x at_y; is = refl };
-            broken = broken;
-          },
-        ));
+        subst (λ (k : DiskPlace). AreDamagedAt conf l x y k place) d (
+          (log.batches, opens l at_l),
+          inr (
+            sym p,
+            record {
+              batches = log.batches;
+              states = states_of store.entries;
+              is_log = opens l at_l;
+              are_states = record { entries = store.entries; stored = states.opens x y at_x at_y; is = refl };
+              broken = broken;
+            },
+          ),
+        );
     sound = λ l x y batches its at_l at_x at_y text place_disk place is.
         let same_log : log.batches ≡ batches = only l batches at_l text.log_is in
         let same : its ≡ states_of store.entries = text.states_are.is ∙ ap states_of (sym (states.only x y text.states_are.entries at_x at_y text.states_are.stored)) in

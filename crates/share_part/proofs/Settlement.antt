@@ -21,7 +21,7 @@ use Rattle.share_part.specs.Acting.{JudgesGroup}
 use Rattle.share_part.specs.Hosting.{PartConfParts, AreHeldWell, AreHosted, HoldsWell, IsHosted, key_of, states_of}
 use Rattle.share_part.specs.Releasing.{told_in}
 use Rattle.share_part.specs.Settling.{Acts, AreHeldBy, IsChange, Judges}
-use Rattle.share_part.specs.Storing.{IsActsStored, IsStored, SettlesGroup, Stays, StoresGroup, StoresOnce, TellsStored, start_number}
+use Rattle.share_part.specs.Storing.{IsActsStored, IsStored, SettlesGroup, StoresGroup, StoresOnce, TellsStored, start_number}
 use Rattle.share_part.specs.Tables.{table_of}
 use Rattle.share_part.specs.declared.release.Released.{Released}
 use Rattle.share_part.specs.declared.settle.Change.{Change}
@@ -69,13 +69,9 @@ told_fault (Err NoMemory) fault tells = absurd (let clash : ⊥ = cc in clash)
 -- ---- no memory was found for the write
 
 module _ {D : Type 0} (image : D → List ℕ → Type 0) (moment : D → ℕ) (since : D → ℕ → List ℕ → Type 0) (Failed : D → D → Type 0) (old new : StoreParts D) where
-  -- the store is as it was
-  abbrev IsAsItWas : Type 0
-  IsAsItWas = (new.entries ≡ old.entries) × Stays image old new
-
   module _ (Written : Entries → Type 0) where
     by_memory : (done : Result (Unit {0}) CoordFault) (result : Result (Option StoreFault) want) → IsErr result → TellsStored done result
-        → WritesOnce image moment since Failed Written old new done → IsAsItWas
+        → WritesOnce image moment since Failed Written old new done → new ≡ old
     by_memory (Ok u) result none tells once = absurd (let clash : ⊥ = cc in clash)
     by_memory (Err Invalid) result none tells once = absurd tells
     by_memory (Err Unknown) result none tells once = absurd tells
@@ -83,23 +79,20 @@ module _ {D : Type 0} (image : D → List ℕ → Type 0) (moment : D → ℕ) (
     by_memory (Err (FencedState n)) result none tells once = absurd tells
     by_memory (Err (TooMany n)) result none tells once = absurd tells
     by_memory (Err (Store fault)) result none tells once = absurd (let clash : ⊥ = cc in clash)
-    by_memory (Err NoMemory) result none tells once = (
-      once.same,
-      λ pending held. (once.stays (λ e. let clash : ⊥ = cc in clash) pending held, once.ends pending held),
-    )
+    by_memory (Err NoMemory) result none tells once = once.unchanged (λ e. let clash : ⊥ = cc in clash)
 
-    pub unstored : (result : Result (Option StoreFault) want) (e : want) → result ≡ Err e → StoresOnce image moment since Failed Written old new result → IsAsItWas
+    pub unstored : (result : Result (Option StoreFault) want) (e : want) → result ≡ Err e → StoresOnce image moment since Failed Written old new result → new ≡ old
     unstored result e is once = by_memory once.done result (err_is result e is) once.tells once.once
 
-  module _ (conf : PartConfParts) (log : List Batch) (group : List ℕ) (acts : Acts) (was : Held) (same ends : Type 0) (stays : IsAsItWas) (is_same : same) where
+  module _ (conf : PartConfParts) (log : List Batch) (group : List ℕ) (acts : Acts) (was : Held) (same ends : Type 0) (stays : new ≡ old) (is_same : same) where
     pub unreleased : (answer : Result Released want) → IsErr answer → StoresGroup image moment since Failed conf log group acts was old new same ends (told_in answer)
     unreleased (Ok released) none = absurd (let clash : ⊥ = cc in clash)
-    unreleased (Err e) none = (stays.0, stays.1, is_same)
+    unreleased (Err e) none = (stays, is_same)
 
     pub unsettled : (member : List ℕ) (answer : Result AckOutcome want) → IsErr answer
         → SettlesGroup image moment since Failed conf log group member acts was old new same ends answer
     unsettled member (Ok outcome) none = absurd (let clash : ⊥ = cc in clash)
-    unsettled member (Err e) none = (stays.0, stays.1, is_same)
+    unsettled member (Err e) none = (stays, is_same)
 
 module _ {D : Type 0} (conf : PartConfParts) (log : List Batch) (group : List ℕ) (acts : Acts) (held : Held) (old : StoreParts D)
     (sound : IsStoredLog log) (few : conf.limit ≤ 10) (hosted : AreHosted conf log (states_of old.entries))

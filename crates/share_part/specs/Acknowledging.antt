@@ -8,6 +8,7 @@ use Rattle.std.specs.Prelude.{◌≡◌, ◌⊎◌, ◌+◌, ◌<◌, ◌^◌, �
 use Rattle.std.specs.BTreeMap.{insert_entry}
 use Rattle.ack_ranges.specs.Batches.{IsWellFormed, kind_at}
 use Rattle.ack_ranges.specs.Faults.{IsFirstFault}
+use Rattle.gate_journal.specs.Frames.{IsFrame}
 use Rattle.share_model.specs.ForeignRules.{ShareStates, share_state_at}
 use Rattle.share_model.specs.Keys.{key_cmp}
 use Rattle.share_model.specs.ShareStates.{ShareState}
@@ -50,6 +51,7 @@ pub record HasNoRoomFor (conf : PartConfParts) (end : ℕ) (old : PartShardState
   pub is_before : states_of before ≡ old.states
   pub is_after : AreSettled conf old group acts (states_of after)
   pub accepted : Accepts before frame after
+  pub fits : IsFrame frame
   pub past : 2 ^ 62 < end + (length frame + 5)
 
 -- acts that name no offset, and acts that name one

@@ -20,9 +20,9 @@ use Rattle.share_model.specs.declared.visit.VisitAnswer.{VisitAnswer}
 use Rattle.part_log.specs.Shards.{IsLogOf, at_end}
 use Rattle.share_part.specs.Acknowledging.{NameNone}
 use Rattle.share_part.specs.Expiring.{ExpiresPart, StepsExpire, ending}
-use Rattle.share_part.specs.Following.{StepsThen}
+use Rattle.share_part.specs.Following.{HasNothingToWrite, StepsThen}
 use Rattle.share_part.specs.Shards.{PartShardState, PartParts, Carries, StepsProduce, held_in}
-use Rattle.share_part.specs.Visits.{StepsAcks, StepsVisit}
+use Rattle.share_part.specs.Visits.{AreToWrite, StepsAcks, StepsVisit}
 
 -- a shard that carried a state carries one that what follows the acknowledgements leads to
 abbrev pub Followed : {D W : Type 0} → (D → List ℕ → Type 0) → (D → ℕ) → (W → Held) → ℕ → Visit → PartParts D W → PartParts D W → VisitAnswer → Type 0
@@ -39,6 +39,8 @@ pub record FollowsOnce {D W : Type 0} (content : D → Option (List ℕ)) (image
   -- with nothing armed, a device fault comes only where the disk finds no memory
   pub sound : IfOk result (λ answer. answer.then ≡ Store Device →
       StarvesUnarmed content armed starved before.states.journal.live.disk after.states.journal.live.disk)
+  -- where there is nothing to write, the states and their disks stay
+  pub unwritten : (old : PartShardState) → Carries image holding before old → HasNothingToWrite before.conf old visit visit.then → after.states ≡ before.states
   -- the journal of the states never ends before where it did
   pub ends : (old : PartShardState) → Carries image holding before old → before.states.journal.live.end ≤ after.states.journal.live.end
   -- the log, its disk and the second state disk stay
@@ -71,6 +73,9 @@ pub record VisitsOnce {D W : Type 0} (content : D → Option (List ℕ)) (image 
   -- with nothing armed, a device fault comes only where the disk finds no memory
   pub sound : IfOk result (λ answer. answer.then ≡ Store Device →
       StarvesUnarmed content armed starved before.states.journal.live.disk after.states.journal.live.disk)
+  -- where there is nothing to write, of acknowledgements or behind them, the states and their disks stay
+  pub unwritten : (old : PartShardState) → Carries image holding before old → (AreToWrite old visit → ⊥) →
+      HasNothingToWrite before.conf old visit visit.then → after.states ≡ before.states
   -- the journal of the states never ends before where it did
   pub ends : (old : PartShardState) → Carries image holding before old → before.states.journal.live.end ≤ after.states.journal.live.end
   -- the log, its disk and the second state disk stay

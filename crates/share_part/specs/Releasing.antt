@@ -1,6 +1,6 @@
 -- The releases of what a group holds, whether of a member or by lock end. Private clauses cite this alone.
 -- For example where `a` holds 0 to 2 and `b` holds 3, the releases of `a` are three, and where their write fails none of them is done.
-use Rattle.std.specs.Prelude.{◌≡◌, ◌≤◌, ◌<◌, ℕ, List, Bool, true, false, Option, Some, None, Result, Ok, Err, IfOk, OnErr, OnOk, not, nat_eq, map, filter}
+use Rattle.std.specs.Prelude.{◌≡◌, ◌≤◌, ◌<◌, ℕ, List, Bool, true, false, Option, Some, None, Result, Ok, Err, IfOk, OnErr, not, nat_eq, map, filter}
 use Rattle.std.specs.List.{count_by}
 use Rattle.edge_io.specs.Armed.{StarvesUnarmed}
 use Rattle.edge_io.specs.Causes.{Rose}
@@ -90,7 +90,7 @@ ReleasedSo image faults holding clock group whose before after released = (old :
 pub record ReleasesOnce {D W : Type 0} (content : D → Option (List ℕ)) (image : D → List ℕ → Type 0) (armed : D → Armed) (starved : D → Bool)
     (faults : D → ℕ) (holding : W → Held) (clock : ℕ) (group : List ℕ) (whose : Whose) (before after : PartParts D W) (result : Result Released NoMemory) : Type 0 where
   pub steps : IfOk result (ReleasedSo image faults holding clock group whose before after)
-  pub unwritten : OnOk result (NameNone (releasing (is_chosen whose) (held_in holding before.windows group)) → after.states ≡ before.states)
+  pub unwritten : NameNone (releasing (is_chosen whose) (held_in holding before.windows group)) → after.states ≡ before.states
   pub memory : OnErr result ((old : PartShardState) → Carries image holding before old → Carries image holding after old)
   pub sound : IfOk result (λ released. released ≡ Store Device →
       StarvesUnarmed content armed starved before.states.journal.live.disk after.states.journal.live.disk)

@@ -21,7 +21,7 @@ use Rattle.share_part.specs.declared.settle.Change.{Change}
 use Rattle.share_model.specs.declared.fault.StoreFault.{StoreFault}
 use Rattle.share_model.specs.declared.run.Run.{Run}
 use Rattle.share_coord.specs.Calls.{IsWritten}
-use Rattle.share_coord.specs.Holding.{Holds, WritesOnce}
+use Rattle.share_coord.specs.Holding.{WritesOnce}
 use Rattle.share_coord.specs.Parts.{StoreParts}
 use Rattle.share_coord.specs.Stored.{Entries}
 use Rattle.share_coord.specs.declared.fault.CoordFault.{CoordFault}
@@ -57,10 +57,6 @@ pub record StoresOnce {D : Type 0} (image : D → List ℕ → Type 0) (moment :
   pub tells : TellsStored done result
   pub once : WritesOnce image moment since Failed Written old new done
 
--- what the store held it holds, and its journal ends where it did
-abbrev pub Stays : {D : Type 0} → (D → List ℕ → Type 0) → StoreParts D → StoreParts D → Type 0
-Stays image old new = (pending : Option Entries) → Holds image old pending → Holds image new pending × (new.journal.live.end ≡ old.journal.live.end)
-
 -- ---- acts on the table of a group
 
 -- the group has a table, and this came of the write of what acts change of it
@@ -80,8 +76,7 @@ StoresGroup image moment since Failed conf log group acts was old new same ends 
     (NameNone acts × (new ≡ old) × same) ⊎ (NameOne acts × IsActsStored image moment since Failed conf log group acts was old new (Ok tt) × ends)
 StoresGroup image moment since Failed conf log group acts was old new same ends (Ok (Some fault)) =
     NameOne acts × IsActsStored image moment since Failed conf log group acts was old new (Err (Store fault)) × same
-StoresGroup image moment since Failed conf log group acts was old new same ends (Err e) =
-    (new.entries ≡ old.entries) × Stays image old new × same
+StoresGroup image moment since Failed conf log group acts was old new same ends (Err e) = (new ≡ old) × same
 
 -- ---- the acknowledgements of a group
 

@@ -9,7 +9,7 @@ use Rattle.share_model.specs.declared.visit.Visit.{Visit}
 use Rattle.share_model.specs.declared.visit.VisitAnswer.{VisitAnswer}
 use Rattle.edge_io.specs.Causes.{Rose}
 use Rattle.share_part.specs.Acknowledging.{Acknowledges, AreTheirs, NameOne}
-use Rattle.share_part.specs.Following.{Does}
+use Rattle.share_part.specs.Following.{Does, HasNothingToWrite}
 use Rattle.share_part.specs.Hosting.{PartConfParts}
 use Rattle.share_part.specs.Shards.{PartShardState}
 
@@ -35,6 +35,7 @@ pub record StepsVisit (conf : PartConfParts) (count later end last : ℕ) (old :
   pub counts : (count ≤ counted) × (counted ≤ later)
   pub ends : (end ≤ at) × (at ≤ last)
   pub unwritten : (AreToWrite old visit → ⊥) → at ≡ end
+  pub still : HasNothingToWrite conf between visit visit.then → last ≡ at
   pub does : Does conf (Rose counted later) at between visit answer new visit.then
   pub clock : new.clock ≡ max old.clock now
   pub log : new.log ≡ old.log
