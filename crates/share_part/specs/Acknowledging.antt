@@ -63,7 +63,8 @@ NameOne acts = (offset : ℕ) × IsSome (acts offset)
 
 -- Acts on a group's table that are stored by one write, by the fault that it met, if it met one; where they name no offset there is no write.
 -- `rose` says that the count of faults of the first state disk rose, `end` is where its journal ends.
-abbrev pub StoresActs : PartConfParts → (rose : Type 0) → (end : ℕ) → PartShardState → (group : List ℕ) → Acts → PartShardState → Option StoreFault → Type 0
+abbrev pub StoresActs : PartConfParts → (rose : Type 0) → (end : ℕ) → PartShardState → (group : List ℕ) → Acts → PartShardState
+    → Option StoreFault → Type 0
 StoresActs conf rose end old group acts new None = (NameNone acts × IsStill old new) ⊎ (NameOne acts × IsActedOn conf old group acts new)
 StoresActs conf rose end old group acts new (Some Device) = NameOne acts × rose × IsNotActedOn conf old group acts new
 StoresActs conf rose end old group acts new (Some (Full at)) = NameOne acts × (at ≡ end) × IsStill old new × HasNoRoomFor conf end old group acts
@@ -78,4 +79,5 @@ Acknowledges conf rose end old visit new (Malformed fault) = IsFirstFault visit.
 Acknowledges conf rose end old visit new (NotHeld offset) =
     IsWellFormed visit.acks × IsLeastMissing visit.member (kind_at visit.acks) (old.held visit.group) offset × IsStill old new
 Acknowledges conf rose end old visit new Done = AreTheirs old visit × StoresActs conf rose end old visit.group (kind_at visit.acks) new None
-Acknowledges conf rose end old visit new (Store fault) = AreTheirs old visit × StoresActs conf rose end old visit.group (kind_at visit.acks) new (Some fault)
+Acknowledges conf rose end old visit new (Store fault) =
+    AreTheirs old visit × StoresActs conf rose end old visit.group (kind_at visit.acks) new (Some fault)

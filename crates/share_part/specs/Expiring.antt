@@ -48,7 +48,8 @@ pub record StepsGroup (conf : PartConfParts) (count later end last : ℕ) (old :
 
 -- Of groups one after another, where so many records were freed before: each is passed or done, and the others follow; or its write fails, and it
 -- is the last.
-abbrev pub StepsGroups : PartConfParts → (count later end last : ℕ) → List (List ℕ) → (freed : ℕ) → PartShardState → ExpireAnswer → PartShardState → Type 0
+abbrev pub StepsGroups : PartConfParts → (count later end last : ℕ) → List (List ℕ) → (freed : ℕ) → PartShardState → ExpireAnswer → PartShardState
+    → Type 0
 StepsGroups conf count later end last [] freed old answer new = (answer ≡ Done freed) × (new ≡ old) × (count ≤ later) × (end ≤ last)
 StepsGroups conf count later end last (group ∷ groups) freed old answer new =
     ((between : PartShardState) × (counted : ℕ) × (at : ℕ) × StepsGroup conf count counted end at old group None between
@@ -58,7 +59,8 @@ StepsGroups conf count later end last (group ∷ groups) freed old answer new =
 
 -- An expiry at the moment `now`. `count` and `later` are the faults of the first state disk before it and behind it, `end` and `last` are where its
 -- journal ends before it and behind it.
-pub record StepsExpire (conf : PartConfParts) (count later end last : ℕ) (old : PartShardState) (now : ℕ) (answer : ExpireAnswer) (new : PartShardState) : Type 0 where
+pub record StepsExpire (conf : PartConfParts) (count later end last : ℕ) (old : PartShardState) (now : ℕ) (answer : ExpireAnswer)
+    (new : PartShardState) : Type 0 where
   pub clock : new.clock ≡ max old.clock now
   pub log : new.log ≡ old.log
   pub groups : StepsGroups conf count later end last (groups_of old.states) 0 (raised_to now old) answer new

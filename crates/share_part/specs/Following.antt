@@ -81,13 +81,15 @@ pub record HasNoRoom (conf : PartConfParts) (end : ℕ) (old : PartShardState) (
   pub past : 2 ^ 62 < end + (length frame + 5)
 
 -- a first fetch, by what became of it
-abbrev pub MakesTable : PartConfParts → (rose : Type 0) → (end : ℕ) → PartShardState → Visit → Limits → VisitAnswer → PartShardState → ThenOutcome → Type 0
+abbrev pub MakesTable : PartConfParts → (rose : Type 0) → (end : ℕ) → PartShardState → Visit → Limits → VisitAnswer → PartShardState
+    → ThenOutcome → Type 0
 MakesTable conf rose end old visit limits answer new Done = FetchesFirst conf old visit limits answer new
 MakesTable conf rose end old visit limits answer new (Store Device) = rose × IsEmptyAnswer (Store Device) answer × IsUnmade conf old visit new
 MakesTable conf rose end old visit limits answer new (Store (Full at)) =
     (at ≡ end) × IsEmptyAnswer (Store (Full at)) answer × IsStill old new × HasNoRoom conf end old visit
 
-abbrev pub Fetches : PartConfParts → (rose : Type 0) → (end : ℕ) → PartShardState → Visit → Limits → VisitAnswer → PartShardState → Option ShareState → Type 0
+abbrev pub Fetches : PartConfParts → (rose : Type 0) → (end : ℕ) → PartShardState → Visit → Limits → VisitAnswer → PartShardState
+    → Option ShareState → Type 0
 Fetches conf rose end old visit limits answer new (Some state) = FetchesThere conf old state visit limits answer new
 Fetches conf rose end old visit limits answer new None = MakesTable conf rose end old visit limits answer new answer.then
 
@@ -110,7 +112,8 @@ Does conf rose end old visit answer new Nothing = IsEmptyAnswer Done answer × I
 Does conf rose end old visit answer new Release = IsEmptyAnswer answer.then answer
     × StoresActs conf rose end old visit.group (releases_of visit.member (old.held visit.group)) new (fault_of answer.then)
 Does conf rose end old visit answer new (Fetch records bytes first) =
-    Fetches conf rose end old visit (record { records = records; bytes = bytes; first = first }) answer new (share_state_at old.states (key_of conf visit.group))
+    Fetches conf rose end old visit (record { records = records; bytes = bytes; first = first }) answer new
+    (share_state_at old.states (key_of conf visit.group))
 
 -- There is nothing to write: nothing is asked for, or a release by a member who holds nothing, or a fetch of a group that has a table.
 abbrev pub HasNothingToWrite : PartConfParts → PartShardState → Visit → Then → Type 0

@@ -28,11 +28,13 @@ use Rattle.share_part.specs.Visits.{AreToWrite, StepsAcks, StepsVisit}
 abbrev pub Followed : {D W : Type 0} → (D → List ℕ → Type 0) → (D → ℕ) → (W → Held) → ℕ → Visit → PartParts D W → PartParts D W → VisitAnswer → Type 0
 Followed image faults holding now visit before after answer = (old : PartShardState) → Carries image holding before old → (new : PartShardState)
     × Carries image holding after new
-    × StepsThen before.conf (Rose (faults before.states.journal.live.disk) (faults after.states.journal.live.disk)) before.states.journal.live.end old now visit answer new
+    × StepsThen before.conf (Rose (faults before.states.journal.live.disk) (faults after.states.journal.live.disk)) before.states.journal.live.end
+    old now visit answer new
 
 -- What follows the acknowledgements. The members of the disk come first.
 pub record FollowsOnce {D W : Type 0} (content : D → Option (List ℕ)) (image : D → List ℕ → Type 0) (armed : D → Armed) (starved : D → Bool)
-    (faults : D → ℕ) (holding : W → Held) (now : ℕ) (visit : Visit) (before after : PartParts D W) (result : Result VisitAnswer NoMemory) : Type 0 where
+    (faults : D → ℕ) (holding : W → Held) (now : ℕ) (visit : Visit) (before after : PartParts D W) (result : Result VisitAnswer NoMemory)
+    : Type 0 where
   -- where it answers, a step was made; where it finds no memory, the shard stands for what it stood for
   pub steps : IfOk result (Followed image faults holding now visit before after)
   pub memory : OnErr result ((old : PartShardState) → Carries image holding before old → Carries image holding after old)
@@ -40,7 +42,8 @@ pub record FollowsOnce {D W : Type 0} (content : D → Option (List ℕ)) (image
   pub sound : IfOk result (λ answer. answer.then ≡ Store Device →
       StarvesUnarmed content armed starved before.states.journal.live.disk after.states.journal.live.disk)
   -- where there is nothing to write, the states and their disks stay
-  pub unwritten : (old : PartShardState) → Carries image holding before old → HasNothingToWrite before.conf old visit visit.then → after.states ≡ before.states
+  pub unwritten : (old : PartShardState) → Carries image holding before old → HasNothingToWrite before.conf old visit visit.then →
+      after.states ≡ before.states
   -- the journal of the states never ends before where it did
   pub ends : (old : PartShardState) → Carries image holding before old → before.states.journal.live.end ≤ after.states.journal.live.end
   -- the log, its disk and the second state disk stay
@@ -58,11 +61,13 @@ Visited image faults holding now visit before after answer = (old : PartShardSta
 -- the acknowledgements were done alone
 abbrev pub AcksStand : {D W : Type 0} → (D → List ℕ → Type 0) → (D → ℕ) → (W → Held) → Visit → PartParts D W → PartParts D W → PartShardState → Type 0
 AcksStand image faults holding visit before after old = (ack : AckOutcome) × (new : PartShardState) × Carries image holding after new
-    × StepsAcks before.conf (Rose (faults before.states.journal.live.disk) (faults after.states.journal.live.disk)) before.states.journal.live.end old visit ack new
+    × StepsAcks before.conf (Rose (faults before.states.journal.live.disk) (faults after.states.journal.live.disk)) before.states.journal.live.end
+    old visit ack new
 
 -- A visit. The members of the disk come first.
 pub record VisitsOnce {D W : Type 0} (content : D → Option (List ℕ)) (image : D → List ℕ → Type 0) (armed : D → Armed) (starved : D → Bool)
-    (faults : D → ℕ) (holding : W → Held) (now : ℕ) (visit : Visit) (before after : PartParts D W) (result : Result VisitAnswer NoMemory) : Type 0 where
+    (faults : D → ℕ) (holding : W → Held) (now : ℕ) (visit : Visit) (before after : PartParts D W) (result : Result VisitAnswer NoMemory)
+    : Type 0 where
   -- where it answers, a step was made
   pub steps : IfOk result (Visited image faults holding now visit before after)
   -- where it finds no memory, the shard stands for what it stood for, or for what the acknowledgements left
@@ -110,7 +115,8 @@ pub record ExpiresOnce {D W : Type 0} (content : D → Option (List ℕ)) (image
       Carries image holding after old ⊎ PartStands image faults holding now before after old)
   -- where nothing is due it takes no memory, and raises the clock alone
   pub quiet : IsNothingDue holding before.windows (max before.clock now) →
-      (result ≡ Ok (Done 0)) × (after ≡ record { conf = before.conf; log = before.log; states = before.states; windows = before.windows; clock = max before.clock now })
+      (result ≡ Ok (Done 0))
+      × (after ≡ record { conf = before.conf; log = before.log; states = before.states; windows = before.windows; clock = max before.clock now })
   -- with nothing armed, a device fault comes only where the disk finds no memory
   pub sound : IfOk result (λ answer. (freed : ℕ) (group : List ℕ) → answer ≡ expire_store freed group Device →
       StarvesUnarmed content armed starved before.states.journal.live.disk after.states.journal.live.disk)
@@ -121,15 +127,16 @@ pub record ExpiresOnce {D W : Type 0} (content : D → Option (List ℕ)) (image
   pub idle : after.states.journal.idle ≡ before.states.journal.idle
   pub conf : after.conf ≡ before.conf
 
-abbrev pub Produced : {D W : Type 0} → (D → List ℕ → Type 0) → (D → ℕ) → (W → Held) → ℕ → List ℕ → PartParts D W → PartParts D W → Result ℕ LogFault → Type 0
+abbrev pub Produced : {D W : Type 0} → (D → List ℕ → Type 0) → (D → ℕ) → (W → Held) → ℕ → List ℕ → PartParts D W → PartParts D W
+    → Result ℕ LogFault → Type 0
 Produced image faults holding now bytes before after result = (old : PartShardState) → Carries image holding before old → (new : PartShardState)
     × Carries image holding after new
     × StepsProduce (Rose (faults before.log.journal.disk) (faults after.log.journal.disk)) before.log.journal.end old now bytes result new
 
 -- A produced batch. The members of the disk come first.
-pub record ProducesOnce {D W : Type 0} (content : D → Option (List ℕ)) (image : D → List ℕ → Type 0) (moment : D → ℕ) (since : D → ℕ → List ℕ → Type 0)
-    (armed : D → Armed) (starved : D → Bool) (faults : D → ℕ) (holding : W → Held) (now : ℕ) (bytes : List ℕ) (before after : PartParts D W)
-    (result : Result ℕ LogFault) : Type 0 where
+pub record ProducesOnce {D W : Type 0} (content : D → Option (List ℕ)) (image : D → List ℕ → Type 0) (moment : D → ℕ)
+    (since : D → ℕ → List ℕ → Type 0) (armed : D → Armed) (starved : D → Bool) (faults : D → ℕ) (holding : W → Held) (now : ℕ) (bytes : List ℕ)
+    (before after : PartParts D W) (result : Result ℕ LogFault) : Type 0 where
   pub steps : result ≢ Err log_memory → Produced image faults holding now bytes before after result
   pub memory : result ≡ Err log_memory → after ≡ before
   pub sound : result ≡ Err (log_store Device) → StarvesUnarmed content armed starved before.log.journal.disk after.log.journal.disk

@@ -74,21 +74,24 @@ told_in (Err e) = Err e
 
 -- The releases of a group, where the clock is raised to `clock`. `rose` says that the count of faults of the first state disk rose, `end` is
 -- where its journal ends.
-pub record StepsRelease (conf : PartConfParts) (rose : Type 0) (end : ℕ) (old : PartShardState) (clock : ℕ) (group : List ℕ) (whose : Whose) (released : Released)
-    (new : PartShardState) : Type 0 where
+pub record StepsRelease (conf : PartConfParts) (rose : Type 0) (end : ℕ) (old : PartShardState) (clock : ℕ) (group : List ℕ) (whose : Whose)
+    (released : Released) (new : PartShardState) : Type 0 where
   pub log : new.log ≡ old.log
   pub clock_is : new.clock ≡ clock
   pub stores : StoresActs conf rose end old group (releasing (is_chosen whose) (old.held group)) new (fault_in released)
   pub counts : Counts whose (old.held group) released
 
-abbrev pub ReleasedSo : {D W : Type 0} → (D → List ℕ → Type 0) → (D → ℕ) → (W → Held) → ℕ → List ℕ → Whose → PartParts D W → PartParts D W → Released → Type 0
-ReleasedSo image faults holding clock group whose before after released = (old : PartShardState) → Carries image holding before old → (new : PartShardState)
-    × Carries image holding after new
-    × StepsRelease before.conf (Rose (faults before.states.journal.live.disk) (faults after.states.journal.live.disk)) before.states.journal.live.end old clock group whose released new
+abbrev pub ReleasedSo : {D W : Type 0} → (D → List ℕ → Type 0) → (D → ℕ) → (W → Held) → ℕ → List ℕ → Whose → PartParts D W → PartParts D W
+    → Released → Type 0
+ReleasedSo image faults holding clock group whose before after released = (old : PartShardState) → Carries image holding before old →
+    (new : PartShardState) × Carries image holding after new
+    × StepsRelease before.conf (Rose (faults before.states.journal.live.disk) (faults after.states.journal.live.disk)) before.states.journal.live.end
+    old clock group whose released new
 
 -- The releases of a group on a shard in memory. The members of the disk come first.
 pub record ReleasesOnce {D W : Type 0} (content : D → Option (List ℕ)) (image : D → List ℕ → Type 0) (armed : D → Armed) (starved : D → Bool)
-    (faults : D → ℕ) (holding : W → Held) (clock : ℕ) (group : List ℕ) (whose : Whose) (before after : PartParts D W) (result : Result Released NoMemory) : Type 0 where
+    (faults : D → ℕ) (holding : W → Held) (clock : ℕ) (group : List ℕ) (whose : Whose) (before after : PartParts D W)
+    (result : Result Released NoMemory) : Type 0 where
   pub steps : IfOk result (ReleasedSo image faults holding clock group whose before after)
   pub unwritten : NameNone (releasing (is_chosen whose) (held_in holding before.windows group)) → after.states ≡ before.states
   pub memory : OnErr result ((old : PartShardState) → Carries image holding before old → Carries image holding after old)

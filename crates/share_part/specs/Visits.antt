@@ -14,7 +14,8 @@ use Rattle.share_part.specs.Hosting.{PartConfParts}
 use Rattle.share_part.specs.Shards.{PartShardState}
 
 -- the acknowledgements are done, and the log and the clock are as they were
-pub record StepsAcks (conf : PartConfParts) (rose : Type 0) (end : ℕ) (old : PartShardState) (visit : Visit) (ack : AckOutcome) (new : PartShardState) : Type 0 where
+pub record StepsAcks (conf : PartConfParts) (rose : Type 0) (end : ℕ) (old : PartShardState) (visit : Visit) (ack : AckOutcome)
+    (new : PartShardState) : Type 0 where
   pub log : new.log ≡ old.log
   pub clock : new.clock ≡ old.clock
   pub does : Acknowledges conf rose end old visit new ack
