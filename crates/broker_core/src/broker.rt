@@ -113,15 +113,20 @@ fn advance<D: Disk + Drop>(
     requires apart { AreApart (parts_of hosts.old) }
     requires hosted { length hosts.old.parts.items ≡ partitions conf.now.topics }
     ensures ok { IfOk result (λ outcomes. Advances D.content D.image D.starved D.faults D.losses D.arms D.armed
-        (core_of conf.now clients.old.entries (parts_of hosts.old)) event.now outcomes.items (core_of conf.now clients.new.entries (parts_of hosts.new))) }
+        (core_of conf.now clients.old.entries (parts_of hosts.old)) event.now outcomes.items
+        (core_of conf.now clients.new.entries (parts_of hosts.new))) }
     ensures told { IfOk result (λ outcomes. All (IsTold conf.now.topics) outcomes.items) }
     ensures open { OnOk result (AreOpen (parts_of hosts.new)) }
     ensures held { AreHeld (parts_of hosts.new) }
     ensures stays { StaysHosted (parts_of hosts.old) (parts_of hosts.new) }
-    ensures stopped { IfErr result (λ e. (m : Machine) → IsCore D.content D.image D.starved (core_of conf.now clients.old.entries (parts_of hosts.old)) m →
-        StopsIn D.content D.image D.faults D.losses D.arms D.armed (core_of conf.now clients.old.entries (parts_of hosts.old)) m event.now (core_of conf.now clients.new.entries (parts_of hosts.new)) × (e ≡ CoreFault.NoMemory)) }
-    ensures reopen { (f : CoreOpen) → result ≡ Err (CoreFault.Reopen f) → ((choice : ℕ) × (event.now ≡ Power choice)) × (f ≢ CoreOpen.Bay) × (f ≢ CoreOpen.NoMemory) }
-    ensures device { result ≡ Err (CoreFault.Reopen CoreOpen.Device) → OneRose D.faults (disks_in (parts_of hosts.old)) (disks_in (parts_of hosts.new)) }
+    ensures stopped { IfErr result (λ e. (m : Machine)
+        → IsCore D.content D.image D.starved (core_of conf.now clients.old.entries (parts_of hosts.old)) m
+        → StopsIn D.content D.image D.faults D.losses D.arms D.armed (core_of conf.now clients.old.entries (parts_of hosts.old)) m event.now
+        (core_of conf.now clients.new.entries (parts_of hosts.new)) × (e ≡ CoreFault.NoMemory)) }
+    ensures reopen { (f : CoreOpen) → result ≡ Err (CoreFault.Reopen f) →
+        ((choice : ℕ) × (event.now ≡ Power choice)) × (f ≢ CoreOpen.Bay) × (f ≢ CoreOpen.NoMemory) }
+    ensures device { result ≡ Err (CoreFault.Reopen CoreOpen.Device) →
+        OneRose D.faults (disks_in (parts_of hosts.old)) (disks_in (parts_of hosts.new)) }
     ensures disks { GoOn D.content D.faults (disks_in (parts_of hosts.old)) (disks_in (parts_of hosts.new)) }
 {
     match event {
@@ -174,7 +179,8 @@ impl<D: Disk + Drop> Core<D> {
     ) -> Result<Core<D>, CoreOpen>
         requires { AreOut B.out [] bay.old }
         ensures opens { IfOk result (λ core. (contents : List ℕ → List ℕ) (was : Disks) →
-            TellsDisks B.disk D.content D.faults D.losses D.arms D.armed conf bay.old contents was → (m : Machine) × IsCore D.content D.image D.starved core m
+            TellsDisks B.disk D.content D.faults D.losses D.arms D.armed conf bay.old contents was →
+            (m : Machine) × IsCore D.content D.image D.starved core m
             × IsFirst conf contents was (state_of D.faults D.losses D.arms D.armed m core)) }
         ensures open { IfOk result (λ core. AreOpen core.hosts × (core.conf ≡ conf)) }
         ensures taken { IfOk result (λ core. AreOut B.out (all_names (hosted_slots core.hosts.parts)) bay.new) }
@@ -192,7 +198,8 @@ impl<D: Disk + Drop> Core<D> {
         ensures device { result ≡ Err CoreOpen.Device → Rose (B.faults bay.old) (B.faults bay.new) ⊎ HasLastCount B.disk D.faults conf bay.old }
         ensures later { B.faults bay.old ≤ B.faults bay.new }
         ensures told { TellsStill B.disk bay.old bay.new }
-        ensures sound { IsSound B.disk B.steady D.content D.armed D.arms D.starved D.faults bay.old → (result ≢ Err CoreOpen.Bay) × (result ≢ Err CoreOpen.Device) }
+        ensures sound { IsSound B.disk B.steady D.content D.armed D.arms D.starved D.faults bay.old →
+            (result ≢ Err CoreOpen.Bay) × (result ≢ Err CoreOpen.Device) }
     {
         let hosts = take_hosts(alloc, bay, &conf)?;
         Ok(Core {
@@ -233,7 +240,8 @@ impl<D: Disk + Drop> Core<D> {
         requires moment { HasMoment event.now }
 
         // It is a step of the machine that the broker stands for, where its disks tell their contents.
-        ensures ok { IfOk result (λ outcomes. Advances D.content D.image D.starved D.faults D.losses D.arms D.armed self.old event.now outcomes.items self.new) }
+        ensures ok { IfOk result (λ outcomes.
+            Advances D.content D.image D.starved D.faults D.losses D.arms D.armed self.old event.now outcomes.items self.new) }
         ensures open { OnOk result (AreOpen self.new.hosts) }
 
         // On such disks it fails for want of memory alone, and the disks stand for the machine before the event, or behind it, or behind
@@ -243,7 +251,8 @@ impl<D: Disk + Drop> Core<D> {
 
         // On any disks: a fault that is told is that of a hosted partition. Why it was not opened again, which comes of a power loss alone.
         ensures told { IfOk result (λ outcomes. All (IsTold self.old.conf.topics) outcomes.items) }
-        ensures reopen { (f : CoreOpen) → result ≡ Err (CoreFault.Reopen f) → ((choice : ℕ) × (event.now ≡ Power choice)) × (f ≢ CoreOpen.Bay) × (f ≢ CoreOpen.NoMemory) }
+        ensures reopen { (f : CoreOpen) → result ≡ Err (CoreFault.Reopen f) →
+            ((choice : ℕ) × (event.now ≡ Power choice)) × (f ≢ CoreOpen.Bay) × (f ≢ CoreOpen.NoMemory) }
         ensures device { result ≡ Err (CoreFault.Reopen CoreOpen.Device) → OneRose D.faults (disks_in self.old.hosts) (disks_in self.new.hosts) }
         ensures disks { GoOn D.content D.faults (disks_in self.old.hosts) (disks_in self.new.hosts) }
         ensures conf { self.new.conf ≡ self.old.conf }

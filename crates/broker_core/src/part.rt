@@ -197,7 +197,8 @@ pub fn open_part<D: Disk>(
     ensures images { MatchResult result
         (λ part. PartImagesStandAs D.image disks.0 disks.1 disks.2 part.log.journal.disk part.states.journal.live.disk part.states.journal.idle)
         (λ e. PartImagesStandAs D.image disks.0 disks.1 disks.2 e.0.0 e.0.1 e.0.2) }
-    ensures log { MatchResult result (λ part. GoesOn D.content D.faults disks.0 part.log.journal.disk) (λ e. GoesOn D.content D.faults disks.0 e.0.0) }
+    ensures log { MatchResult result (λ part. GoesOn D.content D.faults disks.0 part.log.journal.disk)
+        (λ e. GoesOn D.content D.faults disks.0 e.0.0) }
     ensures first { MatchResult result (λ part. GoesOn D.content D.faults disks.1 part.states.journal.live.disk)
         (λ e. GoesOn D.content D.faults disks.1 e.0.1) }
     ensures second { MatchResult result (λ part. GoesOn D.content D.faults disks.2 part.states.journal.idle)

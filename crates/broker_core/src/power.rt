@@ -53,8 +53,10 @@ fn lose_parts<D: Disk + Drop>(
 ) -> Result<(), CoreFault>
     requires open { AreOpenParts parts.old.items }
     requires named { AreNamed (hosted_slots parts.old.items) }
-    ensures ok { OnOk result (AllZip (ReopensSlot D.content D.image D.starved D.faults D.losses D.arms D.armed choice) parts.old.items parts.new.items) }
-    ensures stopped { IfErr result (λ e. StopsAt D.content D.image D.starved D.faults D.losses D.arms D.armed choice e parts.old.items parts.new.items) }
+    ensures ok { OnOk result (AllZip (ReopensSlot D.content D.image D.starved D.faults D.losses D.arms D.armed choice)
+        parts.old.items parts.new.items) }
+    ensures stopped { IfErr result (λ e.
+        StopsAt D.content D.image D.starved D.faults D.losses D.arms D.armed choice e parts.old.items parts.new.items) }
 {
     let mut place = 0;
     'parts: while place < parts.len() {
@@ -104,7 +106,8 @@ pub fn lose_power<D: Disk + Drop>(
     ensures stopped { IfErr result (λ e. (s : Shards) → AreCarried D.content D.image D.starved (parts_of hosts.old) s →
         StandStill D.content D.image s (disks_in (parts_of hosts.new))
         × DisksReach D.image (disks_in (parts_of hosts.new)) (λ name. ends_in (parts_of hosts.old) name - 1) × (e ≡ CoreFault.NoMemory)) }
-    ensures device { result ≡ Err (CoreFault.Reopen CoreOpen.Device) → OneRose D.faults (disks_in (parts_of hosts.old)) (disks_in (parts_of hosts.new)) }
+    ensures device { result ≡ Err (CoreFault.Reopen CoreOpen.Device) →
+        OneRose D.faults (disks_in (parts_of hosts.old)) (disks_in (parts_of hosts.new)) }
     ensures never { (f : CoreOpen) → result ≡ Err (CoreFault.Reopen f) → (f ≢ CoreOpen.Bay) × (f ≢ CoreOpen.NoMemory) }
     ensures disks { GoOn D.content D.faults (disks_in (parts_of hosts.old)) (disks_in (parts_of hosts.new)) }
     ensures open { OnOk result (AreOpen (parts_of hosts.new)) }

@@ -40,7 +40,8 @@ fn expire_shard<D: Disk>(
         (ends_over (parts_of hosts.old) (parts_of hosts.new)) now shard outcomes a call b)
         (HalvesExpiry (counts_in D.faults D.losses D.arms D.armed (disks_in (parts_of hosts.old)) (disks_in (parts_of hosts.new)))
         (ends_over (parts_of hosts.old) (parts_of hosts.new)) now shard)) }
-    ensures told { IfOk result (λ outcomes. (topics : List Topic) → length hosts.old.parts.items ≡ partitions topics → All (IsTold topics) outcomes.items) }
+    ensures told { IfOk result (λ outcomes. (topics : List Topic) → length hosts.old.parts.items ≡ partitions topics →
+        All (IsTold topics) outcomes.items) }
     ensures disks { GoOn D.content D.faults (disks_in (parts_of hosts.old)) (disks_in (parts_of hosts.new)) }
     ensures open { AreOpen (parts_of hosts.new) }
     ensures stays { StaysHosted (parts_of hosts.old) (parts_of hosts.new) }
@@ -70,7 +71,8 @@ pub fn expire<D: Disk>(
         (record { connections = connections; shards = a }) (shard_named topic.now part conf.now.topics) call outcomes.items
         (record { connections = connections; shards = b }))) }
     ensures stopped { OnErr result ((s : Shards) → AreCarried D.content D.image D.starved (parts_of hosts.old) s →
-        Halts D.content D.image (parts_of hosts.old) s (parts_of hosts.new) (λ a call b. (outcomes : List Outcome) × ((connections : List (ℕ × ConnParts))
+        Halts D.content D.image (parts_of hosts.old) s (parts_of hosts.new)
+        (λ a call b. (outcomes : List Outcome) × ((connections : List (ℕ × ConnParts))
         → ExpiresAt (counts_in D.faults D.losses D.arms D.armed (disks_in (parts_of hosts.old)) (disks_in (parts_of hosts.new)))
         (ends_over (parts_of hosts.old) (parts_of hosts.new)) now
         (record { connections = connections; shards = a }) (shard_named topic.now part conf.now.topics) call outcomes
