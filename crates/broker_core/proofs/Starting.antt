@@ -1,7 +1,6 @@
 -- A start over a bay, and its end.
 use Rattle.std.proofs.Common.{◌≡◌, ◌≢◌, ◌≤◌, ◌<◌, ◌-◌, ◌^◌, ◌⊎◌, arith, inl, inr, refl, sym, ap, ◌∙◌, subst, ℕ, List, [], ◌∷◌, ◌++◌, map, Bool, true, false, cond, Some, None, is_some}
-use Rattle.std.proofs.lemmas.List.Elements.{Contains-append_left, Contains-append_right, Contains-push}
-use Rattle.std.specs.List.{AllByRecursion, AllZip, Contains}
+use Rattle.std.specs.List.{AllByRecursion, AllZip}
 use Rattle.std.specs.declared.option.Option.{Option}
 use Rattle.edge_io.specs.declared.fault.Armed.{Armed}
 use Rattle.edge_io.specs.declared.name.DiskPlace.TheVariants.{Log, StateA, StateB}
@@ -19,8 +18,8 @@ use Rattle.broker_core.specs.declared.fault.CoreOpen.TheVariants.{Damaged, Devic
 use Rattle.broker_core.specs.declared.slot.ForeignSlot.{ForeignSlot}
 use Rattle.broker_core.specs.declared.slot.PartState.{PartState}
 use Rattle.broker_core.specs.declared.slot.PartSlot.{PartSlot}
-use Rattle.broker_core.specs.Restarts.{IsDamagedDisk, IsOpened, IsOpenedDisk}
-use Rattle.broker_core.specs.Bays.{ArePutBack, AreOut, AreTakenFrom, BothHold, BothRisen, BothTaken, HasLastCount, HasName, HasRisen, HoldsIf, IsFirst, StandForAll, StandsForTables, TellsDisks}
+use Rattle.broker_core.specs.Restarts.{IsDamagedDisk, IsOpened, IsOpenedDisk, StandsForTables}
+use Rattle.broker_core.specs.Bays.{ArePutBack, AreOut, AreTakenFrom, BothHold, BothRisen, BothTaken, HasLastCount, HasName, HasRisen, HoldsIf, IsFirst, StandForAll, TellsDisks}
 use Rattle.broker_core.specs.Cores.{IsCore, core_of, state_of}
 use Rattle.broker_core.specs.Hosts.{AreApart, AreCarried, AreDistinct, AreHeld, AreNamed, AreOpen, HostsParts, IsHeld, IsOpen, IsPartSlot, IsPartState, IsSlot, NotIn, all_names, among, disks_in, facts_at, facts_in, foreign_disks, foreign_facts, hosted_slot, hosted_slots, part_disk, slots_disks}
 use Rattle.broker_core.specs.Taking.{Moves, PutsAll, PutsAllBack, PutsBack, RefusesAll, RefusesAt, RefusesForeign, TakesAll, TakesParts, TellsThese}
@@ -57,9 +56,6 @@ not_states hosted d name one = (
 all_in_rest : {A : Type 0} (P : A → Type 0) (xs : List A) (y : A) (ys : List A) → AllByRecursion P (xs ++ (y ∷ ys)) → P y
 all_in_rest P [] y ys all = all.0
 all_in_rest P (x ∷ xs) y ys all = all_in_rest P xs y ys all.1
-
-there : {A : Type 0} (xs : List A) (y : A) (ys : List A) → Contains (xs ++ (y ∷ ys)) y
-there xs y ys = Contains-append_right xs (y ∷ ys) y (Contains-append_left (y ∷ []) ys y (Contains-push [] y))
 
 module _ {B D : Type 0} (disk : B → List ℕ → Option D) (out : B → List ℕ → Bool) (taken : B → List ℕ → ℕ) (steady : B → Type 0) (bay_faults : B → ℕ)
     (content : D → Option (List ℕ)) (image : D → List ℕ → Type 0) (starved : D → Bool) (faults : D → ℕ)
@@ -146,6 +142,29 @@ module _ {B D : Type 0} (disk : B → List ℕ → Option D) (out : B → List �
           ),
         );
       }
+
+  -- partitions that were taken had disks that stand for logs and tables
+  had_tables : (contents : List ℕ → List ℕ) (old new : B) (slots : List (PartSlot D))
+      → TellsThese disk content (part_disks (hosted_slots slots)) old contents → Slots old new slots
+      → AllByRecursion (StandsForTables contents) (hosted_slots slots)
+  had_tables contents old new [] tells all = tt
+  had_tables contents old new (s ∷ slots) tells all =
+      let l = tells (log_of (hosted_slot s)) (inl refl) in
+      let a = tells (first_of (hosted_slot s)) (inr (inl refl)) in
+      let b = tells (second_of (hosted_slot s)) (inr (inr (inl refl))) in
+      let o = all.0.opens (contents (log_of (hosted_slot s))) (contents (first_of (hosted_slot s))) (contents (second_of (hosted_slot s)))
+      (ap content (all.0.on_log.as_told l.0 l.1) ∙ l.2) (ap content (all.0.on_first.as_told a.0 a.1) ∙ a.2)
+      (ap content (all.0.on_second.as_told b.0 b.1) ∙ b.2) in
+      ((o.batches, o.states, o.stands), had_tables contents old new slots (λ name one. tells name (inr (inr (inr one)))) all.1)
+
+  before_had_tables : (contents : List ℕ → List ℕ) (hosted : List Hosted) (old : B) (slots : List (PartSlot D)) (mid : B) → AreDistinct (part_disks hosted)
+      → Before hosted old slots mid → TellsThese disk content (part_disks hosted) old contents → AllByRecursion (StandsForTables contents) hosted
+  before_had_tables contents hosted old slots mid distinct t tells =
+      let same : hosted_slots slots ≡ hosted =
+      takes_hosts disk out taken steady bay_faults content image starved faults losses arms armed hosted old slots mid t in
+      subst (AllByRecursion (StandsForTables contents)) same (had_tables contents old mid slots
+      (λ name one. tells name (subst (λ (l : List Hosted). IsOneOf (part_disks l) name) same one))
+      (takes_slots disk out taken steady bay_faults content image starved faults losses arms armed hosted old slots mid distinct t))
 
   known_among : (was : Disks) (es : List (List ℕ × Option D)) (other : Facts) (name : List ℕ) → IsOneOf (named es) name → Known was es
       → IsOpenedDisk (was name) (among (λ (e : List ℕ × Option D). e.0) (λ e. facts_at faults losses arms armed e.1) es other name)
@@ -365,6 +384,10 @@ module _ {B D : Type 0} (disk : B → List ℕ → Option D) (out : B → List �
       in_all name one = subst (λ (l : List (List ℕ)). IsOneOf l name) (sym split_disks)
           (one_in_rest (part_disks r.before) (part_disks (r.h ∷ r.after)) name (own_in name one))
 
+      in_front : (name : List ℕ) → IsOneOf (part_disks r.before) name → IsOneOf all name
+      in_front name one = subst (λ (l : List (List ℕ)). IsOneOf l name) (sym split_disks)
+          (one_in_front (part_disks r.before) (part_disks (r.h ∷ r.after)) name one)
+
       before_distinct : AreDistinct (part_disks r.before)
       before_distinct = distinct_front (part_disks r.before) (part_disks (r.h ∷ r.after)) both_distinct
 
@@ -408,8 +431,12 @@ module _ {B D : Type 0} (disk : B → List ℕ → Option D) (out : B → List �
         moves = moves_then disk out taken steady bay_faults old r.mid new to_mid
             (moves_then disk out taken steady bay_faults r.mid r.behind new r.refuses.moves from_behind);
         damaged = λ n place e contents was tells. inl (
+          r.before,
+          r.after,
           r.h,
-          subst (λ (l : List Hosted). Contains l r.h) (sym r.split) (there r.before r.h r.after),
+          r.split,
+          before_had_tables contents r.before old r.slots r.mid before_distinct r.takes
+              (λ name one. let d = tells name (inl (in_front name one)) in (d.0, d.1, d.2)),
           r.refuses.damaged n place e contents (tells_mid contents was tells),
         );
         recovers = λ contents was tells stand n place. r.refuses.recovers contents (tells_mid contents was tells)
@@ -475,7 +502,11 @@ module _ {B D : Type 0} (disk : B → List ℕ → Option D) (out : B → List �
         damaged = λ n place e contents was tells.
             let d = tells state_a (inr (inl refl)) in
             let f = tells state_b (inr (inr refl)) in
-            inr (r.damaged n place e d.0 f.0 (contents state_a) (contents state_b) (a_same.same_disk ∙ d.1) (b_same.same_disk ∙ f.1) d.2 f.2);
+            inr (
+              before_had_tables contents (hosted_of conf) old slots mid (parts_distinct (hosted_of conf) all_apart) takes
+                  (λ name one. let t = tells name (inl one) in (t.0, t.1, t.2)),
+              r.damaged n place e d.0 f.0 (contents state_a) (contents state_b) (a_same.same_disk ∙ d.1) (b_same.same_disk ∙ f.1) d.2 f.2,
+            );
         recovers = λ contents was tells stand n place.
             let d = tells state_a (inr (inl refl)) in
             let f = tells state_b (inr (inr refl)) in

@@ -1,7 +1,8 @@
 -- What an opening and a restart of a shard leave. This project's own.
 -- For example after a power loss that left `00` on all disks foreign state has no keys, a partition has no batches and no tables, and
 -- nothing is pending.
-use Rattle.std.specs.Prelude.{◌≡◌, ◌≢◌, ◌⊎◌, ◌≤◌, ◌∷◌, ◌++◌, [], ℕ, List, Bool, true, false, Some, None, Contains}
+use Rattle.std.specs.Prelude.{◌≡◌, ◌≢◌, ◌⊎◌, ◌≤◌, ◌∷◌, ◌++◌, [], ℕ, List, Bool, true, false, Some, None}
+use Rattle.std.specs.List.{AllByRecursion}
 use Rattle.std.specs.declared.option.Option.{Option}
 use Rattle.edge_io.specs.declared.fault.Armed.{Armed}
 use Rattle.edge_io.specs.declared.fault.Armed.TheVariants.{Nothing}
@@ -76,11 +77,18 @@ abbrev pub IsDamagedPart : Hosted → (log first second : List ℕ) → (name : 
 IsDamagedPart h log first second name place =
     (disk : DiskPlace) × (name ≡ hosted_name h.topic h.conf.part disk) × AreDamagedAt h.conf log first second disk place
 
--- this disk of the broker stands for nothing, by this place: one of a partition, or of foreign state
+-- the contents of a partition's three disks, by their names, stand for a log and tables
+abbrev pub StandsForTables : (List ℕ → List ℕ) → Hosted → Type 0
+StandsForTables contents h = (batches : List Batch) × (states : ShareStates)
+    × ArePartText h.conf (contents (log_of h)) (contents (first_of h)) (contents (second_of h)) batches states
+
+-- This disk of the broker stands for nothing, by this place: one of a partition, or of foreign state, behind partitions whose disks stand for
+-- logs and tables. The partitions come in the order of the configuration, and foreign state last.
 abbrev pub IsDamagedDisk : ConfigParts → (List ℕ → List ℕ) → List ℕ → ℕ → Type 0
 IsDamagedDisk conf contents name place =
-    ((h : Hosted) × Contains (hosted_of conf) h × IsDamagedPart h (contents (log_of h)) (contents (first_of h)) (contents (second_of h)) name place)
-    ⊎ IsDamagedState (contents state_a) (contents state_b) name place
+    ((before after : List Hosted) × (h : Hosted) × (hosted_of conf ≡ before ++ (h ∷ after)) × AllByRecursion (StandsForTables contents) before
+    × IsDamagedPart h (contents (log_of h)) (contents (first_of h)) (contents (second_of h)) name place)
+    ⊎ (AllByRecursion (StandsForTables contents) (hosted_of conf) × IsDamagedState (contents state_a) (contents state_b) name place)
 
 -- The power of both disks was lost with this choice, and the shard was opened again: it is the old one, whose pending write landed or
 -- didn't.

@@ -17,10 +17,10 @@ use Rattle.broker_core.specs.declared.slot.ForeignSlot.{ForeignSlot}
 use Rattle.broker_core.specs.declared.slot.ForeignSlot.TheVariants as foreign
 use Rattle.broker_core.specs.declared.slot.PartSlot.{PartSlot}
 use Rattle.broker_core.specs.declared.slot.PartState.TheVariants as part
-use Rattle.broker_core.specs.Bays.{IsTakenFrom, StandsForTables, TellsStill}
+use Rattle.broker_core.specs.Bays.{IsTakenFrom, TellsStill}
 use Rattle.broker_core.specs.Carried.{OpenPart}
 use Rattle.broker_core.specs.Hosts.{HostsParts, NotIn, foreign_disks, hosted_slot, slots_disks}
-use Rattle.broker_core.specs.Restarts.{IsOpened, IsOpenedPart, IsDamagedPart, IsDamagedState}
+use Rattle.broker_core.specs.Restarts.{IsOpened, IsOpenedPart, IsDamagedPart, IsDamagedState, StandsForTables}
 
 -- what each call leaves of a bay, whatever it answers
 pub record Moves {B D : Type 0} (disk : B → List ℕ → Option D) (steady : B → Type 0) (bay_faults : B → ℕ) (old new : B) : Type 0 where
