@@ -25,7 +25,7 @@ use Rattle.broker_core.specs.Hosts.{AreApart, AreCarried, AreDistinct, AreHeld, 
 use Rattle.broker_core.specs.Taking.{Moves, PutsAll, PutsAllBack, PutsBack, RefusesAll, RefusesAt, RefusesForeign, TakesAll, TakesParts, TellsThese}
 use Rattle.broker_core.proofs.Places.{among_past, apart_from, distinct_front, is_same, not_both, not_in_front, not_in_rest, one_in_either, one_in_front, one_in_rest, same_self}
 use Rattle.broker_core.proofs.Naming.{are_disk_names, distinct_names, named_of, not_in_both, states_apart}
-use Rattle.broker_core.proofs.Taking.{moves_same, moves_then, named, put_moves, puts_hold, puts_in, puts_moves, puts_others, puts_rise, rose_between, slot_then}
+use Rattle.broker_core.proofs.Taking.{moves_same, moves_then, named, put_moves, puts_hold, puts_in, puts_moves, puts_others, puts_rise, rose_between, slot_same, slot_then}
 use Rattle.broker_core.proofs.Partitions.{IsTakenSlot, apart_behind, disks_then, names_of_disks, slots_counted, slots_open, takes_held, takes_hosts, takes_moves, takes_others, takes_out, takes_slots}
 
 -- a name is one of these, or none of them
@@ -42,6 +42,10 @@ no_state_a hosted d = apart_from (part_disks hosted) (state_a ∷ state_b ∷ []
 
 pub no_state_b : (hosted : List Hosted) → AreDistinct (all_names hosted) → NotIn (part_disks hosted) state_b
 no_state_b hosted d = apart_from (part_disks hosted) (state_a ∷ state_b ∷ []) state_b d (inr (inl refl))
+
+none_of : (names : List (List ℕ)) (name : List ℕ) → (IsOneOf names name → ⊥) → NotIn names name
+none_of [] name f = tt
+none_of (n ∷ names) name f = (λ e. f (inl e), none_of names name (λ one. f (inr one)))
 
 pub parts_distinct : (hosted : List Hosted) → AreDistinct (all_names hosted) → AreDistinct (part_disks hosted)
 parts_distinct hosted d = distinct_front (part_disks hosted) (state_a ∷ state_b ∷ []) d
@@ -262,6 +266,10 @@ module _ {B D : Type 0} (disk : B → List ℕ → Option D) (out : B → List �
         those name (inr (inr (inl e))) = subst (λ (n : List ℕ). out new n ≡ true) (sym e) t.foreign.second_out
         those name (inr (inr (inr never))) = absurd never
 
+    pub all_others : (m : List ℕ) → (IsTaken conf m → ⊥) → Same m old new
+    all_others m away = slot_then disk out taken steady bay_faults m old t.mid new (parts_others m (none_of names m (λ one. away (inl one))))
+        (t.foreign.others m (λ e. away (inr (inl e))) (λ e. away (inr (inr e))))
+
     pub all_counted : AreTakenFrom disk taken faults conf old new (disks_in hosts)
     all_counted = record {
       parts = slots_counted disk out taken steady bay_faults content image starved faults losses arms armed old t.mid new hosts.parts slots
@@ -343,6 +351,7 @@ module _ {B D : Type 0} (disk : B → List ℕ → Option D) (out : B → List �
   pub record Refused (conf : ConfigParts) (fault : CoreOpen) (old new : B) : Type 0 where
     pub back : AreOut out [] old → AreOut out [] new
     pub moves : Goes old new
+    pub others : (m : List ℕ) → (IsTaken conf m → ⊥) → Same m old new
     pub damaged : (n : List ℕ) (place : ℕ) → fault ≡ Damaged n place → (contents : List ℕ → List ℕ) (was : Disks) → Tells conf old contents was
         → IsDamagedDisk conf contents n place
     pub recovers : (contents : List ℕ → List ℕ) (was : Disks) → Tells conf old contents was → StandForAll conf contents
@@ -355,6 +364,7 @@ module _ {B D : Type 0} (disk : B → List ℕ → Option D) (out : B → List �
   want_refused conf fault old new is same = record {
     back = λ whole. subst (λ (b : B). AreOut out [] b) (sym same) whole;
     moves = subst (λ (b : B). Goes old b) (sym same) (moves_same disk out taken steady bay_faults old);
+    others = λ m away. subst (λ (b : B). Same m old b) (sym same) (slot_same disk out taken steady bay_faults m old);
     damaged = λ n place e contents was tells. absurd (let bad : NoMemory ≡ Damaged n place = sym is ∙ e in cc);
     recovers = λ contents was tells stand n place e. (let bad : NoMemory ≡ Damaged n place = sym is ∙ e in cc);
     bay = λ e. absurd (let bad : NoMemory ≡ Bay = sym is ∙ e in cc);
@@ -425,11 +435,21 @@ module _ {B D : Type 0} (disk : B → List ℕ → Option D) (out : B → List �
             ∙ (takes_others disk out taken steady bay_faults content image starved faults losses arms armed r.before old r.slots r.mid r.takes name away).same_out
             ∙ whole.others name tt
 
+      part_others : (m : List ℕ) → (IsOneOf all m → ⊥) → Same m old new
+      part_others m away =
+          let before : NotIn (part_disks r.before) m = none_of (part_disks r.before) m (λ one. away (in_front m one)) in
+          slot_then disk out taken steady bay_faults m old r.mid new
+          (takes_others disk out taken steady bay_faults content image starved faults losses arms armed r.before old r.slots r.mid r.takes m before)
+          (slot_then disk out taken steady bay_faults m r.mid r.behind new (r.refuses.others m (none_of (disks_of r.h) m (λ one. away (in_all m one))))
+          (puts_others disk out taken steady bay_faults faults (slots_disks r.slots) r.behind new r.puts m
+          (subst (λ (l : List (List ℕ)). NotIn l m) (sym slots_are) before)))
+
       part_refused : Refused conf fault old new
       part_refused = record {
         back = λ whole. record { those = λ name one. absurd one; others = λ name away. part_back whole name (one_or_none (part_disks r.before) name) };
         moves = moves_then disk out taken steady bay_faults old r.mid new to_mid
             (moves_then disk out taken steady bay_faults r.mid r.behind new r.refuses.moves from_behind);
+        others = λ m away. part_others m (λ one. away (inl one));
         damaged = λ n place e contents was tells. inl (
           r.before,
           r.after,
@@ -495,10 +515,19 @@ module _ {B D : Type 0} (disk : B → List ℕ → Option D) (out : B → List �
         go (inl (inr (inr never))) = absurd never
         go (inr n) = behind_same ∙ (r.others name n.0 n.1.0).same_out ∙ (others_of name away).same_out ∙ whole.others name tt
 
+      state_others : (m : List ℕ) → (IsTaken conf m → ⊥) → Same m old new
+      state_others m away =
+          let own : NotIn all m = none_of all m (λ one. away (inl one)) in
+          slot_then disk out taken steady bay_faults m old mid new (others_of m own)
+          (slot_then disk out taken steady bay_faults m mid behind new (r.others m (λ e. away (inr (inl e))) (λ e. away (inr (inr e))))
+          (puts_others disk out taken steady bay_faults faults (slots_disks slots) behind new puts m
+          (subst (λ (l : List (List ℕ)). NotIn l m) (sym names_are) own)))
+
       state_refused : Refused conf fault old new
       state_refused = record {
         back = λ whole. record { those = λ name one. absurd one; others = λ name away. state_back whole name (one_or_none all name) };
         moves = moves_then disk out taken steady bay_faults old mid new before (moves_then disk out taken steady bay_faults mid behind new r.moves after);
+        others = state_others;
         damaged = λ n place e contents was tells.
             let d = tells state_a (inr (inl refl)) in
             let f = tells state_b (inr (inr refl)) in
@@ -585,6 +614,12 @@ module _ {B D : Type 0} (disk : B → List ℕ → Option D) (out : B → List �
     back_moves = moves_then disk out taken steady bay_faults old mid_bay new (puts_moves disk out taken steady bay_faults faults entries old mid_bay parts_back)
         (moves_then disk out taken steady bay_faults mid_bay next_bay new (put_moves disk out taken steady bay_faults faults state_a p.2.0 mid_bay next_bay first_back)
         (put_moves disk out taken steady bay_faults faults state_b p.2.1 next_bay new second_back))
+
+    -- a disk of another broker
+    pub others_same : (conf : ConfigParts) → hosted_slots hosts.parts ≡ hosted_of conf → (m : List ℕ) → (IsTaken conf m → ⊥) → Same m old new
+    others_same conf is m away = slot_then disk out taken steady bay_faults m old mid_bay new
+        (parts_same m (subst (λ (l : List Hosted). NotIn (part_disks l) m) (sym is) (none_of (part_disks (hosted_of conf)) m (λ one. away (inl one)))))
+        (state_same m (λ e. away (inr (inl e))) (λ e. away (inr (inr e))))
 
     part_holds : (es : List (List ℕ × Option D)) → ((m : List ℕ) → IsOneOf (named es) m → disk new m ≡ disk mid_bay m)
         → AllByRecursion (HoldsIf disk old mid_bay) es → AllByRecursion (HoldsIf disk old new) es

@@ -1,9 +1,10 @@
 ghost use Rattle.std.specs.Prelude.{◌≡◌, ◌≢◌, ◌⊎◌, ◌≤◌, [], List, ℕ, All, IfOk, IfErr, OnOk, OnErr, Err, length};
-ghost use Rattle.edge_io.specs.Bays.{IsSound};
+ghost use Rattle.edge_io.specs.Bays.{IsSound, SameSlot};
 ghost use Rattle.edge_io.specs.Causes.{Rose};
 ghost use Rattle.session_script.specs.declared.event.Event.TheVariants.{Power};
 ghost use Rattle.session_script.specs.Output.{IsTold};
 ghost use Rattle.topic_conf.specs.Topics.{IsTopicList, partitions};
+ghost use Rattle.broker_model.specs.Hosted.{IsTaken};
 ghost use Rattle.broker_model.specs.Machine.{Machine};
 ghost use Rattle.broker_model.specs.Disks.{Disks};
 ghost use Rattle.broker_core.specs.Hosts.{AreApart, AreHeld, AreNamed, AreOpen, GoOn, OneRose, StaysHosted, all_names, disks_in, hosted_slots, parts_of};
@@ -186,6 +187,8 @@ impl<D: Disk + Drop> Core<D> {
         ensures taken { IfOk result (λ core. AreOut B.out (all_names (hosted_slots core.hosts.parts)) bay.new) }
         ensures counts { IfOk result (λ core. AreTakenFrom B.disk B.taken D.faults conf bay.old bay.new (disks_in core.hosts)) }
         ensures back { OnErr result (AreOut B.out [] bay.new) }
+        // A disk that isn't the broker's is as it was.
+        ensures others { (name : List ℕ) → (IsTaken conf name → ⊥) → SameSlot B.disk B.out B.taken name bay.old bay.new }
 
         // Each refusal has its cause. Contents that stand for logs, tables and states are never damaged.
         ensures damaged { (disk : List ℕ) (place : ℕ) → result ≡ Err (CoreOpen.Damaged disk place) → (contents : List ℕ → List ℕ) (was : Disks) →
@@ -215,6 +218,7 @@ impl<D: Disk + Drop> Core<D> {
         requires { AreOut B.out (all_names (hosted_slots self.hosts.parts)) bay.old }
         ensures back { ArePutBack B.disk bay.old bay.new (disks_in self.hosts) }
         ensures in_again { AreOut B.out [] bay.new }
+        ensures others { (name : List ℕ) → (IsTaken self.conf name → ⊥) → SameSlot B.disk B.out B.taken name bay.old bay.new }
         ensures rises { HasRisen B.taken D.faults bay.old (disks_in self.hosts) → Rose (B.faults bay.old) (B.faults bay.new) }
         ensures later { B.faults bay.old ≤ B.faults bay.new }
         ensures told { TellsStill B.disk bay.old bay.new }
