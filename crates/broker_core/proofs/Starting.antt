@@ -19,14 +19,14 @@ use Rattle.broker_core.specs.declared.slot.ForeignSlot.{ForeignSlot}
 use Rattle.broker_core.specs.declared.slot.PartState.{PartState}
 use Rattle.broker_core.specs.declared.slot.PartSlot.{PartSlot}
 use Rattle.broker_core.specs.Restarts.{IsDamagedDisk, IsOpened, IsOpenedDisk, StandsForTables}
-use Rattle.broker_core.specs.Bays.{ArePutBack, AreOut, AreTakenFrom, BothHold, BothRisen, BothTaken, HasLastCount, HasName, HasRisen, HoldsIf, IsFirst, StandForAll, TellsDisks}
+use Rattle.broker_core.specs.Bays.{ArePutBack, AreOut, AreTakenFrom, BothHold, BothRisen, BothTaken, HasLastCount, HasName, HasRisen, HoldsIf, IsFirst, StandForAll, StaysAs, TellsDisks}
 use Rattle.broker_core.specs.Cores.{IsCore, core_of, state_of}
 use Rattle.broker_core.specs.Hosts.{AreApart, AreCarried, AreDistinct, AreHeld, AreNamed, AreOpen, HostsParts, IsHeld, IsOpen, IsPartSlot, IsPartState, IsSlot, NotIn, all_names, among, disks_in, facts_at, facts_in, foreign_disks, foreign_facts, hosted_slot, hosted_slots, part_disk, slots_disks}
 use Rattle.broker_core.specs.Taking.{Moves, PutsAll, PutsAllBack, PutsBack, RefusesAll, RefusesAt, RefusesForeign, TakesAll, TakesParts, TellsThese}
 use Rattle.broker_core.proofs.Places.{among_past, apart_from, distinct_front, is_same, not_both, not_in_front, not_in_rest, one_in_either, one_in_front, one_in_rest, same_self}
 use Rattle.broker_core.proofs.Naming.{are_disk_names, distinct_names, named_of, not_in_both, states_apart}
-use Rattle.broker_core.proofs.Taking.{moves_same, moves_then, named, put_moves, puts_hold, puts_in, puts_moves, puts_others, puts_rise, rose_between, slot_same, slot_then}
-use Rattle.broker_core.proofs.Partitions.{IsTakenSlot, apart_behind, disks_then, names_of_disks, slots_counted, slots_open, takes_held, takes_hosts, takes_moves, takes_others, takes_out, takes_slots}
+use Rattle.broker_core.proofs.Taking.{moves_same, moves_then, named, put_moves, puts_hold, puts_in, puts_moves, puts_others, puts_rise, rose_between, slot_same, slot_then, stays_between, stays_same}
+use Rattle.broker_core.proofs.Partitions.{IsTakenSlot, apart_behind, disks_then, names_of_disks, slots_counted, slots_open, slots_stay, takes_held, takes_hosts, takes_moves, takes_others, takes_out, takes_slots}
 
 -- a name is one of these, or none of them
 pub one_or_none : (names : List (List ℕ)) (name : List ℕ) → IsOneOf names name ⊎ NotIn names name
@@ -352,6 +352,7 @@ module _ {B D : Type 0} (disk : B → List ℕ → Option D) (out : B → List �
     pub back : AreOut out [] old → AreOut out [] new
     pub moves : Goes old new
     pub others : (m : List ℕ) → (IsTaken conf m → ⊥) → Same m old new
+    pub stays : (m : List ℕ) → StaysAs disk image m old new
     pub damaged : (n : List ℕ) (place : ℕ) → fault ≡ Damaged n place → (contents : List ℕ → List ℕ) (was : Disks) → Tells conf old contents was
         → IsDamagedDisk conf contents n place
     pub recovers : (contents : List ℕ → List ℕ) (was : Disks) → Tells conf old contents was → StandForAll conf contents
@@ -365,6 +366,7 @@ module _ {B D : Type 0} (disk : B → List ℕ → Option D) (out : B → List �
     back = λ whole. subst (λ (b : B). AreOut out [] b) (sym same) whole;
     moves = subst (λ (b : B). Goes old b) (sym same) (moves_same disk out taken steady bay_faults old);
     others = λ m away. subst (λ (b : B). Same m old b) (sym same) (slot_same disk out taken steady bay_faults m old);
+    stays = λ m. stays_same disk image m old new (ap (λ (b : B). disk b m) same);
     damaged = λ n place e contents was tells. absurd (let bad : NoMemory ≡ Damaged n place = sym is ∙ e in cc);
     recovers = λ contents was tells stand n place e. (let bad : NoMemory ≡ Damaged n place = sym is ∙ e in cc);
     bay = λ e. absurd (let bad : NoMemory ≡ Bay = sym is ∙ e in cc);
@@ -444,12 +446,34 @@ module _ {B D : Type 0} (disk : B → List ℕ → Option D) (out : B → List �
           (puts_others disk out taken steady bay_faults faults (slots_disks r.slots) r.behind new r.puts m
           (subst (λ (l : List (List ℕ)). NotIn l m) (sym slots_are) before)))
 
+      before_slots : Slots old r.mid r.slots
+      before_slots = takes_slots disk out taken steady bay_faults content image starved faults losses arms armed r.before old r.slots r.mid before_distinct r.takes
+
+      before_are : hosted_slots r.slots ≡ r.before
+      before_are = takes_hosts disk out taken steady bay_faults content image starved faults losses arms armed r.before old r.slots r.mid r.takes
+
+      put_others : (m : List ℕ) → NotIn (part_disks r.before) m → Same m r.behind new
+      put_others m away = puts_others disk out taken steady bay_faults faults (slots_disks r.slots) r.behind new r.puts m
+          (subst (λ (l : List (List ℕ)). NotIn l m) (sym slots_are) away)
+
+      part_stays : (m : List ℕ) → IsOneOf (part_disks r.before) m ⊎ NotIn (part_disks r.before) m → IsOneOf (disks_of r.h) m ⊎ NotIn (disks_of r.h) m
+          → StaysAs disk image m old new
+      part_stays m (inl one) own = slots_stay disk out taken steady bay_faults content image starved faults losses arms armed old r.mid r.behind new r.slots before_slots
+          (puts_hold disk out taken steady bay_faults faults (slots_disks r.slots) r.behind new slots_distinct r.puts)
+          (moves_then disk out taken steady bay_faults old r.mid r.behind to_mid r.refuses.moves).told m
+          (subst (λ (l : List Hosted). IsOneOf (part_disks l) m) (sym before_are) one)
+      part_stays m (inr away) (inl one) =
+          stays_between disk image m old r.mid r.behind new (mid_is m one).same_disk (put_others m away).same_disk (r.refuses.stays m one)
+      part_stays m (inr away) (inr n) = stays_same disk image m old new ((put_others m away).same_disk ∙ (r.refuses.others m n).same_disk
+          ∙ (takes_others disk out taken steady bay_faults content image starved faults losses arms armed r.before old r.slots r.mid r.takes m away).same_disk)
+
       part_refused : Refused conf fault old new
       part_refused = record {
         back = λ whole. record { those = λ name one. absurd one; others = λ name away. part_back whole name (one_or_none (part_disks r.before) name) };
         moves = moves_then disk out taken steady bay_faults old r.mid new to_mid
             (moves_then disk out taken steady bay_faults r.mid r.behind new r.refuses.moves from_behind);
         others = λ m away. part_others m (λ one. away (inl one));
+        stays = λ m. part_stays m (one_or_none (part_disks r.before) m) (one_or_none (disks_of r.h) m);
         damaged = λ n place e contents was tells. inl (
           r.before,
           r.after,
@@ -478,7 +502,7 @@ module _ {B D : Type 0} (disk : B → List ℕ → Option D) (out : B → List �
 
     -- foreign state was refused
     module _ (slots : List (PartSlot D)) (mid behind : B) (takes : Before (hosted_of conf) old slots mid)
-        (r : RefusesForeign disk out taken steady bay_faults content starved faults arms armed fault mid behind) (puts : Behind (slots_disks slots) behind new) where
+        (r : RefusesForeign disk out taken steady bay_faults content image starved faults arms armed fault mid behind) (puts : Behind (slots_disks slots) behind new) where
       names_are : named (slots_disks slots) ≡ all
       names_are = names_of_disks slots ∙ ap part_disks
           (takes_hosts disk out taken steady bay_faults content image starved faults losses arms armed (hosted_of conf) old slots mid takes)
@@ -523,11 +547,39 @@ module _ {B D : Type 0} (disk : B → List ℕ → Option D) (out : B → List �
           (puts_others disk out taken steady bay_faults faults (slots_disks slots) behind new puts m
           (subst (λ (l : List (List ℕ)). NotIn l m) (sym names_are) own)))
 
+      all_slots : Slots old mid slots
+      all_slots = takes_slots disk out taken steady bay_faults content image starved faults losses arms armed (hosted_of conf) old slots mid
+          (parts_distinct (hosted_of conf) all_apart) takes
+
+      all_are : hosted_slots slots ≡ hosted_of conf
+      all_are = takes_hosts disk out taken steady bay_faults content image starved faults losses arms armed (hosted_of conf) old slots mid takes
+
+      put_away : (m : List ℕ) → NotIn all m → Same m behind new
+      put_away m away = puts_others disk out taken steady bay_faults faults (slots_disks slots) behind new puts m
+          (subst (λ (l : List (List ℕ)). NotIn l m) (sym names_are) away)
+
+      state_stays : (m : List ℕ) → IsOneOf all m ⊎ NotIn all m → IsOneOf (state_a ∷ state_b ∷ []) m ⊎ NotIn (state_a ∷ state_b ∷ []) m
+          → StaysAs disk image m old new
+      state_stays m (inl one) own = slots_stay disk out taken steady bay_faults content image starved faults losses arms armed old mid behind new slots all_slots
+          (puts_hold disk out taken steady bay_faults faults (slots_disks slots) behind new slots_apart puts)
+          (moves_then disk out taken steady bay_faults old mid behind before r.moves).told m
+          (subst (λ (l : List Hosted). IsOneOf (part_disks l) m) (sym all_are) one)
+      state_stays m (inr away) (inl (inl e)) = subst (λ (n : List ℕ). StaysAs disk image n old new) (sym e)
+          (stays_between disk image state_a old mid behind new a_same.same_disk
+          (put_away state_a (no_state_a (hosted_of conf) all_apart)).same_disk r.on_first)
+      state_stays m (inr away) (inl (inr (inl e))) = subst (λ (n : List ℕ). StaysAs disk image n old new) (sym e)
+          (stays_between disk image state_b old mid behind new b_same.same_disk
+          (put_away state_b (no_state_b (hosted_of conf) all_apart)).same_disk r.on_second)
+      state_stays m (inr away) (inl (inr (inr never))) = absurd never
+      state_stays m (inr away) (inr n) = stays_same disk image m old new
+          ((put_away m away).same_disk ∙ (r.others m n.0 n.1.0).same_disk ∙ (others_of m away).same_disk)
+
       state_refused : Refused conf fault old new
       state_refused = record {
         back = λ whole. record { those = λ name one. absurd one; others = λ name away. state_back whole name (one_or_none all name) };
         moves = moves_then disk out taken steady bay_faults old mid new before (moves_then disk out taken steady bay_faults mid behind new r.moves after);
         others = state_others;
+        stays = λ m. state_stays m (one_or_none all m) (one_or_none (state_a ∷ state_b ∷ []) m);
         damaged = λ n place e contents was tells.
             let d = tells state_a (inr (inl refl)) in
             let f = tells state_b (inr (inr refl)) in

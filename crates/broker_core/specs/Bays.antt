@@ -5,6 +5,7 @@ use Rattle.std.specs.List.{AllByRecursion}
 use Rattle.std.specs.declared.option.Option.{Option}
 use Rattle.edge_io.specs.declared.fault.Armed.{Armed}
 use Rattle.edge_io.specs.Bays.{IsAsTold, Holds}
+use Rattle.gate_journal.specs.Frames.{StandsAs}
 use Rattle.share_model.specs.ForeignRules.{ShareStates}
 use Rattle.topic_conf.specs.Configs.{ConfigParts}
 use Rattle.broker_model.specs.Hosted.{IsOneOf, IsTaken, hosted_of, state_a, state_b}
@@ -41,6 +42,11 @@ pub record AreOut {B : Type 0} (out : B → List ℕ → Bool) (names : List (Li
 -- a disk that the bay told before it tells still
 abbrev pub TellsStill : {B D : Type 0} → (B → List ℕ → Option D) → B → B → Type 0
 TellsStill disk old new = (name : List ℕ) → is_some (disk old name) ≡ true → is_some (disk new name) ≡ true
+
+-- Where the bay tells a disk of this name, before and behind, each image of it is one that it had, or stands for the frames of one.
+abbrev pub StaysAs : {B D : Type 0} → (B → List ℕ → Option D) → (D → List ℕ → Type 0) → List ℕ → B → B → Type 0
+StaysAs disk image name old new =
+    (d e : _) → disk old name ≡ Some d → disk new name ≡ Some e → (c : List ℕ) → image e c → StandsAs (image d) c
 
 -- ---- counts
 

@@ -9,7 +9,7 @@ ghost use Rattle.broker_model.specs.Machine.{Machine};
 ghost use Rattle.broker_model.specs.Disks.{Disks};
 ghost use Rattle.broker_core.specs.Hosts.{AreApart, AreHeld, AreNamed, AreOpen, GoOn, OneRose, StaysHosted, all_names, disks_in, hosted_slots, parts_of};
 ghost use Rattle.broker_core.specs.Restarts.{IsDamagedDisk};
-ghost use Rattle.broker_core.specs.Bays.{AreOut, ArePutBack, AreTakenFrom, HasLastCount, HasRisen, IsFirst, StandForAll, TellsDisks, TellsStill};
+ghost use Rattle.broker_core.specs.Bays.{AreOut, ArePutBack, AreTakenFrom, HasLastCount, HasRisen, IsFirst, StandForAll, StaysAs, TellsDisks, TellsStill};
 ghost use Rattle.broker_core.specs.Taking.{RefusesAll, TakesAll, PutsAllBack};
 ghost use Rattle.broker_core.specs.Cores.{Advances, HasMoment, IsCore, IsWhole, StopsIn, core_of, state_of};
 
@@ -187,6 +187,8 @@ impl<D: Disk + Drop> Core<D> {
         ensures taken { IfOk result (λ core. AreOut B.out (all_names (hosted_slots core.hosts.parts)) bay.new) }
         ensures counts { IfOk result (λ core. AreTakenFrom B.disk B.taken D.faults conf bay.old bay.new (disks_in core.hosts)) }
         ensures back { OnErr result (AreOut B.out [] bay.new) }
+        // After a refusal each image of a disk is one that it had, or stands for the frames of one.
+        ensures stays { OnErr result ((name : List ℕ) → StaysAs B.disk D.image name bay.old bay.new) }
         // A disk that isn't the broker's is as it was.
         ensures others { (name : List ℕ) → (IsTaken conf name → ⊥) → SameSlot B.disk B.out B.taken name bay.old bay.new }
 

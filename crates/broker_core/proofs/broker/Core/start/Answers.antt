@@ -20,6 +20,11 @@ returns-in_err-hosts-clause-others g c =
     (refused g.B.Bay.disk g.B.Bay.out g.B.Bay.taken g.B.Bay.steady g.B.Bay.faults g.D.Disk.content g.D.Disk.image g.D.Disk.starved g.D.Disk.faults g.D.Disk.losses g.D.Disk.arms g.D.Disk.armed
     c.args.conf c.in_err-hosts.ensures.list c.in_err-hosts.field-0.0 c.args.bay.now c.take_hosts.new.bay c.in_err-hosts.ensures.err).others
 
+pub returns-in_err-hosts-clause-stays : goal.returns-in_err-hosts-clause-stays
+returns-in_err-hosts-clause-stays g c = on_err c.from_residual.result
+    (refused g.B.Bay.disk g.B.Bay.out g.B.Bay.taken g.B.Bay.steady g.B.Bay.faults g.D.Disk.content g.D.Disk.image g.D.Disk.starved g.D.Disk.faults g.D.Disk.losses g.D.Disk.arms g.D.Disk.armed
+    c.args.conf c.in_err-hosts.ensures.list c.in_err-hosts.field-0.0 c.args.bay.now c.take_hosts.new.bay c.in_err-hosts.ensures.err).stays
+
 pub returns-in_err-hosts-clause-damaged : goal.returns-in_err-hosts-clause-damaged
 returns-in_err-hosts-clause-damaged g c = λ disk place e contents was tells.
     (let err : c.from_residual.result ≡ Err c.in_err-hosts.field-0.0 = search rules in
