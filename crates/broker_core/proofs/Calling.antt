@@ -1,5 +1,5 @@
 -- Calls on the shard of a hosted partition, seen by all shards.
-use Rattle.std.proofs.Common.{◌≡◌, ◌⊎◌, inl, inr, refl, sym, ap, ◌∙◌, subst, ℕ, zero, suc, List, [], ◌∷◌, Bool, false, Some}
+use Rattle.std.proofs.Common.{◌≡◌, ◌≤◌, ◌⊎◌, arith, inl, inr, refl, sym, ap, ◌∙◌, subst, ℕ, zero, suc, List, [], ◌∷◌, Bool, false, Some}
 use Rattle.std.specs.List.{AllByRecursion, AllZip, flat_map}
 use Rattle.std.specs.declared.option.Option.{Option}
 use Rattle.edge_io.specs.declared.fault.Armed.{Armed}
@@ -18,7 +18,7 @@ use Rattle.msgs_group.specs.declared.heartbeat_reply.HeartbeatReply.{HeartbeatRe
 use Rattle.share_model.specs.declared.visit.ExpireAnswer.{ExpireAnswer}
 use Rattle.share_model.specs.declared.visit.VisitAnswer.{VisitAnswer}
 use Rattle.broker_model.specs.Hosted.{ChangesAt, HoldsAt, Hosted, first_of, log_of, part_disks, second_of}
-use Rattle.broker_model.specs.Shards.{Counts, HostedPart, PartCall, Shards, ShardCall, StepsHosted, StepsShards, calls, fault_of_expiry, part_calls}
+use Rattle.broker_model.specs.Shards.{Counts, Ends, HostedPart, PartCall, Shards, ShardCall, StepsHosted, StepsShards, calls, fault_of_expiry, part_calls}
 use Rattle.broker_model.specs.Shards.ShardCall.{CallPart, CallMembers}
 use Rattle.broker_model.specs.Shards.MembersCall.{Beats}
 use Rattle.broker_model.specs.Shards.PartCall.{Visits, Produces, Looks, Expires}
@@ -27,12 +27,13 @@ use Rattle.broker_model.proofs.Lists.{change_of, changes_so}
 use Rattle.broker_core.specs.declared.slot.PartState.{PartState}
 use Rattle.broker_core.specs.declared.slot.PartState.TheVariants as part
 use Rattle.broker_core.specs.declared.slot.PartSlot.{PartSlot}
-use Rattle.broker_core.specs.Carried.{Begun, GoesOn, HaltsPart, HalvesOn, IsPartCarried, LeadsPart, OpenPart, PartGoesOn, StepsOn, Uses}
+use Rattle.broker_core.specs.Carried.{Begun, EndsGoOn, GoesOn, HaltsPart, HalvesOn, IsPartCarried, LeadsPart, OpenPart, PartGoesOn, StepsOn, Uses}
 use Rattle.broker_core.specs.Carried.Begun.{BeginsVisit, BeginsExpiry}
-use Rattle.broker_core.specs.Hosts.{AreApart, AreCarried, AreDistinct, AreOpen, Did, DiskGoesOn, ExpiresShard, GoesOnIf, GoOn, Halts, HaltsSlot, HalvesExpiry, HostsParts, IsHalfDone, IsLeftIn, IsOpenState, IsPartSlot, IsPartState, Leads, LeadsSlot, PartsStill, StandStill, StaysHosted, among, counts_in, disks_in, ends_in, facts_at, facts_in, foreign_disks, foreign_end, foreign_facts, hosted_slot, hosted_slots, open_disk, part_disk, slot_disks, slot_ends, slots_disks}
+use Rattle.broker_core.specs.Hosts.{AreApart, AreCarried, AreDistinct, AreOpen, Did, DiskGoesOn, ExpiresShard, GoesOnIf, GoOn, Halts, HaltsSlot, HalvesExpiry, HostsParts, IsHalfDone, IsLeftIn, IsOpenState, IsPartSlot, IsPartState, Leads, LeadsSlot, PartsStill, StandStill, StaysHosted, among, counts_in, disks_in, ends_in, ends_over, facts_at, facts_in, foreign_disks, foreign_end, foreign_facts, hosted_slot, hosted_slots, open_disk, part_disk, slot_disks, slot_ends, slots_disks}
 use Rattle.broker_core.proofs.Flats.{among_changed, zip_flat}
 use Rattle.broker_core.proofs.Leading.{StillSlot, halts_still, least_on, open_still, parts_apart, parts_still, same_both, same_goes, slot_still, still_foreign, still_parts}
-use Rattle.broker_core.proofs.Places.{Changed, changed, changes_all, changes_either, changes_not, changes_same, changes_zip, zip_same}
+use Rattle.broker_core.proofs.Reaching.{SlotLater, SlotReaches, foreign_reaches, names_later, names_reach, open_reaches, same_later, slot_later, slot_reaches, slots_reach}
+use Rattle.broker_core.proofs.Places.{Changed, changed, changes_all, changes_either, changes_not, changes_same, changes_zip, zip_same, zip_weaker}
 use Rattle.broker_core.proofs.Slots.{AreOf, Halves, Turns, are_of, called_same, half_named, slot_end_stays, slot_used, step_named}
 
 module _ {D : Type 0} (content : D → Option (List ℕ)) (image : D → List ℕ → Type 0) (starved : D → Bool) (faults : D → ℕ)
@@ -131,6 +132,7 @@ module _ {D : Type 0} (content : D → Option (List ℕ)) (image : D → List �
     e_is : e.hosted ≡ hosted_slot x
     f_is : f.hosted ≡ hosted_slot x
     step : StepsOn faults x.conf was is now e.shard did f.shard
+    ends : EndsGoOn was is
     used : Uses faults losses arms armed was is did
 
   slot_leads : (now : ℕ) (did : PartCall) (x y : PartSlot D) (e : HostedPart) → LeadsS now did x y → IsPartSlot content image starved x e
@@ -152,6 +154,7 @@ module _ {D : Type 0} (content : D → Option (List ℕ)) (image : D → List �
           e_is = k.hosted;
           f_is = refl;
           step = l.step;
+          ends = l.ends;
           used = l.used;
         },
       )
@@ -170,17 +173,17 @@ module _ {D : Type 0} (content : D → Option (List ℕ)) (image : D → List �
     hosted_then = changes_same hosted_slot Is (λ a b is. ap hosted_slot is.1 ∙ hosted ∙ sym (ap hosted_slot is.0)) n old.parts ys exact
 
     pub of_slot : (was is : OpenPart D) → T x y was is
-        → AreOf content image starved faults losses arms armed (hosted_slot x) was is (N old (with_parts old ys)) (ends_in old)
+        → AreOf content image starved faults losses arms armed (hosted_slot x) was is (N old (with_parts old ys)) (ends_over old (with_parts old ys))
     of_slot was is t = are_of content image starved faults losses arms armed old (with_parts old ys) n x y was is there here t
         (parts_apart (hosted_slots old.parts) apart)
         (subst (λ (hs : List Hosted). AreDistinct (part_disks hs)) (sym hosted_then) (parts_apart (hosted_slots old.parts) apart))
 
     pub named_step : (now : ℕ) (did : PartCall) (e f : HostedPart) (was is : OpenPart D) → T x y was is → e.hosted ≡ hosted_slot x → f.hosted ≡ hosted_slot x
-        → StepsOn faults x.conf was is now e.shard did f.shard → StepsHosted (N old (with_parts old ys)) (ends_in old) now (hosted_slot x) did e f
+        → StepsOn faults x.conf was is now e.shard did f.shard → StepsHosted (N old (with_parts old ys)) (ends_over old (with_parts old ys)) now (hosted_slot x) did e f
     named_step now did e f was is t e_is f_is step = record {
       was = e_is;
       is = f_is;
-      step = step_named content image starved faults losses arms armed (hosted_slot x) was is (N old (with_parts old ys)) (ends_in old) (of_slot was is t)
+      step = step_named content image starved faults losses arms armed (hosted_slot x) was is (N old (with_parts old ys)) (ends_over old (with_parts old ys)) (of_slot was is t)
           now e.shard did f.shard step;
     }
 
@@ -210,13 +213,23 @@ module _ {D : Type 0} (content : D → Option (List ℕ)) (image : D → List �
         found : PartSlot D → ℕ → ℕ
         found s o = among (λ (e : List ℕ × ℕ). e.0) (λ (e : List ℕ × ℕ). e.1) (slot_ends s) o name
 
+    pub on_later : (was is : OpenPart D) → T x y was is → EndsGoOn was is → (name : List ℕ) → ends_in old name ≤ ends_in (with_parts old ys) name
+    on_later was is t g =
+        let later : SlotLater image x y = slot_later image x y was is t.old_is t.new_is t.hosted g in
+        names_later image old (with_parts old ys) (changes_zip Is (SlotLater image) (same_later image)
+        (λ a b i. subst (λ (s : PartSlot D). SlotLater image s b) (sym i.0) (subst (λ (s : PartSlot D). SlotLater image x s) (sym i.1) later))
+        n old.parts ys exact) (λ name. least (foreign_end old.foreign name))
+      where
+        least : (n : ℕ) → n ≤ n
+        least n = omega arith
+
   -- the call on the shard of this number, by a hosted partition
-  abbrev pub DidPart : Counts → (ends : List ℕ → ℕ) → (now n : ℕ) → PartCall → Shards → Option ShardCall → Shards → Type 0
+  abbrev pub DidPart : Counts → (ends : Ends) → (now n : ℕ) → PartCall → Shards → Option ShardCall → Shards → Type 0
   DidPart counts ends now n did a call b = (h : Hosted) × (call ≡ Some (CallPart n h did)) × StepsShards counts ends now a (CallPart n h did) b
 
   pub part_leads : (old : HostsParts D) (ys : List (PartSlot D)) (n now : ℕ) (did : PartCall) → ChangesAt n (LeadsS now did) old.parts ys → AreApart old
       → (s : Shards) → K old s
-      → Leads content image starved faults losses arms armed old s (with_parts old ys) (DidPart (N old (with_parts old ys)) (ends_in old) now n did)
+      → Leads content image starved faults losses arms armed old s (with_parts old ys) (DidPart (N old (with_parts old ys)) (ends_over old (with_parts old ys)) now n did)
   part_leads old ys n now did changes apart s k =
       let c = changed (IsPartSlot content image starved) (IsPartSlot content image starved) keep_slot (LeadsS now did) (GoesPart now did) (slot_leads now did)
       n old.parts ys s.parts changes k.parts in
@@ -229,7 +242,7 @@ module _ {D : Type 0} (content : D → Option (List ℕ)) (image : D → List �
           hosted_slot c.x,
           refl,
           (
-            changes_so n (GoesPart now did c.x c.y) (StepsHosted (N old (with_parts old ys)) (ends_in old) now (hosted_slot c.x) did)
+            changes_so n (GoesPart now did c.x c.y) (StepsHosted (N old (with_parts old ys)) (ends_over old (with_parts old ys)) now (hosted_slot c.x) did)
                 (λ e f g. named_step old ys n c.x c.y c.there c.here c.exact t.turns.hosted apart now did e f g.was g.is g.turns g.e_is g.f_is g.step)
                 s.parts c.after c.goes,
             refl,
@@ -240,6 +253,8 @@ module _ {D : Type 0} (content : D → Option (List ℕ)) (image : D → List �
             (λ e f g. on_disks old ys n c.x c.y c.there c.here c.exact t.turns.hosted apart did g.was g.is g.turns g.used name) s.parts c.after c.goes;
         ends = λ name away. change_of n (GoesPart now did c.x c.y)
             (λ e f g. on_ends old ys n c.x c.y c.there c.here c.exact t.turns.hosted apart did g.was g.is g.turns g.used name away) s.parts c.after c.goes;
+        ends_later = change_of n (GoesPart now did c.x c.y)
+            (λ e f g. on_later old ys n c.x c.y c.there c.here c.exact t.turns.hosted apart g.was g.is g.turns g.ends) s.parts c.after c.goes;
       }
 
   -- ---- a call in which no memory was found
@@ -252,16 +267,28 @@ module _ {D : Type 0} (content : D → Option (List ℕ)) (image : D → List �
     f_is : f.hosted ≡ hosted_slot x
     does : (f.shard ≡ e.shard) ⊎ (((did : PartCall) × Whole did × StepsOn faults x.conf was is now e.shard did f.shard)
         ⊎ ((begun : Begun) × Half begun × HalvesOn faults x.conf was is now e.shard begun f.shard))
+    ends : EndsGoOn was is
+
+  -- its disks stand for the shard, and reach to where its journals end
+  record HaltedSlot (y : PartSlot D) (f : HostedPart) : Type 0 where
+    still : StillSlot content image starved faults losses arms armed y f
+    reaches : SlotReaches image (λ n. n) y y
+
+  keep_halted : (x : PartSlot D) (e : HostedPart) → IsPartSlot content image starved x e → HaltedSlot x e
+  keep_halted x e k = record { still = slot_still content image starved faults losses arms armed x e k; reaches = slot_reaches content image starved x e k }
 
   slot_halts : (now : ℕ) (Whole : PartCall → Type 0) (Half : Begun → Type 0) (x y : PartSlot D) (e : HostedPart) → HaltsS now Whole Half x y
       → IsPartSlot content image starved x e
-      → (f : HostedPart) × StillSlot content image starved faults losses arms armed y f × HaltedPart now Whole Half x y e f
+      → (f : HostedPart) × HaltedSlot y f × HaltedPart now Whole Half x y e f
   unfolding turned_halts
   slot_halts now Whole Half x y e p k =
       let h = p.halts e.shard (subst (λ (s : PartState D). IsPartState content image starved x.conf s e.shard) p.old_is k.state) in (
         record { hosted = hosted_slot x; shard = h.after },
-        open_still content image starved faults losses arms armed y (record { hosted = hosted_slot x; shard = h.after }) p.is p.new_is
-            (λ i. record { topic = sym p.topic i; conf = sym p.conf i }) (h.conf_is ∙ sym p.conf) h.carries h.log_told h.first_told h.second_told,
+        record {
+          still = open_still content image starved faults losses arms armed y (record { hosted = hosted_slot x; shard = h.after }) p.is p.new_is
+              (λ i. record { topic = sym p.topic i; conf = sym p.conf i }) (h.conf_is ∙ sym p.conf) h.carries h.log_told h.first_told h.second_told;
+          reaches = open_reaches image y p.is h.after p.new_is h.carries;
+        },
         record {
           was = p.was;
           is = p.is;
@@ -269,30 +296,29 @@ module _ {D : Type 0} (content : D → Option (List ℕ)) (image : D → List �
           e_is = k.hosted;
           f_is = refl;
           does = h.does;
+          ends = h.ends;
         },
       )
 
   -- the slot was left in the midst of a call
-  abbrev LeftAt : Counts → (ends : List ℕ → ℕ) → ℕ → Begun → HostedPart → HostedPart → Type 0
+  abbrev LeftAt : Counts → (ends : Ends) → ℕ → Begun → HostedPart → HostedPart → Type 0
   LeftAt counts ends now begun e f =
       (f.hosted ≡ e.hosted) × Halves content image starved faults losses arms armed counts ends now begun e.hosted e.shard f.shard
 
   module _ (old : HostsParts D) (ys : List (PartSlot D)) (n now : ℕ) (Whole : PartCall → Type 0) (Half : Begun → Type 0)
       (changes : ChangesAt n (HaltsS now Whole Half) old.parts ys) (apart : AreApart old) (s : Shards) (k : K old s) where
-    abbrev c : Changed (IsPartSlot content image starved) (StillSlot content image starved faults losses arms armed)
-        (slot_still content image starved faults losses arms armed) (HaltsS now Whole Half) (HaltedPart now Whole Half) (slot_halts now Whole Half)
-        n old.parts ys s.parts
-    c = changed (IsPartSlot content image starved) (StillSlot content image starved faults losses arms armed)
-        (slot_still content image starved faults losses arms armed) (HaltsS now Whole Half) (HaltedPart now Whole Half) (slot_halts now Whole Half)
-        n old.parts ys s.parts changes k.parts
+    abbrev c : Changed (IsPartSlot content image starved) HaltedSlot keep_halted (HaltsS now Whole Half) (HaltedPart now Whole Half)
+        (slot_halts now Whole Half) n old.parts ys s.parts
+    c = changed (IsPartSlot content image starved) HaltedSlot keep_halted (HaltsS now Whole Half) (HaltedPart now Whole Half)
+        (slot_halts now Whole Half) n old.parts ys s.parts changes k.parts
 
     abbrev new : HostsParts D
     new = with_parts old ys
 
     -- it was done whole, or left half done
     abbrev Does : PartCall ⊎ Begun → HostedPart → HostedPart → Type 0
-    Does (inl did) e f = Whole did × StepsHosted (N old new) (ends_in old) now (hosted_slot c.x) did e f
-    Does (inr begun) e f = Half begun × LeftAt (N old new) (ends_in old) now begun e f
+    Does (inl did) e f = Whole did × StepsHosted (N old new) (ends_over old new) now (hosted_slot c.x) did e f
+    Does (inr begun) e f = Half begun × LeftAt (N old new) (ends_over old new) now begun e f
 
     hosted_is : hosted_slot c.y ≡ hosted_slot c.x
     hosted_is = (turned_halts now Whole Half c.x c.y c.change).turns.hosted
@@ -316,19 +342,19 @@ module _ {D : Type 0} (content : D → Option (List ℕ)) (image : D → List �
           b.1,
           (
             g.f_is ∙ sym g.e_is,
-            subst (λ (h : Hosted). Halves content image starved faults losses arms armed (N old new) (ends_in old) now b.0 h e.shard f.shard) (sym g.e_is)
-                (half_named content image starved faults losses arms armed (hosted_slot c.x) g.was g.is (N old new) (ends_in old)
+            subst (λ (h : Hosted). Halves content image starved faults losses arms armed (N old new) (ends_over old new) now b.0 h e.shard f.shard) (sym g.e_is)
+                (half_named content image starved faults losses arms armed (hosted_slot c.x) g.was g.is (N old new) (ends_over old new)
                 (of_slot old ys n c.x c.y c.there c.here c.exact hosted_is apart g.was g.is g.turns) now e.shard b.0 f.shard b.2),
           ),
         ),
       )
 
     abbrev DoesAll : Shards → Option ShardCall → Shards → Type 0
-    DoesAll a call b = (did : PartCall) × Whole did × DidPart (N old new) (ends_in old) now n did a call b
+    DoesAll a call b = (did : PartCall) × Whole did × DidPart (N old new) (ends_over old new) now n did a call b
 
     abbrev LeavesAll : Shards → Shards → Type 0
     LeavesAll a b = (begun : Begun) × Half begun
-        × IsLeftIn n (Halves content image starved faults losses arms armed (N old new) (ends_in old) now begun) a b
+        × IsLeftIn n (Halves content image starved faults losses arms armed (N old new) (ends_over old new) now begun) a b
 
     abbrev after : Shards
     after = record { parts = c.after; members = s.members; foreign = s.foreign }
@@ -344,7 +370,7 @@ module _ {D : Type 0} (content : D → Option (List ℕ)) (image : D → List �
           hosted_slot c.x,
           refl,
           (
-            changes_so n (Does (inl did)) (StepsHosted (N old new) (ends_in old) now (hosted_slot c.x) did) (λ e f q. q.1) s.parts c.after g,
+            changes_so n (Does (inl did)) (StepsHosted (N old new) (ends_over old new) now (hosted_slot c.x) did) (λ e f q. q.1) s.parts c.after g,
             refl,
             refl,
           ),
@@ -355,7 +381,7 @@ module _ {D : Type 0} (content : D → Option (List ℕ)) (image : D → List �
       begun,
       change_of n (Does (inr begun)) (λ e f q. q.0) s.parts c.after g,
       record {
-        parts = changes_so n (Does (inr begun)) (LeftAt (N old new) (ends_in old) now begun) (λ e f q. q.1) s.parts c.after g;
+        parts = changes_so n (Does (inr begun)) (LeftAt (N old new) (ends_over old new) now begun) (λ e f q. q.1) s.parts c.after g;
         members = refl;
         foreign = refl;
       },
@@ -366,13 +392,18 @@ module _ {D : Type 0} (content : D → Option (List ℕ)) (image : D → List �
     what_was_done (inl none) = inl (λ i. record { parts = changes_not n s.parts c.after none i; members = s.members; foreign = s.foreign })
     what_was_done (inr d) = whole_or_half d.0 d.1
 
-    pub halted_at : Halts content image s new DoesAll LeavesAll
+    pub halted_at : Halts content image old s new DoesAll LeavesAll
     halted_at = record {
       after = after;
       still = record {
-        parts = parts_still content image starved faults losses arms armed ys c.after c.zip;
+        parts = parts_still content image starved faults losses arms armed ys c.after
+            (zip_weaker HaltedSlot (StillSlot content image starved faults losses arms armed) (λ y f h. h.still) ys c.after c.zip);
         foreign = still_foreign content image starved faults losses arms armed old.foreign s.foreign k.foreign;
       };
+      ends_later = change_of n (HaltedPart now Whole Half c.x c.y)
+          (λ e f g. on_later old ys n c.x c.y c.there c.here c.exact hosted_is apart g.was g.is g.turns g.ends) s.parts c.after c.goes;
+      reach = names_reach image (λ n. n) new new (slots_reach content image starved HaltedSlot (λ y f h. h.reaches) ys c.after c.zip)
+          (foreign_reaches content image starved old.foreign s.foreign k.foreign);
       does = what_was_done (changes_either (λ e f. f ≡ e) Does n s.parts c.after
           (changes_so n (HaltedPart now Whole Half c.x c.y) (λ e f. (f ≡ e) ⊎ ((d : PartCall ⊎ Begun) × Does d e f)) halted s.parts c.after c.goes));
     }
@@ -383,15 +414,15 @@ module _ {D : Type 0} (content : D → Option (List ℕ)) (image : D → List �
 
   pub part_halts : (old : HostsParts D) (ys : List (PartSlot D)) (n now : ℕ) (Whole : PartCall → Type 0) (Half : Begun → Type 0)
       → MayHalt n now Whole Half old.parts ys → AreApart old → (s : Shards) → K old s
-      → Halts content image s (with_parts old ys)
-      (λ a call b. (did : PartCall) × Whole did × DidPart (N old (with_parts old ys)) (ends_in old) now n did a call b)
+      → Halts content image old s (with_parts old ys)
+      (λ a call b. (did : PartCall) × Whole did × DidPart (N old (with_parts old ys)) (ends_over old (with_parts old ys)) now n did a call b)
       (λ a b. (begun : Begun) × Half begun
-      × IsLeftIn n (Halves content image starved faults losses arms armed (N old (with_parts old ys)) (ends_in old) now begun) a b)
+      × IsLeftIn n (Halves content image starved faults losses arms armed (N old (with_parts old ys)) (ends_over old (with_parts old ys)) now begun) a b)
   part_halts old ys n now Whole Half (inl same) apart s k =
-      subst (λ (zs : List (PartSlot D)). Halts content image s (with_parts old zs)
-      (λ a call b. (did : PartCall) × Whole did × DidPart (N old (with_parts old zs)) (ends_in old) now n did a call b)
+      subst (λ (zs : List (PartSlot D)). Halts content image old s (with_parts old zs)
+      (λ a call b. (did : PartCall) × Whole did × DidPart (N old (with_parts old zs)) (ends_over old (with_parts old zs)) now n did a call b)
       (λ a b. (begun : Begun) × Half begun
-      × IsLeftIn n (Halves content image starved faults losses arms armed (N old (with_parts old zs)) (ends_in old) now begun) a b)) (sym same)
+      × IsLeftIn n (Halves content image starved faults losses arms armed (N old (with_parts old zs)) (ends_over old (with_parts old zs)) now begun) a b)) (sym same)
       (halts_still content image starved faults losses arms armed old s _ _ k)
   part_halts old ys n now Whole Half (inr changes) apart s k = halted_at old ys n now Whole Half changes apart s k
 
@@ -415,7 +446,7 @@ module _ {D : Type 0} (content : D → Option (List ℕ)) (image : D → List �
 
   -- ---- a visit that was left half done
 
-  pub half_of_visit : (counts : Counts) (ends : List ℕ → ℕ) (now : ℕ) (asked : Part) (shard : ℕ) (visit : Visit) → asked ≡ PartVisit shard visit
+  pub half_of_visit : (counts : Counts) (ends : Ends) (now : ℕ) (asked : Part) (shard : ℕ) (visit : Visit) → asked ≡ PartVisit shard visit
       → (begun : Begun) → begun ≡ BeginsVisit visit → (a b : Shards)
       → IsLeftIn shard (Halves content image starved faults losses arms armed counts ends now begun) a b → IsHalfDone counts ends asked a b
   half_of_visit counts ends now asked shard visit is begun begins a b left =
@@ -423,18 +454,18 @@ module _ {D : Type 0} (content : D → Option (List ℕ)) (image : D → List �
       (subst (λ (g : Begun). IsLeftIn shard (Halves content image starved faults losses arms armed counts ends now g) a b) begins left)
 
   -- an expiry that was left half done
-  pub half_of_expiry : (counts : Counts) (ends : List ℕ → ℕ) (now shard : ℕ) (begun : Begun) → begun ≡ BeginsExpiry → (a b : Shards)
+  pub half_of_expiry : (counts : Counts) (ends : Ends) (now shard : ℕ) (begun : Begun) → begun ≡ BeginsExpiry → (a b : Shards)
       → IsLeftIn shard (Halves content image starved faults losses arms armed counts ends now begun) a b → HalvesExpiry counts ends now shard a b
   half_of_expiry counts ends now shard begun begins a b left =
       subst (λ (g : Begun). IsLeftIn shard (Halves content image starved faults losses arms armed counts ends now g) a b) begins left
 
-  pub expiry_halts : (counts : Counts) (ends : List ℕ → ℕ) (now shard : ℕ) (did : PartCall) (answer : ExpireAnswer) → did ≡ Expires answer → (a : Shards)
+  pub expiry_halts : (counts : Counts) (ends : Ends) (now shard : ℕ) (did : PartCall) (answer : ExpireAnswer) → did ≡ Expires answer → (a : Shards)
       (call : Option ShardCall) (b : Shards) → DidPart counts ends now shard did a call b
       → ExpiresShard counts ends now shard (fault_of_expiry shard answer) a call b
   expiry_halts counts ends now shard did answer is a call b d =
       let e = subst (λ (q : PartCall). DidPart counts ends now shard q a call b) is d in (e.0, answer, e.1, e.2, refl)
 
-  pub visit_halts : (counts : Counts) (ends : List ℕ → ℕ) (now shard : ℕ) (part : Part) (visit : Visit) → part ≡ PartVisit shard visit → (did : PartCall)
+  pub visit_halts : (counts : Counts) (ends : Ends) (now shard : ℕ) (part : Part) (visit : Visit) → part ≡ PartVisit shard visit → (did : PartCall)
       (answer : VisitAnswer) → did ≡ Visits visit answer → (a : Shards) (call : Option ShardCall) (b : Shards) → DidPart counts ends now shard did a call b
       → Did counts ends now part (AnswerVisit answer) a call b
   visit_halts counts ends now shard part visit is did answer did_is a call b d =
@@ -445,7 +476,7 @@ module _ {D : Type 0} (content : D → Option (List ℕ)) (image : D → List �
         e.2,
       )
 
-  pub produce_halts : (counts : Counts) (ends : List ℕ → ℕ) (now shard : ℕ) (part : Part) (batch : List ℕ) → part ≡ Produce shard batch → (did : PartCall)
+  pub produce_halts : (counts : Counts) (ends : Ends) (now shard : ℕ) (part : Part) (batch : List ℕ) → part ≡ Produce shard batch → (did : PartCall)
       (produced : Produced) → did ≡ Produces batch produced → (a : Shards) (call : Option ShardCall) (b : Shards) → DidPart counts ends now shard did a call b
       → Did counts ends now part (AnswerProduce produced) a call b
   produce_halts counts ends now shard part batch is did produced did_is a call b d =
@@ -456,7 +487,7 @@ module _ {D : Type 0} (content : D → Option (List ℕ)) (image : D → List �
         e.2,
       )
 
-  pub look_does : (counts : Counts) (ends : List ℕ → ℕ) (now shard : ℕ) (part : Part) (group : List ℕ) → part ≡ Look shard group → (looked : Looked) → (a : Shards)
+  pub look_does : (counts : Counts) (ends : Ends) (now shard : ℕ) (part : Part) (group : List ℕ) → part ≡ Look shard group → (looked : Looked) → (a : Shards)
       (call : Option ShardCall) (b : Shards) → DidPart counts ends now shard (Looks group looked) a call b
       → Did counts ends now part (AnswerLook looked) a call b
   look_does counts ends now shard part group is looked a call b d = (
@@ -466,7 +497,7 @@ module _ {D : Type 0} (content : D → Option (List ℕ)) (image : D → List �
     d.2,
   )
 
-  pub beat_does : (counts : Counts) (ends : List ℕ → ℕ) (now : ℕ) (part : Part) (request : HeartbeatRequest) → part ≡ Heartbeat request → (reply : HeartbeatReply)
+  pub beat_does : (counts : Counts) (ends : Ends) (now : ℕ) (part : Part) (request : HeartbeatRequest) → part ≡ Heartbeat request → (reply : HeartbeatReply)
       → (a : Shards) (call : Option ShardCall) (b : Shards)
       → (call ≡ Some (CallMembers (Beats request reply))) × StepsShards counts ends now a (CallMembers (Beats request reply)) b
       → Did counts ends now part (AnswerHeartbeat reply) a call b

@@ -13,7 +13,7 @@ use Rattle.conn_core.specs.declared.next.Next.{Next}
 use Rattle.conn_core.specs.declared.next.Next.TheVariants.{Ask}
 use Rattle.conn_core.specs.Conns.{ConnParts, without_replies}
 use Rattle.conn_core.specs.Turning.{Turn, Tells, conn_after_answer}
-use Rattle.broker_model.specs.Shards.{Counts, Shards, ShardCall}
+use Rattle.broker_model.specs.Shards.{Counts, Ends, Shards, ShardCall}
 use Rattle.broker_model.specs.Shards.ShardCall.{CallPart}
 use Rattle.broker_model.specs.Shards.PartCall.{Expires}
 use Rattle.broker_model.specs.Steps.{Does, DoesTurn, ExpiresAt, replies_to}
@@ -22,7 +22,7 @@ use Rattle.broker_core.proofs.Flats.{all_append}
 use Rattle.broker_core.proofs.Telling.{all_told, faults_are, part_told}
 
 -- the part that a connection asks was done
-pub part_done : (counts : Counts) (ends : List ℕ → ℕ) (id now : ℕ) (part : Part) (answer : PartAnswer) (conn after : ConnParts) (outcomes : List Outcome)
+pub part_done : (counts : Counts) (ends : Ends) (id now : ℕ) (part : Part) (answer : PartAnswer) (conn after : ConnParts) (outcomes : List Outcome)
     → outcomes ≡ faults_in part answer ++ replies_to id (conn_after_answer answer conn) → after ≡ without_replies (conn_after_answer answer conn)
     → (a : Shards) (call : Option ShardCall) (b : Shards) → Did counts ends now part answer a call b
     → Does counts ends id now (Ask part) conn a b call outcomes after
@@ -37,24 +37,24 @@ part_done counts ends id now part answer conn after outcomes told left a call b 
 }
 
 -- what was told is done
-pub does_turn : (counts : Counts) (ends : List ℕ → ℕ) (id now : ℕ) (t : Turn) (next : Next) (conn after : ConnParts) (outcomes : List Outcome)
+pub does_turn : (counts : Counts) (ends : Ends) (id now : ℕ) (t : Turn) (next : Next) (conn after : ConnParts) (outcomes : List Outcome)
     → Tells t next conn → (a : Shards) (call : Option ShardCall) (b : Shards) → Does counts ends id now next conn a b call outcomes after
     → DoesTurn counts ends id now t a b call outcomes after
 does_turn counts ends id now t next conn after outcomes told a call b does =
     subst (λ (n : Next). Does counts ends id now n t.conn a b call outcomes after) told.0
     (subst (λ (c : ConnParts). Does counts ends id now next c a b call outcomes after) told.1 does)
 
-pub asks_next : (counts : Counts) (ends : List ℕ → ℕ) (id now : ℕ) (part : Part) (turn : Next) (conn after : ConnParts) (outcomes : List Outcome)
+pub asks_next : (counts : Counts) (ends : Ends) (id now : ℕ) (part : Part) (turn : Next) (conn after : ConnParts) (outcomes : List Outcome)
     → turn ≡ Ask part → (a : Shards) (call : Option ShardCall) (b : Shards) → Does counts ends id now (Ask part) conn a b call outcomes after
     → Does counts ends id now turn conn a b call outcomes after
 asks_next counts ends id now part turn conn after outcomes is a call b does =
     subst (λ (n : Next). Does counts ends id now n conn a b call outcomes after) (sym is) does
 
-pub halves_asked : (counts : Counts) (ends : List ℕ → ℕ) (part : Part) (next : Next) → next ≡ Ask part → (a b : Shards) → HalvesNext counts ends (Ask part) a b
+pub halves_asked : (counts : Counts) (ends : Ends) (part : Part) (next : Next) → next ≡ Ask part → (a b : Shards) → HalvesNext counts ends (Ask part) a b
     → HalvesNext counts ends next a b
 halves_asked counts ends part next is a b h = subst (λ (n : Next). HalvesNext counts ends n a b) (sym is) h
 
-pub halves_turn : (counts : Counts) (ends : List ℕ → ℕ) (t : Turn) (next : Next) (conn : ConnParts) → Tells t next conn → (a b : Shards)
+pub halves_turn : (counts : Counts) (ends : Ends) (t : Turn) (next : Next) (conn : ConnParts) → Tells t next conn → (a b : Shards)
     → HalvesNext counts ends next a b → HalvesNext counts ends t.next a b
 halves_turn counts ends t next conn told a b h = subst (λ (n : Next). HalvesNext counts ends n a b) told.0 h
 
@@ -78,7 +78,7 @@ step_told topics id count part answer conn outcomes few there e =
 -- ---- expiries
 
 -- a partition that is hosted was expired
-pub expired_at : (counts : Counts) (ends : List ℕ → ℕ) (now shard : ℕ) (outcomes : List Outcome) (found : Option ℕ) → found ≡ Some shard → (a : Shards)
+pub expired_at : (counts : Counts) (ends : Ends) (now shard : ℕ) (outcomes : List Outcome) (found : Option ℕ) → found ≡ Some shard → (a : Shards)
     (call : Option ShardCall) (b : Shards) → ExpiresShard counts ends now shard outcomes a call b → (connections : List (ℕ × ConnParts))
     → ExpiresAt counts ends now (record { connections = connections; shards = a }) found call outcomes (record { connections = connections; shards = b })
 expired_at counts ends now shard outcomes found is a call b d connections =
@@ -87,7 +87,7 @@ expired_at counts ends now shard outcomes found is a call b d connections =
     (record { did = CallPart shard d.0 (Expires d.1); is = d.2; kind = (d.0, d.1, refl); shards = d.3; tells = d.4; connections = refl })
 
 -- one that isn't was not
-pub not_expired : (counts : Counts) (ends : List ℕ → ℕ) (now : ℕ) (outcomes : List Outcome) (found : Option ℕ) → found ≡ None → outcomes ≡ [] → (a : Shards)
+pub not_expired : (counts : Counts) (ends : Ends) (now : ℕ) (outcomes : List Outcome) (found : Option ℕ) → found ≡ None → outcomes ≡ [] → (a : Shards)
     (connections : List (ℕ × ConnParts))
     → ExpiresAt counts ends now (record { connections = connections; shards = a }) found None outcomes (record { connections = connections; shards = a })
 not_expired counts ends now outcomes found is told a connections =

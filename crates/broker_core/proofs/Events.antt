@@ -1,5 +1,5 @@
 -- What each event makes of the machine.
-use Rattle.std.proofs.Common.{◌≡◌, ◌≤◌, ◌⊎◌, ◌∷◌, [], inl, inr, refl, sym, ap, ◌∙◌, subst, arith, ◌+◌, ℕ, zero, suc, List, length, Bool, true, false, cond, Some, None, Result, Err, IfErr}
+use Rattle.std.proofs.Common.{◌≡◌, ◌≤◌, ◌-◌, ◌⊎◌, ◌∷◌, [], inl, inr, refl, sym, ap, ◌∙◌, subst, arith, ◌+◌, ℕ, zero, suc, List, length, Bool, true, false, cond, Some, None, Result, Err, IfErr}
 use Rattle.std.specs.List.{AllByRecursion, AllZip}
 use Rattle.std.specs.Prelude.{All}
 use Rattle.std.proofs.Common.{length-append}
@@ -37,10 +37,11 @@ use Rattle.broker_core.specs.declared.slot.ForeignSlot.TheVariants as foreign
 use Rattle.broker_core.specs.declared.slot.PartState.{PartState}
 use Rattle.broker_core.specs.declared.slot.PartState.TheVariants as part
 use Rattle.broker_core.specs.declared.slot.PartSlot.{PartSlot}
-use Rattle.broker_core.specs.Hosts.{AreCarried, AreDistinct, AreHeld, AreHeldParts, AreNamed, AreOpen, AreOpenParts, BothGoOn, DiskGoesOn, GoesOnIf, GoOn, Halts, HalvesExpiry, HalvesNext, HalvesServe, HostsParts, IsHalfDone, IsHeld, IsHeldState, IsOpen, IsOpenState, IsPartSlot, Leads, LeftDisks, StandStill, StaysHosted, all_names, counts_in, disks_in, ends_in, facts_at, facts_in, foreign_facts, hosted_slots}
+use Rattle.broker_core.specs.Hosts.{AreCarried, AreDistinct, AreHeld, AreHeldParts, AreNamed, AreOpen, AreOpenParts, BothGoOn, DiskGoesOn, DisksReach, GoesOnIf, GoOn, Halts, HalvesExpiry, HalvesNext, HalvesServe, HostsParts, IsHalfDone, IsHeld, IsHeldState, IsOpen, IsOpenState, IsPartSlot, Leads, LeftDisks, StandStill, StaysHosted, all_names, counts_in, disks_in, ends_in, ends_over, facts_at, facts_in, foreign_facts, hosted_slots}
 use Rattle.broker_core.specs.Cores.{AreReopened, CoreParts, HasMoment, IsArmed, IsCore, IsWhole, StopsIn, Advances, state_of}
 use Rattle.broker_core.proofs.Places.{among_zip, zip_weaker, one_in_front, one_in_rest}
 use Rattle.broker_core.proofs.Leading.{still_all}
+use Rattle.broker_core.proofs.Reaching.{reach_all, reach_less}
 use Rattle.broker_core.proofs.Telling.{all_told}
 
 -- ---- open and held
@@ -257,14 +258,14 @@ module _ {D : Type 0} (content : D → Option (List ℕ)) (image : D → List �
   N old new = counts_in faults losses arms armed (disks_in old) (disks_in new)
 
   abbrev ServesIn : CoreParts D → (id now : ℕ) → Option ShardCall → List Outcome → HostsParts D → Shards → Machine → Type 0
-  ServesIn old id now call outcomes new a m = Serves old.conf (N old.hosts new) (ends_in old.hosts)
+  ServesIn old id now call outcomes new a m = Serves old.conf (N old.hosts new) (ends_over old.hosts new)
       (record { connections = old.connections; shards = a }) id now (conn_at id old.connections) call outcomes m
 
   steps_from : (old : CoreParts D) (before after : Machine) (id now : ℕ) (call : Option ShardCall) (outcomes : List Outcome) (new : HostsParts D) → C old before
       → ServesIn old id now call outcomes new before.shards after
-      → StepsTo old.conf (N old.hosts new) (ends_in old.hosts) before (Step id now) call outcomes after
+      → StepsTo old.conf (N old.hosts new) (ends_over old.hosts new) before (Step id now) call outcomes after
   steps_from old before after id now call outcomes new k s =
-      subst (λ m. Serves old.conf (N old.hosts new) (ends_in old.hosts) m id now (conn_at id m.connections) call outcomes after)
+      subst (λ m. Serves old.conf (N old.hosts new) (ends_over old.hosts new) m id now (conn_at id m.connections) call outcomes after)
       (seen_is old before k) s
 
   pub steps : (old new : CoreParts D) (id now : ℕ) (outcomes : List Outcome) → IsWhole old → GoOn content faults (disks_in old.hosts) (disks_in new.hosts)
@@ -284,12 +285,12 @@ module _ {D : Type 0} (content : D → Option (List ℕ)) (image : D → List �
           machine = steps_from old before after id now v.call outcomes new.hosts k v.does;
           disks = λ name taken. v.disks name;
           losses = tt;
-          ends = λ name taken. v.ends name;
+          ends = λ name taken. (v.ends_later name, v.ends name);
         },
       )
 
   abbrev ExpiresIn : CoreParts D → List ℕ → (part now : ℕ) → HostsParts D → Shards → Option ShardCall → List Outcome → Shards → Type 0
-  ExpiresIn old topic part now new a call outcomes b = (connections : List (ℕ × ConnParts)) → ExpiresAt (N old.hosts new) (ends_in old.hosts) now
+  ExpiresIn old topic part now new a call outcomes b = (connections : List (ℕ × ConnParts)) → ExpiresAt (N old.hosts new) (ends_over old.hosts new) now
       (record { connections = connections; shards = a }) (shard_named topic part old.conf.topics) call outcomes (record { connections = connections; shards = b })
 
   pub expires : (old new : CoreParts D) (topic : List ℕ) (part now : ℕ) (outcomes : List Outcome) → IsWhole old → new.connections ≡ old.connections
@@ -309,14 +310,14 @@ module _ {D : Type 0} (content : D → Option (List ℕ)) (image : D → List �
           machine = v.does before.connections;
           disks = λ name taken. v.disks name;
           losses = tt;
-          ends = λ name taken. v.ends name;
+          ends = λ name taken. (v.ends_later name, v.ends name);
         },
       )
 
   pub ticks : (old new : CoreParts D) (now : ℕ) → IsWhole old → new.connections ≡ old.connections
       → GoOn content faults (disks_in old.hosts) (disks_in new.hosts)
       → ((s : Shards) → AreCarried content image starved old.hosts s → Leads content image starved faults losses arms armed old.hosts s new.hosts
-      (λ a call b. (call ≡ Some (CallMembers Ticks)) × StepsShards (N old.hosts new.hosts) (ends_in old.hosts) now a (CallMembers Ticks) b))
+      (λ a call b. (call ≡ Some (CallMembers Ticks)) × StepsShards (N old.hosts new.hosts) (ends_over old.hosts new.hosts) now a (CallMembers Ticks) b))
       → A old (Tick now) [] new
   ticks old new now whole same g ticked before k =
       let v = ticked before.shards k.shards in (
@@ -373,6 +374,7 @@ module _ {D : Type 0} (content : D → Option (List ℕ)) (image : D → List �
           losses = record {
             contents = v.contents;
             losses = λ name taken. v.lost name (taken_one old name whole taken);
+            reach = λ name taken. v.reach name (taken_one old name whole taken);
             opens = record {
               nobody = refl;
               hosts = lands_hosted before.shards.parts v.after.parts v.lands.parts ∙ hosts_are old before whole k;
@@ -391,19 +393,26 @@ module _ {D : Type 0} (content : D → Option (List ℕ)) (image : D → List �
   abbrev S : CoreParts D → Machine → Event → CoreParts D → Type 0
   S old before event new = StopsIn content image faults losses arms armed old before event new
 
+  least : (n : ℕ) → n ≤ n
+  least n = omega arith
+
   pub stops_still : (old new : CoreParts D) (before : Machine) (event : Event) → new.hosts ≡ old.hosts → C old before → S old before event new
   stops_still old new before event same k = record {
     after = before;
+    ends = ends_in old.hosts;
     reaches = inl refl;
+    ends_later = λ name. least (ends_in old.hosts name);
     still = subst (λ (h : HostsParts D). StandStill content image before.shards (disks_in h)) (sym same)
         (still_all content image starved faults losses arms armed old.hosts before.shards k.shards);
+    reach = subst (λ (h : HostsParts D). DisksReach image (disks_in h) (λ name. ends_in old.hosts name - 1)) (sym same)
+        (reach_less image (disks_in old.hosts) (ends_in old.hosts) (reach_all content image starved old.hosts before.shards k.shards));
   }
 
   -- a connection that is there is left in its visit
   left_in : (old : CoreParts D) (new : HostsParts D) (before : Machine) (id now : ℕ) (asked : Part) (conn : ConnParts) (b : Shards)
       → conn_at id before.connections ≡ Some conn → (turn old.conf conn).next ≡ Ask asked
-      → IsHalfDone (N old.hosts new) (ends_in old.hosts) asked before.shards b
-      → IsLeftInVisit old.conf (N old.hosts new) (ends_in old.hosts) id before (record { connections = before.connections; shards = b })
+      → IsHalfDone (N old.hosts new) (ends_over old.hosts new) asked before.shards b
+      → IsLeftInVisit old.conf (N old.hosts new) (ends_over old.hosts new) id before (record { connections = before.connections; shards = b })
   left_in old new before id now (Foreign op) conn b there asks half = absurd half
   left_in old new before id now (Produce shard batch) conn b there asks half = absurd half
   left_in old new before id now (PartVisit shard visit) conn b there asks half = record {
@@ -418,63 +427,81 @@ module _ {D : Type 0} (content : D → Option (List ℕ)) (image : D → List �
   left_in old new before id now (Heartbeat request) conn b there asks half = absurd half
 
   halved : (old : CoreParts D) (new : HostsParts D) (before : Machine) (id now : ℕ) (at : Option ConnParts) (b : Shards)
-      → conn_at id before.connections ≡ at → HalvesServe old.conf (N old.hosts new) (ends_in old.hosts) at before.shards b
-      → IsLeftInVisit old.conf (N old.hosts new) (ends_in old.hosts) id before (record { connections = before.connections; shards = b })
+      → conn_at id before.connections ≡ at → HalvesServe old.conf (N old.hosts new) (ends_over old.hosts new) at before.shards b
+      → IsLeftInVisit old.conf (N old.hosts new) (ends_over old.hosts new) id before (record { connections = before.connections; shards = b })
   halved old new before id now None b there half = absurd half
   halved old new before id now (Some conn) b there half = left_in old new before id now half.0 conn b there half.1 half.2
 
   pub stops_step : (old new : CoreParts D) (before : Machine) (id now : ℕ) → C old before
-      → Halts content image before.shards new.hosts
+      → Halts content image old.hosts before.shards new.hosts
       (λ a call b. (outcomes : List Outcome) × (m : Machine) × (m.shards ≡ b) × ServesIn old id now call outcomes new.hosts a m)
-      (HalvesServe old.conf (N old.hosts new.hosts) (ends_in old.hosts) (conn_at id old.connections))
+      (HalvesServe old.conf (N old.hosts new.hosts) (ends_over old.hosts new.hosts) (conn_at id old.connections))
       → S old before (Step id now) new
   stops_step old new before id now k h = go h.does
     where
       go : (h.after ≡ before.shards) ⊎ (((call : Option ShardCall) × ((outcomes : List Outcome) × (m : Machine) × (m.shards ≡ h.after)
           × ServesIn old id now call outcomes new.hosts before.shards m))
-          ⊎ HalvesServe old.conf (N old.hosts new.hosts) (ends_in old.hosts) (conn_at id old.connections) before.shards h.after)
+          ⊎ HalvesServe old.conf (N old.hosts new.hosts) (ends_over old.hosts new.hosts) (conn_at id old.connections) before.shards h.after)
           → S old before (Step id now) new
       go (inl same) = record {
         after = before;
+        ends = ends_in new.hosts;
         reaches = inl refl;
+        ends_later = h.ends_later;
+        reach = reach_less image (disks_in new.hosts) (ends_in new.hosts) h.reach;
         still = subst (λ (s : Shards). StandStill content image s (disks_in new.hosts)) same h.still;
       }
       go (inr (inl d)) = record {
         after = d.1.1;
+        ends = ends_in new.hosts;
+        ends_later = h.ends_later;
+        reach = reach_less image (disks_in new.hosts) (ends_in new.hosts) h.reach;
         reaches = inr (inl (d.0, d.1.0, steps_from old before d.1.1 id now d.0 d.1.0 new.hosts k d.1.3));
         still = subst (λ (s : Shards). StandStill content image s (disks_in new.hosts)) (sym d.1.2) h.still;
       }
       go (inr (inr half)) = record {
         after = record { connections = before.connections; shards = h.after };
+        ends = ends_in new.hosts;
+        ends_later = h.ends_later;
+        reach = reach_less image (disks_in new.hosts) (ends_in new.hosts) h.reach;
         reaches = inr (inr (halved old new.hosts before id now (conn_at id old.connections) h.after
             (ap (λ (cs : List (ℕ × ConnParts)). conn_at id cs) k.connections) half));
         still = h.still;
       }
 
   pub stops_expire : (old new : CoreParts D) (before : Machine) (topic : List ℕ) (part now : ℕ) → C old before
-      → Halts content image before.shards new.hosts
+      → Halts content image old.hosts before.shards new.hosts
       (λ a call b. (outcomes : List Outcome) × ExpiresIn old topic part now new.hosts a call outcomes b)
-      (λ a b. (shard : ℕ) × (shard_named topic part old.conf.topics ≡ Some shard) × HalvesExpiry (N old.hosts new.hosts) (ends_in old.hosts) now shard a b)
+      (λ a b. (shard : ℕ) × (shard_named topic part old.conf.topics ≡ Some shard) × HalvesExpiry (N old.hosts new.hosts) (ends_over old.hosts new.hosts) now shard a b)
       → S old before (Expire topic part now) new
   stops_expire old new before topic part now k h = go h.does
     where
       go : (h.after ≡ before.shards) ⊎ (((call : Option ShardCall) × ((outcomes : List Outcome)
           × ExpiresIn old topic part now new.hosts before.shards call outcomes h.after))
           ⊎ ((shard : ℕ) × (shard_named topic part old.conf.topics ≡ Some shard)
-          × HalvesExpiry (N old.hosts new.hosts) (ends_in old.hosts) now shard before.shards h.after))
+          × HalvesExpiry (N old.hosts new.hosts) (ends_over old.hosts new.hosts) now shard before.shards h.after))
           → S old before (Expire topic part now) new
       go (inl same) = record {
         after = before;
+        ends = ends_in new.hosts;
         reaches = inl refl;
+        ends_later = h.ends_later;
+        reach = reach_less image (disks_in new.hosts) (ends_in new.hosts) h.reach;
         still = subst (λ (s : Shards). StandStill content image s (disks_in new.hosts)) same h.still;
       }
       go (inr (inl d)) = record {
         after = record { connections = before.connections; shards = h.after };
+        ends = ends_in new.hosts;
+        ends_later = h.ends_later;
+        reach = reach_less image (disks_in new.hosts) (ends_in new.hosts) h.reach;
         reaches = inr (inl (d.0, d.1.0, d.1.1 before.connections));
         still = h.still;
       }
       go (inr (inr half)) = record {
         after = record { connections = before.connections; shards = h.after };
+        ends = ends_in new.hosts;
+        ends_later = h.ends_later;
+        reach = reach_less image (disks_in new.hosts) (ends_in new.hosts) h.reach;
         reaches = inr (inr (record {
           shard = half.0;
           found = half.1;
@@ -484,8 +511,15 @@ module _ {D : Type 0} (content : D → Option (List ℕ)) (image : D → List �
       }
 
   pub stops_power : (old new : CoreParts D) (before : Machine) (choice : ℕ) → StandStill content image before.shards (disks_in new.hosts)
-      → S old before (Power choice) new
-  stops_power old new before choice still = record { after = before; reaches = inl refl; still = still }
+      → DisksReach image (disks_in new.hosts) (λ name. ends_in old.hosts name - 1) → S old before (Power choice) new
+  stops_power old new before choice still reach = record {
+    after = before;
+    ends = ends_in old.hosts;
+    reaches = inl refl;
+    ends_later = λ name. least (ends_in old.hosts name);
+    still = still;
+    reach = reach;
+  }
 
   -- ---- where old and event are known by equations
 
@@ -502,9 +536,10 @@ module _ {D : Type 0} (content : D → Option (List ℕ)) (image : D → List �
 
   pub power_stops : {T : Type 0} (r : Result T CoreFault) (fault : CoreFault) (old : CoreParts D) (choice : ℕ) (event : Event) (new : CoreParts D)
       → r ≡ Err fault → event ≡ Power choice
-      → ((s : Shards) → AreCarried content image starved old.hosts s → StandStill content image s (disks_in new.hosts) × (fault ≡ NoMemory))
+      → ((s : Shards) → AreCarried content image starved old.hosts s → StandStill content image s (disks_in new.hosts)
+      × DisksReach image (disks_in new.hosts) (λ name. ends_in old.hosts name - 1) × (fault ≡ NoMemory))
       → IfErr r (λ x. (m : Machine) → C old m → S old m event new × (x ≡ NoMemory))
   power_stops {T} r fault old choice event new err is f =
       subst (λ (q : Result T CoreFault). IfErr q (λ x. (m : Machine) → C old m → S old m event new × (x ≡ NoMemory))) (sym err)
       (subst (λ (x : Event). (m : Machine) → C old m → S old m x new × (fault ≡ NoMemory)) (sym is)
-      (λ m k. let v = f m.shards k.shards in (stops_power old new m choice v.0, v.1)))
+      (λ m k. let v = f m.shards k.shards in (stops_power old new m choice v.0 v.1, v.2)))

@@ -34,9 +34,10 @@ use Rattle.broker_core.specs.declared.slot.PartState.{PartState}
 use Rattle.broker_core.specs.declared.slot.PartState.TheVariants as part
 use Rattle.broker_core.specs.declared.slot.PartSlot.{PartSlot}
 use Rattle.broker_core.specs.Carried.{HaltsForeign, IsCarried, LeadsForeign, GoesOn, OpenPart, holding}
-use Rattle.broker_core.specs.Hosts.{AreApart, AreCarried, AreDistinct, BothGoOn, Did, DiskGoesOn, ForeignStill, GoesOnIf, GoOn, Halts, HostsParts, IsPartSlot, IsPartState, IsSlot, Leads, LeftDisks, NotIn, PartStill, PartsStill, StandStill, all_names, among, counts_in, disks_in, ends_in, facts_at, facts_in, foreign_disks, foreign_end, foreign_facts, hosted_slot, hosted_slots, part_disk, slot_ends, slots_disks}
+use Rattle.broker_core.specs.Hosts.{AreApart, AreCarried, AreDistinct, BothGoOn, Did, DiskGoesOn, DisksReach, ForeignStill, GoesOnIf, GoOn, Halts, HostsParts, IsPartSlot, IsPartState, IsSlot, Leads, LeftDisks, NotIn, PartStill, PartsStill, StandStill, all_names, among, counts_in, disks_in, ends_in, ends_over, facts_at, facts_in, foreign_disks, foreign_end, foreign_facts, hosted_slot, hosted_slots, part_disk, slot_ends, slots_disks}
 use Rattle.broker_core.proofs.Opening.{carried_stands}
 use Rattle.broker_core.proofs.Places.{zip_same, zip_weaker, apart_from, distinct_front, among_past, among_same}
+use Rattle.broker_core.proofs.Reaching.{SlotLater, foreign_open, names_later, names_reach, reach_all, same_later, slot_reaches, slots_reach}
 use Rattle.broker_core.proofs.Reopens.{images_left}
 use Rattle.broker_core.proofs.Slots.{called_same, disk_names, end_names}
 
@@ -85,6 +86,10 @@ module _ {D : Type 0} (content : D → Option (List ℕ)) (image : D → List �
   abbrev Runs : StoreParts D → StoreParts D → Type 0
   Runs old new = RunsOn content losses arms armed starved faults old.journal.live.disk new.journal.live.disk
 
+  -- its journal never ends before where it did
+  abbrev EndsOn : StoreParts D → StoreParts D → Type 0
+  EndsOn old new = (t : ForeignShardState) → Carries image old t → old.journal.live.end ≤ new.journal.live.end
+
   pub told_still : (old new : StoreParts D) → Runs old new → IsTold (content old.journal.live.disk) → IsTold (content new.journal.live.disk)
   told_still old new runs told = runs.told ∙ told
 
@@ -93,9 +98,9 @@ module _ {D : Type 0} (content : D → Option (List ℕ)) (image : D → List �
       × StepsForeign (Rose (faults old.journal.live.disk) (faults new.journal.live.disk)) old.journal.live.end t op answer fault n
 
   pub act_leads : (old new : StoreParts D) (op : ForeignOp) (answer : ForeignAnswer) (s : ForeignShardState) → C old s → Acts old new op answer
-      → Runs old new → new.journal.idle ≡ old.journal.idle → starved new.journal.live.disk ≡ false
+      → Runs old new → new.journal.idle ≡ old.journal.idle → EndsOn old new → starved new.journal.live.disk ≡ false
       → LeadsForeign content image starved faults losses arms armed old s new op answer
-  act_leads old new op answer s k acts runs idle fed =
+  act_leads old new op answer s k acts runs idle ends fed =
       let r = acts s k.carries in
       record {
         after = r.0;
@@ -108,28 +113,31 @@ module _ {D : Type 0} (content : D → Option (List ℕ)) (image : D → List �
           second_fed = ap starved idle ∙ k.second_fed;
         };
         step = r.3;
+        end = ends s k.carries;
         used = record { losses = runs.same_losses; arms = runs.same_arms; spends = runs.spends k.told fed };
       }
 
   pub act_halts : (old new : StoreParts D) (op : ForeignOp) (answer : ForeignAnswer) (s : ForeignShardState) → C old s → Acts old new op answer
-      → Runs old new → new.journal.idle ≡ old.journal.idle → HaltsForeign content image faults old s new op
-  act_halts old new op answer s k acts runs idle =
+      → Runs old new → new.journal.idle ≡ old.journal.idle → EndsOn old new → HaltsForeign content image faults old s new op
+  act_halts old new op answer s k acts runs idle ends =
       let r = acts s k.carries in
       record {
         after = r.0;
         carries = r.2;
         does = inr (answer, r.1, r.3);
+        end = ends s k.carries;
         told = told_still old new runs k.told;
         second_told = ap (λ (d : D). is_some (content d)) idle ∙ k.second_told;
       }
 
   pub act_refused : (old new : StoreParts D) (op : ForeignOp) (s : ForeignShardState) → C old s
-      → ((t : ForeignShardState) → Carries image old t → Carries image new t) → Runs old new → new.journal.idle ≡ old.journal.idle
+      → ((t : ForeignShardState) → Carries image old t → Carries image new t) → Runs old new → new.journal.idle ≡ old.journal.idle → EndsOn old new
       → HaltsForeign content image faults old s new op
-  act_refused old new op s k same runs idle = record {
+  act_refused old new op s k same runs idle ends = record {
     after = s;
     carries = same s k.carries;
     does = inl refl;
+    end = ends s k.carries;
     told = told_still old new runs k.told;
     second_told = ap (λ (d : D). is_some (content d)) idle ∙ k.second_told;
   }
@@ -145,8 +153,8 @@ module _ {D : Type 0} (content : D → Option (List ℕ)) (image : D → List �
   abbrev L : HostsParts D → Shards → HostsParts D → (Shards → Option ShardCall → Shards → Type 0) → Type 0
   L old s new Q = Leads content image starved faults losses arms armed old s new Q
 
-  abbrev H : Shards → HostsParts D → (Shards → Option ShardCall → Shards → Type 0) → (Shards → Shards → Type 0) → Type 0
-  H s new Q W = Halts content image s new Q W
+  abbrev H : HostsParts D → Shards → HostsParts D → (Shards → Option ShardCall → Shards → Type 0) → (Shards → Shards → Type 0) → Type 0
+  H old s new Q W = Halts content image old s new Q W
 
   abbrev K : HostsParts D → Shards → Type 0
   K hosts s = AreCarried content image starved hosts s
@@ -213,13 +221,17 @@ module _ {D : Type 0} (content : D → Option (List ℕ)) (image : D → List �
     does = f s l.call l.after l.does;
     disks = l.disks;
     ends = l.ends;
+    ends_later = l.ends_later;
   }
 
-  pub halts_so : (new : HostsParts D) (s : Shards) (P Q : Shards → Option ShardCall → Shards → Type 0) (V W : Shards → Shards → Type 0)
-      → ((a : Shards) (call : Option ShardCall) (b : Shards) → P a call b → Q a call b) → ((a b : Shards) → V a b → W a b) → H s new P V → H s new Q W
+  pub halts_so : {old : HostsParts D} (new : HostsParts D) (s : Shards) (P Q : Shards → Option ShardCall → Shards → Type 0) (V W : Shards → Shards → Type 0)
+      → ((a : Shards) (call : Option ShardCall) (b : Shards) → P a call b → Q a call b) → ((a b : Shards) → V a b → W a b) → H old s new P V
+      → H old s new Q W
   halts_so new s P Q V W f g h = record {
     after = h.after;
     still = h.still;
+    ends_later = h.ends_later;
+    reach = h.reach;
     does = go h.does;
   }
     where
@@ -231,12 +243,17 @@ module _ {D : Type 0} (content : D → Option (List ℕ)) (image : D → List �
 
   -- shards that led to this are found with it where memory ran out afterwards
   pub leads_halts : (old new : HostsParts D) (s : Shards) (P Q : Shards → Option ShardCall → Shards → Type 0) (W : Shards → Shards → Type 0)
-      → ((a : Shards) (call : Option ShardCall) (b : Shards) → P a call b → Q a call b) → L old s new P → H s new Q W
+      → ((a : Shards) (call : Option ShardCall) (b : Shards) → P a call b → Q a call b) → L old s new P → H old s new Q W
   leads_halts old new s P Q W f l = record {
     after = l.after;
     still = still_all new l.after l.carried;
+    ends_later = l.ends_later;
+    reach = reach_all content image starved new l.after l.carried;
     does = inr (inl (l.call, f s l.call l.after l.does));
   }
+
+  least : (n : ℕ) → n ≤ n
+  least n = omega arith
 
   -- nothing was called
   pub stays : (hosts : HostsParts D) (s : Shards) (P : Shards → Option ShardCall → Shards → Type 0) → K hosts s → P s None s → L hosts s hosts P
@@ -247,10 +264,18 @@ module _ {D : Type 0} (content : D → Option (List ℕ)) (image : D → List �
     does = r;
     disks = λ name. refl;
     ends = λ name away. refl;
+    ends_later = λ name. least (ends_in hosts name);
   }
 
-  pub halts_still : (hosts : HostsParts D) (s : Shards) (P : Shards → Option ShardCall → Shards → Type 0) (W : Shards → Shards → Type 0) → K hosts s → H s hosts P W
-  halts_still hosts s P W k = record { after = s; still = still_all hosts s k; does = inl refl }
+  pub halts_still : (hosts : HostsParts D) (s : Shards) (P : Shards → Option ShardCall → Shards → Type 0) (W : Shards → Shards → Type 0) → K hosts s
+      → H hosts s hosts P W
+  halts_still hosts s P W k = record {
+    after = s;
+    still = still_all hosts s k;
+    ends_later = λ name. least (ends_in hosts name);
+    reach = reach_all content image starved hosts s k;
+    does = inl refl;
+  }
 
   -- ---- a call on foreign state
 
@@ -310,6 +335,14 @@ module _ {D : Type 0} (content : D → Option (List ℕ)) (image : D → List �
         (ap (λ (b : Bool). cond b is.journal.live.end 0) away
         ∙ sym (ap (λ (f : ForeignSlot D). foreign_end f name) opened ∙ ap (λ (b : Bool). cond b was.journal.live.end 0) away))
 
+    foreign_later : was.journal.live.end ≤ is.journal.live.end → (name : List ℕ) → ends_in old name ≤ ends_in next name
+    foreign_later l = names_later image old next (zip_same (SlotLater image) (same_later image) old.parts) (λ name.
+        subst (λ (f : ForeignSlot D). foreign_end f name ≤ foreign_end (foreign.Open is) name) (sym opened) (go (same_name name state_a)))
+      where
+        go : (b : Bool) → cond b was.journal.live.end 0 ≤ cond b is.journal.live.end 0
+        go true = l
+        go false = omega arith
+
     end_was : ends_in old state_a ≡ was.journal.live.end
     end_was =
         among_past (λ (e : List ℕ × ℕ). e.0) (λ (e : List ℕ × ℕ). e.1) (flat_map slot_ends old.parts) (foreign_end old.foreign state_a) state_a
@@ -329,7 +362,7 @@ module _ {D : Type 0} (content : D → Option (List ℕ)) (image : D → List �
 
     pub foreign_leads : (now : ℕ) (op : ForeignOp) (answer : ForeignAnswer)
         → ((t : ForeignShardState) → C was t → LeadsForeign content image starved faults losses arms armed was t is op answer)
-        → (s : Shards) → K old s → L old s next (Did (N old next) (ends_in old) now (Foreign op) (AnswerForeign answer))
+        → (s : Shards) → K old s → L old s next (Did (N old next) (ends_over old next) now (Foreign op) (AnswerForeign answer))
     foreign_leads now op answer leads s k =
         let l = leads s.foreign (foreign_carried s k) in
         record {
@@ -339,11 +372,12 @@ module _ {D : Type 0} (content : D → Option (List ℕ)) (image : D → List �
           does = (CallForeign op answer l.fault, refl, refl, (foreign_steps s.foreign l.after op answer l.fault l.step, refl, refl));
           disks = foreign_disks_on l.used;
           ends = foreign_ends_on;
+          ends_later = foreign_later l.end;
         }
 
     pub foreign_halts : (now : ℕ) (op : ForeignOp) (W : Shards → Shards → Type 0)
         → ((t : ForeignShardState) → C was t → HaltsForeign content image faults was t is op)
-        → (s : Shards) → K old s → H s next (λ a call b. (answer : PartAnswer) × Did (N old next) (ends_in old) now (Foreign op) answer a call b) W
+        → (s : Shards) → K old s → H old s next (λ a call b. (answer : PartAnswer) × Did (N old next) (ends_over old next) now (Foreign op) answer a call b) W
     foreign_halts now op W halts s k =
         let h = halts s.foreign (foreign_carried s k) in
         record {
@@ -356,13 +390,16 @@ module _ {D : Type 0} (content : D → Option (List ℕ)) (image : D → List �
               second_told = h.second_told;
             };
           };
+          ends_later = foreign_later h.end;
+          reach = names_reach image (λ n. n) next next (slots_reach content image starved (IsPartSlot content image starved)
+              (slot_reaches content image starved) old.parts s.parts k.parts) (foreign_open image is h.after h.carries);
           does = go h.after h.does;
         }
       where
         go : (t : ForeignShardState) → (t ≡ s.foreign) ⊎ ((answer : ForeignAnswer) × (fault : Option StoreFault)
             × StepsForeign (Rose (faults was.journal.live.disk) (faults is.journal.live.disk)) was.journal.live.end s.foreign op answer fault t)
             → (record { parts = s.parts; members = s.members; foreign = t } ≡ s) ⊎ (((call : Option ShardCall) × ((answer : PartAnswer)
-            × Did (N old next) (ends_in old) now (Foreign op) answer s call (record { parts = s.parts; members = s.members; foreign = t })))
+            × Did (N old next) (ends_over old next) now (Foreign op) answer s call (record { parts = s.parts; members = s.members; foreign = t })))
             ⊎ W s (record { parts = s.parts; members = s.members; foreign = t }))
         go t (inl same) = inl (λ i. record { parts = s.parts; members = s.members; foreign = same i })
         go t (inr d) = inr (inl (
@@ -401,7 +438,7 @@ module _ {D : Type 0} (content : D → Option (List ℕ)) (image : D → List �
 
   pub members_lead : (old : HostsParts D) (members : Memberships) (did : MembersCall) (now : ℕ) → StepsMembers now old.members did members
       → (s : Shards) → K old s → L old s (record { parts = old.parts; members = members; foreign = old.foreign })
-      (λ a call b. (call ≡ Some (CallMembers did)) × StepsShards (N old (record { parts = old.parts; members = members; foreign = old.foreign })) (ends_in old) now
+      (λ a call b. (call ≡ Some (CallMembers did)) × StepsShards (N old (record { parts = old.parts; members = members; foreign = old.foreign })) (ends_over old (record { parts = old.parts; members = members; foreign = old.foreign })) now
       a (CallMembers did) b)
   members_lead old members did now steps s k = record {
     after = record { parts = s.parts; members = members; foreign = s.foreign };
@@ -410,9 +447,10 @@ module _ {D : Type 0} (content : D → Option (List ℕ)) (image : D → List �
     does = (refl, (subst (λ (m : Memberships). StepsMembers now m did members) (sym k.members) steps, refl, refl));
     disks = λ name. refl;
     ends = λ name away. refl;
+    ends_later = λ name. least (ends_in old name);
   }
 
   pub members_halt : (hosts : HostsParts D) (members : Memberships) (s : Shards) (P : Shards → Option ShardCall → Shards → Type 0) (W : Shards → Shards → Type 0)
-      → members ≡ hosts.members → K hosts s → H s (record { parts = hosts.parts; members = members; foreign = hosts.foreign }) P W
+      → members ≡ hosts.members → K hosts s → H hosts s (record { parts = hosts.parts; members = members; foreign = hosts.foreign }) P W
   members_halt hosts members s P W same k =
-      subst (λ (m : Memberships). H s (record { parts = hosts.parts; members = m; foreign = hosts.foreign }) P W) (sym same) (halts_still hosts s P W k)
+      subst (λ (m : Memberships). H hosts s (record { parts = hosts.parts; members = m; foreign = hosts.foreign }) P W) (sym same) (halts_still hosts s P W k)

@@ -1,5 +1,5 @@
 -- Power losses of all shards, seen by the names of the disks.
-use Rattle.std.proofs.Common.{◌≡◌, ◌≢◌, ◌⊎◌, ◌<◌, ◌∷◌, ◌++◌, [], arith, inl, inr, refl, sym, ap, ◌∙◌, subst, ℕ, zero, suc, List, length, get_or, set, Bool, cond, Some, None}
+use Rattle.std.proofs.Common.{◌≡◌, ◌≢◌, ◌⊎◌, ◌<◌, ◌≤◌, ◌-◌, ◌∷◌, ◌++◌, [], arith, inl, inr, refl, sym, ap, ◌∙◌, subst, ℕ, zero, suc, List, length, get_or, set, Bool, true, false, cond, Some, None}
 use Rattle.std.specs.List.{AllByRecursion, AllZip, flat_map}
 use Rattle.std.specs.declared.option.Option.{Option}
 use Rattle.edge_io.specs.declared.fault.Armed.{Armed}
@@ -13,6 +13,7 @@ use Rattle.share_model.specs.Pending.{WithPending}
 use Rattle.share_members.specs.Groups.{Memberships}
 use Rattle.foreign_coord.specs.Shards.{ForeignShardState}
 use Rattle.part_log.specs.Logs.{and_pending}
+use Rattle.share_coord.proofs.Ends.{held_long}
 use Rattle.share_part.specs.Hosting.{ArePartText, PartConfParts}
 use Rattle.share_part.specs.Leaving.{IsLeftOf, IsOneOf as IsDoneOr}
 use Rattle.share_part.specs.Shards.{PartShardState, shard_with}
@@ -32,13 +33,14 @@ use Rattle.broker_core.specs.declared.slot.PartSlot.{PartSlot}
 use Rattle.broker_core.specs.Carried.{GoesOn, IsCarried, IsPartCarried, OpenPart, PartGoesOn}
 use Rattle.broker_core.specs.Restarts.{IsRestartedPart, IsRestartedShard, ReopensSlot, ShutsSlot, StopsAt}
 use Rattle.broker_core.specs.Foreign.{ReopensForeign, ShutsForeign}
-use Rattle.broker_core.specs.Hosts.{AreApart, AreCarried, AreDistinct, AreHeldParts, AreNamed, AreOpenParts, BothGoOn, BothRose, DiskGoesOn, ForeignStill, GoesOnIf, GoOn, HostsParts, IsHeld, IsHeldState, IsOpen, IsOpenState, IsPartSlot, IsPartState, IsSlot, NotIn, OneRose, PartRose, PartStandsAlone, PartStill, RoseIf, StandStill, all_names, among, disks_in, facts_at, facts_in, foreign_disks, foreign_facts, hosted_slot, hosted_slots, open_disk, part_disk, shut_disk, slot_disks, slots_disks}
+use Rattle.broker_core.specs.Hosts.{AreApart, AreCarried, AreDistinct, AreHeldParts, AreNamed, AreOpenParts, BothGoOn, BothRose, DiskGoesOn, DisksReach, ForeignStill, GoesOnIf, GoOn, HostsParts, IsHeld, IsHeldState, IsOpen, IsOpenState, IsPartSlot, IsPartState, IsSlot, NotIn, OneRose, PartRose, PartStandsAlone, PartStill, ReachesTo, RoseIf, StandStill, all_names, among, disks_in, ends_in, facts_at, facts_in, foreign_disk, foreign_disks, foreign_end, foreign_facts, hosted_slot, hosted_slots, open_disk, open_end, part_disk, part_end, shut_disk, slot_disks, slot_ends, slots_disks}
 use Rattle.broker_core.specs.Cores.{AreReopened}
 use Rattle.broker_core.proofs.Calling.{Turned, slot_goes}
 use Rattle.broker_core.proofs.Flats.{all_pieces, zip_flat}
-use Rattle.broker_core.proofs.Leading.{StillSlot, not_a_part, not_a_part_too, open_still, parts_apart, parts_still, same_both, same_goes, slot_still, still_foreign}
+use Rattle.broker_core.proofs.Leading.{StillSlot, not_a_part, not_a_part_too, open_still, parts_apart, parts_still, same_both, same_goes, slot_still, still_all, still_foreign}
 use Rattle.broker_core.proofs.Opening.{pending_map}
 use Rattle.broker_core.proofs.Places.{DoneTo, among_past, among_zip, each_found, not_both, one_in_either, zip_same, zip_weaker}
+use Rattle.broker_core.proofs.Reaching.{SlotReaches, again_reaches, fewer, foreign_left, foreign_reaches, names_reach, part_long, reach_all, reach_less, reaches_less, shut_reaches, slot_reaches, slots_reach}
 use Rattle.broker_core.proofs.Reopens.{part_left}
 use Rattle.broker_core.proofs.Slots.{disk_names}
 
@@ -138,6 +140,40 @@ module _ {D : Type 0} (content : D → Option (List ℕ)) (image : D → List �
       ap (λ (s : PartState D). last_content (facts_at faults losses arms armed (part_disk s place)).losses) p.new_is
       ∙ ap last_content e ∙ last_is (losses (open_disk p.was place)) choice c
 
+  -- each loss left its disk to where the journal on it ended
+  abbrev EndEntry : List ℕ × ℕ → List ℕ × Option D → Type 0
+  EndEntry e f = (f.0 ≡ e.0) × (e.1 ≤ length (last_content (entry_facts f).losses))
+
+  abbrev EndsIn : PartSlot D → PartSlot D → Type 0
+  EndsIn x y = AllZip EndEntry (slot_ends x) (slot_disks y)
+
+  slot_ends_in : (choice : ℕ) (x y : PartSlot D) (e : HostedPart) → Opens choice x y → In x e → EndsIn x y
+  slot_ends_in choice x y e p k = (
+    (ap (λ (h : Hosted). log_of h) (hosted_y choice x y p), at Log r.l (last_of choice x y Log p r.l r.log_lost) (long Log r.l r.were.0)),
+    (
+      (ap (λ (h : Hosted). first_of h) (hosted_y choice x y p), at StateA r.a (last_of choice x y StateA p r.a r.first_lost) (long StateA r.a r.were.1)),
+      (
+        (ap (λ (h : Hosted). second_of h) (hosted_y choice x y p), at StateB r.b (last_of choice x y StateB p r.b r.second_lost) (long StateB r.b r.were.2)),
+        tt,
+      ),
+    ),
+  )
+    where
+      carried : IsPartCarried content image starved x.conf p.was e.shard
+      carried = was_in x p.was e p.old_is k
+
+      r : IsRestartedPart content image starved faults losses arms armed choice x.conf p.was e.shard p.is
+      r = p.reopens e.shard carried
+
+      long : (place : DiskPlace) (c : List ℕ) → image (open_disk p.was place) c → open_end p.was place ≤ length c
+      long place c on = part_long image p.was e.shard carried.carries place c on
+
+      at : (place : DiskPlace) (c : List ℕ) → last_content (slot_facts y place).losses ≡ c → open_end p.was place ≤ length c
+          → part_end x.state place ≤ length (last_content (slot_facts y place).losses)
+      at place c is l =
+          subst (λ (d : List ℕ). part_end x.state place ≤ length d) (sym is)
+          (subst (λ (s : PartState D). part_end s place ≤ length c) (sym p.old_is) l)
+
   -- the machine's partitions behind it
   record Reopened (xs ys : List (PartSlot D)) (es : List HostedPart) (choice : ℕ) : Type 0 where
     after : List HostedPart
@@ -145,9 +181,10 @@ module _ {D : Type 0} (content : D → Option (List ℕ)) (image : D → List �
     lands : AllZip LandsPart es after
     stands : AllZip Stands ys after
     lost : AllZip (λ (x y : PartSlot D). AllZip (LostEntry choice) (slot_disks x) (slot_disks y)) xs ys
+    reach : AllZip EndsIn xs ys
 
   reopened : (choice : ℕ) (xs ys : List (PartSlot D)) (es : List HostedPart) → AllZip (Opens choice) xs ys → AllZip In xs es → Reopened xs ys es choice
-  reopened choice [] [] [] z k = record { after = []; zip = tt; lands = tt; stands = tt; lost = tt }
+  reopened choice [] [] [] z k = record { after = []; zip = tt; lands = tt; stands = tt; lost = tt; reach = tt }
   reopened choice [] [] (e ∷ es) z k = absurd k
   reopened choice [] (y ∷ ys) es z k = absurd z
   reopened choice (x ∷ xs) [] es z k = absurd z
@@ -194,6 +231,7 @@ module _ {D : Type 0} (content : D → Option (List ℕ)) (image : D → List �
           more.stands,
         );
         lost = (slot_lost choice x y e p k.0, more.lost);
+        reach = (slot_ends_in choice x y e p k.0, more.reach);
       }
 
   -- ---- all disks
@@ -283,6 +321,28 @@ module _ {D : Type 0} (content : D → Option (List ℕ)) (image : D → List �
     contents_is : (name : List ℕ) (c : List ℕ) → (F new name).losses ≡ (F old name).losses ++ (choice, c) ∷ [] → contents name ≡ c
     contents_is name c e = ap last_content e ∙ last_is (F old name).losses choice c
 
+    abbrev EndOf : ℕ → Facts → Type 0
+    EndOf n f = n ≤ length (last_content f.losses)
+
+    foreign_reach : (name : List ℕ) → EndOf (foreign_end old.foreign name) (G (foreign_disks new.foreign) name)
+    foreign_reach name =
+        subst (λ (f : ForeignSlot D). EndOf (foreign_end f name) (G (foreign_disks new.foreign) name)) (sym p.old_is)
+        (subst (λ (f : ForeignSlot D). EndOf (foreign_end (foreign.Open p.was) name) (G (foreign_disks f) name)) (sym p.new_is) (go (same_name name state_a)))
+      where
+        left : last_content (losses p.is.journal.live.disk) ≡ state.a
+        left = ap last_content state.lost ∙ last_is (losses p.was.journal.live.disk) choice state.a
+
+        go : (b : Bool) → cond b p.was.journal.live.end 0 ≤ length (last_content (cond b (losses p.is.journal.live.disk) (losses p.is.journal.idle)))
+        go true = subst (λ (c : List ℕ). p.was.journal.live.end ≤ length c) (sym left)
+            (held_long image p.was was_carried.carries.pending was_carried.carries.holds state.a state.were.0)
+        go false = omega arith
+
+    reach_at : (name : List ℕ) → ends_in old name ≤ length (contents name)
+    reach_at name =
+        among_zip (λ (e : List ℕ × ℕ). e.0) (λ (e : List ℕ × ℕ). e.1) (λ (e : List ℕ × Option D). e.0) entry_facts EndOf
+        (flat_map slot_ends old.parts) (slots_disks new.parts) (zip_flat EndsIn EndEntry slot_ends slot_disks (λ x y z. z) old.parts new.parts r.reach)
+        (foreign_end old.foreign name) (G (foreign_disks new.foreign) name) name (λ none. foreign_reach name)
+
     abbrev Found : List ℕ × Option D → Type 0
     Found e = F new e.0 ≡ entry_facts e
 
@@ -328,6 +388,7 @@ module _ {D : Type 0} (content : D → Option (List ℕ)) (image : D → List �
           subst (λ (a : List ℕ). StandForStates a (contents state_b) state.after.states) (sym (contents_is state_a state.a (lost_a_is)))
           (subst (λ (b : List ℕ). StandForStates state.a b state.after.states) (sym (contents_is state_b state.b lost_b_is)) state.stands);
       lost = λ name one. let l = lost_one name one in l.lost ∙ ap (λ (c : List ℕ). (F old name).losses ++ (choice, c) ∷ []) (sym (contents_is name l.c l.lost));
+      reach = λ name one. reach_at name;
       disks = λ name one. (lost_one name one).restarted;
     }
       where
@@ -420,8 +481,53 @@ module _ {D : Type 0} (content : D → Option (List ℕ)) (image : D → List �
         d.1,
       )
 
+  -- ---- how far the disks reach then
+
+  abbrev Less : PartSlot D → PartSlot D → Type 0
+  Less x y = SlotReaches image (λ n. n - 1) x y
+
+  same_less : (xs : List (PartSlot D)) (es : List HostedPart) → AllZip In xs es → AllZip Less xs xs
+  same_less xs es k =
+      zip_weaker (SlotReaches image (λ n. n)) Less (reaches_less image) xs xs (slots_reach content image starved In (slot_reaches content image starved) xs es k)
+
+  again_less : (choice : ℕ) (x y : PartSlot D) (e : HostedPart) → Opens choice x y → In x e → Less x y
+  again_less choice x y e p k =
+      again_reaches image x y p.was p.is e.shard (hosted_y choice x y p) p.old_is p.new_is (was_in x p.was e p.old_is k).carries p.images
+
+  all_less : (choice : ℕ) (xs ys : List (PartSlot D)) (es : List HostedPart) → AllZip (Opens choice) xs ys → AllZip In xs es → AllZip Less xs ys
+  all_less choice [] [] [] z k = tt
+  all_less choice [] [] (e ∷ es) z k = absurd k
+  all_less choice [] (y ∷ ys) es z k = absurd z
+  all_less choice (x ∷ xs) [] es z k = absurd z
+  all_less choice (x ∷ xs) (y ∷ ys) [] z k = absurd k
+  all_less choice (x ∷ xs) (y ∷ ys) (e ∷ es) z k = (again_less choice x y e z.0 k.0, all_less choice xs ys es z.1 k.1)
+
+  stops_less : (choice : ℕ) (fault : CoreFault) (xs ys : List (PartSlot D)) (es : List HostedPart) → Stops choice fault xs ys → AllZip In xs es
+      → AllZip Less xs ys
+  stops_less choice fault [] ys es z k = absurd z
+  stops_less choice fault (x ∷ xs) [] es z k = absurd z
+  stops_less choice fault (x ∷ xs) (y ∷ ys) [] z k = absurd k
+  stops_less choice fault (x ∷ xs) (y ∷ ys) (e ∷ es) (inl (p, more)) k = (again_less choice x y e p k.0, stops_less choice fault xs ys es more k.1)
+  stops_less choice fault (x ∷ xs) (y ∷ ys) (e ∷ es) (inr (p, same)) k = (
+    shut_reaches image x y p.was e.shard p.log p.first p.second (λ i. record { topic = p.topic i; conf = p.conf i }) p.old_is p.new_is
+        (was_in x p.was e p.old_is k.0).carries p.images,
+    subst (λ (l : List (PartSlot D)). AllZip Less xs l) (sym same) (same_less xs es k.1),
+  )
+
+  -- the disks stand for the shards, and reach to the last gate of each journal
+  abbrev pub Stopped : HostsParts D → Shards → HostsParts D → CoreFault → Type 0
+  Stopped old s new fault =
+      StandStill content image s (disks_in new) × DisksReach image (disks_in new) (λ name. ends_in old name - 1) × (fault ≡ NoMemory)
+
+  pub none_stopped : (hosts : HostsParts D) (s : Shards) → AreCarried content image starved hosts s → Stopped hosts s hosts NoMemory
+  none_stopped hosts s k = (
+    still_all content image starved faults losses arms armed hosts s k,
+    reach_less image (disks_in hosts) (ends_in hosts) (reach_all content image starved hosts s k),
+    refl,
+  )
+
   pub parts_stopped : (choice : ℕ) (fault : CoreFault) (old new : HostsParts D) → Stops choice fault old.parts new.parts → new.foreign ≡ old.foreign
-      → (s : Shards) → AreCarried content image starved old s → StandStill content image s (disks_in new) × (fault ≡ NoMemory)
+      → (s : Shards) → AreCarried content image starved old s → Stopped old s new fault
   parts_stopped choice fault old new stops same s k =
       let d = stops_still choice fault old.parts new.parts s.parts stops k.parts in (
         record {
@@ -429,14 +535,20 @@ module _ {D : Type 0} (content : D → Option (List ℕ)) (image : D → List �
           foreign = subst (λ (f : ForeignSlot D). ForeignStill content image s.foreign (foreign_disks f)) (sym same)
               (still_foreign content image starved faults losses arms armed old.foreign s.foreign k.foreign);
         },
+        names_reach image (λ n. n - 1) old new (stops_less choice fault old.parts new.parts s.parts stops k.parts) (λ name.
+            subst (λ (f : ForeignSlot D). ReachesTo image (foreign_disk (foreign_disks f) name) (foreign_end old.foreign name - 1)) (sym same)
+            (fewer image (foreign_disk (foreign_disks old.foreign) name) (foreign_end old.foreign name)
+            (foreign_reaches content image starved old.foreign s.foreign k.foreign name))),
         d.1,
       )
 
   pub state_stopped : (choice : ℕ) (fault : CoreFault) (old new : HostsParts D) → AllZip (Opens choice) old.parts new.parts
       → ShutsForeign content image starved faults fault old.foreign new.foreign → (s : Shards) → AreCarried content image starved old s
-      → StandStill content image s (disks_in new) × (fault ≡ NoMemory)
+      → Stopped old s new fault
   state_stopped choice fault old new opens p s k =
-      let d = p.shuts s.foreign (subst (λ (f : ForeignSlot D). IsSlot content image starved f s.foreign) p.old_is k.foreign) in (
+      let c : IsCarried content image starved p.was s.foreign =
+      subst (λ (f : ForeignSlot D). IsSlot content image starved f s.foreign) p.old_is k.foreign in
+      let d = p.shuts s.foreign c in (
         record {
           parts = parts_still content image starved faults losses arms armed new.parts s.parts (all_still choice old.parts new.parts s.parts opens k.parts);
           foreign = subst (λ (f : ForeignSlot D). ForeignStill content image s.foreign (foreign_disks f)) (sym p.new_is) (record {
@@ -445,6 +557,9 @@ module _ {D : Type 0} (content : D → Option (List ℕ)) (image : D → List �
             second_told = d.0.second_told;
           });
         },
+        names_reach image (λ n. n - 1) old new (all_less choice old.parts new.parts s.parts opens k.parts) (λ name.
+            subst (λ (f : ForeignSlot D). ReachesTo image (foreign_disk (foreign_disks f) name) (foreign_end old.foreign name - 1)) (sym p.new_is)
+            (foreign_left image old.foreign p.was s.foreign p.first p.second p.old_is c.carries p.images.on_first name)),
         d.1,
       )
     where

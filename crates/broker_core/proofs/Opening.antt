@@ -199,11 +199,26 @@ module _ {D : Type 0} (content : D → Option (List ℕ)) (image : D → List �
           nothing = o.nothing;
         };
         stands = o.stands;
+        were = (l.was, m.was);
         lost = o.on_first.losses ∙ l.lost;
         second_lost = o.on_second.losses ∙ m.lost;
         on_first = record { arms = first.0; disarmed = first.1; quiet = first.2 };
         on_second = record { arms = second.0; disarmed = second.1; quiet = second.2 };
       }
+
+  -- no image came
+  pub images_within : (old_first old_second first second : D) → Within (image old_first) (image first) → Within (image old_second) (image second)
+      → ImagesStandAs image old_first old_second first second
+  images_within old_first old_second first second p q = record { on_first = λ c on. (c, p c on, inl refl); on_second = q }
+
+  -- nor behind that any but by an opening
+  pub images_behind : (old_first old_second mid_first mid_second first second : D) → Within (image old_first) (image mid_first)
+      → Within (image old_second) (image mid_second) → ImagesStandAs image mid_first mid_second first second
+      → ImagesStandAs image old_first old_second first second
+  images_behind old_first old_second mid_first mid_second first second p q i = record {
+    on_first = λ c on. (let d = i.on_first c on in (d.0, p d.0 d.1, d.2));
+    on_second = λ c on. q c (i.on_second c on);
+  }
 
   -- a loss was refused
   pub not_lost : (store : StoreParts D) (shard : ForeignShardState) (first second : D) → IsCarried content image starved store shard

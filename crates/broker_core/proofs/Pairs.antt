@@ -14,10 +14,10 @@ use Rattle.broker_core.specs.declared.fault.CoreOpen.{CoreOpen}
 use Rattle.broker_core.specs.declared.fault.CoreOpen.TheVariants.{Damaged, Device, Bay, NoMemory}
 use Rattle.broker_core.specs.declared.slot.ForeignSlot.TheVariants as foreign
 use Rattle.broker_core.specs.Hosts.{AreDistinct}
-use Rattle.broker_core.specs.Restarts.{IsOpened, IsDamagedState}
+use Rattle.broker_core.specs.Restarts.{ImagesStandAs, IsOpened, IsDamagedState}
 use Rattle.broker_core.specs.Taking.{GetsAll, GetsNone, PutsAll, PutsBack, RefusesForeign, TakesForeign}
 use Rattle.broker_core.proofs.Naming.{states_apart}
-use Rattle.broker_core.proofs.Taking.{gets_each, gets_moves, gets_others, greater, moves_same, moves_then, puts_in, puts_moves, puts_others, puts_rise, rose_between, slot_then}
+use Rattle.broker_core.proofs.Taking.{gets_each, gets_moves, gets_others, greater, moves_same, moves_then, puts_hold, puts_in, puts_moves, puts_others, puts_rise, rose_between, slot_then, stays_kept, stays_put}
 
 pub states_distinct : AreDistinct (state_a ∷ state_b ∷ [])
 states_distinct = ((states_apart, tt), (tt, tt))
@@ -35,7 +35,7 @@ module _ {B D : Type 0} (disk : B → List ℕ → Option D) (out : B → List �
   GetsBoth old new = GetsAll disk out taken steady bay_faults faults both old new
 
   abbrev Refuses : CoreOpen → B → B → Type 0
-  Refuses fault old new = RefusesForeign disk out taken steady bay_faults content starved faults arms armed fault old new
+  Refuses fault old new = RefusesForeign disk out taken steady bay_faults content image starved faults arms armed fault old new
 
   -- names that are those of its disks
   pub gets_states : (x y : List ℕ) (old new : B) → x ≡ state_a → y ≡ state_b
@@ -82,9 +82,11 @@ module _ {B D : Type 0} (disk : B → List ℕ → Option D) (out : B → List �
       → ((name : List ℕ) (place : ℕ) → fault ≡ Damaged name place → (a b : List ℕ) → content first ≡ Some a → content second ≡ Some b
       → IsDamagedState a b name place)
       → (fault ≡ Device → Rose (faults first) (faults first_now) ⊎ Rose (faults second) (faults second_now)) → fault ≢ Bay
-      → Refuses fault old new
-  refused_both old mid new first_now second_now fault gets puts recovers sound damaged device no_bay =
+      → ImagesStandAs image first second first_now second_now → Refuses fault old new
+  refused_both old mid new first_now second_now fault gets puts recovers sound damaged device no_bay images =
       let each = gets_each disk out taken steady bay_faults faults both old mid states_distinct gets in
+      let holds = puts_hold disk out taken steady bay_faults faults (back first_now second_now) mid new states_distinct puts in
+      let to_mid = gets_moves disk out taken steady bay_faults faults both old mid gets in
       let is_first : (d : D) → disk old state_a ≡ Some d → first ≡ d = each.0.as_told in
       let is_second : (d : D) → disk old state_b ≡ Some d → second ≡ d = each.1.0.as_told in
       record {
@@ -100,6 +102,9 @@ module _ {B D : Type 0} (disk : B → List ℕ → Option D) (out : B → List �
         );
         first_in = puts_in disk out taken steady bay_faults faults (back first_now second_now) mid new states_distinct puts state_a (inl refl);
         second_in = puts_in disk out taken steady bay_faults faults (back first_now second_now) mid new states_distinct puts state_b (inr (inl refl));
+        on_first = stays_put disk image state_a old mid new first first_now each.0.as_told (to_mid.told state_a) holds.0 images.on_first;
+        on_second = stays_put disk image state_b old mid new second second_now each.1.0.as_told (to_mid.told state_b) holds.1.0
+            (λ c on. (c, images.on_second c on, inl refl));
         others = λ m n k. slot_then disk out taken steady bay_faults m old mid new
             (gets_others disk out taken steady bay_faults faults both old mid gets m (n, (k, tt)))
             (puts_others disk out taken steady bay_faults faults (back first_now second_now) mid new puts m (n, (k, tt)));
@@ -126,10 +131,10 @@ module _ {B D : Type 0} (disk : B → List ℕ → Option D) (out : B → List �
         go (inr last) = inr (state_b, second, inr refl, ts, last)
 
 module _ {B D : Type 0} (disk : B → List ℕ → Option D) (out : B → List ℕ → Bool) (taken : B → List ℕ → ℕ) (steady : B → Type 0) (bay_faults : B → ℕ)
-    (content : D → Option (List ℕ)) (starved : D → Bool) (faults : D → ℕ) (arms : D → ℕ) (armed : D → Armed) where
+    (content : D → Option (List ℕ)) (image : D → List ℕ → Type 0) (starved : D → Bool) (faults : D → ℕ) (arms : D → ℕ) (armed : D → Armed) where
   -- the bay gave one of them not
   pub none_both : (old new : B) (fault : CoreOpen) → GetsNone disk out taken steady bay_faults (state_a ∷ state_b ∷ []) fault old new
-      → RefusesForeign disk out taken steady bay_faults content starved faults arms armed fault old new
+      → RefusesForeign disk out taken steady bay_faults content image starved faults arms armed fault old new
   none_both old new fault g = record {
     damaged = λ n place e d f a b at second_at is second_is. absurd (never n place e);
     recovers = λ d f a b states at second_at is second_is stand n place e. never n place e;
@@ -138,6 +143,8 @@ module _ {B D : Type 0} (disk : B → List ℕ → Option D) (out : B → List �
     sound = λ d f at second_at is second_is still. (g.sound still, no_device);
     first_in = g.are_in state_a (inl refl);
     second_in = g.are_in state_b (inr (inl refl));
+    on_first = stays_kept disk image state_a old new (λ d was. g.kept state_a d (inl refl) was);
+    on_second = stays_kept disk image state_b old new (λ d was. g.kept state_b d (inr (inl refl)) was);
     others = λ m n k. g.others m (n, (k, tt));
     moves = g.moves;
   }

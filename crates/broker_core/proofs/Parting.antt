@@ -27,7 +27,7 @@ use Rattle.call_fold.specs.declared.part.Produced.{Produced}
 use Rattle.call_fold.specs.declared.part.Produced.TheVariants.{Base, Batch, Store}
 use Rattle.broker_model.specs.Shards.{PartCall, look_at, result_of}
 use Rattle.broker_model.specs.Shards.PartCall.{Visits, Produces, Looks, Expires}
-use Rattle.broker_core.specs.Carried.{Begun, GoesOn, HaltsPart, IsPartCarried, LeadsPart, OpenPart, PartGoesOn, StepsOn, Uses, UsesStates, holding}
+use Rattle.broker_core.specs.Carried.{Begun, EndsGoOn, GoesOn, HaltsPart, IsPartCarried, LeadsPart, OpenPart, PartGoesOn, StepsOn, Uses, UsesStates, holding}
 use Rattle.broker_core.specs.Carried.Begun.{BeginsVisit, BeginsExpiry}
 
 -- ---- what is told
@@ -82,6 +82,7 @@ module _ {D : Type 0} (content : D → Option (List ℕ)) (image : D → List �
   -- the log and the second disk stay
   pub record OnStates (old new : OpenPart D) : Type 0 where
     pub runs : Runs old.states.journal.live.disk new.states.journal.live.disk
+    pub ends : (t : PartShardState) → Carries image holding old t → old.states.journal.live.end ≤ new.states.journal.live.end
     pub log : new.log ≡ old.log
     pub idle : new.states.journal.idle ≡ old.states.journal.idle
     pub conf : new.conf ≡ old.conf
@@ -91,6 +92,12 @@ module _ {D : Type 0} (content : D → Option (List ℕ)) (image : D → List �
     log = subst (λ (l : LogParts D). GoesOn content faults old.log.journal.disk l.journal.disk) (sym o.log) (least_on old.log.journal.disk);
     first = record { later = o.runs.later; told = o.runs.told };
     second = subst (λ (d : D). GoesOn content faults old.states.journal.idle d) (sym o.idle) (least_on old.states.journal.idle);
+  }
+
+  states_end : (old new : OpenPart D) → OnStates old new → (s : PartShardState) → Carries image holding old s → EndsGoOn old new
+  states_end old new o s k = record {
+    log = (let e : new.log.journal.end ≡ old.log.journal.end = ap (λ (l : LogParts D). l.journal.end) o.log in omega (arith, e));
+    first = o.ends s k;
   }
 
   log_told : (old new : OpenPart D) → OnStates old new → IsTold (content old.log.journal.disk) → IsTold (content new.log.journal.disk)
@@ -122,6 +129,7 @@ module _ {D : Type 0} (content : D → Option (List ℕ)) (image : D → List �
           second = record { told = second_told old new o k.second.told; fed = fed.2 };
         };
         step = r.2;
+        ends = states_end old new o s k.carries;
         used = uses (record {
           used = record { losses = o.runs.same_losses; arms = o.runs.same_arms; spends = o.runs.spends k.first.told fed.1 };
           log = o.log;
@@ -139,6 +147,7 @@ module _ {D : Type 0} (content : D → Option (List ℕ)) (image : D → List �
         conf_is = o.conf;
         carries = r.1;
         does = inr (inl (did, is, r.2));
+        ends = states_end old new o s k.carries;
         log_told = log_told old new o k.log.told;
         first_told = o.runs.told ∙ k.first.told;
         second_told = second_told old new o k.second.told;
@@ -151,6 +160,7 @@ module _ {D : Type 0} (content : D → Option (List ℕ)) (image : D → List �
     conf_is = o.conf;
     carries = carries;
     does = inl refl;
+    ends = states_end old new o s k.carries;
     log_told = log_told old new o k.log.told;
     first_told = o.runs.told ∙ k.first.told;
     second_told = second_told old new o k.second.told;
@@ -182,6 +192,7 @@ module _ {D : Type 0} (content : D → Option (List ℕ)) (image : D → List �
       conf_is = o.conf;
       carries = a.2;
       does = inr (inr (BeginsVisit visit, refl, (a.0, a.3)));
+      ends = states_end old new o s k.carries;
       log_told = log_told old new o k.log.told;
       first_told = o.runs.told ∙ k.first.told;
       second_told = second_told old new o k.second.told;
@@ -213,6 +224,7 @@ module _ {D : Type 0} (content : D → Option (List ℕ)) (image : D → List �
       conf_is = o.conf;
       carries = a.1;
       does = inr (inr (BeginsExpiry, refl, a.2));
+      ends = states_end old new o s k.carries;
       log_told = log_told old new o k.log.told;
       first_told = o.runs.told ∙ k.first.told;
       second_told = second_told old new o k.second.told;
@@ -222,6 +234,7 @@ module _ {D : Type 0} (content : D → Option (List ℕ)) (image : D → List �
 
   pub record OnLog (old new : OpenPart D) : Type 0 where
     pub runs : Runs old.log.journal.disk new.log.journal.disk
+    pub ends : (t : PartShardState) → Carries image holding old t → old.log.journal.end ≤ new.log.journal.end
     pub states : new.states ≡ old.states
     pub conf : new.conf ≡ old.conf
 
@@ -230,6 +243,12 @@ module _ {D : Type 0} (content : D → Option (List ℕ)) (image : D → List �
     log = record { later = o.runs.later; told = o.runs.told };
     first = subst (λ (t : StoreParts D). GoesOn content faults old.states.journal.live.disk t.journal.live.disk) (sym o.states) (least_on old.states.journal.live.disk);
     second = subst (λ (t : StoreParts D). GoesOn content faults old.states.journal.idle t.journal.idle) (sym o.states) (least_on old.states.journal.idle);
+  }
+
+  log_end : (old new : OpenPart D) → OnLog old new → (s : PartShardState) → Carries image holding old s → EndsGoOn old new
+  log_end old new o s k = record {
+    log = o.ends s k;
+    first = (let e : new.states.journal.live.end ≡ old.states.journal.live.end = ap (λ (t : StoreParts D). t.journal.live.end) o.states in omega (arith, e));
   }
 
   first_told : (old new : OpenPart D) → OnLog old new → IsTold (content old.states.journal.live.disk) → IsTold (content new.states.journal.live.disk)
@@ -259,6 +278,7 @@ module _ {D : Type 0} (content : D → Option (List ℕ)) (image : D → List �
           second = record { told = idle_told old new o k.second.told; fed = fed.2 };
         };
         step = r.2;
+        ends = log_end old new o s k.carries;
         used = record {
           used = record { losses = o.runs.same_losses; arms = o.runs.same_arms; spends = o.runs.spends k.log.told fed.0 };
           states = o.states;
@@ -277,6 +297,7 @@ module _ {D : Type 0} (content : D → Option (List ℕ)) (image : D → List �
         conf_is = o.conf;
         carries = r.1;
         does = inr (inl (Produces batch produced, (produced, refl), r.2));
+        ends = log_end old new o s k.carries;
         log_told = o.runs.told ∙ k.log.told;
         first_told = first_told old new o k.first.told;
         second_told = idle_told old new o k.second.told;
@@ -297,6 +318,7 @@ module _ {D : Type 0} (content : D → Option (List ℕ)) (image : D → List �
     conf_is = o.conf;
     carries = subst (λ (p : OpenPart D). Carries image holding p s) (sym (same refl)) k.carries;
     does = inl refl;
+    ends = log_end old new o s k.carries;
     log_told = o.runs.told ∙ k.log.told;
     first_told = first_told old new o k.first.told;
     second_told = idle_told old new o k.second.told;
@@ -314,5 +336,6 @@ module _ {D : Type 0} (content : D → Option (List ℕ)) (image : D → List �
       told ∙ (λ i. look_at (share_state_at (sym k.carries.states i) (key_of (k.conf_is i) group))),
       refl,
     );
+    ends = record { log = omega arith; first = omega arith };
     used = refl;
   }

@@ -5,6 +5,7 @@ use Rattle.std.specs.List.{AllByRecursion}
 use Rattle.std.specs.declared.option.Option.{Option}
 use Rattle.edge_io.specs.declared.fault.Armed.{Armed}
 use Rattle.edge_io.specs.declared.fault.Armed.TheVariants.{Nothing}
+use Rattle.edge_io.specs.declared.name.DiskPlace.{DiskPlace}
 use Rattle.edge_io.specs.declared.name.DiskPlace.TheVariants.{Log, StateA, StateB}
 use Rattle.edge_io.specs.Bays.{IsAsTold, SameSlot}
 use Rattle.edge_io.specs.Causes.{Rose}
@@ -18,13 +19,13 @@ use Rattle.broker_core.specs.declared.fault.CoreOpen.TheVariants.{Damaged, Devic
 use Rattle.broker_core.specs.declared.slot.PartState.{PartState}
 use Rattle.broker_core.specs.declared.slot.PartState.TheVariants as part
 use Rattle.broker_core.specs.declared.slot.PartSlot.{PartSlot}
-use Rattle.broker_core.specs.Bays.{IsTakenFrom, TakenIf}
+use Rattle.broker_core.specs.Bays.{HoldsIf, IsTakenFrom, StaysAs, TakenIf, TellsStill}
 use Rattle.broker_core.specs.Carried.{OpenPart}
-use Rattle.broker_core.specs.Hosts.{AreDistinct, AreHeldParts, AreNamed, AreOpenParts, IsHeldState, IsNamed, IsOpenState, NotIn, hosted_slot, hosted_slots, part_disk, slot_disks, slots_disks}
-use Rattle.broker_core.specs.Restarts.{IsDamagedPart, IsOpenedPart}
+use Rattle.broker_core.specs.Hosts.{AreDistinct, AreHeldParts, AreNamed, AreOpenParts, IsHeldState, IsNamed, IsOpenState, NotIn, hosted_slot, hosted_slots, open_disk, part_disk, slot_disks, slots_disks}
+use Rattle.broker_core.specs.Restarts.{IsDamagedPart, IsOpenedPart, PartImagesStandAs}
 use Rattle.broker_core.specs.Taking.{GetsAll, GetsNone, Moves, PutsAll, RefusesPart, TakesPart, TakesParts, TellsThese}
 use Rattle.broker_core.proofs.Places.{apart_from, distinct_front, not_in_front, not_in_rest, one_in_either, one_in_rest}
-use Rattle.broker_core.proofs.Taking.{IsGiven, gets_each, gets_moves, gets_others, greater, moves_same, moves_then, named, puts_in, puts_moves, puts_others, puts_rise, puts_then, rose_between, slot_same, slot_then}
+use Rattle.broker_core.proofs.Taking.{IsGiven, gets_each, gets_moves, gets_others, greater, moves_same, moves_then, named, puts_hold, puts_in, puts_moves, puts_others, puts_rise, puts_then, rose_between, slot_same, slot_then, stays_kept, stays_put}
 
 -- ---- lists
 
@@ -82,7 +83,7 @@ module _ {B D : Type 0} (disk : B → List ℕ → Option D) (out : B → List �
   Takes h old slot new = TakesPart disk out taken steady bay_faults content image starved faults losses arms armed h old slot new
 
   abbrev Refuses : Hosted → CoreOpen → B → B → Type 0
-  Refuses h fault old new = RefusesPart disk out taken steady bay_faults content starved faults arms armed h fault old new
+  Refuses h fault old new = RefusesPart disk out taken steady bay_faults content image starved faults arms armed h fault old new
 
   -- ---- one partition
 
@@ -91,6 +92,9 @@ module _ {B D : Type 0} (disk : B → List ℕ → Option D) (out : B → List �
   Last h old = (name : List ℕ) × (d : D) × IsOneOf (disks_of h) name × IsAsTold (disk old name) d × (2 ^ 64 - 1 ≤ faults d)
 
   module _ (h : Hosted) (apart : AreDistinct (disks_of h)) (log first second : D) where
+    abbrev Stand : D → D → D → Type 0
+    Stand log_now first_now second_now = PartImagesStandAs image log first second log_now first_now second_now
+
     abbrev three : List (List ℕ × D)
     three = (log_of h, log) ∷ (first_of h, first) ∷ (second_of h, second) ∷ []
 
@@ -120,8 +124,8 @@ module _ {B D : Type 0} (disk : B → List ℕ → Option D) (out : B → List �
     pub taken_part : (old new : B) (shard : OpenPart D) (slot : PartSlot D) → hosted_slot slot ≡ h → slot.state ≡ part.Open shard
         → GetsAll disk out taken steady bay_faults faults three old new → faults log ≤ faults shard.log.journal.disk
         → faults first ≤ faults shard.states.journal.live.disk → faults second ≤ faults shard.states.journal.idle → Opened h log first second shard
-        → Takes h old slot new
-    taken_part old new shard slot hosted_is is_open gets on_log on_first on_second opens =
+        → Stand shard.log.journal.disk shard.states.journal.live.disk shard.states.journal.idle → Takes h old slot new
+    taken_part old new shard slot hosted_is is_open gets on_log on_first on_second opens images =
         let each = gets_each disk out taken steady bay_faults faults three old new apart gets in
         record {
           hosted_is = hosted_is;
@@ -131,6 +135,7 @@ module _ {B D : Type 0} (disk : B → List ℕ → Option D) (out : B → List �
           on_first = record { given = first; as_told = each.1.0.as_told; noted = each.1.0.noted; later = on_first };
           on_second = record { given = second; as_told = each.1.1.0.as_told; noted = each.1.1.0.noted; later = on_second };
           opens = opens;
+          images = images;
           are_out = three_out old new gets;
           others = λ m n. gets_others disk out taken steady bay_faults faults three old new gets m n;
           moves = gets_moves disk out taken steady bay_faults faults three old new gets;
@@ -146,8 +151,8 @@ module _ {B D : Type 0} (disk : B → List ℕ → Option D) (out : B → List �
         → ((n : List ℕ) (place : ℕ) → fault ≡ Damaged n place → (l a b : List ℕ) → content log ≡ Some l → content first ≡ Some a → content second ≡ Some b
         → IsDamagedPart h l a b n place)
         → (fault ≡ Device → Rose (faults log) (faults log_now) ⊎ (Rose (faults first) (faults first_now) ⊎ Rose (faults second) (faults second_now)))
-        → fault ≢ Bay → Refuses h fault old new
-    refused_part old mid new log_now first_now second_now fault gets puts recovers sound damaged device no_bay =
+        → fault ≢ Bay → Stand log_now first_now second_now → Refuses h fault old new
+    refused_part old mid new log_now first_now second_now fault gets puts recovers sound damaged device no_bay images =
         let each = gets_each disk out taken steady bay_faults faults three old mid apart gets in
         let to_mid = gets_moves disk out taken steady bay_faults faults three old mid gets in
         let from_mid = puts_moves disk out taken steady bay_faults faults (back log_now first_now second_now) mid new puts in
@@ -179,11 +184,25 @@ module _ {B D : Type 0} (disk : B → List ℕ → Option D) (out : B → List �
                     (ap armed (is_first f.0 f.1) ∙ f.2.is_unarmed) (ap armed (is_second g.0 g.1) ∙ g.2.is_unarmed),
               );
           are_in = λ m one. puts_in disk out taken steady bay_faults faults (back log_now first_now second_now) mid new apart puts m one;
+          stays = stays (puts_hold disk out taken steady bay_faults faults (back log_now first_now second_now) mid new apart puts) to_mid.told
+              each.0.as_told each.1.0.as_told each.1.1.0.as_told;
           others = λ m n. slot_then disk out taken steady bay_faults m old mid new (gets_others disk out taken steady bay_faults faults three old mid gets m n)
               (puts_others disk out taken steady bay_faults faults (back log_now first_now second_now) mid new puts m n);
           moves = moves_then disk out taken steady bay_faults old mid new to_mid from_mid;
         }
       where
+        stays : AllByRecursion (HoldsIf disk mid new) (back log_now first_now second_now) → TellsStill disk old mid → IsAsTold (disk old (log_of h)) log
+            → IsAsTold (disk old (first_of h)) first → IsAsTold (disk old (second_of h)) second
+            → (m : List ℕ) → IsOneOf (disks_of h) m → StaysAs disk image m old new
+        stays holds still tl tf ts m (inl e) = subst (λ (n : List ℕ). StaysAs disk image n old new) (sym e)
+            (stays_put disk image (log_of h) old mid new log log_now tl (still (log_of h)) holds.0 images.on_log)
+        stays holds still tl tf ts m (inr (inl e)) = subst (λ (n : List ℕ). StaysAs disk image n old new) (sym e)
+            (stays_put disk image (first_of h) old mid new first first_now tf (still (first_of h)) holds.1.0 images.on_first)
+        stays holds still tl tf ts m (inr (inr (inl e))) = subst (λ (n : List ℕ). StaysAs disk image n old new) (sym e)
+            (stays_put disk image (second_of h) old mid new second second_now ts (still (second_of h)) holds.1.1.0
+            (λ c on. (c, images.on_second c on, inl refl)))
+        stays holds still tl tf ts m (inr (inr (inr never))) = absurd never
+
         rise : taken mid (log_of h) < faults log_now ⊎ (taken mid (first_of h) < faults first_now ⊎ (taken mid (second_of h) < faults second_now ⊎ ⊥))
             → Rose (bay_faults old) (bay_faults new) ⊎ Last h old
         rise risen = inl (rose_between (bay_faults old) (bay_faults mid) (bay_faults new) (bay_faults new)
@@ -217,6 +236,7 @@ module _ {B D : Type 0} (disk : B → List ℕ → Option D) (out : B → List �
     device = λ e. absurd (no_device e);
     sound = λ tells still. (g.sound still, no_device);
     are_in = g.are_in;
+    stays = λ m one. stays_kept disk image m old new (λ d was. g.kept m d one was);
     others = g.others;
     moves = g.moves;
   }
@@ -285,6 +305,8 @@ module _ {B D : Type 0} (disk : B → List ℕ → Option D) (out : B → List �
     pub on_first : IsTakenFrom disk taken faults (first_of h) old new shard.states.journal.live.disk
     pub on_second : IsTakenFrom disk taken faults (second_of h) old new shard.states.journal.idle
     pub opens : Opened h on_log.given on_first.given on_second.given shard
+    pub images : PartImagesStandAs image on_log.given on_first.given on_second.given shard.log.journal.disk shard.states.journal.live.disk
+        shard.states.journal.idle
 
   abbrev Slots : B → B → List (PartSlot D) → Type 0
   Slots old new slots = AllByRecursion (λ (s : PartSlot D). IsTakenSlot (hosted_slot s) old new s) slots
@@ -313,6 +335,7 @@ module _ {B D : Type 0} (disk : B → List ℕ → Option D) (out : B → List �
       later = one.on_second.later;
     };
     opens = one.opens;
+    images = one.images;
   }
 
   later_slot : (h : Hosted) (old mid new : B) (s : PartSlot D) → ((m : List ℕ) → IsOneOf (disks_of h) m → Same m old mid) → IsTakenSlot h mid new s
@@ -339,6 +362,7 @@ module _ {B D : Type 0} (disk : B → List ℕ → Option D) (out : B → List �
       later = t.on_second.later;
     };
     opens = t.opens;
+    images = t.images;
   }
 
   later_slots : (old mid new : B) (slots : List (PartSlot D)) → ((m : List ℕ) → IsOneOf (part_disks (hosted_slots slots)) m → Same m old mid)
@@ -379,6 +403,33 @@ module _ {B D : Type 0} (disk : B → List ℕ → Option D) (out : B → List �
   takes_held (h ∷ hosted) old [] new t = absurd t
   takes_held (h ∷ hosted) old (s ∷ slots) new (mid, one, more) =
       (subst (λ (st : PartState D). IsHeldState st) (sym one.is_open) tt, takes_held hosted mid slots new more)
+
+  -- what is told of their disks once they are put back
+  pub slots_stay : (old mid behind new : B) (slots : List (PartSlot D)) → Slots old mid slots → AllByRecursion (HoldsIf disk behind new) (slots_disks slots)
+      → TellsStill disk old behind → (m : List ℕ) → IsOneOf (part_disks (hosted_slots slots)) m → StaysAs disk image m old new
+  slots_stay old mid behind new [] all holds still m one = absurd one
+  slots_stay old mid behind new (s ∷ slots) all holds still m one =
+      go one (λ more. slots_stay old mid behind new slots all.1 holds.1.1.1 still m more) where
+    t : IsTakenSlot (hosted_slot s) old mid s
+    t = all.0
+
+    at : (state : PartState D) → state ≡ part.Open t.shard → (place : DiskPlace) (name : List ℕ) → HoldsIf disk behind new (name, part_disk state place)
+        → HoldsIf disk behind new (name, Some (open_disk t.shard place))
+    at state is place name h = subst (λ (p : PartState D). HoldsIf disk behind new (name, part_disk p place)) is h
+
+    go : IsOneOf (part_disks (hosted_slots (s ∷ slots))) m → (IsOneOf (part_disks (hosted_slots slots)) m → StaysAs disk image m old new)
+        → StaysAs disk image m old new
+    go (inl e) others = subst (λ (n : List ℕ). StaysAs disk image n old new) (sym e)
+        (stays_put disk image (log_of (hosted_slot s)) old behind new t.on_log.given t.shard.log.journal.disk t.on_log.as_told
+        (still (log_of (hosted_slot s))) (at s.state t.is_open Log (log_of (hosted_slot s)) holds.0) t.images.on_log)
+    go (inr (inl e)) others = subst (λ (n : List ℕ). StaysAs disk image n old new) (sym e)
+        (stays_put disk image (first_of (hosted_slot s)) old behind new t.on_first.given t.shard.states.journal.live.disk t.on_first.as_told
+        (still (first_of (hosted_slot s))) (at s.state t.is_open StateA (first_of (hosted_slot s)) holds.1.0) t.images.on_first)
+    go (inr (inr (inl e))) others = subst (λ (n : List ℕ). StaysAs disk image n old new) (sym e)
+        (stays_put disk image (second_of (hosted_slot s)) old behind new t.on_second.given t.shard.states.journal.idle t.on_second.as_told
+        (still (second_of (hosted_slot s))) (at s.state t.is_open StateB (second_of (hosted_slot s)) holds.1.1.0)
+        (λ c on. (c, t.images.on_second c on, inl refl)))
+    go (inr (inr (inr more))) others = others more
 
   -- each of their disks has the count with which it was taken, or a greater one
   pub slots_counted : (old mid new : B) (slots : List (PartSlot D)) → Slots old mid slots

@@ -140,6 +140,7 @@ module _ {D : Type 0} (content : D → Option (List ℕ)) (image : D → List �
         log_is = subst (λ (bs : List LogBatch). IsOneOf s.log.batches (and_pending s.log.batches s.log.pending) bs) (sym e.0) t.log_is;
         states_are = subst (λ (st : ShareStates). IsOneOf s.states s.pending st) (sym e.1) t.states_are;
         stands = o.stands;
+        were = (p.was, q.was, r.was);
         log_lost = o.on_log.losses ∙ p.lost;
         first_lost = o.on_first.losses ∙ q.lost;
         second_lost = o.on_second.losses ∙ r.lost;
@@ -147,6 +148,27 @@ module _ {D : Type 0} (content : D → Option (List ℕ)) (image : D → List �
         on_first = record { arms = on_first.0; disarmed = on_first.1; quiet = on_first.2 };
         on_second = record { arms = on_second.0; disarmed = on_second.1; quiet = on_second.2 };
       }
+
+  -- no image came
+  pub images_within : (part : OpenPart D) (log first second : D) → Within (image part.log.journal.disk) (image log)
+      → Within (image part.states.journal.live.disk) (image first) → Within (image part.states.journal.idle) (image second)
+      → PartImagesStandAs image part.log.journal.disk part.states.journal.live.disk part.states.journal.idle log first second
+  images_within part log first second p q r = record {
+    on_log = λ c on. (c, p c on, inl refl);
+    on_first = λ c on. (c, q c on, inl refl);
+    on_second = r;
+  }
+
+  -- nor behind that any but by an opening
+  pub images_behind : (part : OpenPart D) (mid_log mid_first mid_second log first second : D) → Within (image part.log.journal.disk) (image mid_log)
+      → Within (image part.states.journal.live.disk) (image mid_first) → Within (image part.states.journal.idle) (image mid_second)
+      → PartImagesStandAs image mid_log mid_first mid_second log first second
+      → PartImagesStandAs image part.log.journal.disk part.states.journal.live.disk part.states.journal.idle log first second
+  images_behind part mid_log mid_first mid_second log first second p q r i = record {
+    on_log = λ c on. (let d = i.on_log c on in (d.0, p d.0 d.1, d.2));
+    on_first = λ c on. (let d = i.on_first c on in (d.0, q d.0 d.1, d.2));
+    on_second = λ c on. r c (i.on_second c on);
+  }
 
   -- disks that have no other images than before
   pub stands_within : (conf : PartConfParts) (part : OpenPart D) (s : PartShardState) (log first second : D) → Carried conf part s

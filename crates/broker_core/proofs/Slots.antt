@@ -13,7 +13,7 @@ use Rattle.share_part.specs.Expiring.{ExpiresPart, StepsExpire}
 use Rattle.share_part.specs.Shards.{PartShardState, StepsProduce}
 use Rattle.share_part.specs.Visits.{StepsAcks, StepsVisit}
 use Rattle.broker_model.specs.Hosted.{Hosted, HoldsAt, first_of, log_of, part_disks, same_name, second_of}
-use Rattle.broker_model.specs.Shards.{Counts, PartCall, StepsPart, part_calls, result_of}
+use Rattle.broker_model.specs.Shards.{Counts, Ends, PartCall, StepsPart, part_calls, result_of}
 use Rattle.broker_model.specs.Shards.PartCall.{Visits, Produces, Looks, Expires}
 use Rattle.broker_model.specs.Disks.{Facts, IsUsed, OnCalled, facts_of}
 use Rattle.broker_core.specs.declared.slot.PartSlot.{PartSlot}
@@ -21,7 +21,7 @@ use Rattle.broker_core.specs.declared.slot.PartState.{PartState}
 use Rattle.broker_core.specs.declared.slot.PartState.TheVariants as part
 use Rattle.broker_core.specs.Carried.{Begun, HalvesOn, OpenPart, StepsOn, Uses, UsesLog, UsesStates}
 use Rattle.broker_core.specs.Carried.Begun.{BeginsVisit, BeginsExpiry}
-use Rattle.broker_core.specs.Hosts.{AreDistinct, HostsParts, among, counts_in, disks_in, ends_in, facts_at, facts_in, foreign_disks, foreign_end, foreign_facts, hosted_slot, hosted_slots, open_disk, open_end, part_disk, part_end, slot_disks, slot_ends, slots_disks}
+use Rattle.broker_core.specs.Hosts.{AreDistinct, HostsParts, among, counts_in, disks_in, ends_in, ends_over, facts_at, facts_in, foreign_disks, foreign_end, foreign_facts, hosted_slot, hosted_slots, open_disk, open_end, part_disk, part_end, slot_disks, slot_ends, slots_disks}
 use Rattle.broker_core.proofs.Flats.{pieces_at}
 use Rattle.broker_core.proofs.Places.{each_found}
 
@@ -215,57 +215,66 @@ module _ {D : Type 0} (content : D → Option (List ℕ)) (image : D → List �
   -- ---- steps by name
 
   -- counts and ends by name are those of the shard's own disks
-  pub record AreOf (h : Hosted) (was is : OpenPart D) (counts : Counts) (ends : List ℕ → ℕ) : Type 0 where
+  pub record AreOf (h : Hosted) (was is : OpenPart D) (counts : Counts) (ends : Ends) : Type 0 where
     pub log : counts (log_of h) ≡ (faults was.log.journal.disk, faults is.log.journal.disk)
     pub first : counts (first_of h) ≡ (faults was.states.journal.live.disk, faults is.states.journal.live.disk)
-    pub log_end : ends (log_of h) ≡ was.log.journal.end
-    pub first_end : ends (first_of h) ≡ was.states.journal.live.end
+    pub log_end : ends (log_of h) ≡ (was.log.journal.end, is.log.journal.end)
+    pub first_end : ends (first_of h) ≡ (was.states.journal.live.end, is.states.journal.live.end)
 
-  pub step_named : (h : Hosted) (was is : OpenPart D) (counts : Counts) (ends : List ℕ → ℕ) → AreOf h was is counts ends → (now : ℕ) (old : PartShardState)
+  pub step_named : (h : Hosted) (was is : OpenPart D) (counts : Counts) (ends : Ends) → AreOf h was is counts ends → (now : ℕ) (old : PartShardState)
       (did : PartCall) (new : PartShardState) → StepsOn faults h.conf was is now old did new → StepsPart counts ends now h old did new
   step_named h was is counts ends a now old (Visits visit answer) new step =
-      subst (λ (c : ℕ × ℕ). StepsVisit h.conf c.0 c.1 (ends (first_of h)) old now visit answer new) (sym a.first)
-      (subst (λ (e : ℕ). StepsVisit h.conf (faults was.states.journal.live.disk) (faults is.states.journal.live.disk) e old now visit answer new) (sym a.first_end) step)
+      subst (λ (c : ℕ × ℕ). StepsVisit h.conf c.0 c.1 (ends (first_of h)).0 (ends (first_of h)).1 old now visit answer new) (sym a.first)
+      (subst (λ (e : ℕ × ℕ). StepsVisit h.conf (faults was.states.journal.live.disk) (faults is.states.journal.live.disk) e.0 e.1 old now visit answer new)
+      (sym a.first_end) step)
   step_named h was is counts ends a now old (Produces batch produced) new step =
-      subst (λ (c : ℕ × ℕ). StepsProduce (Rose c.0 c.1) (ends (log_of h)) old now batch (result_of produced) new) (sym a.log)
-      (subst (λ (e : ℕ). StepsProduce (Rose (faults was.log.journal.disk) (faults is.log.journal.disk)) e old now batch (result_of produced) new) (sym a.log_end) step)
+      subst (λ (c : ℕ × ℕ). StepsProduce (Rose c.0 c.1) (ends (log_of h)).0 old now batch (result_of produced) new) (sym a.log)
+      (subst (λ (e : ℕ × ℕ). StepsProduce (Rose (faults was.log.journal.disk) (faults is.log.journal.disk)) e.0 old now batch (result_of produced) new)
+      (sym a.log_end) step)
   step_named h was is counts ends a now old (Looks group looked) new step = step
   step_named h was is counts ends a now old (Expires answer) new step =
-      subst (λ (c : ℕ × ℕ). StepsExpire h.conf c.0 c.1 (ends (first_of h)) old now answer new) (sym a.first)
-      (subst (λ (e : ℕ). StepsExpire h.conf (faults was.states.journal.live.disk) (faults is.states.journal.live.disk) e old now answer new) (sym a.first_end) step)
+      subst (λ (c : ℕ × ℕ). StepsExpire h.conf c.0 c.1 (ends (first_of h)).0 (ends (first_of h)).1 old now answer new) (sym a.first)
+      (subst (λ (e : ℕ × ℕ). StepsExpire h.conf (faults was.states.journal.live.disk) (faults is.states.journal.live.disk) e.0 e.1 old now answer new)
+      (sym a.first_end) step)
 
   -- a call that was left half done, by name
-  abbrev pub Halves : Counts → (ends : List ℕ → ℕ) → (now : ℕ) → Begun → Hosted → PartShardState → PartShardState → Type 0
+  abbrev pub Halves : Counts → Ends → (now : ℕ) → Begun → Hosted → PartShardState → PartShardState → Type 0
   Halves counts ends now (BeginsVisit visit) h old new =
-      (ack : AckOutcome) × StepsAcks h.conf (Rose (counts (first_of h)).0 (counts (first_of h)).1) (ends (first_of h)) old visit ack new
-  Halves counts ends now BeginsExpiry h old new = ExpiresPart h.conf (counts (first_of h)).0 (counts (first_of h)).1 (ends (first_of h)) old now new
+      (ack : AckOutcome) × StepsAcks h.conf (Rose (counts (first_of h)).0 (counts (first_of h)).1) (ends (first_of h)).0 old visit ack new
+  Halves counts ends now BeginsExpiry h old new = ExpiresPart h.conf (counts (first_of h)).0 (counts (first_of h)).1 (ends (first_of h)).0 (ends (first_of h)).1
+      old now new
 
-  pub half_named : (h : Hosted) (was is : OpenPart D) (counts : Counts) (ends : List ℕ → ℕ) → AreOf h was is counts ends → (now : ℕ) (old : PartShardState)
+  pub half_named : (h : Hosted) (was is : OpenPart D) (counts : Counts) (ends : Ends) → AreOf h was is counts ends → (now : ℕ) (old : PartShardState)
       (begun : Begun) (new : PartShardState) → HalvesOn faults h.conf was is now old begun new → Halves counts ends now begun h old new
   half_named h was is counts ends a now old (BeginsVisit visit) new half = (
     half.0,
-    subst (λ (c : ℕ × ℕ). StepsAcks h.conf (Rose c.0 c.1) (ends (first_of h)) old visit half.0 new) (sym a.first)
-        (subst (λ (e : ℕ). StepsAcks h.conf (Rose (faults was.states.journal.live.disk) (faults is.states.journal.live.disk)) e old visit half.0 new) (sym a.first_end)
-        half.1),
+    subst (λ (c : ℕ × ℕ). StepsAcks h.conf (Rose c.0 c.1) (ends (first_of h)).0 old visit half.0 new) (sym a.first)
+        (subst (λ (e : ℕ × ℕ). StepsAcks h.conf (Rose (faults was.states.journal.live.disk) (faults is.states.journal.live.disk)) e.0 old visit half.0 new)
+        (sym a.first_end) half.1),
   )
   half_named h was is counts ends a now old BeginsExpiry new half =
-      subst (λ (c : ℕ × ℕ). ExpiresPart h.conf c.0 c.1 (ends (first_of h)) old now new) (sym a.first)
-      (subst (λ (e : ℕ). ExpiresPart h.conf (faults was.states.journal.live.disk) (faults is.states.journal.live.disk) e old now new) (sym a.first_end) half)
+      subst (λ (c : ℕ × ℕ). ExpiresPart h.conf c.0 c.1 (ends (first_of h)).0 (ends (first_of h)).1 old now new) (sym a.first)
+      (subst (λ (e : ℕ × ℕ). ExpiresPart h.conf (faults was.states.journal.live.disk) (faults is.states.journal.live.disk) e.0 e.1 old now new)
+      (sym a.first_end) half)
 
   -- the counts and ends of two hosts of which one slot changed
   pub are_of : (old new : HostsParts D) (n : ℕ) (x y : PartSlot D) (was is : OpenPart D) → HoldsAt n (λ z. z ≡ x) old.parts → HoldsAt n (λ z. z ≡ y) new.parts
       → Turns x y was is → AreDistinct (part_disks (hosted_slots old.parts)) → AreDistinct (part_disks (hosted_slots new.parts))
-      → AreOf (hosted_slot x) was is (counts_in faults losses arms armed (disks_in old) (disks_in new)) (ends_in old)
+      → AreOf (hosted_slot x) was is (counts_in faults losses arms armed (disks_in old) (disks_in new)) (ends_over old new)
   are_of old new n x y was is there here t apart apart_then =
       let a = known_at old n x there apart in
       let b = subst (λ (h : Hosted). (F new (log_of h) ≡ slot_facts y Log) × (F new (first_of h) ≡ slot_facts y StateA)
       × (F new (second_of h) ≡ slot_facts y StateB)) t.hosted (known_at new n y here apart_then) in
       let e = ends_at old n x there apart in
+      let f = subst (λ (h : Hosted). (ends_in new (log_of h) ≡ part_end y.state Log) × (ends_in new (first_of h) ≡ part_end y.state StateA)) t.hosted
+      (ends_at new n y here apart_then) in
+      let end_old : (place : DiskPlace) → part_end x.state place ≡ open_end was place = λ place. ap (λ (s : PartState D). part_end s place) t.old_is in
+      let end_new : (place : DiskPlace) → part_end y.state place ≡ open_end is place = λ place. ap (λ (s : PartState D). part_end s place) t.new_is in
       let on_old : (place : DiskPlace) → slot_facts x place ≡ open_facts was place = λ place. ap (λ (s : PartState D). facts_at faults losses arms armed (part_disk s place)) t.old_is in
       let on_new : (place : DiskPlace) → slot_facts y place ≡ open_facts is place = λ place. ap (λ (s : PartState D). facts_at faults losses arms armed (part_disk s place)) t.new_is in
       record {
         log = pair (ap (λ (f : Facts). f.faults) (a.0 ∙ on_old Log)) (ap (λ (f : Facts). f.faults) (b.0 ∙ on_new Log));
         first = pair (ap (λ (f : Facts). f.faults) (a.1 ∙ on_old StateA)) (ap (λ (f : Facts). f.faults) (b.1 ∙ on_new StateA));
-        log_end = e.0 ∙ ap (λ (s : PartState D). part_end s Log) t.old_is;
-        first_end = e.1 ∙ ap (λ (s : PartState D). part_end s StateA) t.old_is;
+        log_end = pair (e.0 ∙ end_old Log) (f.0 ∙ end_new Log);
+        first_end = pair (e.1 ∙ end_old StateA) (f.1 ∙ end_new StateA);
       }

@@ -1,7 +1,6 @@
 -- A start over a bay, and its end.
 use Rattle.std.proofs.Common.{◌≡◌, ◌≢◌, ◌≤◌, ◌<◌, ◌-◌, ◌^◌, ◌⊎◌, arith, inl, inr, refl, sym, ap, ◌∙◌, subst, ℕ, List, [], ◌∷◌, ◌++◌, map, Bool, true, false, cond, Some, None, is_some}
-use Rattle.std.proofs.lemmas.List.Elements.{Contains-append_left, Contains-append_right, Contains-push}
-use Rattle.std.specs.List.{AllByRecursion, AllZip, Contains}
+use Rattle.std.specs.List.{AllByRecursion, AllZip}
 use Rattle.std.specs.declared.option.Option.{Option}
 use Rattle.edge_io.specs.declared.fault.Armed.{Armed}
 use Rattle.edge_io.specs.declared.name.DiskPlace.TheVariants.{Log, StateA, StateB}
@@ -19,15 +18,15 @@ use Rattle.broker_core.specs.declared.fault.CoreOpen.TheVariants.{Damaged, Devic
 use Rattle.broker_core.specs.declared.slot.ForeignSlot.{ForeignSlot}
 use Rattle.broker_core.specs.declared.slot.PartState.{PartState}
 use Rattle.broker_core.specs.declared.slot.PartSlot.{PartSlot}
-use Rattle.broker_core.specs.Restarts.{IsDamagedDisk, IsOpened, IsOpenedDisk}
-use Rattle.broker_core.specs.Bays.{ArePutBack, AreOut, AreTakenFrom, BothHold, BothRisen, BothTaken, HasLastCount, HasName, HasRisen, HoldsIf, IsFirst, StandForAll, StandsForTables, TellsDisks}
+use Rattle.broker_core.specs.Restarts.{IsDamagedDisk, IsOpened, IsOpenedDisk, StandsForTables}
+use Rattle.broker_core.specs.Bays.{ArePutBack, AreOut, AreTakenFrom, BothHold, BothRisen, BothTaken, HasLastCount, HasName, HasRisen, HoldsIf, IsFirst, StandForAll, StaysAs, TellsDisks}
 use Rattle.broker_core.specs.Cores.{IsCore, core_of, state_of}
 use Rattle.broker_core.specs.Hosts.{AreApart, AreCarried, AreDistinct, AreHeld, AreNamed, AreOpen, HostsParts, IsHeld, IsOpen, IsPartSlot, IsPartState, IsSlot, NotIn, all_names, among, disks_in, facts_at, facts_in, foreign_disks, foreign_facts, hosted_slot, hosted_slots, part_disk, slots_disks}
 use Rattle.broker_core.specs.Taking.{Moves, PutsAll, PutsAllBack, PutsBack, RefusesAll, RefusesAt, RefusesForeign, TakesAll, TakesParts, TellsThese}
 use Rattle.broker_core.proofs.Places.{among_past, apart_from, distinct_front, is_same, not_both, not_in_front, not_in_rest, one_in_either, one_in_front, one_in_rest, same_self}
 use Rattle.broker_core.proofs.Naming.{are_disk_names, distinct_names, named_of, not_in_both, states_apart}
-use Rattle.broker_core.proofs.Taking.{moves_same, moves_then, named, put_moves, puts_hold, puts_in, puts_moves, puts_others, puts_rise, rose_between, slot_then}
-use Rattle.broker_core.proofs.Partitions.{IsTakenSlot, apart_behind, disks_then, names_of_disks, slots_counted, slots_open, takes_held, takes_hosts, takes_moves, takes_others, takes_out, takes_slots}
+use Rattle.broker_core.proofs.Taking.{moves_same, moves_then, named, put_moves, puts_hold, puts_in, puts_moves, puts_others, puts_rise, rose_between, slot_same, slot_then, stays_between, stays_same}
+use Rattle.broker_core.proofs.Partitions.{IsTakenSlot, apart_behind, disks_then, names_of_disks, slots_counted, slots_open, slots_stay, takes_held, takes_hosts, takes_moves, takes_others, takes_out, takes_slots}
 
 -- a name is one of these, or none of them
 pub one_or_none : (names : List (List ℕ)) (name : List ℕ) → IsOneOf names name ⊎ NotIn names name
@@ -44,6 +43,10 @@ no_state_a hosted d = apart_from (part_disks hosted) (state_a ∷ state_b ∷ []
 pub no_state_b : (hosted : List Hosted) → AreDistinct (all_names hosted) → NotIn (part_disks hosted) state_b
 no_state_b hosted d = apart_from (part_disks hosted) (state_a ∷ state_b ∷ []) state_b d (inr (inl refl))
 
+none_of : (names : List (List ℕ)) (name : List ℕ) → (IsOneOf names name → ⊥) → NotIn names name
+none_of [] name f = tt
+none_of (n ∷ names) name f = (λ e. f (inl e), none_of names name (λ one. f (inr one)))
+
 pub parts_distinct : (hosted : List Hosted) → AreDistinct (all_names hosted) → AreDistinct (part_disks hosted)
 parts_distinct hosted d = distinct_front (part_disks hosted) (state_a ∷ state_b ∷ []) d
 
@@ -57,9 +60,6 @@ not_states hosted d name one = (
 all_in_rest : {A : Type 0} (P : A → Type 0) (xs : List A) (y : A) (ys : List A) → AllByRecursion P (xs ++ (y ∷ ys)) → P y
 all_in_rest P [] y ys all = all.0
 all_in_rest P (x ∷ xs) y ys all = all_in_rest P xs y ys all.1
-
-there : {A : Type 0} (xs : List A) (y : A) (ys : List A) → Contains (xs ++ (y ∷ ys)) y
-there xs y ys = Contains-append_right xs (y ∷ ys) y (Contains-append_left (y ∷ []) ys y (Contains-push [] y))
 
 module _ {B D : Type 0} (disk : B → List ℕ → Option D) (out : B → List ℕ → Bool) (taken : B → List ℕ → ℕ) (steady : B → Type 0) (bay_faults : B → ℕ)
     (content : D → Option (List ℕ)) (image : D → List ℕ → Type 0) (starved : D → Bool) (faults : D → ℕ)
@@ -146,6 +146,29 @@ module _ {B D : Type 0} (disk : B → List ℕ → Option D) (out : B → List �
           ),
         );
       }
+
+  -- partitions that were taken had disks that stand for logs and tables
+  had_tables : (contents : List ℕ → List ℕ) (old new : B) (slots : List (PartSlot D))
+      → TellsThese disk content (part_disks (hosted_slots slots)) old contents → Slots old new slots
+      → AllByRecursion (StandsForTables contents) (hosted_slots slots)
+  had_tables contents old new [] tells all = tt
+  had_tables contents old new (s ∷ slots) tells all =
+      let l = tells (log_of (hosted_slot s)) (inl refl) in
+      let a = tells (first_of (hosted_slot s)) (inr (inl refl)) in
+      let b = tells (second_of (hosted_slot s)) (inr (inr (inl refl))) in
+      let o = all.0.opens (contents (log_of (hosted_slot s))) (contents (first_of (hosted_slot s))) (contents (second_of (hosted_slot s)))
+      (ap content (all.0.on_log.as_told l.0 l.1) ∙ l.2) (ap content (all.0.on_first.as_told a.0 a.1) ∙ a.2)
+      (ap content (all.0.on_second.as_told b.0 b.1) ∙ b.2) in
+      ((o.batches, o.states, o.stands), had_tables contents old new slots (λ name one. tells name (inr (inr (inr one)))) all.1)
+
+  before_had_tables : (contents : List ℕ → List ℕ) (hosted : List Hosted) (old : B) (slots : List (PartSlot D)) (mid : B) → AreDistinct (part_disks hosted)
+      → Before hosted old slots mid → TellsThese disk content (part_disks hosted) old contents → AllByRecursion (StandsForTables contents) hosted
+  before_had_tables contents hosted old slots mid distinct t tells =
+      let same : hosted_slots slots ≡ hosted =
+      takes_hosts disk out taken steady bay_faults content image starved faults losses arms armed hosted old slots mid t in
+      subst (AllByRecursion (StandsForTables contents)) same (had_tables contents old mid slots
+      (λ name one. tells name (subst (λ (l : List Hosted). IsOneOf (part_disks l) name) same one))
+      (takes_slots disk out taken steady bay_faults content image starved faults losses arms armed hosted old slots mid distinct t))
 
   known_among : (was : Disks) (es : List (List ℕ × Option D)) (other : Facts) (name : List ℕ) → IsOneOf (named es) name → Known was es
       → IsOpenedDisk (was name) (among (λ (e : List ℕ × Option D). e.0) (λ e. facts_at faults losses arms armed e.1) es other name)
@@ -243,6 +266,10 @@ module _ {B D : Type 0} (disk : B → List ℕ → Option D) (out : B → List �
         those name (inr (inr (inl e))) = subst (λ (n : List ℕ). out new n ≡ true) (sym e) t.foreign.second_out
         those name (inr (inr (inr never))) = absurd never
 
+    pub all_others : (m : List ℕ) → (IsTaken conf m → ⊥) → Same m old new
+    all_others m away = slot_then disk out taken steady bay_faults m old t.mid new (parts_others m (none_of names m (λ one. away (inl one))))
+        (t.foreign.others m (λ e. away (inr (inl e))) (λ e. away (inr (inr e))))
+
     pub all_counted : AreTakenFrom disk taken faults conf old new (disks_in hosts)
     all_counted = record {
       parts = slots_counted disk out taken steady bay_faults content image starved faults losses arms armed old t.mid new hosts.parts slots
@@ -324,6 +351,8 @@ module _ {B D : Type 0} (disk : B → List ℕ → Option D) (out : B → List �
   pub record Refused (conf : ConfigParts) (fault : CoreOpen) (old new : B) : Type 0 where
     pub back : AreOut out [] old → AreOut out [] new
     pub moves : Goes old new
+    pub others : (m : List ℕ) → (IsTaken conf m → ⊥) → Same m old new
+    pub stays : (m : List ℕ) → StaysAs disk image m old new
     pub damaged : (n : List ℕ) (place : ℕ) → fault ≡ Damaged n place → (contents : List ℕ → List ℕ) (was : Disks) → Tells conf old contents was
         → IsDamagedDisk conf contents n place
     pub recovers : (contents : List ℕ → List ℕ) (was : Disks) → Tells conf old contents was → StandForAll conf contents
@@ -336,6 +365,8 @@ module _ {B D : Type 0} (disk : B → List ℕ → Option D) (out : B → List �
   want_refused conf fault old new is same = record {
     back = λ whole. subst (λ (b : B). AreOut out [] b) (sym same) whole;
     moves = subst (λ (b : B). Goes old b) (sym same) (moves_same disk out taken steady bay_faults old);
+    others = λ m away. subst (λ (b : B). Same m old b) (sym same) (slot_same disk out taken steady bay_faults m old);
+    stays = λ m. stays_same disk image m old new (ap (λ (b : B). disk b m) same);
     damaged = λ n place e contents was tells. absurd (let bad : NoMemory ≡ Damaged n place = sym is ∙ e in cc);
     recovers = λ contents was tells stand n place e. (let bad : NoMemory ≡ Damaged n place = sym is ∙ e in cc);
     bay = λ e. absurd (let bad : NoMemory ≡ Bay = sym is ∙ e in cc);
@@ -364,6 +395,10 @@ module _ {B D : Type 0} (disk : B → List ℕ → Option D) (out : B → List �
       in_all : (name : List ℕ) → IsOneOf (disks_of r.h) name → IsOneOf all name
       in_all name one = subst (λ (l : List (List ℕ)). IsOneOf l name) (sym split_disks)
           (one_in_rest (part_disks r.before) (part_disks (r.h ∷ r.after)) name (own_in name one))
+
+      in_front : (name : List ℕ) → IsOneOf (part_disks r.before) name → IsOneOf all name
+      in_front name one = subst (λ (l : List (List ℕ)). IsOneOf l name) (sym split_disks)
+          (one_in_front (part_disks r.before) (part_disks (r.h ∷ r.after)) name one)
 
       before_distinct : AreDistinct (part_disks r.before)
       before_distinct = distinct_front (part_disks r.before) (part_disks (r.h ∷ r.after)) both_distinct
@@ -402,14 +437,50 @@ module _ {B D : Type 0} (disk : B → List ℕ → Option D) (out : B → List �
             ∙ (takes_others disk out taken steady bay_faults content image starved faults losses arms armed r.before old r.slots r.mid r.takes name away).same_out
             ∙ whole.others name tt
 
+      part_others : (m : List ℕ) → (IsOneOf all m → ⊥) → Same m old new
+      part_others m away =
+          let before : NotIn (part_disks r.before) m = none_of (part_disks r.before) m (λ one. away (in_front m one)) in
+          slot_then disk out taken steady bay_faults m old r.mid new
+          (takes_others disk out taken steady bay_faults content image starved faults losses arms armed r.before old r.slots r.mid r.takes m before)
+          (slot_then disk out taken steady bay_faults m r.mid r.behind new (r.refuses.others m (none_of (disks_of r.h) m (λ one. away (in_all m one))))
+          (puts_others disk out taken steady bay_faults faults (slots_disks r.slots) r.behind new r.puts m
+          (subst (λ (l : List (List ℕ)). NotIn l m) (sym slots_are) before)))
+
+      before_slots : Slots old r.mid r.slots
+      before_slots = takes_slots disk out taken steady bay_faults content image starved faults losses arms armed r.before old r.slots r.mid before_distinct r.takes
+
+      before_are : hosted_slots r.slots ≡ r.before
+      before_are = takes_hosts disk out taken steady bay_faults content image starved faults losses arms armed r.before old r.slots r.mid r.takes
+
+      put_others : (m : List ℕ) → NotIn (part_disks r.before) m → Same m r.behind new
+      put_others m away = puts_others disk out taken steady bay_faults faults (slots_disks r.slots) r.behind new r.puts m
+          (subst (λ (l : List (List ℕ)). NotIn l m) (sym slots_are) away)
+
+      part_stays : (m : List ℕ) → IsOneOf (part_disks r.before) m ⊎ NotIn (part_disks r.before) m → IsOneOf (disks_of r.h) m ⊎ NotIn (disks_of r.h) m
+          → StaysAs disk image m old new
+      part_stays m (inl one) own = slots_stay disk out taken steady bay_faults content image starved faults losses arms armed old r.mid r.behind new r.slots before_slots
+          (puts_hold disk out taken steady bay_faults faults (slots_disks r.slots) r.behind new slots_distinct r.puts)
+          (moves_then disk out taken steady bay_faults old r.mid r.behind to_mid r.refuses.moves).told m
+          (subst (λ (l : List Hosted). IsOneOf (part_disks l) m) (sym before_are) one)
+      part_stays m (inr away) (inl one) =
+          stays_between disk image m old r.mid r.behind new (mid_is m one).same_disk (put_others m away).same_disk (r.refuses.stays m one)
+      part_stays m (inr away) (inr n) = stays_same disk image m old new ((put_others m away).same_disk ∙ (r.refuses.others m n).same_disk
+          ∙ (takes_others disk out taken steady bay_faults content image starved faults losses arms armed r.before old r.slots r.mid r.takes m away).same_disk)
+
       part_refused : Refused conf fault old new
       part_refused = record {
         back = λ whole. record { those = λ name one. absurd one; others = λ name away. part_back whole name (one_or_none (part_disks r.before) name) };
         moves = moves_then disk out taken steady bay_faults old r.mid new to_mid
             (moves_then disk out taken steady bay_faults r.mid r.behind new r.refuses.moves from_behind);
+        others = λ m away. part_others m (λ one. away (inl one));
+        stays = λ m. part_stays m (one_or_none (part_disks r.before) m) (one_or_none (disks_of r.h) m);
         damaged = λ n place e contents was tells. inl (
+          r.before,
+          r.after,
           r.h,
-          subst (λ (l : List Hosted). Contains l r.h) (sym r.split) (there r.before r.h r.after),
+          r.split,
+          before_had_tables contents r.before old r.slots r.mid before_distinct r.takes
+              (λ name one. let d = tells name (inl (in_front name one)) in (d.0, d.1, d.2)),
           r.refuses.damaged n place e contents (tells_mid contents was tells),
         );
         recovers = λ contents was tells stand n place. r.refuses.recovers contents (tells_mid contents was tells)
@@ -431,7 +502,7 @@ module _ {B D : Type 0} (disk : B → List ℕ → Option D) (out : B → List �
 
     -- foreign state was refused
     module _ (slots : List (PartSlot D)) (mid behind : B) (takes : Before (hosted_of conf) old slots mid)
-        (r : RefusesForeign disk out taken steady bay_faults content starved faults arms armed fault mid behind) (puts : Behind (slots_disks slots) behind new) where
+        (r : RefusesForeign disk out taken steady bay_faults content image starved faults arms armed fault mid behind) (puts : Behind (slots_disks slots) behind new) where
       names_are : named (slots_disks slots) ≡ all
       names_are = names_of_disks slots ∙ ap part_disks
           (takes_hosts disk out taken steady bay_faults content image starved faults losses arms armed (hosted_of conf) old slots mid takes)
@@ -468,14 +539,55 @@ module _ {B D : Type 0} (disk : B → List ℕ → Option D) (out : B → List �
         go (inl (inr (inr never))) = absurd never
         go (inr n) = behind_same ∙ (r.others name n.0 n.1.0).same_out ∙ (others_of name away).same_out ∙ whole.others name tt
 
+      state_others : (m : List ℕ) → (IsTaken conf m → ⊥) → Same m old new
+      state_others m away =
+          let own : NotIn all m = none_of all m (λ one. away (inl one)) in
+          slot_then disk out taken steady bay_faults m old mid new (others_of m own)
+          (slot_then disk out taken steady bay_faults m mid behind new (r.others m (λ e. away (inr (inl e))) (λ e. away (inr (inr e))))
+          (puts_others disk out taken steady bay_faults faults (slots_disks slots) behind new puts m
+          (subst (λ (l : List (List ℕ)). NotIn l m) (sym names_are) own)))
+
+      all_slots : Slots old mid slots
+      all_slots = takes_slots disk out taken steady bay_faults content image starved faults losses arms armed (hosted_of conf) old slots mid
+          (parts_distinct (hosted_of conf) all_apart) takes
+
+      all_are : hosted_slots slots ≡ hosted_of conf
+      all_are = takes_hosts disk out taken steady bay_faults content image starved faults losses arms armed (hosted_of conf) old slots mid takes
+
+      put_away : (m : List ℕ) → NotIn all m → Same m behind new
+      put_away m away = puts_others disk out taken steady bay_faults faults (slots_disks slots) behind new puts m
+          (subst (λ (l : List (List ℕ)). NotIn l m) (sym names_are) away)
+
+      state_stays : (m : List ℕ) → IsOneOf all m ⊎ NotIn all m → IsOneOf (state_a ∷ state_b ∷ []) m ⊎ NotIn (state_a ∷ state_b ∷ []) m
+          → StaysAs disk image m old new
+      state_stays m (inl one) own = slots_stay disk out taken steady bay_faults content image starved faults losses arms armed old mid behind new slots all_slots
+          (puts_hold disk out taken steady bay_faults faults (slots_disks slots) behind new slots_apart puts)
+          (moves_then disk out taken steady bay_faults old mid behind before r.moves).told m
+          (subst (λ (l : List Hosted). IsOneOf (part_disks l) m) (sym all_are) one)
+      state_stays m (inr away) (inl (inl e)) = subst (λ (n : List ℕ). StaysAs disk image n old new) (sym e)
+          (stays_between disk image state_a old mid behind new a_same.same_disk
+          (put_away state_a (no_state_a (hosted_of conf) all_apart)).same_disk r.on_first)
+      state_stays m (inr away) (inl (inr (inl e))) = subst (λ (n : List ℕ). StaysAs disk image n old new) (sym e)
+          (stays_between disk image state_b old mid behind new b_same.same_disk
+          (put_away state_b (no_state_b (hosted_of conf) all_apart)).same_disk r.on_second)
+      state_stays m (inr away) (inl (inr (inr never))) = absurd never
+      state_stays m (inr away) (inr n) = stays_same disk image m old new
+          ((put_away m away).same_disk ∙ (r.others m n.0 n.1.0).same_disk ∙ (others_of m away).same_disk)
+
       state_refused : Refused conf fault old new
       state_refused = record {
         back = λ whole. record { those = λ name one. absurd one; others = λ name away. state_back whole name (one_or_none all name) };
         moves = moves_then disk out taken steady bay_faults old mid new before (moves_then disk out taken steady bay_faults mid behind new r.moves after);
+        others = state_others;
+        stays = λ m. state_stays m (one_or_none all m) (one_or_none (state_a ∷ state_b ∷ []) m);
         damaged = λ n place e contents was tells.
             let d = tells state_a (inr (inl refl)) in
             let f = tells state_b (inr (inr refl)) in
-            inr (r.damaged n place e d.0 f.0 (contents state_a) (contents state_b) (a_same.same_disk ∙ d.1) (b_same.same_disk ∙ f.1) d.2 f.2);
+            inr (
+              before_had_tables contents (hosted_of conf) old slots mid (parts_distinct (hosted_of conf) all_apart) takes
+                  (λ name one. let t = tells name (inl one) in (t.0, t.1, t.2)),
+              r.damaged n place e d.0 f.0 (contents state_a) (contents state_b) (a_same.same_disk ∙ d.1) (b_same.same_disk ∙ f.1) d.2 f.2,
+            );
         recovers = λ contents was tells stand n place.
             let d = tells state_a (inr (inl refl)) in
             let f = tells state_b (inr (inr refl)) in
@@ -554,6 +666,12 @@ module _ {B D : Type 0} (disk : B → List ℕ → Option D) (out : B → List �
     back_moves = moves_then disk out taken steady bay_faults old mid_bay new (puts_moves disk out taken steady bay_faults faults entries old mid_bay parts_back)
         (moves_then disk out taken steady bay_faults mid_bay next_bay new (put_moves disk out taken steady bay_faults faults state_a p.2.0 mid_bay next_bay first_back)
         (put_moves disk out taken steady bay_faults faults state_b p.2.1 next_bay new second_back))
+
+    -- a disk of another broker
+    pub others_same : (conf : ConfigParts) → hosted_slots hosts.parts ≡ hosted_of conf → (m : List ℕ) → (IsTaken conf m → ⊥) → Same m old new
+    others_same conf is m away = slot_then disk out taken steady bay_faults m old mid_bay new
+        (parts_same m (subst (λ (l : List Hosted). NotIn (part_disks l) m) (sym is) (none_of (part_disks (hosted_of conf)) m (λ one. away (inl one)))))
+        (state_same m (λ e. away (inr (inl e))) (λ e. away (inr (inr e))))
 
     part_holds : (es : List (List ℕ × Option D)) → ((m : List ℕ) → IsOneOf (named es) m → disk new m ≡ disk mid_bay m)
         → AllByRecursion (HoldsIf disk old mid_bay) es → AllByRecursion (HoldsIf disk old new) es

@@ -1,5 +1,5 @@
 -- What a client's step means to the broker.
-use Rattle.std.proofs.Common.{◌≡◌, ℕ, Bool, true, false, cond, List, [], ◌∷◌, Some, None, Result, Ok, Err, OnOk, OnErr, IfOk, IfErr, refl, sym, ap, ◌∙◌, subst}
+use Rattle.std.proofs.Common.{◌≡◌, ℕ, Bool, true, false, cond, List, [], ◌∷◌, Some, None, Result, Ok, Err, OnOk, OnErr, IfOk, IfErr, MatchResult, refl, sym, ap, ◌∙◌, subst}
 use Rattle.std.specs.Map.{set_value, remove_entry}
 use Rattle.conn_core.specs.Conns.{ConnParts, is_gone, without_replies}
 use Rattle.broker_model.specs.Machine.{named, conn_at, at_connection, left}
@@ -31,6 +31,15 @@ on_err_weaker (Err y) f p = f p
 pub on_ok : {X Y P Q : Type 0} (result : Result X Y) → (P → Q) → OnOk result P → OnOk result Q
 on_ok (Ok x) f p = f p
 on_ok (Err y) f p = tt
+
+pub match_weaker : {X Y : Type 0} (P Q : X → Type 0) (R S : Y → Type 0) (result : Result X Y) → ((x : X) → P x → Q x) → ((y : Y) → R y → S y)
+    → MatchResult result P R → MatchResult result Q S
+match_weaker P Q R S (Ok x) f h p = f x p
+match_weaker P Q R S (Err y) f h p = h y p
+
+pub match_err : {X Y : Type 0} (P : X → Type 0) (R : Y → Type 0) (result : Result X Y) → MatchResult result P R → IfErr result R
+match_err P R (Ok x) p = tt
+match_err P R (Err y) p = p
 
 -- a value that is written where a look-up found one
 pub changed_at : (id : ℕ) (f : ConnParts → ConnParts) (es : List (ℕ × ConnParts)) (c : ConnParts) → conn_at id es ≡ Some c →

@@ -3,16 +3,43 @@ use Rattle.std.proofs.Common.{◌≡◌, ◌≢◌, ◌≤◌, ◌<◌, ◌-◌,
 use Rattle.std.proofs.lemmas.Bool.{cases_Bool}
 use Rattle.std.specs.List.{AllByRecursion}
 use Rattle.std.specs.declared.option.Option.{Option}
-use Rattle.edge_io.specs.Bays.{IsAsTold, SameSlot}
+use Rattle.edge_io.specs.Bays.{Holds, IsAsTold, SameSlot}
 use Rattle.edge_io.specs.Causes.{Rose}
+use Rattle.gate_journal.specs.Frames.{StandsAs}
 use Rattle.broker_model.specs.Hosted.{IsOneOf, same_name}
-use Rattle.broker_core.specs.Bays.{HoldsIf, OneRisen, RisenIf, TellsStill}
+use Rattle.broker_core.specs.Bays.{HoldsIf, OneRisen, RisenIf, StaysAs, TellsStill}
 use Rattle.broker_core.specs.Hosts.{AreDistinct, NotIn}
 use Rattle.broker_core.specs.Taking.{Gets, GetsAll, Moves, PutsAll, PutsBack}
 use Rattle.broker_core.proofs.Places.{is_same, same_self}
 
 pub some_told : {D : Type 0} (o : Option D) (d : D) → o ≡ Some d → is_some o ≡ true
 some_told o d e = ap is_some e
+
+pub same_disk : {D : Type 0} (o : Option D) (d e : D) → o ≡ Some d → o ≡ Some e → d ≡ e
+same_disk o d e is was = let g : Some d ≡ Some e = sym is ∙ was in cc
+
+-- ---- what is told of a disk that was put back
+
+module _ {B D : Type 0} (disk : B → List ℕ → Option D) (image : D → List ℕ → Type 0) (name : List ℕ) where
+  -- it is the one that it was
+  pub stays_kept : (old new : B) → ((d : D) → disk old name ≡ Some d → disk new name ≡ Some d) → StaysAs disk image name old new
+  stays_kept old new kept d e was is c on =
+      (c, subst (λ (x : D). image x c) (same_disk (disk new name) e d is (kept d was)) on, inl refl)
+
+  pub stays_same : (old new : B) → disk new name ≡ disk old name → StaysAs disk image name old new
+  stays_same old new same = stays_kept old new (λ d was. same ∙ was)
+
+  -- it was taken and used, and put back
+  pub stays_put : (old mid new : B) (given now : D) → IsAsTold (disk old name) given → (is_some (disk old name) ≡ true → is_some (disk mid name) ≡ true)
+      → Holds (disk mid name) (disk new name) now → ((c : List ℕ) → image now c → StandsAs (image given) c) → StaysAs disk image name old new
+  stays_put old mid new given now as_told still holds stands d e was is c on =
+      subst (λ (x : D). StandsAs (image x) c) (as_told d was)
+      (stands c (subst (λ (x : D). image x c) (same_disk (disk new name) e now is (holds (still (some_told (disk old name) d was)))) on))
+
+  -- before and behind it stayed
+  pub stays_between : (old mid behind new : B) → disk mid name ≡ disk old name → disk new name ≡ disk behind name → StaysAs disk image name mid behind
+      → StaysAs disk image name old new
+  stays_between old mid behind new p q s d e was is = s d e (p ∙ was) (sym q ∙ is)
 
 -- a count that rose below its last value is greater
 pub greater : (before now : ℕ) → Rose before now → (before < now) ⊎ (2 ^ 64 - 1 ≤ before)

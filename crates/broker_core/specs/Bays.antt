@@ -5,16 +5,15 @@ use Rattle.std.specs.List.{AllByRecursion}
 use Rattle.std.specs.declared.option.Option.{Option}
 use Rattle.edge_io.specs.declared.fault.Armed.{Armed}
 use Rattle.edge_io.specs.Bays.{IsAsTold, Holds}
+use Rattle.gate_journal.specs.Frames.{StandsAs}
 use Rattle.share_model.specs.ForeignRules.{ShareStates}
-use Rattle.share_model.specs.Logs.{Batch}
-use Rattle.share_part.specs.Hosting.{ArePartText}
 use Rattle.topic_conf.specs.Configs.{ConfigParts}
-use Rattle.broker_model.specs.Hosted.{Hosted, IsOneOf, IsTaken, first_of, hosted_of, log_of, second_of, state_a, state_b}
+use Rattle.broker_model.specs.Hosted.{IsOneOf, IsTaken, hosted_of, state_a, state_b}
 use Rattle.broker_model.specs.Machine.{Opening, StandForStates}
 use Rattle.broker_model.specs.Disks.{Disks, facts_of}
 use Rattle.broker_model.specs.States.{State}
 use Rattle.broker_core.specs.Hosts.{LeftDisks, NotIn}
-use Rattle.broker_core.specs.Restarts.{IsOpenedDisk}
+use Rattle.broker_core.specs.Restarts.{IsOpenedDisk, StandsForTables}
 
 -- ---- what a bay tells
 
@@ -28,11 +27,6 @@ TellsDisks disk content faults losses arms armed conf bay contents facts = (name
 pub record IsFirst (conf : ConfigParts) (contents : List ℕ → List ℕ) (was : Disks) (first : State) : Type 0 where
   pub opens : Opening conf contents first.machine
   pub disks : (name : List ℕ) → IsTaken conf name → IsOpenedDisk (was name) (first.disks name)
-
--- the contents of a partition's three disks, by their names, stand for a log and tables
-abbrev pub StandsForTables : (List ℕ → List ℕ) → Hosted → Type 0
-StandsForTables contents h = (batches : List Batch) × (states : ShareStates)
-    × ArePartText h.conf (contents (log_of h)) (contents (first_of h)) (contents (second_of h)) batches states
 
 -- contents that stand for a log and tables of each hosted partition, and for foreign state
 pub record StandForAll (conf : ConfigParts) (contents : List ℕ → List ℕ) : Type 0 where
@@ -48,6 +42,11 @@ pub record AreOut {B : Type 0} (out : B → List ℕ → Bool) (names : List (Li
 -- a disk that the bay told before it tells still
 abbrev pub TellsStill : {B D : Type 0} → (B → List ℕ → Option D) → B → B → Type 0
 TellsStill disk old new = (name : List ℕ) → is_some (disk old name) ≡ true → is_some (disk new name) ≡ true
+
+-- Where the bay tells a disk of this name, before and behind, each image of it is one that it had, or stands for the frames of one.
+abbrev pub StaysAs : {B D : Type 0} → (B → List ℕ → Option D) → (D → List ℕ → Type 0) → List ℕ → B → B → Type 0
+StaysAs disk image name old new =
+    (d e : _) → disk old name ≡ Some d → disk new name ≡ Some e → (c : List ℕ) → image e c → StandsAs (image d) c
 
 -- ---- counts
 

@@ -62,7 +62,7 @@ facts_by faults losses arms armed first second name = record {
   armed = by_name (armed first) (armed second) name;
 }
 
--- from the shard that the store stood for, it stands for one now to which this call led
+-- From the shard that the store stood for, it stands for one now to which this call led. Its journal never ends before where it did.
 pub record LeadsForeign {D : Type 0} (content : D → Option (List ℕ)) (image : D → List ℕ → Type 0) (starved : D → Bool)
     (faults : D → ℕ) (losses : D → List (ℕ × List ℕ)) (arms : D → ℕ) (armed : D → Armed) (old : StoreParts D) (shard : ForeignShardState)
     (new : StoreParts D) (op : ForeignOp) (answer : ForeignAnswer) : Type 0 where
@@ -70,6 +70,7 @@ pub record LeadsForeign {D : Type 0} (content : D → Option (List ℕ)) (image 
   pub fault : Option StoreFault
   pub carried : IsCarried content image starved new after
   pub step : StepsForeign (Rose (faults old.journal.live.disk) (faults new.journal.live.disk)) old.journal.live.end shard op answer fault after
+  pub end : old.journal.live.end ≤ new.journal.live.end
   pub used : IsUsed (facts_of faults losses arms armed old.journal.live.disk) (facts_of faults losses arms armed new.journal.live.disk)
 
 -- No memory was found: it was done in the shard, or not at all. The disks tell their contents still.
@@ -79,6 +80,7 @@ pub record HaltsForeign {D : Type 0} (content : D → Option (List ℕ)) (image 
   pub carries : CarriesForeign image new after
   pub does : (after ≡ shard) ⊎ ((answer : ForeignAnswer) × (fault : Option StoreFault)
       × StepsForeign (Rose (faults old.journal.live.disk) (faults new.journal.live.disk)) old.journal.live.end shard op answer fault after)
+  pub end : old.journal.live.end ≤ new.journal.live.end
   pub told : IsTold (content new.journal.live.disk)
   pub second_told : IsTold (content new.journal.idle)
 
@@ -106,16 +108,23 @@ pub record PartGoesOn {D : Type 0} (content : D → Option (List ℕ)) (faults :
   pub first : GoesOn content faults old.states.journal.live.disk new.states.journal.live.disk
   pub second : GoesOn content faults old.states.journal.idle new.states.journal.idle
 
+-- its two journals never end before where they did
+pub record EndsGoOn {D : Type 0} (old new : OpenPart D) : Type 0 where
+  pub log : old.log.journal.end ≤ new.log.journal.end
+  pub first : old.states.journal.live.end ≤ new.states.journal.live.end
+
 -- The shard takes the step of this call, by the counts of its own disks and the ends of its own journals.
 abbrev pub StepsOn : {D : Type 0} → (D → ℕ) → PartConfParts → OpenPart D → OpenPart D → (now : ℕ) → PartShardState → PartCall → PartShardState → Type 0
 StepsOn faults conf old new now shard (Visits visit answer) after =
-    StepsVisit conf (faults old.states.journal.live.disk) (faults new.states.journal.live.disk) old.states.journal.live.end shard now visit answer after
+    StepsVisit conf (faults old.states.journal.live.disk) (faults new.states.journal.live.disk) old.states.journal.live.end new.states.journal.live.end
+    shard now visit answer after
 StepsOn faults conf old new now shard (Produces batch produced) after =
     StepsProduce (Rose (faults old.log.journal.disk) (faults new.log.journal.disk)) old.log.journal.end shard now batch (result_of produced) after
 StepsOn faults conf old new now shard (Looks group looked) after =
     (looked ≡ look_at (share_state_at shard.states (key_of conf group))) × (after ≡ shard)
 StepsOn faults conf old new now shard (Expires answer) after =
-    StepsExpire conf (faults old.states.journal.live.disk) (faults new.states.journal.live.disk) old.states.journal.live.end shard now answer after
+    StepsExpire conf (faults old.states.journal.live.disk) (faults new.states.journal.live.disk) old.states.journal.live.end new.states.journal.live.end
+    shard now answer after
 
 -- a visit and an expiry use the first disk of the states alone, a batch that of the log, and a look none
 pub record UsesStates {D : Type 0} (faults : D → ℕ) (losses : D → List (ℕ × List ℕ)) (arms : D → ℕ) (armed : D → Armed) (old new : OpenPart D) : Type 0 where
@@ -140,6 +149,7 @@ pub record LeadsPart {D : Type 0} (content : D → Option (List ℕ)) (image : D
   pub after : PartShardState
   pub carried : IsPartCarried content image starved conf new after
   pub step : StepsOn faults conf old new now shard did after
+  pub ends : EndsGoOn old new
   pub used : Uses faults losses arms armed old new did
 
 -- a call that makes several writes, between two of which memory may run out
@@ -152,7 +162,8 @@ abbrev pub HalvesOn : {D : Type 0} → (D → ℕ) → PartConfParts → OpenPar
 HalvesOn faults conf old new now shard (BeginsVisit visit) after = (ack : AckOutcome) × StepsAcks conf
     (Rose (faults old.states.journal.live.disk) (faults new.states.journal.live.disk)) old.states.journal.live.end shard visit ack after
 HalvesOn faults conf old new now shard BeginsExpiry after =
-    ExpiresPart conf (faults old.states.journal.live.disk) (faults new.states.journal.live.disk) old.states.journal.live.end shard now after
+    ExpiresPart conf (faults old.states.journal.live.disk) (faults new.states.journal.live.disk) old.states.journal.live.end new.states.journal.live.end
+    shard now after
 
 -- No memory was found: nothing was done in the shard, or such a call was done whole, or left half done. The disks tell their contents
 -- still.
@@ -163,6 +174,7 @@ pub record HaltsPart {D : Type 0} (content : D → Option (List ℕ)) (image : D
   pub carries : Carries image holding new after
   pub does : (after ≡ shard) ⊎ (((did : PartCall) × Whole did × StepsOn faults conf old new now shard did after)
       ⊎ ((begun : Begun) × Half begun × HalvesOn faults conf old new now shard begun after))
+  pub ends : EndsGoOn old new
   pub log_told : IsTold (content new.log.journal.disk)
   pub first_told : IsTold (content new.states.journal.live.disk)
   pub second_told : IsTold (content new.states.journal.idle)

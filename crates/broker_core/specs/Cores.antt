@@ -1,6 +1,6 @@
 -- How a broker in memory and on its disks stands for the machine. This project's own.
 -- For example one that was just started stands for the opening of its disks' contents, to which nobody has connected.
-use Rattle.std.specs.Prelude.{◌≡◌, ◌⊎◌, ◌≤◌, ◌^◌, ◌∷◌, ◌++◌, ℕ, List, [], Bool, if◌then◌else◌}
+use Rattle.std.specs.Prelude.{◌≡◌, ◌⊎◌, ◌≤◌, ◌^◌, ◌-◌, ◌∷◌, ◌++◌, ℕ, List, [], length, Bool, if◌then◌else◌}
 use Rattle.std.specs.List.{AllByRecursion}
 use Rattle.edge_io.specs.declared.fault.FaultMode.{FaultMode}
 use Rattle.std.specs.declared.option.Option.{Option}
@@ -11,12 +11,12 @@ use Rattle.session_script.specs.declared.event.Outcome.{Outcome}
 use Rattle.topic_conf.specs.Configs.{ConfigParts}
 use Rattle.conn_core.specs.Conns.{ConnParts}
 use Rattle.broker_model.specs.Hosted.{IsOneOf, hosted_of, same_name, state_a, state_b}
-use Rattle.broker_model.specs.Shards.{Counts, Shards, ShardCall}
+use Rattle.broker_model.specs.Shards.{Counts, Ends, Shards, ShardCall}
 use Rattle.broker_model.specs.Machine.{Machine, OpensPart, StandForStates, LandAll}
 use Rattle.broker_model.specs.Disks.{IsRestarted, with_arm}
 use Rattle.broker_model.specs.Steps.{StepsTo, StopsWithin}
 use Rattle.broker_model.specs.States.{State, IsStep}
-use Rattle.broker_core.specs.Hosts.{HostsParts, AreCarried, AreHeld, AreApart, AreNamed, StandStill, all_names, counts_in, disks_in, ends_in, facts_in, hosted_slots}
+use Rattle.broker_core.specs.Hosts.{HostsParts, AreCarried, AreHeld, AreApart, AreNamed, DisksReach, StandStill, all_names, counts_in, disks_in, ends_in, facts_in, hosted_slots}
 
 -- moments are at most 2^62 milliseconds
 abbrev pub HasMoment : Event → Type 0
@@ -56,7 +56,7 @@ pub record IsArmed {D : Type 0} (content : D → Option (List ℕ)) (image : D �
       else facts_in faults losses arms armed (disks_in old) name)
   pub ends : (name : List ℕ) → ends_in new name ≡ ends_in old name
 
--- The power was lost with this choice, and each shard is open again.
+-- The power was lost with this choice, and each shard is open again. What was left of each disk reaches to where its journal ended.
 pub record AreReopened {D : Type 0} (content : D → Option (List ℕ)) (image : D → List ℕ → Type 0) (starved : D → Bool) (faults : D → ℕ)
     (losses : D → List (ℕ × List ℕ)) (arms : D → ℕ) (armed : D → Armed) (choice : ℕ) (old : HostsParts D) (shards : Shards)
     (new : HostsParts D) : Type 0 where
@@ -68,6 +68,7 @@ pub record AreReopened {D : Type 0} (content : D → Option (List ℕ)) (image :
   pub states : StandForStates (contents state_a) (contents state_b) after.foreign.states
   pub lost : (name : List ℕ) → IsOneOf (all_names (hosted_slots old.parts)) name → (facts_in faults losses arms armed (disks_in new) name).losses
       ≡ (facts_in faults losses arms armed (disks_in old) name).losses ++ (choice, contents name) ∷ []
+  pub reach : (name : List ℕ) → IsOneOf (all_names (hosted_slots old.parts)) name → ends_in old name ≤ length (contents name)
   pub disks : (name : List ℕ) → IsOneOf (all_names (hosted_slots old.parts)) name
       → IsRestarted (facts_in faults losses arms armed (disks_in old) name) (facts_in faults losses arms armed (disks_in new) name)
 
@@ -94,14 +95,19 @@ Advances content image starved faults losses arms armed old event outcomes new =
 -- ---- where no memory was found
 
 -- the machine is as before, or one step of the event on, or in the midst of that step
-abbrev pub Reaches : ConfigParts → Counts → (ends : List ℕ → ℕ) → Machine → Event → Machine → Type 0
+abbrev pub Reaches : ConfigParts → Counts → Ends → Machine → Event → Machine → Type 0
 Reaches conf counts ends old event new =
     (new ≡ old) ⊎ (((call : Option ShardCall) × (outcomes : List Outcome) × StepsTo conf counts ends old event call outcomes new)
     ⊎ StopsWithin conf counts ends old event new)
 
--- The event was done in the shards, or not at all, or in part, and the disks stand for what that left.
+-- The event was done in the shards, or not at all, or in part, and the disks stand for what that left. The journals end there now, and what a
+-- crash may leave of each disk reaches to the last gate of its journal, the byte before the end.
 pub record StopsIn {D : Type 0} (content : D → Option (List ℕ)) (image : D → List ℕ → Type 0) (faults : D → ℕ) (losses : D → List (ℕ × List ℕ))
     (arms : D → ℕ) (armed : D → Armed) (old : CoreParts D) (before : Machine) (event : Event) (new : CoreParts D) : Type 0 where
   pub after : Machine
-  pub reaches : Reaches old.conf (counts_in faults losses arms armed (disks_in old.hosts) (disks_in new.hosts)) (ends_in old.hosts) before event after
+  pub ends : List ℕ → ℕ
+  pub reaches : Reaches old.conf (counts_in faults losses arms armed (disks_in old.hosts) (disks_in new.hosts)) (λ name. (ends_in old.hosts name, ends name))
+      before event after
+  pub ends_later : (name : List ℕ) → ends_in old.hosts name ≤ ends name
   pub still : StandStill content image after.shards (disks_in new.hosts)
+  pub reach : DisksReach image (disks_in new.hosts) (λ name. ends name - 1)

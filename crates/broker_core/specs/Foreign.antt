@@ -16,7 +16,7 @@ use Rattle.broker_core.specs.declared.fault.CoreFault.TheVariants as event_fault
 use Rattle.broker_core.specs.declared.slot.ForeignSlot.{ForeignSlot}
 use Rattle.broker_core.specs.declared.slot.ForeignSlot.TheVariants.{Open, Shut}
 use Rattle.broker_core.specs.Carried.{IsCarried, GoesOn}
-use Rattle.broker_core.specs.Restarts.{IsRestartedShard, IsNotRestarted}
+use Rattle.broker_core.specs.Restarts.{ImagesStandAs, IsRestartedShard, IsNotRestarted}
 
 -- A fault of the first disk was armed, or of the second, or of none, by the name.
 abbrev pub ArmsEither : {D : Type 0} → (D → Option (List ℕ)) → (D → List ℕ → Type 0) → (D → List (ℕ × List ℕ)) → (D → ℕ) → (D → Armed) → (D → Bool)
@@ -47,6 +47,7 @@ pub record ReopensForeign {D : Type 0} (content : D → Option (List ℕ)) (imag
   pub new_is : new ≡ Open is
   pub first : GoesOn content faults was.journal.live.disk is.journal.live.disk
   pub second : GoesOn content faults was.journal.idle is.journal.idle
+  pub images : ImagesStandAs image was.journal.live.disk was.journal.idle is.journal.live.disk is.journal.idle
   pub reopens : (s : ForeignShardState) → IsCarried content image starved was s
       → IsRestartedShard content image starved faults losses arms armed choice was s is
 
@@ -60,6 +61,7 @@ pub record ShutsForeign {D : Type 0} (content : D → Option (List ℕ)) (image 
   pub new_is : new ≡ Shut first second
   pub on_first : GoesOn content faults was.journal.live.disk first
   pub on_second : GoesOn content faults was.journal.idle second
+  pub images : ImagesStandAs image was.journal.live.disk was.journal.idle first second
   pub shuts : (s : ForeignShardState) → IsCarried content image starved was s
       → IsNotRestarted content image s first second × (fault ≡ event_fault.NoMemory)
   pub device : fault ≡ event_fault.Reopen Device → Rose (faults was.journal.live.disk) (faults first) ⊎ Rose (faults was.journal.idle) (faults second)

@@ -2,7 +2,7 @@
 -- both. This project's own.
 -- For example a broker of one partition of `orders` holds its shard on `orders/0/log`, `orders/0/state-a` and `orders/0/state-b`, the
 -- members of all groups in memory, and foreign state on its two disks.
-use Rattle.std.specs.Prelude.{◌≡◌, ◌≢◌, ◌⊎◌, ◌<◌, ℕ, List, [], ◌∷◌, ◌++◌, Bool, false, Some, None, map, if◌then◌else◌}
+use Rattle.std.specs.Prelude.{◌≡◌, ◌≢◌, ◌⊎◌, ◌<◌, ◌≤◌, ℕ, List, [], ◌∷◌, ◌++◌, length, Bool, false, Some, None, map, if◌then◌else◌}
 use Rattle.std.specs.List.{AllByRecursion, AllZip, flat_map}
 use Rattle.std.specs.declared.option.Option.{Option}
 use Rattle.edge_io.specs.declared.fault.Armed.{Armed}
@@ -35,7 +35,7 @@ use Rattle.share_part.specs.Leaving.{IsLeftOf}
 use Rattle.share_part.specs.Shards.{PartShardState, Carries}
 use Rattle.share_part.specs.Visits.{StepsAcks}
 use Rattle.broker_model.specs.Hosted.{ChangesAt, Hosted, first_of, log_of, part_disks, second_of, state_a, state_b, same_name}
-use Rattle.broker_model.specs.Shards.{Counts, HostedPart, PartCall, Shards, ShardCall, StepsShards, answered_by, calls, fault_of_expiry, fault_of_release}
+use Rattle.broker_model.specs.Shards.{Counts, Ends, HostedPart, PartCall, Shards, ShardCall, StepsShards, answered_by, calls, fault_of_expiry, fault_of_release}
 use Rattle.broker_model.specs.Shards.ShardCall.{CallPart}
 use Rattle.broker_model.specs.Shards.PartCall.{Expires}
 use Rattle.broker_model.specs.Machine.{StandWith}
@@ -216,6 +216,27 @@ ends_among slots other name = among (λ e. e.0) (λ e. e.1) (flat_map slot_ends 
 abbrev pub ends_in : {D : Type 0} → HostsParts D → List ℕ → ℕ
 ends_in hosts name = ends_among hosts.parts (foreign_end hosts.foreign name) name
 
+-- where they end in the one and in the other
+abbrev pub ends_over : {D : Type 0} → HostsParts D → HostsParts D → Ends
+ends_over old new name = (ends_in old name, ends_in new name)
+
+-- the disk of this name
+abbrev pub foreign_disk : {D : Type 0} → Option (D × D) → List ℕ → Option D
+foreign_disk None name = None
+foreign_disk (Some disks) name = Some (by_name disks.0 disks.1 name)
+
+abbrev pub disk_in : {D : Type 0} → LeftDisks D → List ℕ → Option D
+disk_in left name = among (λ e. e.0) (λ e. e.1) left.parts (foreign_disk left.foreign name) name
+
+-- each image of this disk reaches to this end
+abbrev pub ReachesTo : {D : Type 0} → (D → List ℕ → Type 0) → Option D → (end : ℕ) → Type 0
+ReachesTo image None end = Unit {0}
+ReachesTo image (Some disk) end = (c : List ℕ) → image disk c → end ≤ length c
+
+-- what a crash may leave of each disk reaches to where the journal on it ends
+abbrev pub DisksReach : {D : Type 0} → (D → List ℕ → Type 0) → LeftDisks D → (ends : List ℕ → ℕ) → Type 0
+DisksReach image left ends = (name : List ℕ) → ReachesTo image (disk_in left name) (ends name)
+
 -- the counts of faults of the disk of this name, in the one and in the other
 abbrev pub counts_in : {D : Type 0} → (D → ℕ) → (D → List (ℕ × List ℕ)) → (D → ℕ) → (D → Armed) → LeftDisks D → LeftDisks D → Counts
 counts_in faults losses arms armed old new name =
@@ -291,11 +312,11 @@ pub record StandStill {D : Type 0} (content : D → Option (List ℕ)) (image : 
 -- ---- calls
 
 -- a shard does this part, and answers it so
-abbrev pub Did : Counts → (ends : List ℕ → ℕ) → (now : ℕ) → Part → PartAnswer → Shards → Option ShardCall → Shards → Type 0
+abbrev pub Did : Counts → Ends → (now : ℕ) → Part → PartAnswer → Shards → Option ShardCall → Shards → Type 0
 Did counts ends now part answer old call new = (did : ShardCall) × (call ≡ Some did) × (answered_by did ≡ Some (record { part = part; answer = answer }))
     × StepsShards counts ends now old did new
 
--- From these shards, they stand for those now that this relation leads to, by a call or none.
+-- From these shards, they stand for those now that this relation leads to, by a call or none. No journal ends before where it did.
 pub record Leads {D : Type 0} (content : D → Option (List ℕ)) (image : D → List ℕ → Type 0) (starved : D → Bool)
     (faults : D → ℕ) (losses : D → List (ℕ × List ℕ)) (arms : D → ℕ) (armed : D → Armed) (old : HostsParts D) (shards : Shards)
     (new : HostsParts D) (Does : Shards → Option ShardCall → Shards → Type 0) : Type 0 where
@@ -306,6 +327,7 @@ pub record Leads {D : Type 0} (content : D → Option (List ℕ)) (image : D →
   pub disks : (name : List ℕ) → OnCalled (calls call name) (facts_in faults losses arms armed (disks_in old) name)
       (facts_in faults losses arms armed (disks_in new) name)
   pub ends : (name : List ℕ) → calls call name ≡ false → ends_in new name ≡ ends_in old name
+  pub ends_later : (name : List ℕ) → ends_in old name ≤ ends_in new name
 
 -- the shard of this number is left in the midst of a call, and each other one stays
 pub record IsLeftIn (shard : ℕ) (Half : Hosted → PartShardState → PartShardState → Type 0) (old new : Shards) : Type 0 where
@@ -314,33 +336,36 @@ pub record IsLeftIn (shard : ℕ) (Half : Hosted → PartShardState → PartShar
   pub foreign : new.foreign ≡ old.foreign
 
 -- a part in whose midst memory may run out: a visit behind its acknowledgements
-abbrev pub IsHalfDone : Counts → (ends : List ℕ → ℕ) → Part → Shards → Shards → Type 0
+abbrev pub IsHalfDone : Counts → Ends → Part → Shards → Shards → Type 0
 IsHalfDone counts ends (Foreign op) old new = ⊥
 IsHalfDone counts ends (Produce shard batch) old new = ⊥
 IsHalfDone counts ends (PartVisit shard visit) old new = IsLeftIn shard (λ h a b. (ack : AckOutcome)
-    × StepsAcks h.conf (Rose (counts (first_of h)).0 (counts (first_of h)).1) (ends (first_of h)) a visit ack b) old new
+    × StepsAcks h.conf (Rose (counts (first_of h)).0 (counts (first_of h)).1) (ends (first_of h)).0 a visit ack b) old new
 IsHalfDone counts ends (Look shard group) old new = ⊥
 IsHalfDone counts ends (Heartbeat request) old new = ⊥
 
 -- so is the part that is told to be asked
-abbrev pub HalvesNext : Counts → (ends : List ℕ → ℕ) → Next → Shards → Shards → Type 0
+abbrev pub HalvesNext : Counts → Ends → Next → Shards → Shards → Type 0
 HalvesNext counts ends next old new = (asked : Part) × (next ≡ Ask asked) × IsHalfDone counts ends asked old new
 
 -- so is that which this connection asks, if it is there
-abbrev pub HalvesServe : ConfigParts → Counts → (ends : List ℕ → ℕ) → Option ConnParts → Shards → Shards → Type 0
+abbrev pub HalvesServe : ConfigParts → Counts → Ends → Option ConnParts → Shards → Shards → Type 0
 HalvesServe conf counts ends None old new = ⊥
 HalvesServe conf counts ends (Some conn) old new = HalvesNext counts ends (turn conf conn).next old new
 
 -- an expiry at this moment was left behind some of the groups
-abbrev pub HalvesExpiry : Counts → (ends : List ℕ → ℕ) → (now shard : ℕ) → Shards → Shards → Type 0
+abbrev pub HalvesExpiry : Counts → Ends → (now shard : ℕ) → Shards → Shards → Type 0
 HalvesExpiry counts ends now shard old new =
-    IsLeftIn shard (λ h a b. ExpiresPart h.conf (counts (first_of h)).0 (counts (first_of h)).1 (ends (first_of h)) a now b) old new
+    IsLeftIn shard (λ h a b. ExpiresPart h.conf (counts (first_of h)).0 (counts (first_of h)).1 (ends (first_of h)).0 (ends (first_of h)).1 a now b) old new
 
--- No memory was found: nothing was done in the shards, or it was done whole, or left in its midst. The disks stand for what that left.
-pub record Halts {D : Type 0} (content : D → Option (List ℕ)) (image : D → List ℕ → Type 0) (shards : Shards) (new : HostsParts D)
+-- No memory was found: nothing was done in the shards, or it was done whole, or left in its midst. The disks stand for what that left, and
+-- reach to where the journals end, which is never before where they did.
+pub record Halts {D : Type 0} (content : D → Option (List ℕ)) (image : D → List ℕ → Type 0) (old : HostsParts D) (shards : Shards) (new : HostsParts D)
     (Does : Shards → Option ShardCall → Shards → Type 0) (Within : Shards → Shards → Type 0) : Type 0 where
   pub after : Shards
   pub still : StandStill content image after (disks_in new)
+  pub ends_later : (name : List ℕ) → ends_in old name ≤ ends_in new name
+  pub reach : DisksReach image (disks_in new) (ends_in new)
   pub does : (after ≡ shards) ⊎ (((call : Option ShardCall) × Does shards call after) ⊎ Within shards after)
 
 -- a visit is of a shard with a number below this
@@ -367,7 +392,7 @@ faults_in (Look shard group) answer = []
 faults_in (Heartbeat request) answer = []
 
 -- an expiry of a shard at this moment, by its answer; the outcomes are the fault, if it met one
-abbrev pub ExpiresShard : Counts → (ends : List ℕ → ℕ) → (now shard : ℕ) → List Outcome → Shards → Option ShardCall → Shards → Type 0
+abbrev pub ExpiresShard : Counts → Ends → (now shard : ℕ) → List Outcome → Shards → Option ShardCall → Shards → Type 0
 ExpiresShard counts ends now shard outcomes old call new = (hosted : Hosted) × (answer : ExpireAnswer)
     × (call ≡ Some (CallPart shard hosted (Expires answer))) × StepsShards counts ends now old (CallPart shard hosted (Expires answer)) new
     × (outcomes ≡ fault_of_expiry shard answer)

@@ -1,7 +1,8 @@
 -- What an opening and a restart of a shard leave. This project's own.
 -- For example after a power loss that left `00` on all disks foreign state has no keys, a partition has no batches and no tables, and
 -- nothing is pending.
-use Rattle.std.specs.Prelude.{◌≡◌, ◌≢◌, ◌⊎◌, ◌≤◌, ◌∷◌, ◌++◌, [], ℕ, List, Bool, true, false, Some, None, Contains}
+use Rattle.std.specs.Prelude.{◌≡◌, ◌≢◌, ◌⊎◌, ◌≤◌, ◌∷◌, ◌++◌, [], ℕ, List, Bool, true, false, Some, None}
+use Rattle.std.specs.List.{AllByRecursion}
 use Rattle.std.specs.declared.option.Option.{Option}
 use Rattle.edge_io.specs.declared.fault.Armed.{Armed}
 use Rattle.edge_io.specs.declared.fault.Armed.TheVariants.{Nothing}
@@ -76,11 +77,18 @@ abbrev pub IsDamagedPart : Hosted → (log first second : List ℕ) → (name : 
 IsDamagedPart h log first second name place =
     (disk : DiskPlace) × (name ≡ hosted_name h.topic h.conf.part disk) × AreDamagedAt h.conf log first second disk place
 
--- this disk of the broker stands for nothing, by this place: one of a partition, or of foreign state
+-- the contents of a partition's three disks, by their names, stand for a log and tables
+abbrev pub StandsForTables : (List ℕ → List ℕ) → Hosted → Type 0
+StandsForTables contents h = (batches : List Batch) × (states : ShareStates)
+    × ArePartText h.conf (contents (log_of h)) (contents (first_of h)) (contents (second_of h)) batches states
+
+-- This disk of the broker stands for nothing, by this place: one of a partition, or of foreign state, behind partitions whose disks stand for
+-- logs and tables. The partitions come in the order of the configuration, and foreign state last.
 abbrev pub IsDamagedDisk : ConfigParts → (List ℕ → List ℕ) → List ℕ → ℕ → Type 0
 IsDamagedDisk conf contents name place =
-    ((h : Hosted) × Contains (hosted_of conf) h × IsDamagedPart h (contents (log_of h)) (contents (first_of h)) (contents (second_of h)) name place)
-    ⊎ IsDamagedState (contents state_a) (contents state_b) name place
+    ((before after : List Hosted) × (h : Hosted) × (hosted_of conf ≡ before ++ (h ∷ after)) × AllByRecursion (StandsForTables contents) before
+    × IsDamagedPart h (contents (log_of h)) (contents (first_of h)) (contents (second_of h)) name place)
+    ⊎ (AllByRecursion (StandsForTables contents) (hosted_of conf) × IsDamagedState (contents state_a) (contents state_b) name place)
 
 -- The power of both disks was lost with this choice, and the shard was opened again: it is the old one, whose pending write landed or
 -- didn't.
@@ -93,6 +101,7 @@ pub record IsRestartedShard {D : Type 0} (content : D → Option (List ℕ)) (im
   pub carried : IsCarried content image starved new after
   pub lands : Lands shard after
   pub stands : StandForStates a b after.states
+  pub were : image old.journal.live.disk a × image old.journal.idle b
   pub lost : losses new.journal.live.disk ≡ losses old.journal.live.disk ++ (choice, a) ∷ []
   pub second_lost : losses new.journal.idle ≡ losses old.journal.idle ++ (choice, b) ∷ []
   pub on_first : IsRestarted (facts_of faults losses arms armed old.journal.live.disk) (facts_of faults losses arms armed new.journal.live.disk)
@@ -155,6 +164,7 @@ pub record IsRestartedPart {D : Type 0} (content : D → Option (List ℕ)) (ima
   pub log_is : IsOneOf shard.log.batches (and_pending shard.log.batches shard.log.pending) batches
   pub states_are : IsOneOf shard.states shard.pending states
   pub stands : ArePartText conf l a b batches states
+  pub were : image old.log.journal.disk l × image old.states.journal.live.disk a × image old.states.journal.idle b
   pub log_lost : losses new.log.journal.disk ≡ losses old.log.journal.disk ++ (choice, l) ∷ []
   pub first_lost : losses new.states.journal.live.disk ≡ losses old.states.journal.live.disk ++ (choice, a) ∷ []
   pub second_lost : losses new.states.journal.idle ≡ losses old.states.journal.idle ++ (choice, b) ∷ []
@@ -173,6 +183,8 @@ pub record ReopensSlot {D : Type 0} (content : D → Option (List ℕ)) (image :
   pub topic : new.topic ≡ old.topic
   pub conf : new.conf ≡ old.conf
   pub goes : PartGoesOn content faults was is
+  pub images : PartImagesStandAs image was.log.journal.disk was.states.journal.live.disk was.states.journal.idle
+      is.log.journal.disk is.states.journal.live.disk is.states.journal.idle
   pub reopens : (s : PartShardState) → IsPartCarried content image starved old.conf was s
       → IsRestartedPart content image starved faults losses arms armed choice old.conf was s is
 
@@ -190,6 +202,7 @@ pub record ShutsSlot {D : Type 0} (content : D → Option (List ℕ)) (image : D
   pub on_log : GoesOn content faults was.log.journal.disk log
   pub on_first : GoesOn content faults was.states.journal.live.disk first
   pub on_second : GoesOn content faults was.states.journal.idle second
+  pub images : PartImagesStandAs image was.log.journal.disk was.states.journal.live.disk was.states.journal.idle log first second
   pub shuts : (s : PartShardState) → IsPartCarried content image starved old.conf was s
       → PartStandsAlone content image old.conf s log first second × (fault ≡ event_fault.NoMemory)
   pub device : fault ≡ event_fault.Reopen Device → Rose (faults was.log.journal.disk) (faults log)

@@ -17,10 +17,10 @@ use Rattle.broker_core.specs.declared.slot.ForeignSlot.{ForeignSlot}
 use Rattle.broker_core.specs.declared.slot.ForeignSlot.TheVariants as foreign
 use Rattle.broker_core.specs.declared.slot.PartSlot.{PartSlot}
 use Rattle.broker_core.specs.declared.slot.PartState.TheVariants as part
-use Rattle.broker_core.specs.Bays.{IsTakenFrom, StandsForTables, TellsStill}
+use Rattle.broker_core.specs.Bays.{IsTakenFrom, StaysAs, TellsStill}
 use Rattle.broker_core.specs.Carried.{OpenPart}
 use Rattle.broker_core.specs.Hosts.{HostsParts, NotIn, foreign_disks, hosted_slot, slots_disks}
-use Rattle.broker_core.specs.Restarts.{IsOpened, IsOpenedPart, IsDamagedPart, IsDamagedState}
+use Rattle.broker_core.specs.Restarts.{IsOpened, IsOpenedPart, IsDamagedPart, IsDamagedState, PartImagesStandAs, StandsForTables}
 
 -- what each call leaves of a bay, whatever it answers
 pub record Moves {B D : Type 0} (disk : B → List ℕ → Option D) (steady : B → Type 0) (bay_faults : B → ℕ) (old new : B) : Type 0 where
@@ -53,6 +53,7 @@ pub record GetsNone {B D : Type 0} (disk : B → List ℕ → Option D) (out : B
   pub bay : fault ≡ Bay → Rose (bay_faults old) (bay_faults new)
   pub sound : steady old → fault ≢ Bay
   pub are_in : (m : List ℕ) → IsOneOf names m → out new m ≡ false
+  pub kept : (m : List ℕ) (d : D) → IsOneOf names m → disk old m ≡ Some d → disk new m ≡ Some d
   pub others : (m : List ℕ) → NotIn names m → SameSlot disk out taken m old new
   pub moves : Moves disk steady bay_faults old new
 
@@ -91,14 +92,16 @@ pub record TakesPart {B D : Type 0} (disk : B → List ℕ → Option D) (out : 
   pub on_second : IsTakenFrom disk taken faults (second_of h) old new parts.states.journal.idle
   pub opens : (l x y : List ℕ) → content on_log.given ≡ Some l → content on_first.given ≡ Some x → content on_second.given ≡ Some y
       → IsOpenedPart content image starved faults losses arms armed h.conf on_log.given on_first.given on_second.given l x y parts
+  pub images : PartImagesStandAs image on_log.given on_first.given on_second.given parts.log.journal.disk parts.states.journal.live.disk
+      parts.states.journal.idle
   pub are_out : (m : List ℕ) → IsOneOf (disks_of h) m → out new m ≡ true
   pub others : (m : List ℕ) → NotIn (disks_of h) m → SameSlot disk out taken m old new
   pub moves : Moves disk steady bay_faults old new
 
 -- they were not, for this reason, and are in the bay
 pub record RefusesPart {B D : Type 0} (disk : B → List ℕ → Option D) (out : B → List ℕ → Bool) (taken : B → List ℕ → ℕ) (steady : B → Type 0)
-    (bay_faults : B → ℕ) (content : D → Option (List ℕ)) (starved : D → Bool) (faults : D → ℕ) (arms : D → ℕ) (armed : D → Armed)
-    (h : Hosted) (fault : CoreOpen) (old new : B) : Type 0 where
+    (bay_faults : B → ℕ) (content : D → Option (List ℕ)) (image : D → List ℕ → Type 0) (starved : D → Bool) (faults : D → ℕ) (arms : D → ℕ)
+    (armed : D → Armed) (h : Hosted) (fault : CoreOpen) (old new : B) : Type 0 where
   pub damaged : (n : List ℕ) (place : ℕ) → fault ≡ Damaged n place → (contents : List ℕ → List ℕ) → TellsThese disk content (disks_of h) old contents
       → IsDamagedPart h (contents (log_of h)) (contents (first_of h)) (contents (second_of h)) n place
   pub recovers : (contents : List ℕ → List ℕ) → TellsThese disk content (disks_of h) old contents → StandsForTables contents h
@@ -109,6 +112,7 @@ pub record RefusesPart {B D : Type 0} (disk : B → List ℕ → Option D) (out 
   pub sound : ((name : List ℕ) → IsOneOf (disks_of h) name → (d : D) × (disk old name ≡ Some d) × IsSoundDisk content armed arms starved faults d)
       → steady old → (fault ≢ Bay) × (fault ≢ Device)
   pub are_in : (m : List ℕ) → IsOneOf (disks_of h) m → out new m ≡ false
+  pub stays : (m : List ℕ) → IsOneOf (disks_of h) m → StaysAs disk image m old new
   pub others : (m : List ℕ) → NotIn (disks_of h) m → SameSlot disk out taken m old new
   pub moves : Moves disk steady bay_faults old new
 
@@ -135,7 +139,7 @@ pub record RefusesAt {B D : Type 0} (disk : B → List ℕ → Option D) (out : 
   pub behind : B
   pub split : hosted ≡ before ++ (h ∷ after)
   pub takes : TakesParts disk out taken steady bay_faults content image starved faults losses arms armed before old slots mid
-  pub refuses : RefusesPart disk out taken steady bay_faults content starved faults arms armed h fault mid behind
+  pub refuses : RefusesPart disk out taken steady bay_faults content image starved faults arms armed h fault mid behind
   pub puts : PutsAll disk out taken steady bay_faults faults (slots_disks slots) behind new
 
 -- ---- foreign state
@@ -163,8 +167,8 @@ pub record TakesForeign {B D : Type 0} (disk : B → List ℕ → Option D) (out
 
 -- they were not, for this reason, and are in the bay
 pub record RefusesForeign {B D : Type 0} (disk : B → List ℕ → Option D) (out : B → List ℕ → Bool) (taken : B → List ℕ → ℕ) (steady : B → Type 0)
-    (bay_faults : B → ℕ) (content : D → Option (List ℕ)) (starved : D → Bool) (faults : D → ℕ) (arms : D → ℕ) (armed : D → Armed)
-    (fault : CoreOpen) (old new : B) : Type 0 where
+    (bay_faults : B → ℕ) (content : D → Option (List ℕ)) (image : D → List ℕ → Type 0) (starved : D → Bool) (faults : D → ℕ) (arms : D → ℕ)
+    (armed : D → Armed) (fault : CoreOpen) (old new : B) : Type 0 where
   pub damaged : (n : List ℕ) (place : ℕ) → fault ≡ Damaged n place → (d e : D) (a b : List ℕ) → disk old state_a ≡ Some d → disk old state_b ≡ Some e
       → content d ≡ Some a → content e ≡ Some b → IsDamagedState a b n place
   pub recovers : (d e : D) (a b : List ℕ) (states : ShareStates) → disk old state_a ≡ Some d → disk old state_b ≡ Some e
@@ -176,6 +180,8 @@ pub record RefusesForeign {B D : Type 0} (disk : B → List ℕ → Option D) (o
       → IsSoundDisk content armed arms starved faults e → steady old → (fault ≢ Bay) × (fault ≢ Device)
   pub first_in : out new state_a ≡ false
   pub second_in : out new state_b ≡ false
+  pub on_first : StaysAs disk image state_a old new
+  pub on_second : StaysAs disk image state_b old new
   pub others : (m : List ℕ) → m ≢ state_a → m ≢ state_b → SameSlot disk out taken m old new
   pub moves : Moves disk steady bay_faults old new
 
@@ -205,7 +211,7 @@ RefusesAll disk out taken steady bay_faults content image starved faults losses 
     ⊎ (RefusesAt disk out taken steady bay_faults content image starved faults losses arms armed (hosted_of conf) fault old new
     ⊎ ((slots : List (PartSlot _)) × (mid behind : _)
     × TakesParts disk out taken steady bay_faults content image starved faults losses arms armed (hosted_of conf) old slots mid
-    × RefusesForeign disk out taken steady bay_faults content starved faults arms armed fault mid behind
+    × RefusesForeign disk out taken steady bay_faults content image starved faults arms armed fault mid behind
     × PutsAll disk out taken steady bay_faults faults (slots_disks slots) behind new))
 
 abbrev pub PutsAllBack : {B D : Type 0} → (B → List ℕ → Option D) → (B → List ℕ → Bool) → (B → List ℕ → ℕ) → (B → Type 0) → (B → ℕ) → (D → ℕ)

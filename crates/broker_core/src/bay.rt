@@ -155,7 +155,8 @@ fn take_part<D: Disk, B: Bay<D = D>>(
     requires not_out { (name : List ℕ) → IsOneOf (disks_of part) name → B.out bay.old name ≡ false }
     ensures ok { IfOk result (λ slot. TakesPart B.disk B.out B.taken B.steady B.faults D.content D.image D.starved D.faults D.losses D.arms D.armed
         part bay.old slot bay.new) }
-    ensures err { IfErr result (λ e. RefusesPart B.disk B.out B.taken B.steady B.faults D.content D.starved D.faults D.arms D.armed part e bay.old bay.new) }
+    ensures err { IfErr result (λ e. RefusesPart B.disk B.out B.taken B.steady B.faults D.content D.image D.starved D.faults D.arms D.armed
+        part e bay.old bay.new) }
 {
     let HostedPart { topic, conf } = part;
     let names = names_of(&topic, &conf);
@@ -183,10 +184,11 @@ fn add_part<D: Disk, B: Bay<D = D>>(
     requires named { IsNamed part }
     requires apart { AreDistinct (disks_of part) }
     requires not_out { (name : List ℕ) → IsOneOf (disks_of part) name → B.out bay.old name ≡ false }
-    ensures ok { OnOk result ((slot : PartSlot D) × TakesPart B.disk B.out B.taken B.steady B.faults D.content D.image D.starved D.faults D.losses D.arms D.armed
-        part bay.old slot bay.new × (slots.new.items ≡ slots.old.items ++ slot ∷ [])) }
-    ensures err { IfErr result (λ e. RefusesPart B.disk B.out B.taken B.steady B.faults D.content D.starved D.faults D.arms D.armed part e bay.old bay.new
-        × (slots.new.items ≡ slots.old.items)) }
+    ensures ok { OnOk result ((slot : PartSlot D)
+        × TakesPart B.disk B.out B.taken B.steady B.faults D.content D.image D.starved D.faults D.losses D.arms D.armed part bay.old slot bay.new
+        × (slots.new.items ≡ slots.old.items ++ slot ∷ [])) }
+    ensures err { IfErr result (λ e. RefusesPart B.disk B.out B.taken B.steady B.faults D.content D.image D.starved D.faults D.arms D.armed
+        part e bay.old bay.new × (slots.new.items ≡ slots.old.items)) }
 {
     if let Err(_) = slots.reserve(1) {
         return Err(CoreOpen::NoMemory);
@@ -273,7 +275,8 @@ pub fn take_foreign<D: Disk, B: Bay<D = D>>(
     requires second { B.out bay.old state_b ≡ false }
     ensures ok { IfOk result (λ slot. TakesForeign B.disk B.out B.taken B.steady B.faults D.content D.image D.starved D.faults D.losses D.arms D.armed
         bay.old slot bay.new) }
-    ensures err { IfErr result (λ e. RefusesForeign B.disk B.out B.taken B.steady B.faults D.content D.starved D.faults D.arms D.armed e bay.old bay.new) }
+    ensures err { IfErr result (λ e. RefusesForeign B.disk B.out B.taken B.steady B.faults D.content D.image D.starved D.faults D.arms D.armed
+        e bay.old bay.new) }
 {
     let first_name = DiskName::foreign_state_a();
     let second_name = DiskName::foreign_state_b();

@@ -1,14 +1,15 @@
 ghost use Rattle.std.specs.Prelude.{◌≡◌, ◌≢◌, ◌⊎◌, ◌≤◌, [], List, ℕ, All, IfOk, IfErr, OnOk, OnErr, Err, length};
-ghost use Rattle.edge_io.specs.Bays.{IsSound};
+ghost use Rattle.edge_io.specs.Bays.{IsSound, SameSlot};
 ghost use Rattle.edge_io.specs.Causes.{Rose};
 ghost use Rattle.session_script.specs.declared.event.Event.TheVariants.{Power};
 ghost use Rattle.session_script.specs.Output.{IsTold};
 ghost use Rattle.topic_conf.specs.Topics.{IsTopicList, partitions};
+ghost use Rattle.broker_model.specs.Hosted.{IsTaken};
 ghost use Rattle.broker_model.specs.Machine.{Machine};
 ghost use Rattle.broker_model.specs.Disks.{Disks};
 ghost use Rattle.broker_core.specs.Hosts.{AreApart, AreHeld, AreNamed, AreOpen, GoOn, OneRose, StaysHosted, all_names, disks_in, hosted_slots, parts_of};
 ghost use Rattle.broker_core.specs.Restarts.{IsDamagedDisk};
-ghost use Rattle.broker_core.specs.Bays.{AreOut, ArePutBack, AreTakenFrom, HasLastCount, HasRisen, IsFirst, StandForAll, TellsDisks, TellsStill};
+ghost use Rattle.broker_core.specs.Bays.{AreOut, ArePutBack, AreTakenFrom, HasLastCount, HasRisen, IsFirst, StandForAll, StaysAs, TellsDisks, TellsStill};
 ghost use Rattle.broker_core.specs.Taking.{RefusesAll, TakesAll, PutsAllBack};
 ghost use Rattle.broker_core.specs.Cores.{Advances, HasMoment, IsCore, IsWhole, StopsIn, core_of, state_of};
 
@@ -113,15 +114,20 @@ fn advance<D: Disk + Drop>(
     requires apart { AreApart (parts_of hosts.old) }
     requires hosted { length hosts.old.parts.items ≡ partitions conf.now.topics }
     ensures ok { IfOk result (λ outcomes. Advances D.content D.image D.starved D.faults D.losses D.arms D.armed
-        (core_of conf.now clients.old.entries (parts_of hosts.old)) event.now outcomes.items (core_of conf.now clients.new.entries (parts_of hosts.new))) }
+        (core_of conf.now clients.old.entries (parts_of hosts.old)) event.now outcomes.items
+        (core_of conf.now clients.new.entries (parts_of hosts.new))) }
     ensures told { IfOk result (λ outcomes. All (IsTold conf.now.topics) outcomes.items) }
     ensures open { OnOk result (AreOpen (parts_of hosts.new)) }
     ensures held { AreHeld (parts_of hosts.new) }
     ensures stays { StaysHosted (parts_of hosts.old) (parts_of hosts.new) }
-    ensures stopped { IfErr result (λ e. (m : Machine) → IsCore D.content D.image D.starved (core_of conf.now clients.old.entries (parts_of hosts.old)) m →
-        StopsIn D.content D.image D.faults D.losses D.arms D.armed (core_of conf.now clients.old.entries (parts_of hosts.old)) m event.now (core_of conf.now clients.new.entries (parts_of hosts.new)) × (e ≡ CoreFault.NoMemory)) }
-    ensures reopen { (f : CoreOpen) → result ≡ Err (CoreFault.Reopen f) → ((choice : ℕ) × (event.now ≡ Power choice)) × (f ≢ CoreOpen.Bay) × (f ≢ CoreOpen.NoMemory) }
-    ensures device { result ≡ Err (CoreFault.Reopen CoreOpen.Device) → OneRose D.faults (disks_in (parts_of hosts.old)) (disks_in (parts_of hosts.new)) }
+    ensures stopped { IfErr result (λ e. (m : Machine)
+        → IsCore D.content D.image D.starved (core_of conf.now clients.old.entries (parts_of hosts.old)) m
+        → StopsIn D.content D.image D.faults D.losses D.arms D.armed (core_of conf.now clients.old.entries (parts_of hosts.old)) m event.now
+        (core_of conf.now clients.new.entries (parts_of hosts.new)) × (e ≡ CoreFault.NoMemory)) }
+    ensures reopen { (f : CoreOpen) → result ≡ Err (CoreFault.Reopen f) →
+        ((choice : ℕ) × (event.now ≡ Power choice)) × (f ≢ CoreOpen.Bay) × (f ≢ CoreOpen.NoMemory) }
+    ensures device { result ≡ Err (CoreFault.Reopen CoreOpen.Device) →
+        OneRose D.faults (disks_in (parts_of hosts.old)) (disks_in (parts_of hosts.new)) }
     ensures disks { GoOn D.content D.faults (disks_in (parts_of hosts.old)) (disks_in (parts_of hosts.new)) }
 {
     match event {
@@ -174,12 +180,17 @@ impl<D: Disk + Drop> Core<D> {
     ) -> Result<Core<D>, CoreOpen>
         requires { AreOut B.out [] bay.old }
         ensures opens { IfOk result (λ core. (contents : List ℕ → List ℕ) (was : Disks) →
-            TellsDisks B.disk D.content D.faults D.losses D.arms D.armed conf bay.old contents was → (m : Machine) × IsCore D.content D.image D.starved core m
+            TellsDisks B.disk D.content D.faults D.losses D.arms D.armed conf bay.old contents was →
+            (m : Machine) × IsCore D.content D.image D.starved core m
             × IsFirst conf contents was (state_of D.faults D.losses D.arms D.armed m core)) }
         ensures open { IfOk result (λ core. AreOpen core.hosts × (core.conf ≡ conf)) }
         ensures taken { IfOk result (λ core. AreOut B.out (all_names (hosted_slots core.hosts.parts)) bay.new) }
         ensures counts { IfOk result (λ core. AreTakenFrom B.disk B.taken D.faults conf bay.old bay.new (disks_in core.hosts)) }
         ensures back { OnErr result (AreOut B.out [] bay.new) }
+        // After a refusal each image of a disk is one that it had, or stands for the frames of one.
+        ensures stays { OnErr result ((name : List ℕ) → StaysAs B.disk D.image name bay.old bay.new) }
+        // A disk that isn't the broker's is as it was.
+        ensures others { (name : List ℕ) → (IsTaken conf name → ⊥) → SameSlot B.disk B.out B.taken name bay.old bay.new }
 
         // Each refusal has its cause. Contents that stand for logs, tables and states are never damaged.
         ensures damaged { (disk : List ℕ) (place : ℕ) → result ≡ Err (CoreOpen.Damaged disk place) → (contents : List ℕ → List ℕ) (was : Disks) →
@@ -192,7 +203,8 @@ impl<D: Disk + Drop> Core<D> {
         ensures device { result ≡ Err CoreOpen.Device → Rose (B.faults bay.old) (B.faults bay.new) ⊎ HasLastCount B.disk D.faults conf bay.old }
         ensures later { B.faults bay.old ≤ B.faults bay.new }
         ensures told { TellsStill B.disk bay.old bay.new }
-        ensures sound { IsSound B.disk B.steady D.content D.armed D.arms D.starved D.faults bay.old → (result ≢ Err CoreOpen.Bay) × (result ≢ Err CoreOpen.Device) }
+        ensures sound { IsSound B.disk B.steady D.content D.armed D.arms D.starved D.faults bay.old →
+            (result ≢ Err CoreOpen.Bay) × (result ≢ Err CoreOpen.Device) }
     {
         let hosts = take_hosts(alloc, bay, &conf)?;
         Ok(Core {
@@ -208,6 +220,7 @@ impl<D: Disk + Drop> Core<D> {
         requires { AreOut B.out (all_names (hosted_slots self.hosts.parts)) bay.old }
         ensures back { ArePutBack B.disk bay.old bay.new (disks_in self.hosts) }
         ensures in_again { AreOut B.out [] bay.new }
+        ensures others { (name : List ℕ) → (IsTaken self.conf name → ⊥) → SameSlot B.disk B.out B.taken name bay.old bay.new }
         ensures rises { HasRisen B.taken D.faults bay.old (disks_in self.hosts) → Rose (B.faults bay.old) (B.faults bay.new) }
         ensures later { B.faults bay.old ≤ B.faults bay.new }
         ensures told { TellsStill B.disk bay.old bay.new }
@@ -233,7 +246,8 @@ impl<D: Disk + Drop> Core<D> {
         requires moment { HasMoment event.now }
 
         // It is a step of the machine that the broker stands for, where its disks tell their contents.
-        ensures ok { IfOk result (λ outcomes. Advances D.content D.image D.starved D.faults D.losses D.arms D.armed self.old event.now outcomes.items self.new) }
+        ensures ok { IfOk result (λ outcomes.
+            Advances D.content D.image D.starved D.faults D.losses D.arms D.armed self.old event.now outcomes.items self.new) }
         ensures open { OnOk result (AreOpen self.new.hosts) }
 
         // On such disks it fails for want of memory alone, and the disks stand for the machine before the event, or behind it, or behind
@@ -243,7 +257,8 @@ impl<D: Disk + Drop> Core<D> {
 
         // On any disks: a fault that is told is that of a hosted partition. Why it was not opened again, which comes of a power loss alone.
         ensures told { IfOk result (λ outcomes. All (IsTold self.old.conf.topics) outcomes.items) }
-        ensures reopen { (f : CoreOpen) → result ≡ Err (CoreFault.Reopen f) → ((choice : ℕ) × (event.now ≡ Power choice)) × (f ≢ CoreOpen.Bay) × (f ≢ CoreOpen.NoMemory) }
+        ensures reopen { (f : CoreOpen) → result ≡ Err (CoreFault.Reopen f) →
+            ((choice : ℕ) × (event.now ≡ Power choice)) × (f ≢ CoreOpen.Bay) × (f ≢ CoreOpen.NoMemory) }
         ensures device { result ≡ Err (CoreFault.Reopen CoreOpen.Device) → OneRose D.faults (disks_in self.old.hosts) (disks_in self.new.hosts) }
         ensures disks { GoOn D.content D.faults (disks_in self.old.hosts) (disks_in self.new.hosts) }
         ensures conf { self.new.conf ≡ self.old.conf }

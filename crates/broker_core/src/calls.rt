@@ -23,8 +23,8 @@ fn produce_in<D: Disk>(now: u64, batch: &[u8], slot: &mut PartSlot<D>) -> Result
     requires open { IsOpenState slot.old.state }
     ensures ok { IfOk result (λ produced.
         LeadsSlot D.content D.image D.starved D.faults D.losses D.arms D.armed now (Produces batch.now produced) slot.old slot.new) }
-    ensures stopped { OnErr result (HaltsSlot D.content D.image D.starved D.faults now (λ did. (produced : Produced) × (did ≡ Produces batch.now produced))
-        (λ begun. ⊥) slot.old slot.new) }
+    ensures stopped { OnErr result (HaltsSlot D.content D.image D.starved D.faults now
+        (λ did. (produced : Produced) × (did ≡ Produces batch.now produced)) (λ begun. ⊥) slot.old slot.new) }
     ensures fair { IfOk result HasTellableBase }
 {
     match &mut slot.state {
@@ -66,8 +66,8 @@ fn visit_in<D: Disk>(
     requires open { IsOpenState slot.old.state }
     ensures ok { IfOk result (λ answer.
         LeadsSlot D.content D.image D.starved D.faults D.losses D.arms D.armed now (Visits asked.now answer) slot.old slot.new) }
-    ensures stopped { OnErr result (HaltsSlot D.content D.image D.starved D.faults now (λ did. (answer : VisitAnswer) × (did ≡ Visits asked.now answer))
-        (λ begun. begun ≡ BeginsVisit asked.now) slot.old slot.new) }
+    ensures stopped { OnErr result (HaltsSlot D.content D.image D.starved D.faults now
+        (λ did. (answer : VisitAnswer) × (did ≡ Visits asked.now answer)) (λ begun. begun ≡ BeginsVisit asked.now) slot.old slot.new) }
     ensures fair { IfOk result IsTellableVisit }
 {
     match &mut slot.state {

@@ -9,7 +9,7 @@ ghost use Rattle.conn_core.specs.Turning.{Awaits, turn};
 ghost use Rattle.broker_model.specs.Shards.{Shards};
 ghost use Rattle.broker_model.specs.Machine.{Machine, named, opened, at_connection, conn_at, ended_in};
 ghost use Rattle.broker_model.specs.Steps.{Does, DoesTurn, Serves, replies_to};
-ghost use Rattle.broker_core.specs.Hosts.{AreApart, AreCarried, AreOpen, GoOn, Halts, HalvesNext, HalvesServe, Leads, StaysHosted, counts_in, disks_in, ends_in, parts_of};
+ghost use Rattle.broker_core.specs.Hosts.{AreApart, AreCarried, AreOpen, GoOn, Halts, HalvesNext, HalvesServe, Leads, StaysHosted, counts_in, disks_in, ends_over, parts_of};
 
 use crate::hosts::{Hosts, act};
 use crate::told::{fault_in, told};
@@ -58,12 +58,15 @@ fn ask<D: Disk>(
     requires hosted { length hosts.old.parts.items ≡ partitions conf.now.topics }
     ensures ok { IfOk result (λ outcomes. (s : Shards) → AreCarried D.content D.image D.starved (parts_of hosts.old) s →
         Leads D.content D.image D.starved D.faults D.losses D.arms D.armed (parts_of hosts.old) s (parts_of hosts.new)
-        (λ a call b. Does (counts_in D.faults D.losses D.arms D.armed (disks_in (parts_of hosts.old)) (disks_in (parts_of hosts.new))) (ends_in (parts_of hosts.old)) id now (Next.Ask part) conn.old a b call outcomes.items conn.new)) }
+        (λ a call b. Does (counts_in D.faults D.losses D.arms D.armed (disks_in (parts_of hosts.old)) (disks_in (parts_of hosts.new)))
+        (ends_over (parts_of hosts.old) (parts_of hosts.new)) id now (Next.Ask part) conn.old a b call outcomes.items conn.new)) }
     ensures stopped { OnErr result ((s : Shards) → AreCarried D.content D.image D.starved (parts_of hosts.old) s →
-        Halts D.content D.image s (parts_of hosts.new)
+        Halts D.content D.image (parts_of hosts.old) s (parts_of hosts.new)
         (λ a call b. (outcomes : List Outcome) × (after : ConnParts)
-        × Does (counts_in D.faults D.losses D.arms D.armed (disks_in (parts_of hosts.old)) (disks_in (parts_of hosts.new))) (ends_in (parts_of hosts.old)) id now (Next.Ask part) conn.old a b call outcomes after)
-        (HalvesNext (counts_in D.faults D.losses D.arms D.armed (disks_in (parts_of hosts.old)) (disks_in (parts_of hosts.new))) (ends_in (parts_of hosts.old)) (Next.Ask part))) }
+        × Does (counts_in D.faults D.losses D.arms D.armed (disks_in (parts_of hosts.old)) (disks_in (parts_of hosts.new)))
+        (ends_over (parts_of hosts.old) (parts_of hosts.new)) id now (Next.Ask part) conn.old a b call outcomes after)
+        (HalvesNext (counts_in D.faults D.losses D.arms D.armed (disks_in (parts_of hosts.old)) (disks_in (parts_of hosts.new)))
+        (ends_over (parts_of hosts.old) (parts_of hosts.new)) (Next.Ask part))) }
     ensures told { IfOk result (λ outcomes. All (IsTold conf.now.topics) outcomes.items) }
     ensures disks { GoOn D.content D.faults (disks_in (parts_of hosts.old)) (disks_in (parts_of hosts.new)) }
     ensures open { AreOpen (parts_of hosts.new) }
@@ -93,12 +96,15 @@ fn done<D: Disk>(
     requires hosted { length hosts.old.parts.items ≡ partitions conf.now.topics }
     ensures ok { IfOk result (λ outcomes. (s : Shards) → AreCarried D.content D.image D.starved (parts_of hosts.old) s →
         Leads D.content D.image D.starved D.faults D.losses D.arms D.armed (parts_of hosts.old) s (parts_of hosts.new)
-        (λ a call b. Does (counts_in D.faults D.losses D.arms D.armed (disks_in (parts_of hosts.old)) (disks_in (parts_of hosts.new))) (ends_in (parts_of hosts.old)) id now next conn.old a b call outcomes.items conn.new)) }
+        (λ a call b. Does (counts_in D.faults D.losses D.arms D.armed (disks_in (parts_of hosts.old)) (disks_in (parts_of hosts.new)))
+        (ends_over (parts_of hosts.old) (parts_of hosts.new)) id now next conn.old a b call outcomes.items conn.new)) }
     ensures stopped { OnErr result ((s : Shards) → AreCarried D.content D.image D.starved (parts_of hosts.old) s →
-        Halts D.content D.image s (parts_of hosts.new)
+        Halts D.content D.image (parts_of hosts.old) s (parts_of hosts.new)
         (λ a call b. (outcomes : List Outcome) × (after : ConnParts)
-        × Does (counts_in D.faults D.losses D.arms D.armed (disks_in (parts_of hosts.old)) (disks_in (parts_of hosts.new))) (ends_in (parts_of hosts.old)) id now next conn.old a b call outcomes after)
-        (HalvesNext (counts_in D.faults D.losses D.arms D.armed (disks_in (parts_of hosts.old)) (disks_in (parts_of hosts.new))) (ends_in (parts_of hosts.old)) next)) }
+        × Does (counts_in D.faults D.losses D.arms D.armed (disks_in (parts_of hosts.old)) (disks_in (parts_of hosts.new)))
+        (ends_over (parts_of hosts.old) (parts_of hosts.new)) id now next conn.old a b call outcomes after)
+        (HalvesNext (counts_in D.faults D.losses D.arms D.armed (disks_in (parts_of hosts.old)) (disks_in (parts_of hosts.new)))
+        (ends_over (parts_of hosts.old) (parts_of hosts.new)) next)) }
     ensures told { IfOk result (λ outcomes. All (IsTold conf.now.topics) outcomes.items) }
     ensures disks { GoOn D.content D.faults (disks_in (parts_of hosts.old)) (disks_in (parts_of hosts.new)) }
     ensures open { AreOpen (parts_of hosts.new) }
@@ -132,12 +138,15 @@ fn step<D: Disk>(
     requires hosted { length hosts.old.parts.items ≡ partitions conf.now.topics }
     ensures ok { IfOk result (λ did. (s : Shards) → AreCarried D.content D.image D.starved (parts_of hosts.old) s →
         Leads D.content D.image D.starved D.faults D.losses D.arms D.armed (parts_of hosts.old) s (parts_of hosts.new)
-        (λ a call b. DoesTurn (counts_in D.faults D.losses D.arms D.armed (disks_in (parts_of hosts.old)) (disks_in (parts_of hosts.new))) (ends_in (parts_of hosts.old)) id now (turn conf.now conn.old) a b call did.0.items conn.new)) }
+        (λ a call b. DoesTurn (counts_in D.faults D.losses D.arms D.armed (disks_in (parts_of hosts.old)) (disks_in (parts_of hosts.new)))
+        (ends_over (parts_of hosts.old) (parts_of hosts.new)) id now (turn conf.now conn.old) a b call did.0.items conn.new)) }
     ensures stopped { OnErr result ((s : Shards) → AreCarried D.content D.image D.starved (parts_of hosts.old) s →
-        Halts D.content D.image s (parts_of hosts.new)
+        Halts D.content D.image (parts_of hosts.old) s (parts_of hosts.new)
         (λ a call b. (outcomes : List Outcome) × (after : ConnParts)
-        × DoesTurn (counts_in D.faults D.losses D.arms D.armed (disks_in (parts_of hosts.old)) (disks_in (parts_of hosts.new))) (ends_in (parts_of hosts.old)) id now (turn conf.now conn.old) a b call outcomes after)
-        (HalvesNext (counts_in D.faults D.losses D.arms D.armed (disks_in (parts_of hosts.old)) (disks_in (parts_of hosts.new))) (ends_in (parts_of hosts.old)) (turn conf.now conn.old).next)) }
+        × DoesTurn (counts_in D.faults D.losses D.arms D.armed (disks_in (parts_of hosts.old)) (disks_in (parts_of hosts.new)))
+        (ends_over (parts_of hosts.old) (parts_of hosts.new)) id now (turn conf.now conn.old) a b call outcomes after)
+        (HalvesNext (counts_in D.faults D.losses D.arms D.armed (disks_in (parts_of hosts.old)) (disks_in (parts_of hosts.new)))
+        (ends_over (parts_of hosts.old) (parts_of hosts.new)) (turn conf.now conn.old).next)) }
     ensures told { IfOk result (λ did. All (IsTold conf.now.topics) did.0.items) }
     ensures gone { IfOk result (λ did. did.1 ≡ is_gone conn.new) }
     ensures disks { GoOn D.content D.faults (disks_in (parts_of hosts.old)) (disks_in (parts_of hosts.new)) }
@@ -173,14 +182,17 @@ pub fn serve<D: Disk>(
     requires hosted { length hosts.old.parts.items ≡ partitions conf.now.topics }
     ensures ok { IfOk result (λ outcomes. (s : Shards) → AreCarried D.content D.image D.starved (parts_of hosts.old) s →
         Leads D.content D.image D.starved D.faults D.losses D.arms D.armed (parts_of hosts.old) s (parts_of hosts.new)
-        (λ a call b. Serves conf.now (counts_in D.faults D.losses D.arms D.armed (disks_in (parts_of hosts.old)) (disks_in (parts_of hosts.new))) (ends_in (parts_of hosts.old)) (record { connections = clients.old.entries; shards = a }) id now
+        (λ a call b. Serves conf.now (counts_in D.faults D.losses D.arms D.armed (disks_in (parts_of hosts.old)) (disks_in (parts_of hosts.new)))
+        (ends_over (parts_of hosts.old) (parts_of hosts.new)) (record { connections = clients.old.entries; shards = a }) id now
         (conn_at id clients.old.entries) call outcomes.items (record { connections = clients.new.entries; shards = b }))) }
     ensures stopped { OnErr result ((s : Shards) → AreCarried D.content D.image D.starved (parts_of hosts.old) s →
-        Halts D.content D.image s (parts_of hosts.new)
+        Halts D.content D.image (parts_of hosts.old) s (parts_of hosts.new)
         (λ a call b. (outcomes : List Outcome) × (after : Machine) × (after.shards ≡ b)
-        × Serves conf.now (counts_in D.faults D.losses D.arms D.armed (disks_in (parts_of hosts.old)) (disks_in (parts_of hosts.new))) (ends_in (parts_of hosts.old)) (record { connections = clients.old.entries; shards = a }) id now
+        × Serves conf.now (counts_in D.faults D.losses D.arms D.armed (disks_in (parts_of hosts.old)) (disks_in (parts_of hosts.new)))
+        (ends_over (parts_of hosts.old) (parts_of hosts.new)) (record { connections = clients.old.entries; shards = a }) id now
         (conn_at id clients.old.entries) call outcomes after)
-        (HalvesServe conf.now (counts_in D.faults D.losses D.arms D.armed (disks_in (parts_of hosts.old)) (disks_in (parts_of hosts.new))) (ends_in (parts_of hosts.old)) (conn_at id clients.old.entries))) }
+        (HalvesServe conf.now (counts_in D.faults D.losses D.arms D.armed (disks_in (parts_of hosts.old)) (disks_in (parts_of hosts.new)))
+        (ends_over (parts_of hosts.old) (parts_of hosts.new)) (conn_at id clients.old.entries))) }
     ensures told { IfOk result (λ outcomes. All (IsTold conf.now.topics) outcomes.items) }
     ensures disks { GoOn D.content D.faults (disks_in (parts_of hosts.old)) (disks_in (parts_of hosts.new)) }
     ensures open { AreOpen (parts_of hosts.new) }

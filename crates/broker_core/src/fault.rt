@@ -53,7 +53,8 @@ pub fn fault_of_call<D: Disk>(disk: &D) -> CoreOpen
 
 /// Loses the power of a disk.
 pub fn lose<D: Disk>(choice: u64, disk: &mut D) -> Result<(), CoreOpen>
-    ensures lost { OnOk result (IsTold (D.content disk.old) → (c : List ℕ) × IsLost D.content D.image D.faults D.losses D.arms D.armed choice disk.old disk.new c) }
+    ensures lost { OnOk result (IsTold (D.content disk.old) →
+        (c : List ℕ) × IsLost D.content D.image D.faults D.losses D.arms D.armed choice disk.old disk.new c) }
     ensures images { Within (D.image disk.old) (D.image disk.new) }
     ensures memory { IsTold (D.content disk.old) → IfErr result (λ e. e ≡ CoreOpen.NoMemory) }
     ensures only { IfErr result (λ e. (e ≡ CoreOpen.Device) ⊎ (e ≡ CoreOpen.NoMemory)) }

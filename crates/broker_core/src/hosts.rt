@@ -3,7 +3,7 @@ ghost use Rattle.std.specs.Prelude.{◌≡◌, ◌≤◌, ◌^◌, ℕ, IfOk, On
 ghost use Rattle.call_fold.specs.Parts.{IsAnswerTo};
 ghost use Rattle.call_fold.specs.declared.part.PartAnswer.{PartAnswer};
 ghost use Rattle.broker_model.specs.Shards.{Shards};
-ghost use Rattle.broker_core.specs.Hosts.{AreApart, AreCarried, AreOpen, Did, GoOn, Halts, IsHalfDone, IsThere, Leads, StaysHosted, counts_in, disks_in, ends_in, parts_of};
+ghost use Rattle.broker_core.specs.Hosts.{AreApart, AreCarried, AreOpen, Did, GoOn, Halts, IsHalfDone, IsThere, Leads, StaysHosted, counts_in, disks_in, ends_over, parts_of};
 
 use crate::calls::{look_at, produce_at, visit_at};
 use crate::shard::act as act_on_foreign;
@@ -34,11 +34,14 @@ pub fn act<D: Disk>(
     requires apart { AreApart (parts_of hosts.old) }
     ensures ok { IfOk result (λ answer. (s : Shards) → AreCarried D.content D.image D.starved (parts_of hosts.old) s →
         Leads D.content D.image D.starved D.faults D.losses D.arms D.armed (parts_of hosts.old) s (parts_of hosts.new)
-        (Did (counts_in D.faults D.losses D.arms D.armed (disks_in (parts_of hosts.old)) (disks_in (parts_of hosts.new))) (ends_in (parts_of hosts.old)) now part.now answer)) }
+        (Did (counts_in D.faults D.losses D.arms D.armed (disks_in (parts_of hosts.old)) (disks_in (parts_of hosts.new)))
+        (ends_over (parts_of hosts.old) (parts_of hosts.new)) now part.now answer)) }
     ensures stopped { OnErr result ((s : Shards) → AreCarried D.content D.image D.starved (parts_of hosts.old) s →
-        Halts D.content D.image s (parts_of hosts.new) (λ a call b. (answer : PartAnswer)
-        × Did (counts_in D.faults D.losses D.arms D.armed (disks_in (parts_of hosts.old)) (disks_in (parts_of hosts.new))) (ends_in (parts_of hosts.old)) now part.now answer a call b)
-        (IsHalfDone (counts_in D.faults D.losses D.arms D.armed (disks_in (parts_of hosts.old)) (disks_in (parts_of hosts.new))) (ends_in (parts_of hosts.old)) part.now)) }
+        Halts D.content D.image (parts_of hosts.old) s (parts_of hosts.new) (λ a call b. (answer : PartAnswer)
+        × Did (counts_in D.faults D.losses D.arms D.armed (disks_in (parts_of hosts.old)) (disks_in (parts_of hosts.new)))
+        (ends_over (parts_of hosts.old) (parts_of hosts.new)) now part.now answer a call b)
+        (IsHalfDone (counts_in D.faults D.losses D.arms D.armed (disks_in (parts_of hosts.old)) (disks_in (parts_of hosts.new)))
+        (ends_over (parts_of hosts.old) (parts_of hosts.new)) part.now)) }
     ensures fair { IfOk result (IsAnswerTo part.now) }
     ensures there { OnOk result (IsThere (length hosts.old.parts.items) part.now) }
     ensures disks { GoOn D.content D.faults (disks_in (parts_of hosts.old)) (disks_in (parts_of hosts.new)) }

@@ -194,8 +194,11 @@ pub fn open_part<D: Disk>(
     ensures device { IfErr result (λ e. e.1 ≡ CoreOpen.Device →
         Rose (D.faults disks.0) (D.faults e.0.0) ⊎ (Rose (D.faults disks.1) (D.faults e.0.1) ⊎ Rose (D.faults disks.2) (D.faults e.0.2))) }
     ensures no_bay { IfErr result (λ e. e.1 ≢ CoreOpen.Bay) }
-    ensures images { IfErr result (λ e. PartImagesStandAs D.image disks.0 disks.1 disks.2 e.0.0 e.0.1 e.0.2) }
-    ensures log { MatchResult result (λ part. GoesOn D.content D.faults disks.0 part.log.journal.disk) (λ e. GoesOn D.content D.faults disks.0 e.0.0) }
+    ensures images { MatchResult result
+        (λ part. PartImagesStandAs D.image disks.0 disks.1 disks.2 part.log.journal.disk part.states.journal.live.disk part.states.journal.idle)
+        (λ e. PartImagesStandAs D.image disks.0 disks.1 disks.2 e.0.0 e.0.1 e.0.2) }
+    ensures log { MatchResult result (λ part. GoesOn D.content D.faults disks.0 part.log.journal.disk)
+        (λ e. GoesOn D.content D.faults disks.0 e.0.0) }
     ensures first { MatchResult result (λ part. GoesOn D.content D.faults disks.1 part.states.journal.live.disk)
         (λ e. GoesOn D.content D.faults disks.1 e.0.1) }
     ensures second { MatchResult result (λ part. GoesOn D.content D.faults disks.2 part.states.journal.idle)
@@ -231,6 +234,10 @@ pub fn restart_part<D: Disk>(
         IsRestartedPart D.content D.image D.starved D.faults D.losses D.arms D.armed choice conf part s new) }
     ensures err { IfErr result (λ e. (s : PartShardState) → IsPartCarried D.content D.image D.starved conf part s →
         PartStandsAlone D.content D.image conf s e.0.0 e.0.1 e.0.2 × (e.1 ≡ CoreOpen.NoMemory)) }
+    ensures images { MatchResult result
+        (λ new. PartImagesStandAs D.image part.log.journal.disk part.states.journal.live.disk part.states.journal.idle
+        new.log.journal.disk new.states.journal.live.disk new.states.journal.idle)
+        (λ e. PartImagesStandAs D.image part.log.journal.disk part.states.journal.live.disk part.states.journal.idle e.0.0 e.0.1 e.0.2) }
     ensures device { IfErr result (λ e. e.1 ≡ CoreOpen.Device → Rose (D.faults part.log.journal.disk) (D.faults e.0.0)
         ⊎ (Rose (D.faults part.states.journal.live.disk) (D.faults e.0.1) ⊎ Rose (D.faults part.states.journal.idle) (D.faults e.0.2))) }
     ensures no_bay { IfErr result (λ e. e.1 ≢ CoreOpen.Bay) }

@@ -1,9 +1,9 @@
 // Power losses: all disks lose their power, and each shard is opened again.
-ghost use Rattle.std.specs.Prelude.{◌≡◌, ◌≢◌, ◌⊎◌, IfErr, OnOk, Err};
+ghost use Rattle.std.specs.Prelude.{◌≡◌, ◌≢◌, ◌⊎◌, ◌-◌, IfErr, OnOk, Err};
 ghost use Rattle.std.specs.List.{AllZip};
 ghost use Rattle.edge_io.specs.Names.{IsTopicName};
 ghost use Rattle.broker_model.specs.Shards.{Shards};
-ghost use Rattle.broker_core.specs.Hosts.{AreApart, AreCarried, AreHeld, AreNamed, AreOpen, AreOpenParts, GoOn, IsOpen, IsOpenState, OneRose, StandStill, StaysHosted, disks_in, hosted_slots, parts_of};
+ghost use Rattle.broker_core.specs.Hosts.{AreApart, AreCarried, AreHeld, AreNamed, AreOpen, AreOpenParts, DisksReach, GoOn, IsOpen, IsOpenState, OneRose, StandStill, StaysHosted, disks_in, ends_in, hosted_slots, parts_of};
 ghost use Rattle.broker_core.specs.Restarts.{ReopensSlot, ShutsSlot, StopsAt};
 ghost use Rattle.broker_core.specs.Cores.{AreReopened};
 ghost use Rattle.broker_core.specs.Foreign.{ReopensForeign, ShutsForeign};
@@ -53,8 +53,10 @@ fn lose_parts<D: Disk + Drop>(
 ) -> Result<(), CoreFault>
     requires open { AreOpenParts parts.old.items }
     requires named { AreNamed (hosted_slots parts.old.items) }
-    ensures ok { OnOk result (AllZip (ReopensSlot D.content D.image D.starved D.faults D.losses D.arms D.armed choice) parts.old.items parts.new.items) }
-    ensures stopped { IfErr result (λ e. StopsAt D.content D.image D.starved D.faults D.losses D.arms D.armed choice e parts.old.items parts.new.items) }
+    ensures ok { OnOk result (AllZip (ReopensSlot D.content D.image D.starved D.faults D.losses D.arms D.armed choice)
+        parts.old.items parts.new.items) }
+    ensures stopped { IfErr result (λ e.
+        StopsAt D.content D.image D.starved D.faults D.losses D.arms D.armed choice e parts.old.items parts.new.items) }
 {
     let mut place = 0;
     'parts: while place < parts.len() {
@@ -102,8 +104,10 @@ pub fn lose_power<D: Disk + Drop>(
     ensures ok { OnOk result ((s : Shards) → AreCarried D.content D.image D.starved (parts_of hosts.old) s →
         AreReopened D.content D.image D.starved D.faults D.losses D.arms D.armed choice (parts_of hosts.old) s (parts_of hosts.new)) }
     ensures stopped { IfErr result (λ e. (s : Shards) → AreCarried D.content D.image D.starved (parts_of hosts.old) s →
-        StandStill D.content D.image s (disks_in (parts_of hosts.new)) × (e ≡ CoreFault.NoMemory)) }
-    ensures device { result ≡ Err (CoreFault.Reopen CoreOpen.Device) → OneRose D.faults (disks_in (parts_of hosts.old)) (disks_in (parts_of hosts.new)) }
+        StandStill D.content D.image s (disks_in (parts_of hosts.new))
+        × DisksReach D.image (disks_in (parts_of hosts.new)) (λ name. ends_in (parts_of hosts.old) name - 1) × (e ≡ CoreFault.NoMemory)) }
+    ensures device { result ≡ Err (CoreFault.Reopen CoreOpen.Device) →
+        OneRose D.faults (disks_in (parts_of hosts.old)) (disks_in (parts_of hosts.new)) }
     ensures never { (f : CoreOpen) → result ≡ Err (CoreFault.Reopen f) → (f ≢ CoreOpen.Bay) × (f ≢ CoreOpen.NoMemory) }
     ensures disks { GoOn D.content D.faults (disks_in (parts_of hosts.old)) (disks_in (parts_of hosts.new)) }
     ensures open { OnOk result (AreOpen (parts_of hosts.new)) }

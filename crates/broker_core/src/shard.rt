@@ -73,7 +73,8 @@ pub fn open<D: Disk>(
         (a b : List ℕ) → D.content first ≡ Some a → D.content second ≡ Some b → IsDamagedState a b name place) }
     ensures device { IfErr result (λ e. e.2 ≡ CoreOpen.Device → Rose (D.faults first) (D.faults e.0) ⊎ Rose (D.faults second) (D.faults e.1)) }
     ensures no_bay { IfErr result (λ e. e.2 ≢ CoreOpen.Bay) }
-    ensures images { IfErr result (λ e. ImagesStandAs D.image first second e.0 e.1) }
+    ensures images { MatchResult result (λ new. ImagesStandAs D.image first second new.journal.live.disk new.journal.idle)
+        (λ e. ImagesStandAs D.image first second e.0 e.1) }
     ensures first { MatchResult result (λ new. GoesOn D.content D.faults first new.journal.live.disk) (λ e. GoesOn D.content D.faults first e.0) }
     ensures second { MatchResult result (λ new. GoesOn D.content D.faults second new.journal.idle) (λ e. GoesOn D.content D.faults second e.1) }
 {
@@ -104,6 +105,9 @@ pub fn restart<D: Disk>(
         IsRestartedShard D.content D.image D.starved D.faults D.losses D.arms D.armed choice shard s new) }
     ensures err { IfErr result (λ e. (s : ForeignShardState) → IsCarried D.content D.image D.starved shard s →
         IsNotRestarted D.content D.image s e.0 e.1 × (e.2 ≡ CoreOpen.NoMemory)) }
+    ensures images { MatchResult result
+        (λ new. ImagesStandAs D.image shard.journal.live.disk shard.journal.idle new.journal.live.disk new.journal.idle)
+        (λ e. ImagesStandAs D.image shard.journal.live.disk shard.journal.idle e.0 e.1) }
     ensures device { IfErr result (λ e. e.2 ≡ CoreOpen.Device →
         Rose (D.faults shard.journal.live.disk) (D.faults e.0) ⊎ Rose (D.faults shard.journal.idle) (D.faults e.1)) }
     ensures no_bay { IfErr result (λ e. e.2 ≢ CoreOpen.Bay) }

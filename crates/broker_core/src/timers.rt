@@ -9,7 +9,7 @@ ghost use Rattle.broker_model.specs.Shards.{Shards, StepsShards};
 ghost use Rattle.broker_model.specs.Shards.ShardCall.{CallMembers};
 ghost use Rattle.broker_model.specs.Shards.MembersCall.{Ticks};
 ghost use Rattle.broker_model.specs.Steps.{ExpiresAt};
-ghost use Rattle.broker_core.specs.Hosts.{AreApart, AreCarried, AreOpen, ExpiresShard, GoOn, Halts, HalvesExpiry, Leads, StaysHosted, counts_in, disks_in, ends_in, parts_of};
+ghost use Rattle.broker_core.specs.Hosts.{AreApart, AreCarried, AreOpen, ExpiresShard, GoOn, Halts, HalvesExpiry, Leads, StaysHosted, counts_in, disks_in, ends_over, parts_of};
 
 use crate::calls::expire_at;
 use crate::hosts::Hosts;
@@ -32,12 +32,16 @@ fn expire_shard<D: Disk>(
     requires apart { AreApart (parts_of hosts.old) }
     ensures ok { IfOk result (λ outcomes. (s : Shards) → AreCarried D.content D.image D.starved (parts_of hosts.old) s →
         Leads D.content D.image D.starved D.faults D.losses D.arms D.armed (parts_of hosts.old) s (parts_of hosts.new)
-        (ExpiresShard (counts_in D.faults D.losses D.arms D.armed (disks_in (parts_of hosts.old)) (disks_in (parts_of hosts.new))) (ends_in (parts_of hosts.old)) now shard outcomes.items)) }
+        (ExpiresShard (counts_in D.faults D.losses D.arms D.armed (disks_in (parts_of hosts.old)) (disks_in (parts_of hosts.new)))
+        (ends_over (parts_of hosts.old) (parts_of hosts.new)) now shard outcomes.items)) }
     ensures stopped { OnErr result ((s : Shards) → AreCarried D.content D.image D.starved (parts_of hosts.old) s →
-        Halts D.content D.image s (parts_of hosts.new) (λ a call b. (outcomes : List Outcome)
-        × ExpiresShard (counts_in D.faults D.losses D.arms D.armed (disks_in (parts_of hosts.old)) (disks_in (parts_of hosts.new))) (ends_in (parts_of hosts.old)) now shard outcomes a call b)
-        (HalvesExpiry (counts_in D.faults D.losses D.arms D.armed (disks_in (parts_of hosts.old)) (disks_in (parts_of hosts.new))) (ends_in (parts_of hosts.old)) now shard)) }
-    ensures told { IfOk result (λ outcomes. (topics : List Topic) → length hosts.old.parts.items ≡ partitions topics → All (IsTold topics) outcomes.items) }
+        Halts D.content D.image (parts_of hosts.old) s (parts_of hosts.new) (λ a call b. (outcomes : List Outcome)
+        × ExpiresShard (counts_in D.faults D.losses D.arms D.armed (disks_in (parts_of hosts.old)) (disks_in (parts_of hosts.new)))
+        (ends_over (parts_of hosts.old) (parts_of hosts.new)) now shard outcomes a call b)
+        (HalvesExpiry (counts_in D.faults D.losses D.arms D.armed (disks_in (parts_of hosts.old)) (disks_in (parts_of hosts.new)))
+        (ends_over (parts_of hosts.old) (parts_of hosts.new)) now shard)) }
+    ensures told { IfOk result (λ outcomes. (topics : List Topic) → length hosts.old.parts.items ≡ partitions topics →
+        All (IsTold topics) outcomes.items) }
     ensures disks { GoOn D.content D.faults (disks_in (parts_of hosts.old)) (disks_in (parts_of hosts.new)) }
     ensures open { AreOpen (parts_of hosts.new) }
     ensures stays { StaysHosted (parts_of hosts.old) (parts_of hosts.new) }
@@ -62,16 +66,20 @@ pub fn expire<D: Disk>(
     ensures ok { IfOk result (λ outcomes. (s : Shards) → AreCarried D.content D.image D.starved (parts_of hosts.old) s →
         Leads D.content D.image D.starved D.faults D.losses D.arms D.armed (parts_of hosts.old) s (parts_of hosts.new)
         (λ a call b. (connections : List (ℕ × ConnParts))
-        → ExpiresAt (counts_in D.faults D.losses D.arms D.armed (disks_in (parts_of hosts.old)) (disks_in (parts_of hosts.new))) (ends_in (parts_of hosts.old)) now
+        → ExpiresAt (counts_in D.faults D.losses D.arms D.armed (disks_in (parts_of hosts.old)) (disks_in (parts_of hosts.new)))
+        (ends_over (parts_of hosts.old) (parts_of hosts.new)) now
         (record { connections = connections; shards = a }) (shard_named topic.now part conf.now.topics) call outcomes.items
         (record { connections = connections; shards = b }))) }
     ensures stopped { OnErr result ((s : Shards) → AreCarried D.content D.image D.starved (parts_of hosts.old) s →
-        Halts D.content D.image s (parts_of hosts.new) (λ a call b. (outcomes : List Outcome) × ((connections : List (ℕ × ConnParts))
-        → ExpiresAt (counts_in D.faults D.losses D.arms D.armed (disks_in (parts_of hosts.old)) (disks_in (parts_of hosts.new))) (ends_in (parts_of hosts.old)) now
+        Halts D.content D.image (parts_of hosts.old) s (parts_of hosts.new)
+        (λ a call b. (outcomes : List Outcome) × ((connections : List (ℕ × ConnParts))
+        → ExpiresAt (counts_in D.faults D.losses D.arms D.armed (disks_in (parts_of hosts.old)) (disks_in (parts_of hosts.new)))
+        (ends_over (parts_of hosts.old) (parts_of hosts.new)) now
         (record { connections = connections; shards = a }) (shard_named topic.now part conf.now.topics) call outcomes
         (record { connections = connections; shards = b })))
         (λ a b. (shard : ℕ) × (shard_named topic.now part conf.now.topics ≡ Some shard)
-        × HalvesExpiry (counts_in D.faults D.losses D.arms D.armed (disks_in (parts_of hosts.old)) (disks_in (parts_of hosts.new))) (ends_in (parts_of hosts.old)) now shard a b)) }
+        × HalvesExpiry (counts_in D.faults D.losses D.arms D.armed (disks_in (parts_of hosts.old)) (disks_in (parts_of hosts.new)))
+        (ends_over (parts_of hosts.old) (parts_of hosts.new)) now shard a b)) }
     ensures told { IfOk result (λ outcomes. All (IsTold conf.now.topics) outcomes.items) }
     ensures disks { GoOn D.content D.faults (disks_in (parts_of hosts.old)) (disks_in (parts_of hosts.new)) }
     ensures open { AreOpen (parts_of hosts.new) }
@@ -89,7 +97,8 @@ pub fn tick<D: Disk>(now: u64, hosts: &mut Hosts<D>)
     ensures ok { (s : Shards) → AreCarried D.content D.image D.starved (parts_of hosts.old) s →
         Leads D.content D.image D.starved D.faults D.losses D.arms D.armed (parts_of hosts.old) s (parts_of hosts.new)
         (λ a call b. (call ≡ Some (CallMembers Ticks)) × StepsShards
-        (counts_in D.faults D.losses D.arms D.armed (disks_in (parts_of hosts.old)) (disks_in (parts_of hosts.new))) (ends_in (parts_of hosts.old)) now a (CallMembers Ticks) b) }
+        (counts_in D.faults D.losses D.arms D.armed (disks_in (parts_of hosts.old)) (disks_in (parts_of hosts.new)))
+        (ends_over (parts_of hosts.old) (parts_of hosts.new)) now a (CallMembers Ticks) b) }
     ensures disks { GoOn D.content D.faults (disks_in (parts_of hosts.old)) (disks_in (parts_of hosts.new)) }
     ensures open { AreOpen (parts_of hosts.new) }
     ensures stays { StaysHosted (parts_of hosts.old) (parts_of hosts.new) }

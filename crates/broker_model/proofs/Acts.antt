@@ -11,7 +11,7 @@ use Rattle.conn_core.specs.Conns.{ConnParts}
 use Rattle.conn_core.specs.Turning.{turn}
 use Rattle.broker_model.specs.Hosted.{Hosted, ChangesAt, IsOneOf, IsTaken, disks_of, first_of, hosted_of, log_of, part_disks}
 use Rattle.share_members.specs.Groups.{Memberships}
-use Rattle.broker_model.specs.Shards.{Counts, HostedPart, MembersCall, PartCall, Shards, ShardCall, StepsHosted, StepsMembers, StepsShards, hosted_by}
+use Rattle.broker_model.specs.Shards.{Counts, HostedPart, MembersCall, PartCall, Shards, ShardCall, StepsHosted, StepsMembers, StepsShards, hosted_by, Ends}
 use Rattle.broker_model.specs.Shards.ShardCall.{CallForeign, CallPart, CallMembers}
 use Rattle.broker_model.specs.Shards.MembersCall.{Beats, Ticks}
 use Rattle.broker_model.specs.Machine.{Machine, conn_at}
@@ -25,16 +25,16 @@ pub record IsQuiet (old new : Shards) (call : Option ShardCall) : Type 0 where
   pub same : new ≡ old
 
 -- one was called
-pub record IsDid (counts : Counts) (ends : List ℕ → ℕ) (old new : Shards) (call : Option ShardCall) : Type 0 where
+pub record IsDid (counts : Counts) (ends : Ends) (old new : Shards) (call : Option ShardCall) : Type 0 where
   pub now : ℕ
   pub did : ShardCall
   pub is : call ≡ Some did
   pub step : StepsShards counts ends now old did new
 
-abbrev pub Acts : Counts → (List ℕ → ℕ) → Shards → Shards → Option ShardCall → Type 0
+abbrev pub Acts : Counts → Ends → Shards → Shards → Option ShardCall → Type 0
 Acts counts ends old new call = IsQuiet old new call ⊎ IsDid counts ends old new call
 
-module _ (counts : Counts) (ends : List ℕ → ℕ) where
+module _ (counts : Counts) (ends : Ends) where
   turn_acts : (id now : ℕ) (next : Next) (conn : ConnParts) (old new : Shards) (call : Option ShardCall) (outcomes : List Outcome) (after : ConnParts)
       → Does counts ends id now next conn old new call outcomes after → Acts counts ends old new call
   turn_acts id now Idle conn old new call outcomes after does = inl (record { none = does.none; same = does.stays })
@@ -88,7 +88,7 @@ module _ (conf : ConfigParts) (h : Hosted) (hosted : IsOf (hosted_of conf) h) wh
   pub first_taken : IsTaken conf (first_of h)
   first_taken = inl (disks_in (hosted_of conf) h (first_of h) hosted (inr (inl refl)))
 
-module _ (counts : Counts) (ends : List ℕ → ℕ) where
+module _ (counts : Counts) (ends : Ends) where
   module _ (now : ℕ) (hosted : Hosted) (did : PartCall) where
     -- the partition that is called is hosted
     hosted_in : (shard : ℕ) (old new : List HostedPart) → ChangesAt shard (StepsHosted counts ends now hosted did) old new → IsOf (hosted_by old) hosted

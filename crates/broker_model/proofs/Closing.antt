@@ -53,7 +53,7 @@ use Rattle.broker_model.specs.Keeping.{HasKept, IsClosedIn, KeepsAcknowledgement
 use Rattle.broker_model.specs.Locks.{Record}
 use Rattle.broker_model.specs.Starts.{IsWell, table_in}
 use Rattle.broker_model.specs.Runs.{Step, IsRun}
-use Rattle.broker_model.specs.States.{State, counts_of}
+use Rattle.broker_model.specs.States.{State, counts_of, ends_of}
 use Rattle.broker_model.proofs.Chains.{run_parts}
 use Rattle.broker_model.proofs.Goes.{Called, Goes, IsStepOf, called, parts_of, went}
 use Rattle.broker_model.proofs.Holding.{IsFree, acts_hold, hold_in, its_held, one_of_two, stores_hold, taken_free}
@@ -290,13 +290,13 @@ module _ (o : ℕ) (row : Row) (closed : is_closed_state row.state ≡ true) whe
       acks_keep (NotHeld offset) p k = still a b p.2.states p.2.pending p.2.held k
       acks_keep (ack_store fault) p k = stores_keep rose end a visit.group (kind_at visit.acks) b (Some fault) same p.1 k
 
-    groups_keep : (c l end : ℕ) (groups : List (List ℕ)) (freed : ℕ) (a b : PartShardState) (answer : ExpireAnswer)
-        → StepsGroups conf c l end groups freed a answer b → a.log.batches ≡ log → IsStill a → IsStill b
-    groups_keep c l end [] freed a b answer p same k = subst IsStill (sym p.1) k
-    groups_keep c l end (of ∷ groups) freed a b answer (inr p) same k =
+    groups_keep : (c l end last : ℕ) (groups : List (List ℕ)) (freed : ℕ) (a b : PartShardState) (answer : ExpireAnswer)
+        → StepsGroups conf c l end last groups freed a answer b → a.log.batches ≡ log → IsStill a → IsStill b
+    groups_keep c l end last [] freed a b answer p same k = subst IsStill (sym p.1) k
+    groups_keep c l end last (of ∷ groups) freed a b answer (inr p) same k =
         stores_keep (Rose c l) end a of (ending a.clock (a.held of)) b (Some p.0) same p.2.stores k
-    groups_keep c l end (of ∷ groups) freed a b answer (inl p) same k =
-        groups_keep p.1 l p.2 groups _ p.0 b answer p.5 (ap (λ (x : LogShardState). x.batches) p.3.log ∙ same)
+    groups_keep c l end last (of ∷ groups) freed a b answer (inl p) same k =
+        groups_keep p.1 l p.2 last groups _ p.0 b answer p.5 (ap (λ (x : LogShardState). x.batches) p.3.log ∙ same)
         (stores_keep (Rose c p.1) end a of (ending a.clock (a.held of)) p.0 None same p.3.stores k)
 
 -- ---- the act
@@ -364,7 +364,7 @@ module _ (o : ℕ) (row : Row) (closed : is_closed_state row.state ≡ true) (gr
   KeepsPart p = Keeps o row p.hosted.conf group p.shard.log.batches p.shard
 
   part_keeps : (s : Step) (now : ℕ) (h : Hosted) (x y : PartShardState) (did : PartCall) → IsLog x.log.batches
-      → StepsPart (counts_of s.before s.after) s.before.ends now h x did y → Keeps o row h.conf group x.log.batches x
+      → StepsPart (counts_of s.before s.after) (ends_of s.before s.after) now h x did y → Keeps o row h.conf group x.log.batches x
       → Keeps o row h.conf group x.log.batches y
   part_keeps s now h x y (Visits visit answer) is_log p k =
       let c = (counts_of s.before s.after (first_of h)).0 in
@@ -376,7 +376,7 @@ module _ (o : ℕ) (row : Row) (closed : is_closed_state row.state ≡ true) (gr
       still o row closed h.conf group x.log.batches is_log x y p.still.states p.still.pending p.still.held k
   part_keeps s now h x y (Looks asked looked) is_log p k = subst (λ (z : PartShardState). Keeps o row h.conf group x.log.batches z) (sym p.1) k
   part_keeps s now h x y (Expires answer) is_log p k =
-      groups_keep o row closed h.conf group x.log.batches is_log _ _ _ _ 0 (raised_to now x) y answer p.groups refl
+      groups_keep o row closed h.conf group x.log.batches is_log _ _ _ _ _ 0 (raised_to now x) y answer p.groups refl
       (still o row closed h.conf group x.log.batches is_log x (raised_to now x) refl refl refl k)
 
   goes_keep : (n : ℕ) (s : Step) (x y : HostedPart) → Goes n s x y → IsLog x.shard.log.batches → KeepsPart x → KeepsPart y
@@ -431,7 +431,7 @@ module _ (conf : ConfigParts) (r : Record) (s : Step) (c : IsClosedIn r s) (step
 
   acted : IsLog call_of.old.shard.log.batches → Begun
   acted is_log = by_stored does.1 where
-    p : StepsPart (counts_of s.before s.after) s.before.ends call_of.now c.hosted call_of.old.shard (Visits c.visit c.answer) call_of.new.shard
+    p : StepsPart (counts_of s.before s.after) (ends_of s.before s.after) call_of.now c.hosted call_of.old.shard (Visits c.visit c.answer) call_of.new.shard
     p = call_of.step.step
 
     does : Acknowledges c.hosted.conf (Rose (counts_of s.before s.after (first_of c.hosted)).0 p.counted) (s.before.ends (first_of c.hosted))

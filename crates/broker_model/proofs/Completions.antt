@@ -18,11 +18,11 @@ use Rattle.share_model.specs.Keys.{KeyParts, key_cmp}
 use Rattle.foreign_coord.specs.Shards.{ForeignShardState, IsDone, StepsForeign, is_granted, writes}
 use Rattle.topic_conf.specs.Configs.{ConfigParts}
 use Rattle.broker_model.specs.Hosted.{Hosted, state_a}
-use Rattle.broker_model.specs.Shards.{Counts, MembersCall, PartCall, Shards, ShardCall, StepsShards, rose_at}
+use Rattle.broker_model.specs.Shards.{Counts, MembersCall, PartCall, Shards, ShardCall, StepsShards, rose_at, Ends as JournalEnds}
 use Rattle.broker_model.specs.Shards.ShardCall.{CallForeign, CallPart, CallMembers}
 use Rattle.broker_model.specs.Machine.{Lands}
 use Rattle.broker_model.specs.Steps.{IsRestart, StepsTo}
-use Rattle.broker_model.specs.States.{State, IsStep, counts_of}
+use Rattle.broker_model.specs.States.{State, IsStep, counts_of, ends_of}
 use Rattle.broker_model.specs.Runs.{Step, IsRun}
 use Rattle.broker_model.specs.Laws.{NoPower}
 use Rattle.broker_model.specs.History.{Call, AreDone}
@@ -184,11 +184,11 @@ called_steps unfinished (Tick now) call old new free c = c
 called_steps unfinished (Arm disk after mode) call old new free c = c
 called_steps unfinished (Power choice) call old new free c = absurd free
 
-module _ (counts : Counts) (ends : List ℕ → ℕ) (unfinished : Option ForeignOp) (old new : Shards) (tied : IsTied unfinished old.foreign) where
+module _ (counts : Counts) (ends : JournalEnds) (unfinished : Option ForeignOp) (old new : Shards) (tied : IsTied unfinished old.foreign) where
   shard_completes : (now : ℕ) (did : ShardCall) → StepsShards counts ends now old did new
       → IsCompleted (CompletesCall old.foreign.states unfinished (Some did)) old.foreign new.foreign
   shard_completes now (CallForeign op answer fault) p =
-      did_completes unfinished old.foreign new.foreign tied (rose_at counts state_a) (ends state_a) op answer fault p.0
+      did_completes unfinished old.foreign new.foreign tied (rose_at counts state_a) (ends state_a).0 op answer fault p.0
   shard_completes now (CallPart shard hosted did) p = part_completes unfinished old.foreign new.foreign tied shard hosted did p.2
   shard_completes now (CallMembers did) p = members_complete unfinished old.foreign new.foreign tied did p.2
 
@@ -206,11 +206,11 @@ module _ (conf : ConfigParts) where
       → IsTied unfinished (foreign_of s.before) → Stepped unfinished s.event s.call (foreign_of s.before) (foreign_of s.after)
   step_completes unfinished s step tied = ⊎_elim
       (λ free. called_steps unfinished s.event s.call (foreign_of s.before) (foreign_of s.after) free
-      (acts_complete (counts_of s.before s.after) s.before.ends unfinished s.before.machine.shards s.after.machine.shards tied s.call
-      (step_acts (counts_of s.before s.after) s.before.ends conf s.before.machine s.after.machine s.call s.outcomes s.event free step.machine)))
+      (acts_complete (counts_of s.before s.after) (ends_of s.before s.after) unfinished s.before.machine.shards s.after.machine.shards tied s.call
+      (step_acts (counts_of s.before s.after) (ends_of s.before s.after) conf s.before.machine s.after.machine s.call s.outcomes s.event free step.machine)))
       (λ p.
       let restart : IsRestart s.before.machine s.call s.outcomes s.after.machine =
-      subst (λ (e : Event). StepsTo conf (counts_of s.before s.after) s.before.ends s.before.machine e s.call s.outcomes s.after.machine) p.1 step.machine in
+      subst (λ (e : Event). StepsTo conf (counts_of s.before s.after) (ends_of s.before s.after) s.before.machine e s.call s.outcomes s.after.machine) p.1 step.machine in
       subst (λ (e : Event). Stepped unfinished e s.call (foreign_of s.before) (foreign_of s.after)) (sym p.1)
       (loss_completes unfinished (foreign_of s.before) (foreign_of s.after) tied restart.lands.foreign))
       (power_or_not s.event)

@@ -39,7 +39,7 @@ use Rattle.broker_model.specs.Shards.ShardCall.{CallPart}
 use Rattle.broker_model.specs.Shards.PartCall.{Visits, Produces, Looks, Expires}
 use Rattle.broker_model.specs.Locks.{EndsLock, GrantsTo, HasExclusiveLocks, IsActedOnBy, IsExpiredIn, IsGranted, IsReleasedBy, Record}
 use Rattle.broker_model.specs.Runs.{Step, IsRun}
-use Rattle.broker_model.specs.States.{State, counts_of}
+use Rattle.broker_model.specs.States.{State, counts_of, ends_of}
 use Rattle.broker_model.proofs.Chains.{run_parts}
 use Rattle.broker_model.proofs.Goes.{Goes, IsStepOf, called, parts_of, went}
 use Rattle.broker_model.proofs.Holding.{EndsHold, IsMine, granted_taken, group_is, hold_in, holds_other, its_held, mine_taken, one_of_two, stores_hold, taken_unheld}
@@ -227,26 +227,26 @@ module _ (r : Record) (member : List ℕ) (until : ℕ) where
   due_end : (clock : ℕ) (hold : Hold) → nat_le hold.end clock ≡ true → hold.end ≤ clock
   due_end clock hold e = grind (arith, nat_tests)
 
-  still_free : (conf : PartConfParts) (a later end : ℕ) (groups : List (List ℕ)) (freed : ℕ) (old new : PartShardState) (answer : ExpireAnswer)
-      → StepsGroups conf a later end groups freed old answer new → hold_in old r.group r.offset ≡ None → hold_in new r.group r.offset ≡ None
-  still_free conf a later end [] freed old new answer p none = ap (λ (x : PartShardState). hold_in x r.group r.offset) p.1 ∙ none
-  still_free conf a later end (group ∷ groups) freed old new answer (inl p) none =
-      still_free conf p.1 later p.2 groups _ p.0 new answer p.5
+  still_free : (conf : PartConfParts) (a later end last : ℕ) (groups : List (List ℕ)) (freed : ℕ) (old new : PartShardState) (answer : ExpireAnswer)
+      → StepsGroups conf a later end last groups freed old answer new → hold_in old r.group r.offset ≡ None → hold_in new r.group r.offset ≡ None
+  still_free conf a later end last [] freed old new answer p none = ap (λ (x : PartShardState). hold_in x r.group r.offset) p.1 ∙ none
+  still_free conf a later end last (group ∷ groups) freed old new answer (inl p) none =
+      still_free conf p.1 later p.2 last groups _ p.0 new answer p.5
       (⊎_elim (λ same. same ∙ none) (λ e. e.free)
       (stores_hold conf (Rose a p.1) end old group (ending old.clock (old.held group)) p.0 None p.3.stores r.group r.offset))
-  still_free conf a later end (group ∷ groups) freed old new answer (inr p) none =
+  still_free conf a later end last (group ∷ groups) freed old new answer (inr p) none =
       ⊎_elim (λ same. same ∙ none) (λ e. e.free)
       (stores_hold conf (Rose a later) end old group (ending old.clock (old.held group)) new (Some p.0) p.2.stores r.group r.offset)
 
-  groups_lock : (conf : PartConfParts) (a later end : ℕ) (groups : List (List ℕ)) (freed : ℕ) (old new : PartShardState) (answer : ExpireAnswer)
-      → StepsGroups conf a later end groups freed old answer new → Locked old → Locked new ⊎ IsFreed old.clock new
-  groups_lock conf a later end [] freed old new answer p l = inl (locked_so old new (ap (λ (x : PartShardState). hold_in x r.group r.offset) p.1) l)
-  groups_lock conf a later end (group ∷ groups) freed old new answer (inr p) l = ⊎_elim
+  groups_lock : (conf : PartConfParts) (a later end last : ℕ) (groups : List (List ℕ)) (freed : ℕ) (old new : PartShardState) (answer : ExpireAnswer)
+      → StepsGroups conf a later end last groups freed old answer new → Locked old → Locked new ⊎ IsFreed old.clock new
+  groups_lock conf a later end last [] freed old new answer p l = inl (locked_so old new (ap (λ (x : PartShardState). hold_in x r.group r.offset) p.1) l)
+  groups_lock conf a later end last (group ∷ groups) freed old new answer (inr p) l = ⊎_elim
       (λ same. inl (locked_so old new same l))
       (λ e. absurd (none_not p.0 (sym e.stored)))
       (stores_hold conf (Rose a later) end old group (ending old.clock (old.held group)) new (Some p.0) p.2.stores r.group r.offset)
-  groups_lock conf a later end (group ∷ groups) freed old new answer (inl p) l = ⊎_elim
-      (λ same. go (groups_lock conf p.1 later p.2 groups _ p.0 new answer p.5 (locked_so old p.0 same l)))
+  groups_lock conf a later end last (group ∷ groups) freed old new answer (inl p) l = ⊎_elim
+      (λ same. go (groups_lock conf p.1 later p.2 last groups _ p.0 new answer p.5 (locked_so old p.0 same l)))
       (λ e. inr (freed_here e))
       (stores_hold conf (Rose a p.1) end old group (ending old.clock (old.held group)) p.0 None p.3.stores r.group r.offset)
     where
@@ -259,7 +259,7 @@ module _ (r : Record) (member : List ℕ) (until : ℕ) where
           let at : hold_at (old.held group) r.offset ≡ Some l.hold = ap (λ (g : List ℕ). hold_in old g r.offset) e.group_is ∙ l.at in
           let due = chosen_held (is_chosen (Due old.clock)) (old.held group) r.offset l.hold e.kind at e.named in
           record {
-            free = still_free conf p.1 later p.2 groups _ p.0 new answer p.5 e.free;
+            free = still_free conf p.1 later p.2 last groups _ p.0 new answer p.5 e.free;
             late = subst (λ (n : ℕ). n ≤ old.clock) l.ends (due_end old.clock l.hold due);
           }
 
@@ -288,7 +288,7 @@ module _ (r : Record) (member : List ℕ) (until : ℕ) where
 
     part_lock : (now : ℕ) (hosted : Hosted) (x y : HostedPart) → entry_at r.shard (parts_of s.before) ≡ Some x → entry_at r.shard (parts_of s.after) ≡ Some y
         → (did : PartCall) → s.call ≡ Some (CallPart r.shard hosted did)
-        → StepsPart (counts_of s.before s.after) s.before.ends now hosted x.shard did y.shard → Locked x.shard → Locked y.shard ⊎ Ends s
+        → StepsPart (counts_of s.before s.after) (ends_of s.before s.after) now hosted x.shard did y.shard → Locked x.shard → Locked y.shard ⊎ Ends s
     part_lock now hosted x y was is (Visits visit answer) call p l = ⊎_elim
         (λ l. ⊎_elim (λ l. inl l) (λ e. inr (inr (inl e)))
         (then_lock s hosted visit answer call _ p.at p.between y.shard visit.then refl p.does l))
@@ -302,7 +302,7 @@ module _ (r : Record) (member : List ℕ) (until : ℕ) where
         (λ l. inl l)
         (λ f. inr (inr (inr (inl (freed_in x y was is l hosted answer call
         (record { free = f.free; late = subst (λ (c : ℕ). until ≤ c) (sym p.clock) f.late }))))))
-        (groups_lock hosted.conf _ _ _ _ 0 (raised_to now x.shard) y.shard answer p.groups
+        (groups_lock hosted.conf _ _ _ _ _ 0 (raised_to now x.shard) y.shard answer p.groups
         (record { hold = l.hold; at = l.at; whose = l.whose; ends = l.ends }))
 
     pub step_lock : LockedIn s.before → LockedIn s.after ⊎ Ends s

@@ -33,7 +33,7 @@ use Rattle.share_part.specs.declared.limits.Limits.{Limits}
 use Rattle.call_fold.specs.declared.part.Produced.{Produced}
 use Rattle.call_fold.specs.declared.part.Produced.TheVariants.{Base, Batch, Store}
 use Rattle.broker_model.specs.Hosted.{Hosted, first_of, log_of, same_name, state_a}
-use Rattle.broker_model.specs.Shards.{Counts, PartCall, Shards, ShardCall, StepsHosted, StepsPart, StepsShards, faults_met, failures_in, part_faults_met, result_of, store_fault_of_ack, store_fault_of_expiry, store_fault_of_log, store_fault_of_then}
+use Rattle.broker_model.specs.Shards.{Counts, PartCall, Shards, ShardCall, StepsHosted, StepsPart, StepsShards, faults_met, failures_in, part_faults_met, result_of, store_fault_of_ack, store_fault_of_expiry, store_fault_of_log, store_fault_of_then, Ends}
 use Rattle.broker_model.specs.Shards.ShardCall.{CallForeign, CallPart, CallMembers}
 use Rattle.broker_model.specs.Shards.PartCall.{Visits, Produces, Looks, Expires}
 use Rattle.broker_model.specs.Machine.{Machine}
@@ -107,25 +107,25 @@ module _ (a b : ℕ) (le : a ≤ b) where
     then_met visit answer (Fetch records bytes first) p =
         fetch_met visit (record { records = records; bytes = bytes; first = first }) answer (share_state_at old.states (key_of conf visit.group)) p
 
-visit_met : (conf : PartConfParts) (a b end : ℕ) (old new : PartShardState) (now : ℕ) (visit : Visit) (answer : VisitAnswer)
-    → StepsVisit conf a b end old now visit answer new
+visit_met : (conf : PartConfParts) (a b end last : ℕ) (old new : PartShardState) (now : ℕ) (visit : Visit) (answer : VisitAnswer)
+    → StepsVisit conf a b end last old now visit answer new
     → Covers a b (faults_met (store_fault_of_ack answer.ack) + faults_met (store_fault_of_then answer.then))
-visit_met conf a b end old new now visit answer p =
+visit_met conf a b end last old new now visit answer p =
     covers_both a p.counted b (faults_met (store_fault_of_ack answer.ack)) (faults_met (store_fault_of_then answer.then))
     (acks_met a p.counted p.counts.0 conf end old p.between visit answer.ack p.acks.does)
     (then_met p.counted b p.counts.1 conf p.at p.between new visit answer visit.then p.does)
 
-groups_met : (conf : PartConfParts) (a b end : ℕ) (groups : List (List ℕ)) (freed : ℕ) (old : PartShardState) (answer : ExpireAnswer) (new : PartShardState)
-    → StepsGroups conf a b end groups freed old answer new → Covers a b (faults_met (store_fault_of_expiry answer))
-groups_met conf a b end [] freed old answer new p =
+groups_met : (conf : PartConfParts) (a b end last : ℕ) (groups : List (List ℕ)) (freed : ℕ) (old : PartShardState) (answer : ExpireAnswer) (new : PartShardState)
+    → StepsGroups conf a b end last groups freed old answer new → Covers a b (faults_met (store_fault_of_expiry answer))
+groups_met conf a b end last [] freed old answer new p =
     subst (λ (x : ExpireAnswer). Covers a b (faults_met (store_fault_of_expiry x))) (sym p.0) (covers_none a b p.2)
-groups_met conf a b end (group ∷ groups) freed old answer new (inl p) =
-    covers_late a p.1 b (faults_met (store_fault_of_expiry answer)) p.3.counts (groups_met conf p.1 b p.2 groups _ p.0 answer new p.5)
-groups_met conf a b end (group ∷ groups) freed old answer new (inr p) =
+groups_met conf a b end last (group ∷ groups) freed old answer new (inl p) =
+    covers_late a p.1 b (faults_met (store_fault_of_expiry answer)) p.3.counts (groups_met conf p.1 b p.2 last groups _ p.0 answer new p.5)
+groups_met conf a b end last (group ∷ groups) freed old answer new (inr p) =
     subst (λ (x : ExpireAnswer). Covers a b (faults_met (store_fault_of_expiry x))) (sym p.1)
     (acts_met a b p.2.counts conf end old new group _ (Some p.0) p.2.stores)
 
-module _ (counts : Counts) (ends : List ℕ → ℕ) (name : List ℕ) (later : (counts name).0 ≤ (counts name).1) where
+module _ (counts : Counts) (ends : Ends) (name : List ℕ) (later : (counts name).0 ≤ (counts name).1) where
   abbrev CoversAt : List ℕ → ℕ → Type 0
   CoversAt disk n = Covers (counts disk).0 (counts disk).1 n
 
@@ -142,19 +142,19 @@ module _ (counts : Counts) (ends : List ℕ → ℕ) (name : List ℕ) (later : 
       → CoversAt name (failures_in name (Some (CallPart shard h did)))
   part_met now h old new shard (Visits visit answer) step =
       met_at (first_of h) (part_faults_met (Visits visit answer))
-      (λ le. visit_met h.conf (counts (first_of h)).0 (counts (first_of h)).1 (ends (first_of h)) old new now visit answer step)
+      (λ le. visit_met h.conf (counts (first_of h)).0 (counts (first_of h)).1 (ends (first_of h)).0 (ends (first_of h)).1 old new now visit answer step)
   part_met now h old new shard (Produces batch produced) step =
       met_at (log_of h) (part_faults_met (Produces batch produced))
-      (λ le. log_met (counts (log_of h)).0 (counts (log_of h)).1 le (ends (log_of h)) old.log new.log batch produced step.log)
+      (λ le. log_met (counts (log_of h)).0 (counts (log_of h)).1 le (ends (log_of h)).0 old.log new.log batch produced step.log)
   part_met now h old new shard (Looks group looked) step = covers_none (counts name).0 (counts name).1 later
   part_met now h old new shard (Expires answer) step =
       met_at (first_of h) (part_faults_met (Expires answer))
-      (λ le. groups_met h.conf (counts (first_of h)).0 (counts (first_of h)).1 (ends (first_of h)) _ 0 _ answer new step.groups)
+      (λ le. groups_met h.conf (counts (first_of h)).0 (counts (first_of h)).1 (ends (first_of h)).0 (ends (first_of h)).1 _ 0 _ answer new step.groups)
 
   did_counts : (now : ℕ) (old new : Shards) (did : ShardCall) → StepsShards counts ends now old did new → CoversAt name (failures_in name (Some did))
   did_counts now old new (CallForeign op answer fault) step =
       met_at state_a (faults_met fault)
-      (λ le. foreign_met (counts state_a).0 (counts state_a).1 le (ends state_a) old.foreign new.foreign op answer fault step.0)
+      (λ le. foreign_met (counts state_a).0 (counts state_a).1 le (ends state_a).0 old.foreign new.foreign op answer fault step.0)
   did_counts now old new (CallPart shard hosted did) step =
       change_of shard (StepsHosted counts ends now hosted did)
       (λ e f s. part_met now hosted e.shard f.shard shard did s.step) old.parts new.parts step.0

@@ -8,7 +8,7 @@ use Rattle.broker_model.specs.Shards.{HostedPart, PartCall, Shards, ShardCall, S
 use Rattle.broker_model.specs.Shards.ShardCall.{CallForeign, CallPart, CallMembers}
 use Rattle.broker_model.specs.Machine.{LandsPart, OpensPart}
 use Rattle.broker_model.specs.Steps.{IsRestart, StepsTo}
-use Rattle.broker_model.specs.States.{State, IsStep, LosesAll, OnLosses, counts_of}
+use Rattle.broker_model.specs.States.{State, IsStep, LosesAll, OnLosses, counts_of, ends_of}
 use Rattle.broker_model.specs.Runs.{Step}
 use Rattle.broker_model.proofs.Lists.{Both, all_entry, back, both_so, changed, entry_at, forth, none_not, same_both, same_or_not, some_same, unchanged, zip_both}
 use Rattle.broker_model.proofs.Acts.{Acts, power_or_not, step_acts}
@@ -18,7 +18,7 @@ pub record IsCalledOn (n : ℕ) (s : Step) (old new : HostedPart) : Type 0 where
   pub hosted : Hosted
   pub did : PartCall
   pub call : s.call ≡ Some (CallPart n hosted did)
-  pub step : StepsHosted (counts_of s.before s.after) s.before.ends now hosted did old new
+  pub step : StepsHosted (counts_of s.before s.after) (ends_of s.before s.after) now hosted did old new
 
 pub record IsLostIn (s : Step) (old new : HostedPart) : Type 0 where
   pub choice : ℕ
@@ -47,13 +47,13 @@ module _ (conf : ConfigParts) (s : Step) (step : IsStepOf conf s) (n : ℕ) wher
   all_stay is = stays_on (ap (entry_at n) is)
 
   did_goes : (now : ℕ) (did : ShardCall) → s.call ≡ Some did
-      → StepsShards (counts_of s.before s.after) s.before.ends now s.before.machine.shards did s.after.machine.shards → GoesOn
+      → StepsShards (counts_of s.before s.after) (ends_of s.before s.after) now s.before.machine.shards did s.after.machine.shards → GoesOn
   did_goes now (CallForeign op answer fault) is p = all_stay p.1
   did_goes now (CallPart shard hosted did) is p = go (same_or_not n shard) where
     go : (n ≡ shard) ⊎ (n ≢ shard) → GoesOn
-    go (inr ne) = stays_on (unchanged shard n (StepsHosted (counts_of s.before s.after) s.before.ends now hosted did) (parts_of s.before) (parts_of s.after) ne p.0)
+    go (inr ne) = stays_on (unchanged shard n (StepsHosted (counts_of s.before s.after) (ends_of s.before s.after) now hosted did) (parts_of s.before) (parts_of s.after) ne p.0)
     go (inl e) =
-        let c = changed shard (StepsHosted (counts_of s.before s.after) s.before.ends now hosted did) (parts_of s.before) (parts_of s.after) p.0 in
+        let c = changed shard (StepsHosted (counts_of s.before s.after) (ends_of s.before s.after) now hosted did) (parts_of s.before) (parts_of s.after) p.0 in
         inr (record {
           old = c.old;
           new = c.new;
@@ -69,18 +69,18 @@ module _ (conf : ConfigParts) (s : Step) (step : IsStepOf conf s) (n : ℕ) wher
         })
   did_goes now (CallMembers did) is p = all_stay p.1
 
-  acts_go : Acts (counts_of s.before s.after) s.before.ends s.before.machine.shards s.after.machine.shards s.call → GoesOn
+  acts_go : Acts (counts_of s.before s.after) (ends_of s.before s.after) s.before.machine.shards s.after.machine.shards s.call → GoesOn
   acts_go (inl quiet) = all_stay (ap (λ (x : Shards). x.parts) quiet.same)
   acts_go (inr d) = did_goes d.now d.did d.is d.step
 
   goes_on : GoesOn
   goes_on = ⊎_elim
-      (λ free. acts_go (step_acts (counts_of s.before s.after) s.before.ends conf s.before.machine s.after.machine s.call s.outcomes s.event free step.machine))
+      (λ free. acts_go (step_acts (counts_of s.before s.after) (ends_of s.before s.after) conf s.before.machine s.after.machine s.call s.outcomes s.event free step.machine))
       (λ p.
       let restart : IsRestart s.before.machine s.call s.outcomes s.after.machine =
-      subst (λ (e : Event). StepsTo conf (counts_of s.before s.after) s.before.ends s.before.machine e s.call s.outcomes s.after.machine) p.1 step.machine in
-      let lost : LosesAll conf p.0 s.before.disks s.after.disks s.after.machine =
-      subst (λ (e : Event). OnLosses conf e s.before.disks s.after.disks s.after.machine) p.1 step.losses in
+      subst (λ (e : Event). StepsTo conf (counts_of s.before s.after) (ends_of s.before s.after) s.before.machine e s.call s.outcomes s.after.machine) p.1 step.machine in
+      let lost : LosesAll conf p.0 s.before.ends s.before.disks s.after.disks s.after.machine =
+      subst (λ (e : Event). OnLosses conf e s.before.ends s.before.disks s.after.disks s.after.machine) p.1 step.losses in
       both_so n LandsPart (Goes n s) (parts_of s.before) (parts_of s.after)
       (λ x y at lands. inr (inr (record {
         choice = p.0;
@@ -106,26 +106,26 @@ pub record Called (n : ℕ) (s : Step) (hosted : Hosted) (did : PartCall) : Type
   pub new : HostedPart
   pub was : entry_at n (parts_of s.before) ≡ Some old
   pub is : entry_at n (parts_of s.after) ≡ Some new
-  pub step : StepsHosted (counts_of s.before s.after) s.before.ends now hosted did old new
+  pub step : StepsHosted (counts_of s.before s.after) (ends_of s.before s.after) now hosted did old new
 
 module _ (conf : ConfigParts) (s : Step) (step : IsStepOf conf s) (n : ℕ) (hosted : Hosted) (did : PartCall) (call : s.call ≡ Some (CallPart n hosted did)) where
   uncalled : s.call ≡ None → Called n s hosted did
   uncalled none = absurd (none_not (CallPart n hosted did) (sym none ∙ call))
 
-  acts_called : Acts (counts_of s.before s.after) s.before.ends s.before.machine.shards s.after.machine.shards s.call → Called n s hosted did
+  acts_called : Acts (counts_of s.before s.after) (ends_of s.before s.after) s.before.machine.shards s.after.machine.shards s.call → Called n s hosted did
   acts_called (inl quiet) = uncalled quiet.none
   acts_called (inr d) =
       let same : d.did ≡ CallPart n hosted did = some_same d.did (CallPart n hosted did) (sym d.is ∙ call) in
-      let p : StepsShards (counts_of s.before s.after) s.before.ends d.now s.before.machine.shards (CallPart n hosted did) s.after.machine.shards =
-      subst (λ (c : ShardCall). StepsShards (counts_of s.before s.after) s.before.ends d.now s.before.machine.shards c s.after.machine.shards) same d.step in
-      let c = changed n (StepsHosted (counts_of s.before s.after) s.before.ends d.now hosted did) (parts_of s.before) (parts_of s.after) p.0 in
+      let p : StepsShards (counts_of s.before s.after) (ends_of s.before s.after) d.now s.before.machine.shards (CallPart n hosted did) s.after.machine.shards =
+      subst (λ (c : ShardCall). StepsShards (counts_of s.before s.after) (ends_of s.before s.after) d.now s.before.machine.shards c s.after.machine.shards) same d.step in
+      let c = changed n (StepsHosted (counts_of s.before s.after) (ends_of s.before s.after) d.now hosted did) (parts_of s.before) (parts_of s.after) p.0 in
       record { now = d.now; old = c.old; new = c.new; was = c.was; is = c.is; step = c.goes }
 
   pub called : Called n s hosted did
   called = ⊎_elim
-      (λ free. acts_called (step_acts (counts_of s.before s.after) s.before.ends conf s.before.machine s.after.machine s.call s.outcomes s.event free step.machine))
+      (λ free. acts_called (step_acts (counts_of s.before s.after) (ends_of s.before s.after) conf s.before.machine s.after.machine s.call s.outcomes s.event free step.machine))
       (λ p.
       let restart : IsRestart s.before.machine s.call s.outcomes s.after.machine =
-      subst (λ (e : Event). StepsTo conf (counts_of s.before s.after) s.before.ends s.before.machine e s.call s.outcomes s.after.machine) p.1 step.machine in
+      subst (λ (e : Event). StepsTo conf (counts_of s.before s.after) (ends_of s.before s.after) s.before.machine e s.call s.outcomes s.after.machine) p.1 step.machine in
       uncalled restart.none)
       (power_or_not s.event)

@@ -9,11 +9,10 @@ use Rattle.session_script.specs.declared.event.Event.TheVariants.{Open, Bytes, C
 use Rattle.topic_conf.specs.Configs.{ConfigParts}
 use Rattle.broker_model.specs.Hosted.{IsTaken}
 use Rattle.broker_model.specs.Shards.{ShardCall, failures_in}
-use Rattle.broker_model.specs.Machine.{Machine}
 use Rattle.broker_model.specs.Disks.{Disks, OnDisk, Covers}
-use Rattle.broker_model.specs.States.{State, IsStep, OnLosses, counts_of, faults_of}
+use Rattle.broker_model.specs.States.{State, IsStep, OnEnd, OnLosses, counts_of, ends_of, faults_of}
 use Rattle.broker_model.specs.Runs.{Step, IsRun, events_of, calls_of}
-use Rattle.broker_model.specs.Laws.{Loss, losses_on, TakesLoss, AreLosses, NoPower, NoArm, ArmsOne, arms_by, arms_after, HasArm, Rises, IsQuiet, RisesOnce, failures, HoldsOfRun}
+use Rattle.broker_model.specs.Laws.{Loss, losses_on, TakesLoss, AreLosses, losses_behind, next_reach, EndsShow, NoPower, NoArm, ArmsOne, arms_by, arms_after, HasArm, Rises, IsQuiet, RisesOnce, failures, HoldsOfRun}
 use Rattle.broker_model.proofs.Uses.{Kind, IsCalm, kind_of, same_losses, arms_step, quiet_step, still_none, calm_step, shot, armed_one}
 use Rattle.broker_model.proofs.Chains.{run_parts}
 use Rattle.broker_model.proofs.Exclusive.{exclusive}
@@ -29,45 +28,114 @@ Lengthens conf old new lost = (name : List ℕ) → IsTaken conf name → (new n
 abbrev OnDisks : ConfigParts → Event → Option ShardCall → Disks → Disks → Type 0
 OnDisks conf event call old new = (name : List ℕ) → IsTaken conf name → OnDisk name event call (old name) (new name)
 
-module _ (conf : ConfigParts) (call : Option ShardCall) (machine : Machine) (old new last : Disks) (rest : List Loss) (Rest : List Loss → Type 0) (more : Lengthens conf new last rest) where
-  kept : (event : Event) → NoPower event → OnDisks conf event call old new → Lengthens conf old last rest
+-- a journal's end doesn't fall in a step that isn't a power loss
+end_grows : (name : List ℕ) (event : Event) (call : Option ShardCall) (old new : ℕ) → NoPower event → OnEnd name event call old new → old ≤ new
+end_grows name (Open conn) call old new free same = omega (arith, same)
+end_grows name (Bytes conn bytes) call old new free same = omega (arith, same)
+end_grows name (Close conn) call old new free same = omega (arith, same)
+end_grows name (StepOf conn now) call old new free on = on.0
+end_grows name (Expire topic part now) call old new free on = on.0
+end_grows name (Tick now) call old new free same = omega (arith, same)
+end_grows name (Arm disk after mode) call old new free same = omega (arith, same)
+end_grows name (Power choice) call old new free on = absurd free
+
+-- the disks that the broker takes reach next to where these journals end
+abbrev Reach : ConfigParts → (List ℕ → ℕ) → List Loss → State → Type 0
+Reach conf ends losses final = (name : List ℕ) → IsTaken conf name → ends name ≤ next_reach name losses final
+
+module _ (conf : ConfigParts) (call : Option ShardCall) (old new final : State) (rest : List Loss) (Rest : List Loss → Type 0)
+    (more : Lengthens conf new.disks final.disks rest) (shown : Reach conf new.ends rest final) where
+  -- the losses from this event on
+  record Loses (event : Event) : Type 0 where
+    lost : List Loss
+    lengthens : Lengthens conf old.disks final.disks lost
+    takes : TakesLoss conf event new.machine lost Rest
+    behind : losses_behind event lost ≡ rest
+    reach : Reach conf old.ends lost final
+
+  abbrev OnEnds : Event → Type 0
+  OnEnds event = (name : List ℕ) → IsTaken conf name → OnEnd name event call (old.ends name) (new.ends name)
+
+  kept : (event : Event) → NoPower event → OnDisks conf event call old.disks new.disks → Lengthens conf old.disks final.disks rest
   kept event free disks name taken =
       more name taken
       ∙ ap (λ (l : List _). l ++ losses_on name rest)
-      (same_losses name event (old name) (new name) (kind_of name call (old name) (new name) event (disks name taken)) free)
+      (same_losses name event (old.disks name) (new.disks name) (kind_of name call (old.disks name) (new.disks name) event (disks name taken)) free)
 
-  take_loss : (event : Event) → OnDisks conf event call old new → OnLosses conf event old new machine → Rest rest
-      → (lost : List Loss) × Lengthens conf old last lost × TakesLoss conf event machine lost Rest
-  take_loss (Open conn) disks lost r = (rest, kept (Open conn) tt disks, r)
-  take_loss (Bytes conn bytes) disks lost r = (rest, kept (Bytes conn bytes) tt disks, r)
-  take_loss (Close conn) disks lost r = (rest, kept (Close conn) tt disks, r)
-  take_loss (StepOf conn now) disks lost r = (rest, kept (StepOf conn now) tt disks, r)
-  take_loss (Expire topic part now) disks lost r = (rest, kept (Expire topic part now) tt disks, r)
-  take_loss (Tick now) disks lost r = (rest, kept (Tick now) tt disks, r)
-  take_loss (Arm disk after mode) disks lost r = (rest, kept (Arm disk after mode) tt disks, r)
-  take_loss (Power choice) disks lost r = (
-    (choice, lost.contents) ∷ rest,
-    λ name taken. more name taken ∙ ap (λ (l : List _). l ++ losses_on name rest) (lost.losses name taken)
-        ∙ append_assoc (old name).losses ((choice, lost.contents name) ∷ []) (losses_on name rest),
-    (lost.contents, rest, refl, lost.opens, r),
-  )
+  grown : (event : Event) → NoPower event → OnEnds event → Reach conf old.ends rest final
+  grown event free ends name taken =
+      let le = end_grows name event call (old.ends name) (new.ends name) free (ends name taken) in
+      let there = shown name taken in
+      omega (arith, le, there)
+
+  take_loss : (event : Event) → OnDisks conf event call old.disks new.disks → OnEnds event → OnLosses conf event old.ends old.disks new.disks new.machine
+      → Rest rest → Loses event
+  take_loss (Open conn) disks ends lost r =
+      record { lost = rest; lengthens = kept (Open conn) tt disks; takes = r; behind = refl; reach = grown (Open conn) tt ends }
+  take_loss (Bytes conn bytes) disks ends lost r =
+      record { lost = rest; lengthens = kept (Bytes conn bytes) tt disks; takes = r; behind = refl; reach = grown (Bytes conn bytes) tt ends }
+  take_loss (Close conn) disks ends lost r =
+      record { lost = rest; lengthens = kept (Close conn) tt disks; takes = r; behind = refl; reach = grown (Close conn) tt ends }
+  take_loss (StepOf conn now) disks ends lost r =
+      record { lost = rest; lengthens = kept (StepOf conn now) tt disks; takes = r; behind = refl; reach = grown (StepOf conn now) tt ends }
+  take_loss (Expire topic part now) disks ends lost r = record {
+    lost = rest;
+    lengthens = kept (Expire topic part now) tt disks;
+    takes = r;
+    behind = refl;
+    reach = grown (Expire topic part now) tt ends;
+  }
+  take_loss (Tick now) disks ends lost r =
+      record { lost = rest; lengthens = kept (Tick now) tt disks; takes = r; behind = refl; reach = grown (Tick now) tt ends }
+  take_loss (Arm disk after mode) disks ends lost r =
+      record { lost = rest; lengthens = kept (Arm disk after mode) tt disks; takes = r; behind = refl; reach = grown (Arm disk after mode) tt ends }
+  take_loss (Power choice) disks ends lost r = record {
+    lost = (choice, lost.contents) ∷ rest;
+    lengthens = λ name taken. more name taken ∙ ap (λ (l : List _). l ++ losses_on name rest) (lost.losses name taken)
+        ∙ append_assoc (old.disks name).losses ((choice, lost.contents name) ∷ []) (losses_on name rest);
+    takes = (lost.contents, rest, refl, lost.opens, r);
+    behind = refl;
+    reach = lost.reach;
+  }
 
 module _ (conf : ConfigParts) where
-  losses : (first last : State) (steps : List Step) → IsRun conf first steps last
-      → (lost : List Loss) × Lengthens conf first.disks last.disks lost × AreLosses conf steps lost
-  losses first last [] run = ([], λ name taken. ap (λ (s : State). (s.disks name).losses) run ∙ sym (append-nil (first.disks name).losses), refl)
+  record HasLosses (first : State) (steps : List Step) (last : State) : Type 0 where
+    lost : List Loss
+    lengthens : Lengthens conf first.disks last.disks lost
+    are : AreLosses conf steps lost
+    reach : Reach conf first.ends lost last
+    ends : (name : List ℕ) → IsTaken conf name → EndsShow name steps lost last
+
+  losses : (first last : State) (steps : List Step) → IsRun conf first steps last → HasLosses first steps last
+  losses first last [] run = record {
+    lost = [];
+    lengthens = λ name taken. ap (λ (s : State). (s.disks name).losses) run ∙ sym (append-nil (first.disks name).losses);
+    are = refl;
+    reach = λ name taken. let same : last.ends name ≡ first.ends name = ap (λ (s : State). s.ends name) run in omega (arith, same);
+    ends = λ name taken. tt;
+  }
   losses first last (s ∷ steps) run =
       let more = losses s.after last steps run.2 in
-      let p = take_loss conf s.call s.after.machine s.before.disks s.after.disks last.disks more.0 (λ rest. AreLosses conf steps rest) more.1
-      s.event run.1.disks run.1.losses more.2 in
-      (p.0, λ name taken. p.1 name taken ∙ ap (λ (x : State). (x.disks name).losses ++ losses_on name p.0) run.0, p.2)
+      let l = take_loss conf s.call s.before s.after last more.lost (λ rest. AreLosses conf steps rest) more.lengthens more.reach
+      s.event run.1.disks run.1.ends run.1.losses more.are in
+      record {
+        lost = l.lost;
+        lengthens = λ name taken. l.lengthens name taken ∙ ap (λ (x : State). (x.disks name).losses ++ losses_on name l.lost) run.0;
+        are = l.takes;
+        reach = subst (λ (x : State). Reach conf x.ends l.lost last) run.0 l.reach;
+        ends = λ name taken. (
+          l.reach name taken,
+          subst (λ (r : List Loss). s.after.ends name ≤ next_reach name r last) (sym l.behind) (more.reach name taken),
+          subst (λ (r : List Loss). EndsShow name steps r last) (sym l.behind) (more.ends name taken),
+        );
+      }
 
   -- ---- failed writes
 
   counted : (name : List ℕ) → IsTaken conf name → (s : Step) → IsStep conf s.before s.event s.call s.outcomes s.after
       → Covers (faults_of s.before name) (faults_of s.after name) (failures_in name s.call)
   counted name taken s step =
-      step_counts (counts_of s.before s.after) s.before.ends name (step.later name taken) conf s.before.machine s.event s.call s.outcomes
+      step_counts (counts_of s.before s.after) (ends_of s.before s.after) name (step.later name taken) conf s.before.machine s.event s.call s.outcomes
       s.after.machine step.machine
 
   covered : (name : List ℕ) → IsTaken conf name → (first last : State) (steps : List Step) → IsRun conf first steps last
@@ -161,10 +229,10 @@ module _ (conf : ConfigParts) (first last : State) (steps : List Step) (run : Is
   holds =
       let l = losses conf first last steps run in
       record {
-        lost = l.0;
-        are_losses = l.2;
+        lost = l.lost;
+        are_losses = l.are;
         disks = λ name taken. record {
-          losses = l.1 name taken;
+          losses = l.lengthens name taken;
           arms = arms conf name taken first last steps run;
           rises = λ none before after s split rise.
               rises conf name taken first last before after s (subst (λ (l : List Step). IsRun conf first l last) split run) none rise;
@@ -172,6 +240,7 @@ module _ (conf : ConfigParts) (first last : State) (steps : List Step) (run : Is
               once conf name taken first last before between after s (subst (λ (l : List Step). IsRun conf first l last) split run) one free;
           covered = (covered conf name taken first last steps run).1;
           fails = fails name taken;
+          ends = l.ends name taken;
         };
         exclusive = exclusive conf first last steps run;
         starts = passes_closed conf first last steps run;

@@ -14,12 +14,12 @@ use Rattle.topic_conf.specs.Configs.{ConfigParts}
 use Rattle.call_fold.specs.declared.part.Produced.{Produced}
 use Rattle.call_fold.specs.declared.part.Produced.TheVariants.{Base, Batch, Store}
 use Rattle.broker_model.specs.Hosted.{ChangesAt, HoldsAt, Hosted, log_of}
-use Rattle.broker_model.specs.Shards.{Counts, HostedPart, PartCall, Shards, ShardCall, StepsHosted, StepsPart, StepsShards, result_of, rose_at}
+use Rattle.broker_model.specs.Shards.{Counts, HostedPart, PartCall, Shards, ShardCall, StepsHosted, StepsPart, StepsShards, result_of, rose_at, Ends}
 use Rattle.broker_model.specs.Shards.ShardCall.{CallForeign, CallPart, CallMembers}
 use Rattle.broker_model.specs.Shards.PartCall.{Visits, Produces, Looks, Expires}
 use Rattle.broker_model.specs.Machine.{LandsPart}
 use Rattle.broker_model.specs.Steps.{IsRestart, StepsTo}
-use Rattle.broker_model.specs.States.{State, IsStep, counts_of}
+use Rattle.broker_model.specs.States.{State, IsStep, counts_of, ends_of}
 use Rattle.broker_model.specs.Runs.{Step, IsRun}
 use Rattle.broker_model.specs.Keeping.{GoesOnAs, IsIn, KeepsBatches}
 use Rattle.broker_model.proofs.Chains.{run_parts}
@@ -72,7 +72,7 @@ log_grows rose end old new batch (Store (Full at)) p = ([], ap (λ (s : LogShard
 log_same : (old new : PartShardState) → new.log ≡ old.log → Longer old new
 log_same old new is = ([], ap (λ (l : LogShardState). l.batches) is ∙ sym (append-nil old.log.batches))
 
-module _ (counts : Counts) (ends : List ℕ → ℕ) where
+module _ (counts : Counts) (ends : Ends) where
   part_grows : (now : ℕ) (h : Hosted) (old new : PartShardState) (did : PartCall) → StepsPart counts ends now h old did new → Longer old new
   part_grows now h old new (Visits visit answer) p = log_same old new p.log
   part_grows now h old new (Produces batch produced) p = log_grows _ _ old.log new.log batch produced p.log
@@ -124,11 +124,11 @@ parts_of s = s.machine.shards.parts
 module _ (conf : ConfigParts) where
   step_grows : (s : Step) → IsStep conf s.before s.event s.call s.outcomes s.after → Grow (parts_of s.before) (parts_of s.after)
   step_grows s step = ⊎_elim
-      (λ free. acts_grow (counts_of s.before s.after) s.before.ends s.before.machine.shards s.after.machine.shards s.call
-      (step_acts (counts_of s.before s.after) s.before.ends conf s.before.machine s.after.machine s.call s.outcomes s.event free step.machine))
+      (λ free. acts_grow (counts_of s.before s.after) (ends_of s.before s.after) s.before.machine.shards s.after.machine.shards s.call
+      (step_acts (counts_of s.before s.after) (ends_of s.before s.after) conf s.before.machine s.after.machine s.call s.outcomes s.event free step.machine))
       (λ p.
       let restart : IsRestart s.before.machine s.call s.outcomes s.after.machine =
-      subst (λ (e : Event). StepsTo conf (counts_of s.before s.after) s.before.ends s.before.machine e s.call s.outcomes s.after.machine) p.1 step.machine in
+      subst (λ (e : Event). StepsTo conf (counts_of s.before s.after) (ends_of s.before s.after) s.before.machine e s.call s.outcomes s.after.machine) p.1 step.machine in
       lands_grow (parts_of s.before) (parts_of s.after) restart.lands.parts)
       (power_or_not s.event)
 
@@ -148,7 +148,7 @@ stored_in : (rose : Type 0) (end : ℕ) (old new : LogShardState) (batch : List 
 stored_in rose end old new batch base p =
     subst (λ (n : ℕ). IsIn (batch_in (placed n batch)) new.batches) (sym p.base_is) (old.batches, [], p.batches)
 
-module _ (counts : Counts) (ends : List ℕ → ℕ) (hosted : Hosted) (batch : List ℕ) (base : ℕ) where
+module _ (counts : Counts) (ends : Ends) (hosted : Hosted) (batch : List ℕ) (base : ℕ) where
   abbrev asked : PartCall
   asked = Produces batch (Base base)
 
@@ -156,7 +156,7 @@ module _ (counts : Counts) (ends : List ℕ → ℕ) (hosted : Hosted) (batch : 
       → HoldsAt shard (Has (batch_in (placed base batch))) new
   has_stored shard now [] new c = absurd c
   has_stored zero now (x ∷ xs) [] c = absurd c
-  has_stored zero now (x ∷ xs) (y ∷ ys) c = stored_in (rose_at counts (log_of hosted)) (ends (log_of hosted)) x.shard.log y.shard.log batch base c.0.step.log
+  has_stored zero now (x ∷ xs) (y ∷ ys) c = stored_in (rose_at counts (log_of hosted)) (ends (log_of hosted)).0 x.shard.log y.shard.log batch base c.0.step.log
   has_stored (suc n) now (x ∷ xs) [] c = absurd c
   has_stored (suc n) now (x ∷ xs) (y ∷ ys) c = has_stored n now xs ys c.1
 
@@ -191,12 +191,12 @@ module _ (conf : ConfigParts) (first last : State) (steps : List Step) (run : Is
       let step = p.2.1 in
       has_more (batch_in (placed base batch)) shard (parts_of s.after) (parts_of last) (run_grows conf s.after last after p.2.2)
       (⊎_elim
-      (λ free. acts_store (counts_of s.before s.after) s.before.ends hosted batch base shard s.before.machine.shards s.after.machine.shards s.call is
-      (step_acts (counts_of s.before s.after) s.before.ends conf s.before.machine s.after.machine s.call s.outcomes s.event free step.machine))
+      (λ free. acts_store (counts_of s.before s.after) (ends_of s.before s.after) hosted batch base shard s.before.machine.shards s.after.machine.shards s.call is
+      (step_acts (counts_of s.before s.after) (ends_of s.before s.after) conf s.before.machine s.after.machine s.call s.outcomes s.event free step.machine))
       (λ q.
       let restart : IsRestart s.before.machine s.call s.outcomes s.after.machine =
-      subst (λ (e : Event). StepsTo conf (counts_of s.before s.after) s.before.ends s.before.machine e s.call s.outcomes s.after.machine) q.1 step.machine in
-      absurd (some_none (counts_of s.before s.after) s.before.ends hosted batch base shard s.call is restart.none))
+      subst (λ (e : Event). StepsTo conf (counts_of s.before s.after) (ends_of s.before s.after) s.before.machine e s.call s.outcomes s.after.machine) q.1 step.machine in
+      absurd (some_none (counts_of s.before s.after) (ends_of s.before s.after) hosted batch base shard s.call is restart.none))
       (power_or_not s.event))
 
   keeps_batches : KeepsBatches first steps last

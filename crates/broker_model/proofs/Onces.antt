@@ -43,7 +43,7 @@ use Rattle.share_part.specs.declared.limits.Limits.{Limits}
 use Rattle.call_fold.specs.declared.part.Produced.{Produced}
 use Rattle.call_fold.specs.declared.part.Produced.TheVariants.{Base, Batch, Store}
 use Rattle.broker_model.specs.Hosted.{Hosted}
-use Rattle.broker_model.specs.Shards.{Counts, PartCall, StepsPart, result_of, store_fault_of_ack, store_fault_of_expiry, store_fault_of_log, store_fault_of_then}
+use Rattle.broker_model.specs.Shards.{Counts, PartCall, StepsPart, result_of, store_fault_of_ack, store_fault_of_expiry, store_fault_of_log, store_fault_of_then, Ends}
 use Rattle.broker_model.specs.Shards.PartCall.{Visits, Produces, Looks, Expires}
 use Rattle.broker_model.specs.Alike.{PartMetNoFault}
 use Rattle.broker_model.proofs.Lists.{none_not, some_same}
@@ -280,10 +280,10 @@ same_shards one other same log clock =
 abbrev Once : {A : Type 0} → A → A → PartShardState → PartShardState → Type 0
 Once answer told one other = (answer ≡ told) × (one ≡ other)
 
-visit_once : (conf : PartConfParts) (c l e d m f : ℕ) (a one other : PartShardState) (now : ℕ) (visit : Visit) (answer told : VisitAnswer)
-    → PartMetNoFault (Visits visit answer) → PartMetNoFault (Visits visit told) → StepsVisit conf c l e a now visit answer one
-    → StepsVisit conf d m f a now visit told other → Once answer told one other
-visit_once conf c l e d m f a one other now visit answer told none nothing p q =
+visit_once : (conf : PartConfParts) (c l e x d m f y : ℕ) (a one other : PartShardState) (now : ℕ) (visit : Visit) (answer told : VisitAnswer)
+    → PartMetNoFault (Visits visit answer) → PartMetNoFault (Visits visit told) → StepsVisit conf c l e x a now visit answer one
+    → StepsVisit conf d m f y a now visit told other → Once answer told one other
+visit_once conf c l e x d m f y a one other now visit answer told none nothing p q =
     let acks = acks_once conf (Rose c p.counted) (Rose d q.counted) e f a visit p.between q.between answer.ack told.ack none.0 nothing.0 p.acks.does q.acks.does in
     let mids : p.between ≡ q.between = same_shards p.between q.between acks.1 (p.acks.log ∙ sym q.acks.log) (p.acks.clock ∙ sym q.acks.clock) in
     let clocks : one.clock ≡ other.clock = p.clock ∙ sym q.clock in
@@ -295,19 +295,19 @@ visit_once conf c l e d m f a one other now visit answer told none nothing p q =
 
 -- ---- an expiry
 
-groups_once : (conf : PartConfParts) (c l e d m f : ℕ) (groups : List (List ℕ)) (freed : ℕ) (a one other : PartShardState) (answer told : ExpireAnswer)
-    → store_fault_of_expiry answer ≡ None → store_fault_of_expiry told ≡ None → StepsGroups conf c l e groups freed a answer one
-    → StepsGroups conf d m f groups freed a told other → Once answer told one other
-groups_once conf c l e d m f [] freed a one other answer told none nothing p q = (p.0 ∙ sym q.0, p.1 ∙ sym q.1)
-groups_once conf c l e d m f (group ∷ groups) freed a one other answer told none nothing (inr p) q =
+groups_once : (conf : PartConfParts) (c l e x d m f y : ℕ) (groups : List (List ℕ)) (freed : ℕ) (a one other : PartShardState) (answer told : ExpireAnswer)
+    → store_fault_of_expiry answer ≡ None → store_fault_of_expiry told ≡ None → StepsGroups conf c l e x groups freed a answer one
+    → StepsGroups conf d m f y groups freed a told other → Once answer told one other
+groups_once conf c l e x d m f y [] freed a one other answer told none nothing p q = (p.0 ∙ sym q.0, p.1 ∙ sym q.1)
+groups_once conf c l e x d m f y (group ∷ groups) freed a one other answer told none nothing (inr p) q =
     absurd (none_not p.0 (sym none ∙ ap store_fault_of_expiry p.1))
-groups_once conf c l e d m f (group ∷ groups) freed a one other answer told none nothing (inl p) (inr q) =
+groups_once conf c l e x d m f y (group ∷ groups) freed a one other answer told none nothing (inl p) (inr q) =
     absurd (none_not q.0 (sym nothing ∙ ap store_fault_of_expiry q.1))
-groups_once conf c l e d m f (group ∷ groups) freed a one other answer told none nothing (inl p) (inl q) =
+groups_once conf c l e x d m f y (group ∷ groups) freed a one other answer told none nothing (inl p) (inl q) =
     let mids : p.0 ≡ q.0 = same_shards p.0 q.0 (stores_once conf (Rose c p.1) (Rose d q.1) e f a group (ending a.clock (a.held group)) p.0 q.0 p.3.stores q.3.stores)
     (p.3.log ∙ sym q.3.log) (p.3.clock ∙ sym q.3.clock) in
-    groups_once conf p.1 l p.2 q.1 m q.2 groups (more_freed freed (due_count a.clock (a.held group))) q.0 one other answer told none nothing
-    (subst (λ (b : PartShardState). StepsGroups conf p.1 l p.2 groups (more_freed freed (due_count a.clock (a.held group))) b answer one) mids p.5) q.5
+    groups_once conf p.1 l p.2 x q.1 m q.2 y groups (more_freed freed (due_count a.clock (a.held group))) q.0 one other answer told none nothing
+    (subst (λ (b : PartShardState). StepsGroups conf p.1 l p.2 x groups (more_freed freed (due_count a.clock (a.held group))) b answer one) mids p.5) q.5
 
 -- ---- a batch
 
@@ -347,11 +347,11 @@ AskSame (Looks group looked) (Looks other told) = group ≡ other
 AskSame (Expires answer) (Expires told) = Unit {0}
 AskSame did done = ⊥
 
-module _ (counts also : Counts) (ends there : List ℕ → ℕ) (now : ℕ) (h : Hosted) (a one other : PartShardState) where
+module _ (counts also : Counts) (ends there : Ends) (now : ℕ) (h : Hosted) (a one other : PartShardState) where
   pub part_once : (did done : PartCall) → AskSame did done → PartMetNoFault did → PartMetNoFault done → StepsPart counts ends now h a did one
       → StepsPart also there now h a done other → Once did done one other
   part_once (Visits visit answer) (Visits asked told) same none nothing p q =
-      let r = visit_once h.conf _ _ _ _ _ _ a one other now asked answer told none nothing
+      let r = visit_once h.conf _ _ _ _ _ _ _ _ a one other now asked answer told none nothing
       (subst (λ (v : Visit). StepsPart counts ends now h a (Visits v answer) one) same p) q in
       ((λ i. Visits (same i) (r.0 i)), r.1)
   part_once (Produces batch produced) (Produces asked told) same none nothing p q =
@@ -362,6 +362,6 @@ module _ (counts also : Counts) (ends there : List ℕ → ℕ) (now : ℕ) (h :
       let r = subst (λ (g : List ℕ). StepsPart counts ends now h a (Looks g looked) one) same p in
       ((λ i. Looks (same i) ((r.0 ∙ sym q.0) i)), r.1 ∙ sym q.1)
   part_once (Expires answer) (Expires told) same none nothing p q =
-      let r = groups_once h.conf _ _ _ _ _ _ _ 0 (raised_to now a) one other answer told none nothing p.groups q.groups in
+      let r = groups_once h.conf _ _ _ _ _ _ _ _ _ 0 (raised_to now a) one other answer told none nothing p.groups q.groups in
       ((λ i. Expires (r.0 i)), r.1)
   part_once did done same none nothing p q = absurd same

@@ -56,7 +56,7 @@ use Rattle.broker_model.specs.Machine.{OpensPart}
 use Rattle.broker_model.specs.Locks.{Record}
 use Rattle.broker_model.specs.Starts.{Closes, Does, IsBelow, IsClosedRow, IsMadeBehind, IsWell, OpeningsAreWell, StartsPassClosedRecords, table_in}
 use Rattle.broker_model.specs.Runs.{Step, IsRun}
-use Rattle.broker_model.specs.States.{State, counts_of}
+use Rattle.broker_model.specs.States.{State, counts_of, ends_of}
 use Rattle.broker_model.proofs.Exclusive.{chosen_held}
 use Rattle.broker_model.proofs.Goes.{Goes, IsLostIn, came, parts_of, went}
 use Rattle.broker_model.proofs.Histories.{keys_exact, keys_total}
@@ -487,18 +487,18 @@ module _ (r : Record) (s : Step) (Reason : Type 0) (cause : Closes r s ⊎ IsMad
           ended act.hold (ap (λ (g : List ℕ). hold_in old g r.offset) (sym one) ∙ act.at) (due_end act.hold.end old.clock due)
           (subst (λ (k : AckKind). is_closed_state (settled hosted.conf.limit k act.hold.count).state ≡ true) kind act.closes)
 
-      groups_keep : (a later end : ℕ) (groups : List (List ℕ)) (freed : ℕ) (old new : PartShardState) (answer : ExpireAnswer)
-          → StepsGroups hosted.conf a later end groups freed old answer new → IsLog old.log.batches → IsSlotYet r.offset old.log.batches
+      groups_keep : (a later end last : ℕ) (groups : List (List ℕ)) (freed : ℕ) (old new : PartShardState) (answer : ExpireAnswer)
+          → StepsGroups hosted.conf a later end last groups freed old answer new → IsLog old.log.batches → IsSlotYet r.offset old.log.batches
           → ((hold : Hold) → hold_in old r.group r.offset ≡ Some hold → hold.end ≤ old.clock
           → is_closed_state (settled hosted.conf.limit ReleaseAct hold.count).state ≡ true → Reason) → Kept old → Kept new
-      groups_keep a later end [] freed old new answer p log_of slot_of ended k =
+      groups_keep a later end last [] freed old new answer p log_of slot_of ended k =
           still r.offset Reason hosted.conf r.group old new (ap (λ (z : PartShardState). z.states) p.1) (ap (λ (z : PartShardState). z.pending) p.1) k
-      groups_keep a later end (group ∷ groups) freed old new answer (inr p) log_of slot_of ended k =
+      groups_keep a later end last (group ∷ groups) freed old new answer (inr p) log_of slot_of ended k =
           stored_so r.offset Reason hosted.conf r.group (Rose a later) end old group (ending old.clock (old.held group)) new (Some p.0) log_of slot_of
           (λ f one act. expired old group ended one act) p.2.stores k
-      groups_keep a later end (group ∷ groups) freed old new answer (inl p) log_of slot_of ended k =
+      groups_keep a later end last (group ∷ groups) freed old new answer (inl p) log_of slot_of ended k =
           let same_log : p.0.log.batches ≡ old.log.batches = ap (λ (l : LogShardState). l.batches) p.3.log in
-          groups_keep p.1 later p.2 groups _ p.0 new answer p.5 (subst IsLog (sym same_log) log_of) (subst (IsSlotYet r.offset) (sym same_log) slot_of)
+          groups_keep p.1 later p.2 last groups _ p.0 new answer p.5 (subst IsLog (sym same_log) log_of) (subst (IsSlotYet r.offset) (sym same_log) slot_of)
           (λ hold at due closed. ended hold
           (hold_back hosted.conf (Rose a p.1) end old group (ending old.clock (old.held group)) p.0 None p.3.stores r.group r.offset hold at)
           (subst (λ (c : ℕ). hold.end ≤ c) p.3.clock due) closed)
@@ -506,7 +506,7 @@ module _ (r : Record) (s : Step) (Reason : Type 0) (cause : Closes r s ⊎ IsMad
           (λ f one act. expired old group ended one act) p.3.stores k)
 
       part_keeps : (now : ℕ) (did : PartCall) → s.call ≡ Some (CallPart r.shard hosted did)
-          → StepsPart (counts_of s.before s.after) s.before.ends now hosted x.shard did y.shard → Kept x.shard → Kept y.shard
+          → StepsPart (counts_of s.before s.after) (ends_of s.before s.after) now hosted x.shard did y.shard → Kept x.shard → Kept y.shard
       part_keeps now (Visits visit answer) call p k =
           let c = (counts_of s.before s.after (first_of hosted)).0 in
           let l = (counts_of s.before s.after (first_of hosted)).1 in
@@ -519,7 +519,7 @@ module _ (r : Record) (s : Step) (Reason : Type 0) (cause : Closes r s ⊎ IsMad
       part_keeps now (Looks group looked) call p k = still r.offset Reason hosted.conf r.group x.shard y.shard
           (ap (λ (z : PartShardState). z.states) p.1) (ap (λ (z : PartShardState). z.pending) p.1) k
       part_keeps now (Expires answer) call p k =
-          groups_keep _ _ _ _ 0 (raised_to now x.shard) y.shard answer p.groups is_log slot
+          groups_keep _ _ _ _ _ 0 (raised_to now x.shard) y.shard answer p.groups is_log slot
           (λ hold at due closed. closed_by (Expires answer) call hold ReleaseAct at (refl, subst (λ (c : ℕ). hold.end ≤ c) (sym p.clock) due) closed)
           (still r.offset Reason hosted.conf r.group x.shard (raised_to now x.shard) refl refl k)
 
@@ -553,7 +553,7 @@ module _ (r : Record) (s : Step) (Reason : Type 0) (cause : Closes r s ⊎ IsMad
 -- ---- the logs of a run
 
 part_log : (s : Step) (now : ℕ) (h : Hosted) (old new : PartShardState) (did : PartCall)
-    → StepsPart (counts_of s.before s.after) s.before.ends now h old did new → LogGoes old.log.batches new.log.batches
+    → StepsPart (counts_of s.before s.after) (ends_of s.before s.after) now h old did new → LogGoes old.log.batches new.log.batches
 part_log s now h old new (Visits visit answer) p = log_same old new p.log
 part_log s now h old new (Produces batch produced) p = log_goes _ _ old.log new.log batch produced p.log
 part_log s now h old new (Looks group looked) p = log_same old new (ap (λ (z : PartShardState). z.log) p.1)

@@ -10,11 +10,11 @@ use Rattle.session_script.specs.declared.event.Outcome.{Outcome}
 use Rattle.topic_conf.specs.Configs.{ConfigParts}
 use Rattle.topic_conf.specs.Topics.{shard_named}
 use Rattle.conn_core.specs.Conns.{ConnParts, new_conn, conn_after_bytes, conn_after_end, is_gone}
-use Rattle.broker_model.specs.Shards.{Counts, HostedPart, ShardCall, StepsHosted, StepsShards, calls}
+use Rattle.broker_model.specs.Shards.{Counts, HostedPart, ShardCall, StepsHosted, StepsShards, calls, Ends}
 use Rattle.broker_model.specs.Shards.ShardCall.{CallForeign, CallPart, CallMembers}
 use Rattle.broker_model.specs.Machine.{Machine, named, conn_at, opened_at, at_connection, left, ended_in}
 use Rattle.broker_model.specs.Steps.{ExpiresAt, Serves, StepsTo}
-use Rattle.broker_model.specs.States.{counts_of}
+use Rattle.broker_model.specs.States.{counts_of, ends_of}
 use Rattle.broker_model.specs.Disks.{Facts, OnCalled, OnDisk, with_arm}
 use Rattle.broker_model.specs.Cutting.{Spares}
 use Rattle.broker_model.specs.Laws.{NoPower, NoArm}
@@ -44,13 +44,13 @@ module _ (conn id : ℕ) (ne : conn ≢ id) where
   ended_apart None es = refl
   ended_apart (Some c) es = left_apart (conn_after_end c) es
 
-  served_apart : (conf : ConfigParts) (counts : Counts) (ends : List ℕ → ℕ) (now : ℕ) (old : Machine) (c : Option ConnParts) (call : Option ShardCall)
+  served_apart : (conf : ConfigParts) (counts : Counts) (ends : Ends) (now : ℕ) (old : Machine) (c : Option ConnParts) (call : Option ShardCall)
       (outcomes : List Outcome) (new : Machine) → Serves conf counts ends old conn now c call outcomes new
       → conn_at id new.connections ≡ conn_at id old.connections
   served_apart conf counts ends now old None call outcomes new does = ap (λ (m : Machine). conn_at id m.connections) does.same
   served_apart conf counts ends now old (Some c) call outcomes new takes = ap (conn_at id) takes.leaves ∙ left_apart takes.after old.connections
 
-module _ (conf : ConfigParts) (counts : Counts) (ends : List ℕ → ℕ) (old new : Machine) (call : Option ShardCall) (outcomes : List Outcome) where
+module _ (conf : ConfigParts) (counts : Counts) (ends : Ends) (old new : Machine) (call : Option ShardCall) (outcomes : List Outcome) where
   expiry_apart : (now : ℕ) (shard : Option ℕ) → ExpiresAt counts ends now old shard call outcomes new → new.connections ≡ old.connections
   expiry_apart now None does = ap (λ (m : Machine). m.connections) does.same
   expiry_apart now (Some shard) does = does.connections
@@ -114,8 +114,8 @@ disk_apart name (Power choice) call old new free unarmed away d = absurd free
 
 pub touches : (conf : ConfigParts) → StepsTouchTheirOwn conf
 touches conf old new event call outcomes step = record {
-  connections = λ id spares. connections_apart conf (counts_of old new) old.ends old.machine new.machine call outcomes id event spares step.machine;
-  shards = λ free none. shards_apart conf (counts_of old new) old.ends old.machine new.machine call outcomes event free none step.machine;
-  others = λ free did is. others_apart conf (counts_of old new) old.ends old.machine new.machine call outcomes event free did is step.machine;
+  connections = λ id spares. connections_apart conf (counts_of old new) (ends_of old new) old.machine new.machine call outcomes id event spares step.machine;
+  shards = λ free none. shards_apart conf (counts_of old new) (ends_of old new) old.machine new.machine call outcomes event free none step.machine;
+  others = λ free did is. others_apart conf (counts_of old new) (ends_of old new) old.machine new.machine call outcomes event free did is step.machine;
   disks = λ name taken free unarmed away. disk_apart name event call (old.disks name) (new.disks name) free unarmed away (step.disks name taken);
 }

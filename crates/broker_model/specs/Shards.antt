@@ -109,6 +109,10 @@ answered_by (CallMembers did) = answered_by_members did
 abbrev pub Counts : Type 0
 Counts = List ℕ → ℕ × ℕ
 
+-- of each disk, by its name, where the journal on it ends at entry of a step and behind it
+abbrev pub Ends : Type 0
+Ends = List ℕ → ℕ × ℕ
+
 abbrev pub rose_at : Counts → List ℕ → Type 0
 rose_at counts name = Rose (counts name).0 (counts name).1
 
@@ -123,19 +127,19 @@ abbrev pub look_at : Option ShareState → Looked
 look_at None = Absent
 look_at (Some state) = There state.state_epoch state.leader_epoch state.start state.runs
 
--- A partition's shard takes its step at the moment `now`. `ends` is where the journal on each disk ends.
-abbrev pub StepsPart : Counts → (ends : List ℕ → ℕ) → (now : ℕ) → Hosted → PartShardState → PartCall → PartShardState → Type 0
+-- A partition's shard takes its step at the moment `now`.
+abbrev pub StepsPart : Counts → Ends → (now : ℕ) → Hosted → PartShardState → PartCall → PartShardState → Type 0
 StepsPart counts ends now h old (Visits visit answer) new =
-    StepsVisit h.conf (counts (first_of h)).0 (counts (first_of h)).1 (ends (first_of h)) old now visit answer new
+    StepsVisit h.conf (counts (first_of h)).0 (counts (first_of h)).1 (ends (first_of h)).0 (ends (first_of h)).1 old now visit answer new
 StepsPart counts ends now h old (Produces batch produced) new =
-    StepsProduce (rose_at counts (log_of h)) (ends (log_of h)) old now batch (result_of produced) new
+    StepsProduce (rose_at counts (log_of h)) (ends (log_of h)).0 old now batch (result_of produced) new
 StepsPart counts ends now h old (Looks group looked) new =
     (looked ≡ look_at (share_state_at old.states (key_of h.conf group))) × (new ≡ old)
 StepsPart counts ends now h old (Expires answer) new =
-    StepsExpire h.conf (counts (first_of h)).0 (counts (first_of h)).1 (ends (first_of h)) old now answer new
+    StepsExpire h.conf (counts (first_of h)).0 (counts (first_of h)).1 (ends (first_of h)).0 (ends (first_of h)).1 old now answer new
 
 -- this partition's shard does
-pub record StepsHosted (counts : Counts) (ends : List ℕ → ℕ) (now : ℕ) (hosted : Hosted) (did : PartCall) (old new : HostedPart) : Type 0 where
+pub record StepsHosted (counts : Counts) (ends : Ends) (now : ℕ) (hosted : Hosted) (did : PartCall) (old new : HostedPart) : Type 0 where
   pub was : old.hosted ≡ hosted
   pub is : new.hosted ≡ hosted
   pub step : StepsPart counts ends now hosted old.shard did new.shard
@@ -146,9 +150,9 @@ StepsMembers now old (Beats request reply) new =
 StepsMembers now old Ticks new = new ≡ expire_step now old
 
 -- The shard that is called takes its step, and each other one stays.
-abbrev pub StepsShards : Counts → (ends : List ℕ → ℕ) → (now : ℕ) → Shards → ShardCall → Shards → Type 0
+abbrev pub StepsShards : Counts → Ends → (now : ℕ) → Shards → ShardCall → Shards → Type 0
 StepsShards counts ends now old (CallForeign op answer fault) new =
-    StepsForeign (rose_at counts state_a) (ends state_a) old.foreign op answer fault new.foreign
+    StepsForeign (rose_at counts state_a) (ends state_a).0 old.foreign op answer fault new.foreign
     × (new.parts ≡ old.parts) × (new.members ≡ old.members)
 StepsShards counts ends now old (CallPart shard hosted did) new =
     ChangesAt shard (StepsHosted counts ends now hosted did) old.parts new.parts

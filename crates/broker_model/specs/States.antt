@@ -1,13 +1,14 @@
 -- The broker and its disks as the state of a run, and a step of both. This project's own.
 -- For example at `power 5` each disk that the broker has gets one loss more, with choice 5, and the broker is the one that these losses
--- stand for.
-use Rattle.std.specs.Prelude.{◌≡◌, ◌≤◌, ℕ, List, [], ◌∷◌, ◌++◌, Option, false}
+-- stand for. A journal of two records of 54 bytes ends at 119, and no crash leaves less of its disk than these 119 bytes; so a write is
+-- refused as full only where the disk holds nearly 2^62 bytes.
+use Rattle.std.specs.Prelude.{◌≡◌, ◌≤◌, ℕ, List, [], ◌∷◌, ◌++◌, length, Option, false}
 use Rattle.session_script.specs.declared.event.Event.{Event}
 use Rattle.session_script.specs.declared.event.Event.TheVariants.{Open, Bytes, Close, Step, Expire, Tick, Arm, Power}
 use Rattle.session_script.specs.declared.event.Outcome.{Outcome}
 use Rattle.topic_conf.specs.Configs.{ConfigParts}
 use Rattle.broker_model.specs.Hosted.{IsTaken, hosted_of}
-use Rattle.broker_model.specs.Shards.{Counts, ShardCall, calls, hosted_by}
+use Rattle.broker_model.specs.Shards.{Counts, Ends, ShardCall, calls, hosted_by}
 use Rattle.broker_model.specs.Machine.{Machine, Opening}
 use Rattle.broker_model.specs.Steps.{StepsTo}
 use Rattle.broker_model.specs.Disks.{Disks, OnDisk}
@@ -25,29 +26,39 @@ faults_of state name = (state.disks name).faults
 abbrev pub counts_of : State → State → Counts
 counts_of old new name = (faults_of old name, faults_of new name)
 
--- at a power loss each disk has one loss more, with its choice, and the machine is the opening of these contents
-pub record LosesAll (conf : ConfigParts) (choice : ℕ) (old new : Disks) (machine : Machine) : Type 0 where
+-- where the journal on each disk ends in two states
+abbrev pub ends_of : State → State → Ends
+ends_of old new name = (old.ends name, new.ends name)
+
+-- each of these contents reaches to where the journal on its disk ends
+abbrev pub ReachTo : ConfigParts → (List ℕ → List ℕ) → (List ℕ → ℕ) → Type 0
+ReachTo conf contents ends = (name : List ℕ) → IsTaken conf name → ends name ≤ length (contents name)
+
+-- at a power loss each disk has one loss more, with its choice, and the machine is the opening of these contents. `ends`
+-- is where the journals ended: no loss takes away what stands before that.
+pub record LosesAll (conf : ConfigParts) (choice : ℕ) (ends : List ℕ → ℕ) (old new : Disks) (machine : Machine) : Type 0 where
   pub contents : List ℕ → List ℕ
   pub losses : (name : List ℕ) → IsTaken conf name → (new name).losses ≡ (old name).losses ++ (choice, contents name) ∷ []
   pub opens : Opening conf contents machine
+  pub reach : ReachTo conf contents ends
 
-abbrev pub OnLosses : ConfigParts → Event → Disks → Disks → Machine → Type 0
-OnLosses conf (Open conn) old new machine = Unit {0}
-OnLosses conf (Bytes conn bytes) old new machine = Unit {0}
-OnLosses conf (Close conn) old new machine = Unit {0}
-OnLosses conf (Step conn now) old new machine = Unit {0}
-OnLosses conf (Expire topic part now) old new machine = Unit {0}
-OnLosses conf (Tick now) old new machine = Unit {0}
-OnLosses conf (Arm disk after mode) old new machine = Unit {0}
-OnLosses conf (Power choice) old new machine = LosesAll conf choice old new machine
+abbrev pub OnLosses : ConfigParts → Event → (ends : List ℕ → ℕ) → Disks → Disks → Machine → Type 0
+OnLosses conf (Open conn) ends old new machine = Unit {0}
+OnLosses conf (Bytes conn bytes) ends old new machine = Unit {0}
+OnLosses conf (Close conn) ends old new machine = Unit {0}
+OnLosses conf (Step conn now) ends old new machine = Unit {0}
+OnLosses conf (Expire topic part now) ends old new machine = Unit {0}
+OnLosses conf (Tick now) ends old new machine = Unit {0}
+OnLosses conf (Arm disk after mode) ends old new machine = Unit {0}
+OnLosses conf (Power choice) ends old new machine = LosesAll conf choice ends old new machine
 
--- a journal moves its end only where its shard was called, or was opened again
+-- A journal never ends before where it did, unless it was opened again, and moves its end only where its shard was called.
 abbrev pub OnEnd : List ℕ → Event → Option ShardCall → ℕ → ℕ → Type 0
 OnEnd name (Open conn) call old new = new ≡ old
 OnEnd name (Bytes conn bytes) call old new = new ≡ old
 OnEnd name (Close conn) call old new = new ≡ old
-OnEnd name (Step conn now) call old new = calls call name ≡ false → new ≡ old
-OnEnd name (Expire topic part now) call old new = calls call name ≡ false → new ≡ old
+OnEnd name (Step conn now) call old new = (old ≤ new) × (calls call name ≡ false → new ≡ old)
+OnEnd name (Expire topic part now) call old new = (old ≤ new) × (calls call name ≡ false → new ≡ old)
 OnEnd name (Tick now) call old new = new ≡ old
 OnEnd name (Arm disk after mode) call old new = new ≡ old
 OnEnd name (Power choice) call old new = Unit {0}
@@ -57,7 +68,7 @@ pub record IsStep (conf : ConfigParts) (old : State) (event : Event) (call : Opt
   pub hosts : hosted_by old.machine.shards.parts ≡ hosted_of conf
   pub topics : old.machine.shards.members.topics ≡ conf.topics
   pub later : (name : List ℕ) → IsTaken conf name → faults_of old name ≤ faults_of new name
-  pub machine : StepsTo conf (counts_of old new) old.ends old.machine event call outcomes new.machine
+  pub machine : StepsTo conf (counts_of old new) (ends_of old new) old.machine event call outcomes new.machine
   pub disks : (name : List ℕ) → IsTaken conf name → OnDisk name event call (old.disks name) (new.disks name)
-  pub losses : OnLosses conf event old.disks new.disks new.machine
+  pub losses : OnLosses conf event old.ends old.disks new.disks new.machine
   pub ends : (name : List ℕ) → IsTaken conf name → OnEnd name event call (old.ends name) (new.ends name)

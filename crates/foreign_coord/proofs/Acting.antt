@@ -1,6 +1,6 @@
 -- From what the store does to what the shard does.
-use Rattle.std.proofs.Common.{◌≡◌, ◌≢◌, ◌⊎◌, ⊎_elim, ◌<◌, ◌+◌, ◌^◌, inl, inr, refl, sym, ap, subst, arith, ℕ, List, length}
-use Rattle.std.proofs.Common.{Bool, false, Option, Some, None, Result, Ok, Err, IfOk, IfErr, OnErr, IsErr, if◌then◌else◌}
+use Rattle.std.proofs.Common.{◌≡◌, ◌≢◌, ◌⊎◌, ⊎_elim, ◌<◌, ◌≤◌, ◌+◌, ◌^◌, inl, inr, refl, sym, ◌∙◌, ap, subst, arith, ℕ, List, length}
+use Rattle.std.proofs.Common.{Bool, true, false, Option, Some, None, Result, Ok, Err, IfOk, IfErr, OnErr, IsErr, if◌then◌else◌}
 use Rattle.std.specs.Option.{option_map}
 use Rattle.std.proofs.lemmas.Result.{IfOk-weaker}
 use Rattle.edge_io.specs.Armed.{StarvesUnarmed}
@@ -27,7 +27,9 @@ use Rattle.share_coord.specs.States.{states_of, AreStates}
 use Rattle.foreign_coord.specs.Codes.{Tells, TellsFault, code_in}
 use Rattle.foreign_coord.specs.Once.{ActsOnce, Carried}
 use Rattle.foreign_coord.specs.Shards.{ForeignShardState, StepsForeign, Grants, IsFull, Carries, IsFound, writes}
+use Rattle.share_coord.proofs.Ends.{later_once}
 use Rattle.share_coord.proofs.Keys.{clash}
+use Rattle.share_coord.proofs.Once.{held_still}
 use Rattle.foreign_coord.proofs.Rules.{IsNumeric, IsOther, other_code, none_code}
 
 -- what a store with this pending write carries
@@ -80,6 +82,9 @@ on_err : (result : Result ForeignAnswer want) (P : Type 0) → P → OnErr resul
 on_err (Ok a) P p = tt
 on_err (Err e) P p = p
 
+clash_written : {b : Bool} → b ≡ true → b ≡ false → ⊥
+clash_written wrote not = let never : true ≡ false = sym wrote ∙ not in let clash : ⊥ = cc in clash
+
 -- ---- a refusal
 
 abbrev NotDevice : CoordFault → Type 0
@@ -106,6 +111,9 @@ module _ {D : Type 0} (content : D → Option (List ℕ)) (image : D → List �
   Sound answer = answer.code ≡ KAFKA_STORAGE_ERROR →
       StarvesUnarmed content armed starved old.journal.live.disk new.journal.live.disk ⊎ IsFull old.journal.live.end (states_of old.entries) op
 
+  abbrev Unwritten : ForeignAnswer → Type 0
+  Unwritten answer = writes (states_of old.entries) op answer ≡ false → answer.code ≢ KAFKA_STORAGE_ERROR → new ≡ old
+
   abbrev Leads : ForeignAnswer → ForeignShardState → Type 0
   Leads answer s = (t : ForeignShardState) × (fault : Option StoreFault) × Carries image new t
       × StepsForeign (Rose (faults old.journal.live.disk) (faults new.journal.live.disk)) old.journal.live.end s op answer fault t
@@ -131,7 +139,7 @@ module _ {D T : Type 0} (content : D → Option (List ℕ)) (image : D → List 
   refused_by e other by once = carried image old (Leads content image armed starved faults op old new (code_alone (code_in e))) (λ pending held. (
     shard_of old pending,
     None,
-    carries_on image old new pending once.same (once.stays (apart_device e other) pending held),
+    carries_on image old new pending once.same (held_still image old new (once.unchanged (apart_device e other)) pending held),
     record { does = by.does; pending = sym (ap (λ (b : Bool). if b then None else option_map states_of pending) by.unwritten) },
   ))
 
@@ -146,7 +154,8 @@ module _ {D T : Type 0} (content : D → Option (List ℕ)) (image : D → List 
           is_before = refl;
           granted = grants f.1.1 f.1.2;
           accepted = f.1.3;
-          past = subst (λ (n : ℕ). 2 ^ 62 < n + (length f.1.0 + 5)) f.0 f.1.4;
+          fits = f.1.4;
+          past = subst (λ (n : ℕ). 2 ^ 62 < n + (length f.1.0 + 5)) f.0 f.1.5;
         },
       )
 
@@ -173,7 +182,7 @@ module _ {D T : Type 0} (content : D → Option (List ℕ)) (image : D → List 
       carried image old (Leads content image armed starved faults op old new (code_alone KAFKA_STORAGE_ERROR)) (λ pending held. (
         shard_of old pending,
         Some (Full end),
-        carries_on image old new pending once.same (once.stays (apart_device (Store (Full end)) tt) pending held),
+        carries_on image old new pending once.same (held_still image old new (once.unchanged (apart_device (Store (Full end)) tt)) pending held),
         (refl, f.0, refl, f.1),
       ))
 
@@ -193,9 +202,12 @@ module _ {D T : Type 0} (content : D → Option (List ℕ)) (image : D → List 
         each = λ a b left right. found_in op Written old.entries pending a b grants (pairs.each a b left right);
       })
 
+  ends_by : (done : Result T CoordFault) → Once done → (s : ForeignShardState) → Carries image old s → old.journal.live.end ≤ new.journal.live.end
+  ends_by done once s c = later_once image moment since (HasFailed content armed starved faults) Written old new done once c.pending c.holds
+
   memory_by : Once (Err NoMemory) → (s : ForeignShardState) → Carries image old s → Carries image new s
   memory_by once = carried image old (λ s. Carries image new s) (λ pending held.
-      carries_on image old new pending once.same (once.stays (apart_device NoMemory tt) pending held))
+      carries_on image old new pending once.same (held_still image old new (once.unchanged (apart_device NoMemory tt)) pending held))
 
   -- a refusal that isn't of the store
   plainly : (e : CoordFault) → NotDevice e → IsOther e → (result : Result ForeignAnswer want) → result ≡ Ok (code_alone (code_in e)) → Once (Err e)
@@ -204,6 +216,8 @@ module _ {D T : Type 0} (content : D → Option (List ℕ)) (image : D → List 
     ok = answered (Carried image faults op old new) _ result is (refused_by e apart by once);
     memory = told _ result ((s : ForeignShardState) → Carries image old s → Carries image new s) is;
     sound = answered (Sound content image armed starved faults op old new) _ result is (λ at. absurd (other_code e other at));
+    unwritten = answered (Unwritten content image armed starved faults op old new) _ result is (λ not other_code. once.unchanged (apart_device e apart));
+    ends = ends_by (Err e) once;
     any_moment = moments_by (Err e) once;
   }
 
@@ -219,12 +233,16 @@ module _ {D T : Type 0} (content : D → Option (List ℕ)) (image : D → List 
     ok = answered (Carried image faults op old new) _ result is (stored_by fault once);
     memory = told _ result ((s : ForeignShardState) → Carries image old s → Carries image new s) is;
     sound = answered (Sound content image armed starved faults op old new) _ result is (sound_by fault once);
+    unwritten = answered (Unwritten content image armed starved faults op old new) _ result is (λ not other. absurd (other refl));
+    ends = ends_by (Err (Store fault)) once;
     any_moment = moments_by (Err (Store fault)) once;
   }
   by_fault NoMemory result is once f many = record {
     ok = none_told (Carried image faults op old new) result is;
     memory = on_err result ((s : ForeignShardState) → Carries image old s → Carries image new s) (memory_by once);
     sound = none_told (Sound content image armed starved faults op old new) result is;
+    unwritten = none_told (Unwritten content image armed starved faults op old new) result is;
+    ends = ends_by (Err NoMemory) once;
     any_moment = moments_by (Err NoMemory) once;
   }
 
@@ -237,6 +255,8 @@ module _ {D T : Type 0} (content : D → Option (List ℕ)) (image : D → List 
     ok = answered (Carried image faults op old new) _ result is (done_by x once);
     memory = told _ result ((s : ForeignShardState) → Carries image old s → Carries image new s) is;
     sound = answered (Sound content image armed starved faults op old new) _ result is (λ at. absurd (none_code at));
+    unwritten = answered (Unwritten content image armed starved faults op old new) _ result is (λ not other. absurd (clash_written (grants new.entries once.written).1 not));
+    ends = ends_by (Ok x) once;
     any_moment = moments_by (Ok x) once;
   }
   acts (Err e) result is once refused many = by_fault e result is once (refused e refl) (λ n at. many e n refl at)
@@ -259,6 +279,8 @@ idle content image moment since armed starved faults only_now op store result do
       ))) does;
   memory = on_err result ((s : ForeignShardState) → Carries image store s → Carries image store s) (λ s c. c);
   sound = IfOk-weaker result _ _ (λ answer h at. absurd (h.2 at)) does;
+  unwritten = IfOk-weaker result _ _ (λ answer h not other. refl) does;
+  ends = λ s c. omega arith;
   any_moment = carried image store
       (λ s. LeavesPairs moment since moment since store.journal.live.disk store.journal.live.disk store.journal.idle store.journal.idle (IsFound s op))
       (λ pending held. record {

@@ -1,6 +1,6 @@
 -- What a call on the foreign shard does, as one record: the contracts of its parts, which `act` has clause by clause. This project's own.
 -- For example a call that finds no memory leaves what the store and its disks stand for.
-use Rattle.std.specs.Prelude.{◌≡◌, ◌⊎◌, ℕ, List, Bool, Option, Result, IfOk, OnErr}
+use Rattle.std.specs.Prelude.{◌≡◌, ◌≢◌, ◌⊎◌, ◌≤◌, ℕ, List, Bool, false, Option, Result, IfOk, OnErr}
 use Rattle.edge_io.specs.Armed.{StarvesUnarmed}
 use Rattle.edge_io.specs.Causes.{Rose}
 use Rattle.edge_io.specs.Moments.{LeavesPairs}
@@ -12,7 +12,7 @@ use Rattle.share_model.specs.declared.foreign.ForeignAnswer.{ForeignAnswer}
 use Rattle.share_model.specs.declared.foreign.ForeignOp.{ForeignOp}
 use Rattle.share_coord.specs.Parts.{StoreParts}
 use Rattle.share_coord.specs.States.{states_of}
-use Rattle.foreign_coord.specs.Shards.{ForeignShardState, StepsForeign, IsFull, Carries, IsFound}
+use Rattle.foreign_coord.specs.Shards.{ForeignShardState, StepsForeign, IsFull, Carries, IsFound, writes}
 
 -- a store that carried a state carries one that a step leads to
 abbrev pub Carried : {D : Type 0} → (D → List ℕ → Type 0) → (D → ℕ) → ForeignOp → StoreParts D → StoreParts D → ForeignAnswer → Type 0
@@ -26,5 +26,9 @@ pub record ActsOnce {D : Type 0} (content : D → Option (List ℕ)) (image : D 
   pub memory : OnErr result ((old : ForeignShardState) → Carries image before old → Carries image after old)
   pub sound : IfOk result (λ answer. answer.code ≡ KAFKA_STORAGE_ERROR →
       StarvesUnarmed content armed starved before.journal.live.disk after.journal.live.disk ⊎ IsFull before.journal.live.end (states_of before.entries) op)
+  -- what writes no record changes nothing
+  pub unwritten : IfOk result (λ answer. writes (states_of before.entries) op answer ≡ false → answer.code ≢ KAFKA_STORAGE_ERROR → after ≡ before)
+  -- its journal never ends before where it did
+  pub ends : (old : ForeignShardState) → Carries image before old → before.journal.live.end ≤ after.journal.live.end
   pub any_moment : (old : ForeignShardState) → Carries image before old →
       LeavesPairs moment since moment since before.journal.live.disk after.journal.live.disk before.journal.idle after.journal.idle (IsFound old op)

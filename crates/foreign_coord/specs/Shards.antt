@@ -6,6 +6,7 @@
 use Rattle.std.specs.Prelude.{◌≡◌, ◌⊎◌, ◌<◌, ◌+◌, ◌^◌, ℕ, pos, List, length, Bool, true, false, Option, Some, None, is_some, if◌then◌else◌}
 use Rattle.std.specs.Option.{option_map}
 use Rattle.std.specs.Ordering.{int_eq}
+use Rattle.gate_journal.specs.Frames.{IsFrame}
 use Rattle.share_model.specs.ForeignRules.{code_alone}
 use Rattle.share_model.specs.ForeignRules.{ShareStates, Does, share_state_at}
 use Rattle.share_model.specs.Pending.{WithPending}
@@ -60,6 +61,7 @@ pub record IsFull (end : ℕ) (states : ShareStates) (op : ForeignOp) : Type 0 w
   pub is_before : states_of before ≡ states
   pub granted : Grants states op (states_of after)
   pub accepted : Accepts before frame after
+  pub fits : IsFrame frame
   pub past : 2 ^ 62 < end + (length frame + 5)
 
 -- A step of the shard. `rose` says that the count of faults of its first disk rose, `end` is where its journal ends; `fault` is what

@@ -1,4 +1,4 @@
-ghost use Rattle.std.specs.Prelude.{◌≡◌, ◌⊎◌, ◌↔◌, true, None, IfOk, IfErr, OnErr, slice_get, MatchResult};
+ghost use Rattle.std.specs.Prelude.{◌≡◌, ◌≢◌, ◌⊎◌, ◌↔◌, ◌≤◌, true, false, None, IfOk, IfErr, OnErr, slice_get, MatchResult};
 ghost use Rattle.std.specs.Option.{option_map, option_copied};
 ghost use Rattle.std.specs.Map.{keys_of};
 ghost use Rattle.std.specs.declared.option.Option.{Option};
@@ -15,7 +15,7 @@ ghost use Rattle.share_coord.specs.Opening.{IsOpened, IsNotOpened};
 ghost use Rattle.share_coord.specs.States.{states_of};
 ghost use Rattle.foreign_coord.specs.Once.{ActsOnce};
 ghost use Rattle.state_records.specs.States.{AreStoredRuns};
-ghost use Rattle.foreign_coord.specs.Shards.{ForeignShardState, StepsForeign, IsFull, Carries, IsFound};
+ghost use Rattle.foreign_coord.specs.Shards.{ForeignShardState, StepsForeign, IsFull, Carries, IsFound, writes};
 
 use crate::batches::runs_of;
 use crate::codes::{alone, answer, refusal};
@@ -183,6 +183,11 @@ impl<D: Disk> ForeignShard<D> {
         ensures sound { IfOk result (λ answer. answer.code ≡ Code.KAFKA_STORAGE_ERROR →
             StarvesUnarmed D.content D.armed D.starved self.old.journal.live.disk self.new.journal.live.disk
             ⊎ IsFull self.old.journal.live.end (states_of self.old.entries) op.now) }
+
+        // A call that writes no record changes nothing. The journal never ends before where it did.
+        ensures unwritten { IfOk result (λ answer. writes (states_of self.old.entries) op.now answer ≡ false → answer.code ≢ Code.KAFKA_STORAGE_ERROR →
+            self.new ≡ self.old) }
+        ensures ends { (old : ForeignShardState) → Carries D.image self.old old → self.old.journal.live.end ≤ self.new.journal.live.end }
 
         // At each moment since it began, a crash leaves what stood at entry, or what it leaves where it is granted.
         ensures any_moment { (old : ForeignShardState) → Carries D.image self.old old → LeavesPairs D.moment D.since D.moment D.since

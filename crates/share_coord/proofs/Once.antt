@@ -8,6 +8,7 @@ use Rattle.share_model.specs.declared.fault.StoreFault.TheVariants.{Device, Full
 use Rattle.share_model.specs.Pending.{WithPending}
 use Rattle.coord_checkpoint.specs.Lists.{IsListed, Keeps, and_pending}
 use Rattle.coord_checkpoint.specs.declared.journal.StateJournal.{StateJournal}
+use Rattle.gate_journal.specs.Frames.{IsFrame}
 use Rattle.state_records.specs.Spelling.{IsRecord, record_bytes}
 use Rattle.state_records.specs.declared.record.StateRecord.{StateRecord}
 use Rattle.share_coord.specs.Parts.{StoreParts}
@@ -15,6 +16,7 @@ use Rattle.share_coord.specs.Stored.{Entries, Follows}
 use Rattle.share_coord.specs.Holding.{Holds, IsHeld, WritesOnce}
 use Rattle.share_coord.specs.declared.fault.CoordFault.{CoordFault}
 use Rattle.share_coord.specs.declared.fault.CoordFault.TheVariants.{Store, NoMemory}
+use Rattle.share_coord.proofs.Ends.{later_end, same_end}
 use Rattle.share_coord.proofs.Faults.{ok_is_no_err, err_of}
 use Rattle.share_coord.proofs.Held.{accepts, done, lost, moments}
 
@@ -27,10 +29,11 @@ untouched image moment since Failed only_now Written store e other = record {
   written = tt;
   kept = tt;
   same = refl;
-  stays = λ _ pending held. held;
+  unchanged = λ _. refl;
   failed = λ pending held. inl held;
   device = λ is. absurd (other Device (err_of e _ is));
   full = λ end is. absurd (other (Full end) (err_of e _ is));
+  ends = λ pending held. refl;
   any_moment = λ pending held. record {
     later_a = omega arith;
     later_b = omega arith;
@@ -52,10 +55,13 @@ module _ {D T : Type 0} (image : D → List ℕ → Type 0) (moment : D → ℕ)
     written = is;
     kept = done image record_is old new entries next valid follows keeps;
     same = tt;
-    stays = tt;
+    unchanged = tt;
     failed = tt;
     device = λ e. absurd (ok_is_no_err x _ e);
     full = λ end e. absurd (ok_is_no_err x _ e);
+    ends = λ pending held.
+        later_end image old.live new.live held.frames held.unwritten None (record_bytes record_is) held.keeps.stands
+        (keeps held.frames held.unwritten held.keeps).0.stands;
     any_moment = moments image record_is old new entries next Written follows is moment since old.live.disk new.live.disk old.idle new.idle run;
   }
 
@@ -68,7 +74,7 @@ module _ {D T : Type 0} (image : D → List ℕ → Type 0) (moment : D → ℕ)
       (sym same) (stored x valid keeps)
 
   pub refused : (r : Result (Unit {0}) CoordFault) (e : CoordFault) → r ≡ Err e
-      → ((e ≡ NoMemory) ⊎ ((fault : StoreFault) × (e ≡ Store fault)))
+      → IsFrame (record_bytes record_is) → ((e ≡ NoMemory) ⊎ ((fault : StoreFault) × (e ≡ Store fault)))
       → ((frames : List (List ℕ)) (pending : Option (List ℕ)) → Keeps image old frames pending
       → Keeps image new frames pending ⊎ (IsRecord record_is × Keeps image new frames (Some (record_bytes record_is))))
       → (r ≡ Err (Store Device) → Failed old.live.disk new.live.disk)
@@ -76,16 +82,20 @@ module _ {D T : Type 0} (image : D → List ℕ → Type 0) (moment : D → ℕ)
       × (2 ^ 62 < end + (length (record_bytes record_is) + 5)) × (new ≡ old))
       → (r ≡ Err NoMemory → new ≡ old)
       → WritesOnce {T = T} image moment since Failed Written (record { journal = old; entries = entries }) (record { journal = new; entries = entries }) (Err e)
-  refused r e from causes keeps device full memory = record {
+  refused r e from fits causes keeps device full memory = record {
     written = tt;
     kept = tt;
     same = refl;
-    stays = λ other pending held. subst (λ (j : StateJournal D). Holds image (record { journal = j; entries = entries }) pending) (sym (unchanged causes other)) held;
+    unchanged = λ other. let same = by_cause causes other in λ i. record { journal = same i; entries = entries };
     failed = lost image record_is old new entries next Written follows is keeps;
     device = λ at. (device (from ∙ ap Err (err_of e _ at)), (next, is));
     full = λ end at.
         let f = full end (from ∙ ap Err (err_of e _ at)) in
-        (f.0, (record_bytes record_is, next, is, accepts image record_is old new entries next f.1 follows, f.2));
+        (f.0, (record_bytes record_is, next, is, accepts image record_is old new entries next f.1 follows, fits, f.2));
+    ends = λ pending held. ⊎_elim
+        (λ k. same_end image old.live new.live held.frames held.unwritten held.unwritten held.keeps.stands k.stands)
+        (λ k. same_end image old.live new.live held.frames held.unwritten (Some (record_bytes record_is)) held.keeps.stands k.1.stands)
+        (keeps held.frames held.unwritten held.keeps);
     any_moment = moments image record_is old new entries next Written follows is moment since old.live.disk new.live.disk old.idle new.idle run;
   }
     where
@@ -93,9 +103,9 @@ module _ {D T : Type 0} (image : D → List ℕ → Type 0) (moment : D → ℕ)
       by_fault Device at other = absurd (other at)
       by_fault (Full end) at other = (full end (from ∙ ap Err at)).3
 
-      unchanged : (e ≡ NoMemory) ⊎ ((fault : StoreFault) × (e ≡ Store fault)) → e ≢ Store Device → new ≡ old
-      unchanged (inl at) other = memory (from ∙ ap Err at)
-      unchanged (inr at) other = by_fault at.0 at.1 other
+      by_cause : (e ≡ NoMemory) ⊎ ((fault : StoreFault) × (e ≡ Store fault)) → e ≢ Store Device → new ≡ old
+      by_cause (inl at) other = memory (from ∙ ap Err at)
+      by_cause (inr at) other = by_fault at.0 at.1 other
 
 module _ {D T : Type 0} (image : D → List ℕ → Type 0) (moment : D → ℕ) (since : D → ℕ → List ℕ → Type 0) (Failed : D → D → Type 0)
     (Written : Entries → Type 0) (old new : StoreParts D) where
@@ -112,16 +122,22 @@ rewritten image moment since Failed P Q old new r f once = record {
   written = on_ok_weaker r (f new.entries) once.written;
   kept = once.kept;
   same = once.same;
-  stays = once.stays;
+  unchanged = once.unchanged;
   failed = on_err_weaker r (λ h pending held. ⊎_elim (λ x. inl x) (λ x. inr (x.0, f x.0 x.1, x.2)) (h pending held)) once.failed;
   device = λ at. let x = once.device at in (x.0, (x.1.0, f x.1.0 x.1.1));
-  full = λ end at. let x = once.full end at in (x.0, (x.1.0, x.1.1, f x.1.1 x.1.2, x.1.3, x.1.4));
+  full = λ end at. let x = once.full end at in (x.0, (x.1.0, x.1.1, f x.1.1 x.1.2, x.1.3, x.1.4, x.1.5));
+  ends = once.ends;
   any_moment = λ pending held. let run = once.any_moment pending held in record {
     later_a = run.later_a;
     later_b = run.later_b;
     each = λ a b left right. ⊎_elim (λ x. inl x) (λ x. inr (x.0, f x.0 x.1, x.2)) (run.each a b left right);
   };
 }
+
+-- a store that is as it was holds what it held
+pub held_still : {D : Type 0} (image : D → List ℕ → Type 0) (old new : StoreParts D) → new ≡ old → (pending : Option Entries) → Holds image old pending
+    → Holds image new pending
+held_still {D} image old new same pending held = subst (λ (s : StoreParts D). Holds image s pending) (sym same) held
 
 -- a call that writes once leaves a store that holds what it holds
 pub held_after : {D T : Type 0} (image : D → List ℕ → Type 0) (moment : D → ℕ) (since : D → ℕ → List ℕ → Type 0) (Failed : D → D → Type 0)

@@ -1,11 +1,12 @@
 -- What a store in memory and its two disks stand for together, and what a call that writes once leaves. This project's own.
 -- For example a store whose write failed at its last device call holds what it held, with the write pending, and a restart after a
 -- power loss finds it done or not.
-use Rattle.std.specs.Prelude.{◌≡◌, ◌≢◌, ◌⊎◌, ◌<◌, ◌+◌, ◌^◌, ℕ, List, [], length, Some, None, Result, OnOk, OnErr, IfErr, Err}
+use Rattle.std.specs.Prelude.{◌≡◌, ◌≢◌, ◌⊎◌, ◌<◌, ◌≤◌, ◌+◌, ◌^◌, ℕ, List, [], length, Some, None, Result, OnOk, OnErr, IfErr, Err, MatchResult}
 use Rattle.std.specs.declared.option.Option.{Option}
 use Rattle.edge_io.specs.Moments.{LeavesPairs}
 use Rattle.share_model.specs.declared.fault.StoreFault.TheVariants.{Device, Full}
 use Rattle.coord_checkpoint.specs.Lists.{Keeps}
+use Rattle.gate_journal.specs.Frames.{IsFrame}
 use Rattle.share_model.specs.Pending.{WithPending}
 use Rattle.share_coord.specs.Stored.{Entries, Accepts, AreAccepted, AreStored}
 use Rattle.share_coord.specs.declared.fault.CoordFault.{CoordFault}
@@ -47,16 +48,19 @@ pub record WritesOnce {D T : Type 0} (image : D → List ℕ → Type 0) (moment
   -- where it answers Ok, it is written, and nothing is pending
   pub written : OnOk result (Written new.entries)
   pub kept : OnOk result ((pending : Option Entries) → Holds image old pending → Holds image new None)
-  -- Where it doesn't, the states are as before. After a device fault the pending write is the one from before or this one; after
-  -- another refusal it is the one from before.
+  -- Where it doesn't, the states are as before. After a device fault the pending write is the one from before or this one; another refusal
+  -- changes nothing.
   pub same : OnErr result (new.entries ≡ old.entries)
-  pub stays : IfErr result (λ e. e ≢ store_fault Device → (pending : Option Entries) → Holds image old pending → Holds image new pending)
+  pub unchanged : IfErr result (λ e. e ≢ store_fault Device → new ≡ old)
   pub failed : OnErr result ((pending : Option Entries) → Holds image old pending →
       Holds image new pending ⊎ ((lost : Entries) × Written lost × Holds image new (Some lost)))
   -- a device fault comes only to a call that is granted and where a device call failed, and Full where the frame would end past 2^62
   pub device : result ≡ Err (store_fault Device) → Failed old.journal.live.disk new.journal.live.disk × ((lost : Entries) × Written lost)
   pub full : (end : ℕ) → result ≡ Err (store_fault (Full end)) → (end ≡ old.journal.live.end)
-      × ((frame : List ℕ) × (lost : Entries) × Written lost × Accepts old.entries frame lost × (2 ^ 62 < end + (length frame + 5)))
+      × ((frame : List ℕ) × (lost : Entries) × Written lost × Accepts old.entries frame lost × IsFrame frame × (2 ^ 62 < end + (length frame + 5)))
+  -- a write moves the end of the journal on, and what is refused leaves it
+  pub ends : (pending : Option Entries) → Holds image old pending →
+      MatchResult result (λ _. old.journal.live.end ≤ new.journal.live.end) (λ _. new.journal.live.end ≡ old.journal.live.end)
   -- at each moment since it began, a crash leaves what stood at entry, or what it writes
   pub any_moment : (pending : Option Entries) → Holds image old pending →
       LeavesPairs moment since moment since old.journal.live.disk new.journal.live.disk old.journal.idle new.journal.idle

@@ -1,9 +1,11 @@
 ghost use Rattle.std.specs.Prelude.{◌≡◌, ◌⊎◌, ◌↔◌, ◌<◌, ◌^◌, length, true, false, Some, None, Ok, Err, is_some, IsSome, IfOk, IfErr, slice_get, MatchResult};
+ghost use Rattle.std.specs.List.Sorted.{IsStrictlySortedBy};
 ghost use Rattle.std.specs.Option.{option_map, option_copied};
 ghost use Rattle.std.specs.Map.{keys_of};
 ghost use Rattle.std.specs.declared.option.Option.{Option};
 ghost use Rattle.edge_io.specs.Armed.{ArmsAlone, RunsOn};
 ghost use Rattle.coord_checkpoint.specs.Disks.{HasFailed, RunsBoth};
+ghost use Rattle.share_model.specs.Keys.{key_cmp};
 ghost use Rattle.share_coord.specs.Stored.{Entries, kept_at};
 ghost use Rattle.share_coord.specs.Calls.{Causes, IsInitialised, IsWritten, IsTooMany, IsForgotten, init_refusal, write_refusal};
 ghost use Rattle.share_coord.specs.Holding.{Holds, WritesOnce};
@@ -154,6 +156,7 @@ impl<D: Disk> Coord<D> {
     pub fn states(&self) -> States<'_>
         ensures rest { result ≡ states_of self.now.entries }
         ensures fits { length self.now.entries < 2 ^ 63 }
+        ensures ordered { IsStrictlySortedBy key_cmp (keys_of self.now.entries) }
     {
         States {
             inner: self.store.map.iter(),

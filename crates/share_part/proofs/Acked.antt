@@ -7,7 +7,7 @@ use Rattle.edge_io.specs.Armed.{RunsOn, StarvesUnarmed}
 use Rattle.edge_io.specs.Causes.{Rose}
 use Rattle.edge_io.specs.declared.fault.Armed.{Armed}
 use Rattle.flex_fields.specs.declared.fault.NoMemory.{NoMemory as want}
-use Rattle.share_model.specs.ForeignRules.{share_state_at}
+use Rattle.share_model.specs.ForeignRules.{ShareStates, share_state_at}
 use Rattle.share_model.specs.Held.{Held}
 use Rattle.share_model.specs.Logs.{Batch}
 use Rattle.share_model.specs.ShareStates.{ShareState}
@@ -25,8 +25,9 @@ use Rattle.share_model.specs.declared.visit.VisitAnswer.{VisitAnswer}
 use Rattle.part_log.specs.Logs.{IsStoredLog}
 use Rattle.share_coord.specs.Parts.{StoreParts}
 use Rattle.share_coord.specs.Stored.{Entries}
+use Rattle.share_coord.proofs.Ends.{EndsLater, later_same}
 use Rattle.share_part.specs.Acknowledging.{Acknowledges, AreTheirs, NameNone, NameOne, StoresActs}
-use Rattle.share_part.specs.Following.{Acquires, Does, Fetches, IsEmptyAnswer, MakesTable}
+use Rattle.share_part.specs.Following.{Acquires, Does, Fetches, HasNothingToWrite, IsEmptyAnswer, MakesTable, releases_of}
 use Rattle.share_part.specs.Hosting.{PartConfParts, AreHosted, key_of, states_of}
 use Rattle.share_part.specs.Once.{FollowsOnce, VisitsOnce}
 use Rattle.share_part.specs.Settling.{Acts, AreHeldBy, held_after}
@@ -35,7 +36,7 @@ use Rattle.share_part.specs.Storing.{AcksOnce, SettlesGroup, StoresGroup}
 use Rattle.share_part.specs.Visits.{AreToWrite, StepsAcks}
 use Rattle.share_part.specs.declared.limits.Limits.{Limits}
 use Rattle.share_part.proofs.Holding.{AreKept}
-use Rattle.share_part.proofs.Storage.{behind, same_carried, stands_same, stands_stored, still, stored_device, stored_steps}
+use Rattle.share_part.proofs.Storage.{behind, stands_same, stands_stored, still, stored_device, stored_later, stored_steps, unstored_carries}
 use Rattle.share_part.proofs.Visiting.{carried, shard_of}
 
 -- ---- an answer with another outcome of the acknowledgements
@@ -121,6 +122,10 @@ module _ {D W : Type 0} (content : D → Option (List ℕ)) (image : D → List 
       → StoresGroup image moment since Failed old.conf old.log.batches visit.group acts was old.states states Same Ends r → Stands
   stored_stand r h = stands_stored content image moment since armed starved faults holding visit.group acts old states windows old.clock sound few hosted kept r h
 
+  later_stored : (r : Result (Option StoreFault) want)
+      → StoresGroup image moment since Failed old.conf old.log.batches visit.group acts was old.states states Same Ends r → EndsLater image old.states states
+  later_stored r h = stored_later content image moment since armed starved faults holding visit.group acts old states windows old.clock sound few hosted kept r h
+
   stands_settled : (r : Result AckOutcome want) → Settles r → Stands
   stands_settled (Ok (NotHeld o)) h = same_stand h.1 h.2
   stands_settled (Ok (Malformed f)) h = absurd h
@@ -181,22 +186,50 @@ module _ {D W : Type 0} (content : D → Option (List ℕ)) (image : D → List 
       ((n.0, λ offset some. absurd (none_some (acts offset) (n.1 offset) some)), inl (n.1, record { states = refl; pending = refl; held = refl }))))
   steps ack (inr (inr g)) = settled_steps ack g.0 g.2
 
-  -- where nothing is to be written, the journal ends where it did
-  ends_settled : (ack : AckOutcome) → IsWellFormed visit.acks → NameOne acts → Settles (Ok ack) → (batch : Option Batch) (pending : Option Entries)
-      → (AreToWrite (shard_of image holding old batch pending) visit → ⊥) → states.journal.live.end ≡ old.states.journal.live.end
-  ends_settled (NotHeld o) formed named h batch pending nothing = ap (λ (s : StoreParts D). s.journal.live.end) h.1
-  ends_settled (Malformed f) formed named h batch pending nothing = absurd h
-  ends_settled Done formed named h batch pending nothing = absurd (nothing ((formed, h.0), named))
-  ends_settled (Store fault) formed named h batch pending nothing = absurd (nothing ((formed, h.0), named))
+  -- where nothing is to be written, nothing is
+  none_settled : (r : Result AckOutcome want) → IsWellFormed visit.acks → NameOne acts → Settles r → (batch : Option Batch) (pending : Option Entries)
+      → (AreToWrite (shard_of image holding old batch pending) visit → ⊥) → states ≡ old.states
+  none_settled (Ok (NotHeld o)) formed named h batch pending nothing = h.1
+  none_settled (Ok (Malformed f)) formed named h batch pending nothing = absurd h
+  none_settled (Ok Done) formed named h batch pending nothing = absurd (nothing ((formed, h.0), named))
+  none_settled (Ok (Store fault)) formed named h batch pending nothing = absurd (nothing ((formed, h.0), named))
+  none_settled (Err e) formed named h batch pending nothing = h.0
 
-  ends : (ack : AckOutcome) → Acked (Ok ack) → (batch : Option Batch) (pending : Option Entries)
-      → (AreToWrite (shard_of image holding old batch pending) visit → ⊥) → states.journal.live.end ≡ old.states.journal.live.end
-  ends ack (inl m) batch pending nothing = ap (λ (s : StoreParts D). s.journal.live.end) m.3.0
-  ends ack (inr (inl n)) batch pending nothing = ap (λ (s : StoreParts D). s.journal.live.end) n.3.0
-  ends ack (inr (inr g)) batch pending nothing = ends_settled ack g.0 g.1 g.2 batch pending nothing
+  none_written : (r : Result AckOutcome want) → Acked r → (batch : Option Batch) (pending : Option Entries)
+      → (AreToWrite (shard_of image holding old batch pending) visit → ⊥) → states ≡ old.states
+  none_written r (inl m) batch pending nothing = m.3.0
+  none_written r (inr (inl n)) batch pending nothing = n.3.0
+  none_written r (inr (inr g)) batch pending nothing = none_settled r g.0 g.1 g.2 batch pending nothing
 
-  pub unwritten : (ack : AckOutcome) → Acked (Ok ack) → (s : PartShardState) → Carries image holding old s → (AreToWrite s visit → ⊥) → states.journal.live.end ≡ old.states.journal.live.end
-  unwritten ack h = carried image holding old (λ s. (AreToWrite s visit → ⊥) → states.journal.live.end ≡ old.states.journal.live.end) (λ batch pending k nothing. ends ack h batch pending nothing)
+  pub unwritten : (r : Result AckOutcome want) → Acked r → (s : PartShardState) → Carries image holding old s → (AreToWrite s visit → ⊥) → states ≡ old.states
+  unwritten r h = carried image holding old (λ s. (AreToWrite s visit → ⊥) → states ≡ old.states) (λ batch pending k nothing. none_written r h batch pending nothing)
+
+  -- nor does the shard change then
+  acts_still : (s t : PartShardState) (fault : Option StoreFault) → StoresActs old.conf Rises old.states.journal.live.end s visit.group acts t fault
+      → (NameOne acts → ⊥) → IsStill s t
+  acts_still s t None (inl h) none = h.1
+  acts_still s t None (inr h) none = absurd (none h.0)
+  acts_still s t (Some Device) h none = absurd (none h.0)
+  acts_still s t (Some (Full at)) h none = absurd (none h.0)
+
+  acks_still : (ack : AckOutcome) (s t : PartShardState) → DoesAcks ack s t → (AreToWrite s visit → ⊥) → IsStill s t
+  acks_still (Malformed f) s t h nothing = h.1
+  acks_still (NotHeld o) s t h nothing = h.2
+  acks_still Done s t h nothing = acts_still s t None h.1 (λ named. nothing (h.0, named))
+  acks_still (Store fault) s t h nothing = acts_still s t (Some fault) h.1 (λ named. nothing (h.0, named))
+
+  -- the journal never ends before where it did
+  later_settled : (r : Result AckOutcome want) → Settles r → EndsLater image old.states states
+  later_settled (Ok (NotHeld o)) h = later_same image old.states states h.1
+  later_settled (Ok (Malformed f)) h = absurd h
+  later_settled (Ok Done) h = later_stored (Ok None) h.1
+  later_settled (Ok (Store fault)) h = later_stored (Ok (Some fault)) h.1
+  later_settled (Err e) h = later_stored (Err e) h
+
+  later : (r : Result AckOutcome want) → Acked r → EndsLater image old.states states
+  later r (inl m) = later_same image old.states states m.3.0
+  later r (inr (inl n)) = later_same image old.states states n.3.0
+  later r (inr (inr g)) = later_settled r g.2
 
   -- a device fault
   abbrev Starves : Type 0
@@ -218,8 +251,8 @@ module _ {D W : Type 0} (content : D → Option (List ℕ)) (image : D → List 
   pub unanswered : (e : want) → Acked (Err e) → (s : PartShardState) → Carries image holding old s → Carries image holding mid s
   unanswered e (inl m) = absurd (not_ok e (Malformed m.0) m.1)
   unanswered e (inr (inl n)) = absurd (not_ok e Done n.2)
-  unanswered e (inr (inr g)) = carried image holding old (λ s. Carries image holding mid s) (λ batch pending k.
-      same_carried content image moment since armed starved faults holding visit.group acts old states windows old.clock sound few hosted kept batch pending pending k g.2.0 (g.2.1 pending k.holds) k.pending_hosted g.2.2)
+  unanswered e (inr (inr g)) =
+      unstored_carries content image moment since armed starved faults holding visit.group acts old states windows old.clock sound few hosted kept e g.2 refl
 
   pub none_acked : (now : ℕ) (r : Result AckOutcome want) (e : want) → r ≡ Err e → Acked r → states.journal.idle ≡ old.states.journal.idle → (result : Result VisitAnswer want) → IsErr result
       → VisitsOnce content image armed starved faults holding now visit old mid result
@@ -229,6 +262,8 @@ module _ {D W : Type 0} (content : D → Option (List ℕ)) (image : D → List 
     memory = λ s c. inl (unanswered e (subst Acked is h) s c);
     ack_sound = tt;
     sound = tt;
+    unwritten = λ s c nothing behind. unwritten r h s c nothing;
+    ends = λ s c. later r h c.pending c.holds;
     log = refl;
     idle = idle;
     conf = refl;
@@ -262,6 +297,19 @@ module _ {D W : Type 0} (content : D → Option (List ℕ)) (image : D → List 
     abbrev Unarmed : Type 0
     Unarmed = StarvesUnarmed content armed starved old.states.journal.live.disk new.states.journal.live.disk
 
+    -- the acknowledgements write nothing, and what follows them neither
+    nothing_so : (s t : PartShardState) → IsStill s t → (u : Then) → HasNothingToWrite old.conf s visit u → HasNothingToWrite old.conf t visit u
+    nothing_so s t still Nothing h = tt
+    nothing_so s t still Release h = subst (λ (held : List ℕ → Held). NameNone (releases_of visit.member (held visit.group))) (sym still.held) h
+    nothing_so s t still (Fetch records bytes first) h =
+        subst (λ (states : ShareStates). IsSome (share_state_at states (key_of old.conf visit.group))) (sym still.states) h
+
+    nothing_at_all : ((t : PartShardState) → Carries image holding mid t → HasNothingToWrite old.conf t visit visit.then → new.states ≡ states)
+        → (s : PartShardState) → Carries image holding old s → (AreToWrite s visit → ⊥) → HasNothingToWrite old.conf s visit visit.then → new.states ≡ old.states
+    nothing_at_all stays s c nothing behind =
+        let first = steps ack acked s c in
+        stays first.0 first.1 (nothing_so s first.0 (acks_still ack s first.0 first.2.does nothing) visit.then behind) ∙ unwritten r r_acked s c nothing
+
     pub visited : (inner : VisitAnswer) (done : Result VisitAnswer want) → done ≡ Ok inner → FollowsOnce content image armed starved faults holding now visit mid new done
         → VisitsOnce content image armed starved faults holding now visit old new (Ok (with_ack ack inner))
     visited inner done is once =
@@ -278,7 +326,9 @@ module _ {D W : Type 0} (content : D → Option (List ℕ)) (image : D → List 
                   at = states.journal.live.end;
                   acks = first.2;
                   counts = (runs.later, more.later);
-                  unwritten = unwritten ack acked s c;
+                  ends = (later r r_acked c.pending c.holds, o.ends first.0 first.1);
+                  unwritten = λ nothing. ap (λ (p : StoreParts D). p.journal.live.end) (unwritten r r_acked s c nothing);
+                  still = λ nothing. ap (λ (p : StoreParts D). p.journal.live.end) (o.unwritten first.0 first.1 nothing);
                   does = does_as old.conf (Rose (faults states.journal.live.disk) (faults new.states.journal.live.disk)) states.journal.live.end first.0 visit ack inner then.0 visit.then then.2.does;
                   clock = then.2.clock ∙ ap (λ (n : ℕ). max n now) first.2.clock;
                   log = then.2.log ∙ first.2.log;
@@ -287,6 +337,12 @@ module _ {D W : Type 0} (content : D → Option (List ℕ)) (image : D → List 
           memory = tt;
           ack_sound = λ fault told bare. more.stays (runs.told ∙ told) (device_sound ack acked fault told bare);
           sound = λ fault told bare. o.sound fault (runs.told ∙ told) (runs.unarmed told bare);
+          unwritten = λ s c nothing behind. nothing_at_all o.unwritten s c nothing behind;
+          ends = λ s c.
+              let first = steps ack acked s c in
+              let before = later r r_acked c.pending c.holds in
+              let behind = o.ends first.0 first.1 in
+              omega (arith, before, behind);
           log = o.log;
           idle = o.idle ∙ idle;
           conf = o.conf;
@@ -302,6 +358,12 @@ module _ {D W : Type 0} (content : D → Option (List ℕ)) (image : D → List 
           memory = λ s c. let first = steps ack acked s c in inr (ack, first.0, o.memory first.0 first.1, steps_as s first.0 first.2);
           ack_sound = tt;
           sound = tt;
+          unwritten = λ s c nothing behind. nothing_at_all o.unwritten s c nothing behind;
+          ends = λ s c.
+              let first = steps ack acked s c in
+              let before = later r r_acked c.pending c.holds in
+              let behind = o.ends first.0 first.1 in
+              omega (arith, before, behind);
           log = o.log;
           idle = o.idle ∙ idle;
           conf = o.conf;

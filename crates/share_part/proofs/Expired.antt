@@ -58,6 +58,7 @@ module _ {D W : Type 0} (content : D → Option (List ℕ)) (image : D → List 
     pub carries : Carries image holding current shard
     pub clock_is : max shard.clock now ≡ clock
     pub log : shard.log ≡ s.log
+    pub ends : end entry ≤ end current
     pub some : (i ≡ 0) ⊎ ((0 < freed) × (shard.clock ≡ clock))
     pub done : List (List ℕ)
     pub rest : List (List ℕ)
@@ -94,6 +95,7 @@ module _ {D W : Type 0} (content : D → Option (List ℕ)) (image : D → List 
           carries = c;
           clock_is = ap (λ (n : ℕ). max n now) c.clock;
           log = refl;
+          ends = omega arith;
           some = inl refl;
           done = [];
           rest = groups;
@@ -139,11 +141,12 @@ module _ {D W : Type 0} (content : D → Option (List ℕ)) (image : D → List 
       parts_are : groups ≡ (f.done ++ next.passed) ++ (group ∷ next.behind)
       parts_are = f.parted ∙ ap (λ (l : List (List ℕ)). f.done ++ l) next.is ∙ sym (append_assoc f.done next.passed (group ∷ next.behind))
 
-      one_group : (fault : Option StoreFault) (t : PartShardState) → t.log ≡ f.shard.log → t.clock ≡ clock
+      one_group : (fault : Option StoreFault) (t : PartShardState) → end current ≤ end after → t.log ≡ f.shard.log → t.clock ≡ clock
           → StoresActs current.conf (Rose (faults (disk current)) (faults (disk after))) (end current) f.shard group (releasing (is_chosen (Due clock)) (f.shard.held group)) t fault
-          → StepsGroup entry.conf (faults (disk current)) (faults (disk after)) (end current) (raised_to now f.shard) group fault t
-      one_group fault t log clock_is stores = record {
+          → StepsGroup entry.conf (faults (disk current)) (faults (disk after)) (end current) (end after) (raised_to now f.shard) group fault t
+      one_group fault t ends log clock_is stores = record {
         counts = runs.later;
+        ends = ends;
         log = log;
         clock = clock_is ∙ sym f.clock_is;
         stores = stores_as entry.conf (Rose (faults (disk current)) (faults (disk after))) (end current) f.shard t group _ now fault
@@ -182,7 +185,7 @@ module _ {D W : Type 0} (content : D → Option (List ℕ)) (image : D → List 
               let behind = order_behind n.passed group n.behind (subst InOrder n.is f.order) in
               let some : 0 < due_count clock (f.shard.held group) = subst (λ (l : Held). 0 < due_count clock l) (sym (group_held s f)) (some_due_of clock (held_in holding entry.windows group) n.pass) in
               let to = one_more entry.conf (faults (disk entry)) (end entry) (f.done ++ n.passed) 0 (raised_to now s) (faults (disk current)) (end current) freed (raised_to now f.shard) (to_here s f)
-              group (faults (disk after)) (end after) r.0 (one_group s f None r.0 r.2.log r.2.clock_is r.2.stores)
+              group (faults (disk after)) (end after) r.0 (one_group s f None r.0 (o.ends f.shard f.carries) r.2.log r.2.clock_is r.2.stores)
               (λ none. ap (λ (p : StoreParts D). p.journal.live.end) (o.unwritten
               (subst (λ (l : Held). NameNone (ending clock l)) (f.carries.held group) (subst (λ (n : ℕ). NameNone (ending n (f.shard.held group))) f.clock_is none)))) in
               record {
@@ -190,6 +193,7 @@ module _ {D W : Type 0} (content : D → Option (List ℕ)) (image : D → List 
                 carries = r.1;
                 clock_is = ap (λ (n : ℕ). max n now) r.2.clock_is ∙ max_again entry.clock now;
                 log = r.2.log ∙ f.log;
+                ends = (let before = f.ends in let more = o.ends f.shard f.carries in omega (arith, before, more));
                 some = inr ((let positive : 0 < min (freed + count) (2 ^ 64 - 1) = omega (arith, counted, some) in positive), r.2.clock_is);
                 done = (f.done ++ n.passed) ++ group ∷ [];
                 rest = n.behind;
@@ -212,6 +216,13 @@ module _ {D W : Type 0} (content : D → Option (List ℕ)) (image : D → List 
         let empty : length due ≡ 0 = ap (λ (l : List (List ℕ)). length l) none in
         omega (arith, empty, lt)
 
+    ends_so : {result : Result Released want} → Once result → (s : PartShardState) → Carries image holding entry s → end entry ≤ end after
+    ends_so o s c =
+        let f = h.steps s c in
+        let before = f.ends in
+        let more = o.ends f.shard f.carries in
+        omega (arith, before, more)
+
     -- ---- its write fails
 
     told_device : (a b : ℕ) (x y : List ℕ) (e f : StoreFault) → Store a x e ≡ Store b y f → e ≡ f
@@ -229,19 +240,20 @@ module _ {D W : Type 0} (content : D → Option (List ℕ)) (image : D → List 
                 let r = o.steps f.shard f.carries in
                 let n = next s f in
                 let steps = one_fails entry.conf (faults (disk entry)) (end entry) (f.done ++ n.passed) 0 (raised_to now s) (faults (disk current)) (end current) freed (raised_to now f.shard) (to_here s f)
-                group n.behind (faults (disk after)) fault r.0 (one_group s f (Some fault) r.0 r.2.log r.2.clock_is r.2.stores) in (
+                group n.behind (faults (disk after)) (end after) fault r.0 (one_group s f (Some fault) r.0 (o.ends f.shard f.carries) r.2.log r.2.clock_is r.2.stores) in (
                   r.0,
                   r.1,
                   record {
                     clock = r.2.clock_is ∙ ap (λ (n : ℕ). max n now) (sym c.clock);
                     log = r.2.log ∙ f.log;
-                    groups = subst (λ (l : List (List ℕ)). StepsGroups entry.conf (faults (disk entry)) (faults (disk after)) (end entry) l 0 (raised_to now s) (Store freed group fault) r.0)
+                    groups = subst (λ (l : List (List ℕ)). StepsGroups entry.conf (faults (disk entry)) (faults (disk after)) (end entry) (end after) l 0 (raised_to now s) (Store freed group fault) r.0)
                         (sym (ap groups_of c.states ∙ parts_are s f)) steps;
                   },
                 );
             memory = tt;
             quiet = λ nothing. absurd (none_left by_group due_is rising nothing);
             sound = λ m g told bare unarmed. o.sound (ap unreleased (told_device freed m group g fault Device told)) (h.runs.told ∙ bare) (h.runs.unarmed bare unarmed);
+            ends = ends_so o;
             log = o.log ∙ h.log;
             idle = o.idle ∙ h.idle;
             conf = o.conf ∙ h.conf;
@@ -271,13 +283,15 @@ module _ {D W : Type 0} (content : D → Option (List ℕ)) (image : D → List 
                     parted = ap groups_of c.states ∙ f.parted;
                     freed = freed;
                     some = more.0;
-                    groups = subst (StepsGroups entry.conf (faults (disk entry)) (faults (disk after)) (end entry) f.done 0 (raised_to now s) (Done freed)) (sym (raised_same s f f.shard more.1))
-                        (all_done entry.conf (faults (disk entry)) (end entry) f.done 0 (raised_to now s) (faults (disk current)) (end current) freed (raised_to now f.shard) f.to (faults (disk after)) runs.later);
+                    groups = subst (StepsGroups entry.conf (faults (disk entry)) (faults (disk after)) (end entry) (end after) f.done 0 (raised_to now s) (Done freed)) (sym (raised_same s f f.shard more.1))
+                        (all_done entry.conf (faults (disk entry)) (end entry) f.done 0 (raised_to now s) (faults (disk current)) (end current) freed (raised_to now f.shard) f.to (faults (disk after)) (end after) runs.later
+                        (o.ends f.shard f.carries));
                   },
                 ))
                 f.some;
             quiet = λ nothing. absurd (none_left by_group due_is rising nothing);
             sound = tt;
+            ends = ends_so o;
             log = o.log ∙ h.log;
             idle = o.idle ∙ h.idle;
             conf = o.conf ∙ h.conf;
@@ -321,9 +335,10 @@ module _ {D W : Type 0} (content : D → Option (List ℕ)) (image : D → List 
             record {
               clock = f.clock_is ∙ ap (λ (n : ℕ). max n now) (sym c.clock);
               log = f.log;
-              groups = subst (λ (l : List (List ℕ)). StepsGroups entry.conf (faults (disk entry)) (faults (disk current)) (end entry) l 0 (raised_to now s) (Done freed) (raised_to now f.shard))
+              groups = subst (λ (l : List (List ℕ)). StepsGroups entry.conf (faults (disk entry)) (faults (disk current)) (end entry) (end current) l 0 (raised_to now s) (Done freed) (raised_to now f.shard))
                   (sym (ap groups_of c.states ∙ f.parted))
-                  (all_done entry.conf (faults (disk entry)) (end entry) (f.done ++ f.rest) 0 (raised_to now s) (faults (disk current)) (end current) freed (raised_to now f.shard) to (faults (disk current)) (omega arith));
+                  (all_done entry.conf (faults (disk entry)) (end entry) (f.done ++ f.rest) 0 (raised_to now s) (faults (disk current)) (end current) freed (raised_to now f.shard) to (faults (disk current)) (end current) (omega arith)
+                  (omega arith));
             },
           );
       memory = tt;
@@ -334,6 +349,7 @@ module _ {D W : Type 0} (content : D → Option (List ℕ)) (image : D → List 
           let first = h.none (omega (arith, empty, within)) in
           (ap (λ (n : ℕ). Ok (Done n)) first.1, ap (λ (p : PartParts D W). record { conf = p.conf; log = p.log; states = p.states; windows = p.windows; clock = clock }) first.0);
       sound = λ m g told. absurd (let clash : ⊥ = cc in clash);
+      ends = λ s c. (h.steps s c).ends;
       log = h.log;
       idle = h.idle;
       conf = h.conf;
@@ -342,4 +358,4 @@ module _ {D W : Type 0} (content : D → Option (List ℕ)) (image : D → List 
   -- no memory is found for the list of the groups
   pub none_begins : (answer : Result ExpireAnswer want) → IsErr answer → (IsNothingDue holding entry.windows clock → ⊥) → ExpiresOnce content image armed starved faults holding now entry entry answer
   none_begins (Ok answer) none some = absurd (let clash : ⊥ = cc in clash)
-  none_begins (Err e) none some = record { steps = tt; memory = λ s c. inl c; quiet = λ nothing. absurd (some nothing); sound = tt; log = refl; idle = refl; conf = refl }
+  none_begins (Err e) none some = record { steps = tt; memory = λ s c. inl c; quiet = λ nothing. absurd (some nothing); sound = tt; ends = λ s c. omega arith; log = refl; idle = refl; conf = refl }

@@ -55,6 +55,7 @@ module _ (conf : PartConfParts) (rose : Type 0) (end : ℕ) (old new : PartShard
       is_before = h.3.is_before;
       is_after = record { state = h.3.is_after.state; next = h.3.is_after.next; known = h.3.is_after.known; settled = h.3.is_after.settled; is = h.3.is_after.is };
       accepted = h.3.accepted;
+      fits = h.3.fits;
       past = h.3.past;
     },
   )
@@ -66,39 +67,40 @@ module _ (conf : PartConfParts) where
   abbrev pub StepsTo : (count end : ℕ) → List (List ℕ) → (freed : ℕ) → PartShardState → (later at more : ℕ) → PartShardState → Type 0
   StepsTo count end [] freed old later at more new = (later ≡ count) × (at ≡ end) × (more ≡ freed) × (new ≡ old)
   StepsTo count end (group ∷ groups) freed old later at more new =
-      (between : PartShardState) × (counted : ℕ) × (mid : ℕ) × StepsGroup conf count counted end old group None between
+      (between : PartShardState) × (counted : ℕ) × (mid : ℕ) × StepsGroup conf count counted end mid old group None between
       × (NameNone (ending old.clock (old.held group)) → mid ≡ end)
       × StepsTo counted mid groups (more_freed freed (due_count old.clock (old.held group))) between later at more new
 
   pub all_done : (count end : ℕ) (groups : List (List ℕ)) (freed : ℕ) (old : PartShardState) (later at more : ℕ) (new : PartShardState) → StepsTo count end groups freed old later at more new
-      → (last : ℕ) → later ≤ last → StepsGroups conf count last end groups freed old (Done more) new
-  all_done count end [] freed old later at more new h last le = (ap (λ (n : ℕ). Done n) h.2, h.3, (let same = h.0 in omega (arith, same, le)))
-  all_done count end (group ∷ groups) freed old later at more new h last le =
-      inl (h.0, h.1, h.2, h.3, h.4, all_done h.1 h.2 groups (more_freed freed (due_count old.clock (old.held group))) h.0 later at more new h.5 last le)
+      → (last top : ℕ) → later ≤ last → at ≤ top → StepsGroups conf count last end top groups freed old (Done more) new
+  all_done count end [] freed old later at more new h last top le below =
+      (ap (λ (n : ℕ). Done n) h.2, h.3, (let same = h.0 in omega (arith, same, le)), (let same = h.1 in omega (arith, same, below)))
+  all_done count end (group ∷ groups) freed old later at more new h last top le below =
+      inl (h.0, h.1, h.2, h.3, h.4, all_done h.1 h.2 groups (more_freed freed (due_count old.clock (old.held group))) h.0 later at more new h.5 last top le below)
 
   pub one_fails : (count end : ℕ) (groups : List (List ℕ)) (freed : ℕ) (old : PartShardState) (later at more : ℕ) (mid : PartShardState) → StepsTo count end groups freed old later at more mid
-      → (group : List ℕ) (rest : List (List ℕ)) (last : ℕ) (fault : StoreFault) (new : PartShardState) → StepsGroup conf later last at mid group (Some fault) new
-      → StepsGroups conf count last end (groups ++ (group ∷ rest)) freed old (Store more group fault) new
-  one_fails count end [] freed old later at more mid h group rest last fault new step = inr (
+      → (group : List ℕ) (rest : List (List ℕ)) (last top : ℕ) (fault : StoreFault) (new : PartShardState) → StepsGroup conf later last at top mid group (Some fault) new
+      → StepsGroups conf count last end top (groups ++ (group ∷ rest)) freed old (Store more group fault) new
+  one_fails count end [] freed old later at more mid h group rest last top fault new step = inr (
     fault,
     ap (λ (n : ℕ). Store n group fault) h.2,
-    subst (λ (s : PartShardState). StepsGroup conf count last end s group (Some fault) new) h.3
-        (subst (λ (n : ℕ). StepsGroup conf count last n mid group (Some fault) new) h.1
-        (subst (λ (n : ℕ). StepsGroup conf n last at mid group (Some fault) new) h.0 step)),
+    subst (λ (s : PartShardState). StepsGroup conf count last end top s group (Some fault) new) h.3
+        (subst (λ (n : ℕ). StepsGroup conf count last n top mid group (Some fault) new) h.1
+        (subst (λ (n : ℕ). StepsGroup conf n last at top mid group (Some fault) new) h.0 step)),
   )
-  one_fails count end (first ∷ groups) freed old later at more mid h group rest last fault new step =
-      inl (h.0, h.1, h.2, h.3, h.4, one_fails h.1 h.2 groups (more_freed freed (due_count old.clock (old.held first))) h.0 later at more mid h.5 group rest last fault new step)
+  one_fails count end (first ∷ groups) freed old later at more mid h group rest last top fault new step =
+      inl (h.0, h.1, h.2, h.3, h.4, one_fails h.1 h.2 groups (more_freed freed (due_count old.clock (old.held first))) h.0 later at more mid h.5 group rest last top fault new step)
 
   pub one_more : (count end : ℕ) (groups : List (List ℕ)) (freed : ℕ) (old : PartShardState) (later at more : ℕ) (mid : PartShardState) → StepsTo count end groups freed old later at more mid
-      → (group : List ℕ) (last next : ℕ) (new : PartShardState) → StepsGroup conf later last at mid group None new → (NameNone (ending mid.clock (mid.held group)) → next ≡ at)
+      → (group : List ℕ) (last next : ℕ) (new : PartShardState) → StepsGroup conf later last at next mid group None new → (NameNone (ending mid.clock (mid.held group)) → next ≡ at)
       → StepsTo count end (groups ++ group ∷ []) freed old last next (more_freed more (due_count mid.clock (mid.held group))) new
   one_more count end [] freed old later at more mid h group last next new step same = (
     new,
     last,
     next,
-    subst (λ (s : PartShardState). StepsGroup conf count last end s group None new) h.3
-        (subst (λ (n : ℕ). StepsGroup conf count last n mid group None new) h.1
-        (subst (λ (n : ℕ). StepsGroup conf n last at mid group None new) h.0 step)),
+    subst (λ (s : PartShardState). StepsGroup conf count last end next s group None new) h.3
+        (subst (λ (n : ℕ). StepsGroup conf count last n next mid group None new) h.1
+        (subst (λ (n : ℕ). StepsGroup conf n last at next mid group None new) h.0 step)),
     subst (λ (s : PartShardState). NameNone (ending s.clock (s.held group)) → next ≡ end) h.3 (λ none. same none ∙ h.1),
     (
       refl,
@@ -119,7 +121,7 @@ module _ (conf : PartConfParts) where
     old,
     count,
     end,
-    record { counts = omega arith; log = refl; clock = refl; stores = inl (nothing, record { states = refl; pending = refl; held = refl }) },
+    record { counts = omega arith; ends = omega arith; log = refl; clock = refl; stores = inl (nothing, record { states = refl; pending = refl; held = refl }) },
     (λ x. refl),
     all_pass count end [] (more_freed freed (due_count old.clock (old.held g))) old later at more mid (h.0, h.1, h.2 ∙ sym kept, h.3) few passed (λ other there. none other (inr there)),
   )

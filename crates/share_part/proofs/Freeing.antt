@@ -14,8 +14,8 @@ use Rattle.share_model.specs.declared.visit.Then.TheVariants.{Release}
 use Rattle.share_model.specs.declared.visit.ThenOutcome.{ThenOutcome}
 use Rattle.share_model.specs.declared.visit.Visit.{Visit}
 use Rattle.share_model.specs.declared.visit.VisitAnswer.{VisitAnswer}
-use Rattle.share_part.specs.Acknowledging.{StoresActs}
-use Rattle.share_part.specs.Following.{Does, IsEmptyAnswer, fault_of, releases_of}
+use Rattle.share_part.specs.Acknowledging.{NameNone, StoresActs}
+use Rattle.share_part.specs.Following.{Does, HasNothingToWrite, IsEmptyAnswer, fault_of, releases_of}
 use Rattle.share_part.specs.Hosting.{AreHosted, states_of}
 use Rattle.share_part.specs.Once.{FollowsOnce}
 use Rattle.share_part.specs.Releasing.{Counts, ReleasesOnce, fault_in, told_in}
@@ -26,8 +26,7 @@ use Rattle.share_part.specs.declared.release.Released.TheVariants.{Done, Store}
 use Rattle.share_part.specs.declared.settle.Whose.{Whose}
 use Rattle.share_part.specs.declared.settle.Whose.TheVariants.{Member}
 use Rattle.share_part.proofs.Holding.{AreKept}
-use Rattle.share_part.proofs.Storage.{Stores, same_carried, stands_stored, stored_device, stored_none, stored_steps}
-use Rattle.share_part.proofs.Visiting.{carried}
+use Rattle.share_part.proofs.Storage.{Stores, stands_stored, stored_device, stored_later, stored_none, stored_steps, unstored_carries}
 
 is_store : (r : Released) (fault : StoreFault) → fault_in r ≡ Some fault → r ≡ Store fault
 is_store (Done count) fault e = absurd (let clash : ⊥ = cc in clash)
@@ -75,9 +74,11 @@ module _ {D W : Type 0} (content : D → Option (List ℕ)) (image : D → List 
                   counts = subst (λ (h : Held). Counts whose h r) (sym (c.held group)) counts;
                 },
               );
-          unwritten = λ none. stored_none content image moment since armed starved faults holding group acts old states windows clock sound few hosted kept (fault_in r) h none;
+          unwritten = stored_none content image moment since armed starved faults holding group acts old states windows clock sound few hosted kept (told_in (Ok r)) h;
           memory = tt;
           sound = λ fault. stored_device content image moment since armed starved faults holding group acts old states windows clock sound few hosted kept (fault_in r) h (ap fault_in fault);
+          ends = λ s c. stored_later content image moment since armed starved faults holding group acts old states windows clock sound few hosted kept (told_in (Ok r)) h
+              c.pending c.holds;
           log = refl;
           idle = idle;
           conf = refl;
@@ -90,10 +91,11 @@ module _ {D W : Type 0} (content : D → Option (List ℕ)) (image : D → List 
         let h = subst Told is told in
         record {
           steps = tt;
-          unwritten = tt;
-          memory = carried image holding old (λ s. Carries image holding (then old.clock) s) (λ batch pending k.
-              same_carried content image moment since armed starved faults holding group acts old states windows old.clock sound few hosted kept batch pending pending k h.0 (h.1 pending k.holds) k.pending_hosted h.2);
+          unwritten = λ none. h.0;
+          memory = unstored_carries content image moment since armed starved faults holding group acts old states windows old.clock sound few hosted kept e h refl;
           sound = tt;
+          ends = λ s c. stored_later content image moment since armed starved faults holding group acts old states windows old.clock sound few hosted kept (told_in (Err f)) h
+              c.pending c.holds;
           log = refl;
           idle = idle;
           conf = refl;
@@ -118,6 +120,12 @@ module _ {D W : Type 0} (content : D → Option (List ℕ)) (image : D → List 
         (sym (ap fault_of empty.outcome_is ∙ same)) stores,
   )
 
+  none_let_go : (s : PartShardState) → Carries image holding old s
+      → (NameNone (releasing (is_chosen (Member visit.member)) (held_in holding old.windows visit.group)) → new.states ≡ old.states)
+      → HasNothingToWrite old.conf s visit visit.then → new.states ≡ old.states
+  none_let_go s c stays nothing =
+      stays (subst (λ (h : Held). NameNone (releases_of visit.member h)) (c.held visit.group) (subst (HasNothingToWrite old.conf s visit) is nothing))
+
   pub let_go : (result : Result Released want) (r : Released) → result ≡ Ok r → clock ≡ max old.clock now → Once result → (answer : VisitAnswer) (outcome : ThenOutcome)
       → answer.ack ≡ acknowledged → IsEmptyAnswer outcome answer → fault_of outcome ≡ fault_in r
       → FollowsOnce content image armed starved faults holding now visit old new (Ok answer)
@@ -137,6 +145,8 @@ module _ {D W : Type 0} (content : D → Option (List ℕ)) (image : D → List 
             );
         memory = tt;
         sound = λ fault. o.sound (is_store r Device (sym same ∙ (ap fault_of (sym empty.outcome_is) ∙ ap fault_of fault)));
+        unwritten = λ s c. none_let_go s c o.unwritten;
+        ends = o.ends;
         log = o.log;
         idle = o.idle;
         conf = o.conf;
@@ -147,4 +157,4 @@ module _ {D W : Type 0} (content : D → Option (List ℕ)) (image : D → List 
   kept_back result e none once (Ok answer) failed = absurd (let clash : ⊥ = cc in clash)
   kept_back result e none once (Err f) failed =
       let o = subst Once none once in
-      record { steps = tt; memory = o.memory; sound = tt; log = o.log; idle = o.idle; conf = o.conf }
+      record { steps = tt; memory = o.memory; sound = tt; unwritten = λ s c. none_let_go s c o.unwritten; ends = o.ends; log = o.log; idle = o.idle; conf = o.conf }

@@ -10,6 +10,7 @@ pub mod Appending
 pub mod Mapping
 pub mod Seeing
 pub mod Producing
+pub mod Reaching
 pub mod Standing
 pub mod Leavings
 pub mod Opens

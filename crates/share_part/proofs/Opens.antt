@@ -1,9 +1,5 @@
 -- What is opened of three disks, and why nothing is.
-use Rattle.std.proofs.Common.{◌≡◌, ◌≢◌, ◌∙◌, inl, inr, refl, sym, ap, subst, arith, ℕ, ◌+◌, ◌^◌, ◌<◌, ◌≤◌, List, [], ◌∷◌, length, Option, Some, None, Bool, true, false, cond}
-use Rattle.std.specs.declared.cmp.Ordering.{Ordering}
-use Rattle.std.specs.declared.cmp.Ordering.TheVariants.{Less, Equal, Greater}
-use Rattle.std.specs.BTreeMap.{is_at}
-use Rattle.std.specs.Ordering.{match_ordering}
+use Rattle.std.proofs.Common.{◌≡◌, ◌≢◌, ◌∙◌, inl, inr, refl, sym, ap, subst, ℕ, List, [], Option, Some, None, Bool, true, false}
 use Rattle.edge_io.specs.declared.fault.Armed.{Armed}
 use Rattle.edge_io.specs.declared.name.DiskPlace.{DiskPlace}
 use Rattle.edge_io.specs.declared.name.DiskPlace.TheVariants.{Log, StateA, StateB}
@@ -11,60 +7,19 @@ use Rattle.coord_checkpoint.specs.Disks.{HasFailed}
 use Rattle.coord_checkpoint.specs.declared.fault.CoordOpen.{CoordOpen}
 use Rattle.coord_checkpoint.specs.declared.fault.CoordOpen.TheVariants.{Damaged as states_damaged, Device as states_device, NoMemory as states_memory}
 use Rattle.share_model.specs.Held.{Held}
-use Rattle.share_model.specs.Keys.{KeyParts, key_cmp}
 use Rattle.share_model.specs.Logs.{Batch}
 use Rattle.part_log.specs.Logs.{IsLogText, IsNoLogText, Keeps, LogParts}
 use Rattle.part_log.specs.declared.fault.OpenFault.{OpenFault}
 use Rattle.part_log.specs.declared.fault.OpenFault.TheVariants.{Damaged as log_damaged, Device as log_device, NoMemory as log_memory}
-use Rattle.share_coord.specs.Holding.{Holds}
 use Rattle.share_coord.specs.Opening.{IsOpened as states_opened, IsNotOpened as states_not_opened}
 use Rattle.share_coord.specs.Parts.{StoreParts}
-use Rattle.share_coord.specs.Stored.{AreAccepted, AreDamaged, Entries, Follows, with_kept, without_key}
-use Rattle.share_coord.specs.declared.view.Kept.{Kept}
-use Rattle.state_records.specs.declared.record.StateRecord.{StateRecord}
-use Rattle.state_records.specs.declared.record.StateRecord.TheVariants.{Snapshot, Update, Removal}
+use Rattle.share_coord.specs.Stored.{AreDamaged}
 use Rattle.share_part.specs.Faults.{fault_of_log, fault_of_states, state_disk}
 use Rattle.share_part.specs.Hosting.{PartConfParts, AreHosted, states_of}
-use Rattle.share_part.specs.Opening.{IsOpened, IsNotOpened, AreDamagedAt}
+use Rattle.share_part.specs.Opening.{IsOpened, IsNotOpened, AreDamagedAt, StandsForLog}
 use Rattle.share_part.specs.Shards.{PartParts, held_in}
 use Rattle.share_part.specs.declared.opening.PartFault.{PartFault}
 use Rattle.share_part.specs.declared.opening.PartFault.TheVariants.{Damaged, Device}
-
--- ---- there are no more keys than frames
-
-by_order : (r : Ordering) (a b c : Entries) (n : ℕ) → length a ≤ n → length b ≤ n → length c ≤ n → length (match_ordering r a b c) ≤ n
-by_order Less a b c n x y z = x
-by_order Equal a b c n x y z = y
-by_order Greater a b c n x y z = z
-
-with_few : (es : Entries) (key : KeyParts) (kept : Kept) → length (with_kept es key kept) ≤ length es + 1
-with_few [] key kept = omega arith
-with_few (e ∷ es) key kept =
-    let more = with_few es key kept in
-    by_order (key_cmp key e.0) ((key, kept) ∷ e ∷ es) ((e.0, kept) ∷ es) (e ∷ with_kept es key kept) (length (e ∷ es) + 1) (omega arith) (omega arith) (omega (arith, more))
-
-without_few : (es : Entries) (key : KeyParts) → length (without_key es key) ≤ length es
-without_few [] key = omega arith
-without_few (e ∷ es) key = by_test (is_at (key_cmp key) e.0) (without_few es key)
-  where
-    by_test : (b : Bool) → length (without_key es key) ≤ length es → length (cond b es (e ∷ without_key es key)) ≤ length (e ∷ es)
-    by_test true le = omega arith
-    by_test false le = omega (arith, le)
-
-follows_few : (old : Entries) (r : StateRecord) (new : Entries) → Follows old r new → length new ≤ length old + 1
-follows_few old (Snapshot state) new f = subst (λ (es : Entries). length es ≤ length old + 1) (sym f.is) (with_few old state.key _)
-follows_few old (Update state) new f = subst (λ (es : Entries). length es ≤ length old + 1) (sym f.is) (with_few old state.key _)
-follows_few old (Removal key) new f = subst (λ (es : Entries). length es ≤ length old + 1) (sym f.is) (let le = without_few old key in omega (arith, le))
-
-accepted_few : (frames : List (List ℕ)) (old new : Entries) → AreAccepted old frames new → length new ≤ length old + length frames
-accepted_few [] old new is = subst (λ (es : Entries). length es ≤ length old + 0) (sym is) (omega arith)
-accepted_few (f ∷ frames) old new a =
-    let one = follows_few old a.1.written a.0 a.1.follows in
-    let more = accepted_few frames a.0 new a.2 in
-    omega (arith, one, more)
-
-pub entries_few : {D : Type 0} (image : D → List ℕ → Type 0) (store : StoreParts D) → Holds image store None → length store.entries < 2 ^ 63
-entries_few image store h = let le = accepted_few h.frames [] store.entries h.accepted in let few = h.few in omega (arith, le, few)
 
 module _ {D W : Type 0} (content : D → Option (List ℕ)) (image : D → List ℕ → Type 0) (holding : W → Held) (armed : D → Armed) (starved : D → Bool) (faults : D → ℕ)
     (conf : PartConfParts) (disk a b : D) where
@@ -132,9 +87,9 @@ module _ {D W : Type 0} (content : D → Option (List ℕ)) (image : D → List 
     second_device = λ is. absurd (let clash : ⊥ = cc in clash);
   }
 
-  damaged_by : (second : Bool) (l x y : List ℕ) (place : ℕ) → AreDamaged x y second place → AreDamagedAt conf l x y (state_disk second) place
-  damaged_by false l x y place d = inl d
-  damaged_by true l x y place d = d
+  damaged_by : (second : Bool) (l x y : List ℕ) (place : ℕ) → StandsForLog l → AreDamaged x y second place → AreDamagedAt conf l x y (state_disk second) place
+  damaged_by false l x y place log d = (log, inl d)
+  damaged_by true l x y place log d = (log, d)
 
   device_by : (second : Bool) (a_now b_now : D) → states_not_opened content armed starved faults a b (a_now, b_now, states_device second)
       → (Device (state_disk second) ≡ Device StateA → HasFailed content armed starved faults a a_now)
@@ -143,18 +98,19 @@ module _ {D W : Type 0} (content : D → Option (List ℕ)) (image : D → List 
   device_by false a_now b_now n = (λ is. n.device refl, λ is. absurd (let clash : ⊥ = cc in clash), λ is. let clash : ⊥ = cc in clash)
   device_by true a_now b_now n = (λ is. absurd (let clash : ⊥ = cc in clash), λ is. n.second_device refl, λ is. let clash : ⊥ = cc in clash)
 
-  pub by_states : (disk_now a_now b_now : D) (fault : CoordOpen) → states_not_opened content armed starved faults a b (a_now, b_now, fault)
+  pub by_states : (disk_now a_now b_now : D) (fault : CoordOpen) (batches : List Batch) → ((c : List ℕ) → content disk ≡ Some c → IsLogText c batches)
+      → states_not_opened content armed starved faults a b (a_now, b_now, fault)
       → Not disk_now a_now b_now (fault_of_states fault)
-  by_states disk_now a_now b_now (states_damaged second at) n = record {
+  by_states disk_now a_now b_now (states_damaged second at) its_log opens n = record {
     damaged = λ place_disk place is l x y at_l at_x at_y.
         let d : state_disk second ≡ place_disk = cc in let p : at ≡ place = cc in
-        subst (λ (k : DiskPlace). AreDamagedAt conf l x y k place) d (damaged_by second l x y place (subst (AreDamaged x y second) p (n.damaged second at refl x y at_x at_y)));
+        subst (λ (k : DiskPlace). AreDamagedAt conf l x y k place) d (damaged_by second l x y place (its_log, opens l at_l) (subst (AreDamaged x y second) p (n.damaged second at refl x y at_x at_y)));
     sound = λ l x y batches states at_l at_x at_y text place_disk place is. n.sound x y text.states_are.entries at_x at_y text.states_are.stored second at refl;
     log_device = λ is. absurd (let clash : ⊥ = cc in clash);
     first_device = λ is. absurd (let clash : ⊥ = cc in clash);
     second_device = λ is. absurd (let clash : ⊥ = cc in clash);
   }
-  by_states disk_now a_now b_now (states_device second) n =
+  by_states disk_now a_now b_now (states_device second) its_log opens n =
       let d = device_by second a_now b_now n in
       record {
         damaged = λ place_disk place is. absurd (let clash : ⊥ = cc in clash);
@@ -163,7 +119,7 @@ module _ {D W : Type 0} (content : D → Option (List ℕ)) (image : D → List 
         first_device = d.0;
         second_device = d.1;
       }
-  by_states disk_now a_now b_now states_memory n = record {
+  by_states disk_now a_now b_now states_memory its_log opens n = record {
     damaged = λ place_disk place is. absurd (let clash : ⊥ = cc in clash);
     sound = λ l x y batches states at_l at_x at_y text place_disk place is. let clash : ⊥ = cc in clash;
     log_device = λ is. absurd (let clash : ⊥ = cc in clash);
@@ -179,16 +135,19 @@ module _ {D W : Type 0} (content : D → Option (List ℕ)) (image : D → List 
   misplaced disk_now a_now b_now log store opens only states broken = record {
     damaged = λ place_disk place is l x y at_l at_x at_y.
         let d : StateA ≡ place_disk = cc in let p : 0 ≡ place = cc in
-        subst (λ (k : DiskPlace). AreDamagedAt conf l x y k place) d (inr (
-          sym p,
-          record {
-            batches = log.batches;
-            states = states_of store.entries;
-            is_log = opens l at_l;
-            are_states = record { entries = store.entries; stored = states.opens x y at_x at_y; is = refl };
-            broken = broken;
-          },
-        ));
+        subst (λ (k : DiskPlace). AreDamagedAt conf l x y k place) d (
+          (log.batches, opens l at_l),
+          inr (
+            sym p,
+            record {
+              batches = log.batches;
+              states = states_of store.entries;
+              is_log = opens l at_l;
+              are_states = record { entries = store.entries; stored = states.opens x y at_x at_y; is = refl };
+              broken = broken;
+            },
+          ),
+        );
     sound = λ l x y batches its at_l at_x at_y text place_disk place is.
         let same_log : log.batches ≡ batches = only l batches at_l text.log_is in
         let same : its ≡ states_of store.entries = text.states_are.is ∙ ap states_of (sym (states.only x y text.states_are.entries at_x at_y text.states_are.stored)) in

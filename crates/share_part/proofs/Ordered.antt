@@ -89,7 +89,72 @@ module _ {K : Type 0} (cmp : K → K → Ordering) (order : IsTotalOrder cmp) wh
       go Equal is ih = (sorted.0, sorted.1)
       go Greater is ih = (above_insert e.0 es (order.antisymm e.0 key ∙ ap ordering_reverse is) sorted.0, ih)
 
+  module _ {X : Type 0} (exact : CmpEqualImpliesEq cmp) where
+    abbrev Finds : List (K × X) → K × X → Type 0
+    Finds es e = lookup (is_at (cmp e.0)) es ≡ Some e.1
+
+    found_behind : (e : K × X) (rest es : List (K × X)) → Above e.0 rest → AllByRecursion (Finds es) rest → AllByRecursion (Finds (e ∷ es)) rest
+    found_behind e [] es above h = tt
+    found_behind e (f ∷ rest) es above h = (
+      ap (λ (t : Bool). cond t (Some e.1) (lookup (is_at (cmp f.0)) es)) (apart (is_at (cmp f.0) e.0) refl) ∙ h.0,
+      found_behind e rest es above.1 h.1,
+    )
+      where
+        apart : (t : Bool) → is_at (cmp f.0) e.0 ≡ t → is_at (cmp f.0) e.0 ≡ false
+        apart true t = absurd (not_less cmp order exact e.0 (subst (λ (k : K). cmp e.0 k ≡ Less) (at_is cmp order exact f.0 e.0 t) above.0))
+        apart false t = t
+
+    -- each entry is what a look-up finds
+    pub each_found : (es : List (K × X)) → Sorted es → AllByRecursion (Finds es) es
+    unfolding IsStrictlySortedBy
+    each_found [] sorted = tt
+    each_found (e ∷ es) sorted = (
+      ap (λ (t : Bool). cond t (Some e.1) (lookup (is_at (cmp e.0)) es)) (at_self cmp order exact e.0),
+      found_behind e es es sorted.0 (each_found es sorted.1),
+    )
+
 -- ---- the states of a store
+
+same_keys : (es : Entries) → keys_of (states_of es) ≡ keys_of es
+same_keys [] = refl
+same_keys (e ∷ es) = ap (λ (keys : List KeyParts). e.0 ∷ keys) (same_keys es)
+
+module _ (P : KeyParts → ShareState → Type 0) where
+  abbrev pub AllAre : ShareStates → Type 0
+  AllAre states = (key : KeyParts) (state : ShareState) → share_state_at states key ≡ Some state → P key state
+
+  all_are : (states : ShareStates) → AllByRecursion (λ (e : KeyParts × ShareState). P e.0 e.1) states → AllAre states
+  all_are [] all key state is = absurd (let clash : ⊥ = cc in clash)
+  all_are (e ∷ states) all key state is = by_test (is_at (key_cmp key) e.0) refl is (all_are states all.1 key state)
+    where
+      by_test : (b : Bool) → is_at (key_cmp key) e.0 ≡ b → cond b (Some e.1) (share_state_at states key) ≡ Some state
+          → (share_state_at states key ≡ Some state → P key state) → P key state
+      by_test true at is ih =
+          let same : e.1 ≡ state = cc in
+          subst (P key) same (subst (λ (k : KeyParts). P k e.1) (sym (at_is key_cmp keys_total keys_exact key e.0 at)) all.0)
+      by_test false at is ih = ih is
+
+  -- A walk over the states of a store: those that are left are found, and where they are such, all are.
+  pub record Walks (states rest : ShareStates) : Type 0 where
+    pub found : AllByRecursion (λ (e : KeyParts × ShareState). share_state_at states e.0 ≡ Some e.1) rest
+    pub whole : AllByRecursion (λ (e : KeyParts × ShareState). P e.0 e.1) rest → AllAre states
+
+  pub walk_begins : (es : Entries) → IsStrictlySortedBy key_cmp (keys_of es) → (rest : ShareStates) → rest ≡ states_of es → Walks (states_of es) rest
+  walk_begins es sorted rest is = subst (Walks (states_of es)) (sym is) (record {
+    found = each_found key_cmp keys_total keys_exact (states_of es) (subst (IsStrictlySortedBy key_cmp) (sym (same_keys es)) sorted);
+    whole = all_are (states_of es);
+  })
+
+  module _ (states rest : ShareStates) (walks : Walks states rest) where
+    pub walk_on : (key : KeyParts) (state : ShareState) (more : ShareStates) → rest ≡ (key, state) ∷ more → P key state → Walks states more
+    walk_on key state more is p =
+        let w = subst (Walks states) is walks in record { found = w.found.1; whole = λ all. w.whole (p, all) }
+
+    pub walk_ends : rest ≡ [] → AllAre states
+    walk_ends is = (subst (Walks states) is walks).whole tt
+
+    pub walk_meets : (key : KeyParts) (state : ShareState) (more : ShareStates) → rest ≡ (key, state) ∷ more → AllAre states → P key state
+    walk_meets key state more is all = all key state (subst (Walks states) is walks).found.0
 
 sorted_by : (old : Entries) (written : StateRecord) (new : Entries) → Follows old written new → Sorted key_cmp keys_total old → Sorted key_cmp keys_total new
 sorted_by old (Snapshot state) new is sorted = subst (λ (es : Entries). Sorted key_cmp keys_total es) (sym is.is) (sorted_insert key_cmp keys_total state.key _ old sorted)
@@ -243,10 +308,6 @@ module _ (conf : PartConfParts) (log : List Batch) where
   in_order [] sorted part = tt
   in_order (e ∷ states) sorted part = (above_groups e.0 states part.0 sorted.0 part.1, in_order states sorted.1 part.1)
 
-  same_keys : (es : Entries) → keys_of (states_of es) ≡ keys_of es
-  same_keys [] = refl
-  same_keys (e ∷ es) = ap (λ (ks : List KeyParts). e.0 ∷ ks) (same_keys es)
-
   -- they are in byte order
   pub groups_order : (es : Entries) → IsStrictlySortedBy key_cmp (keys_of es) → AreHosted conf log (states_of es) → InOrder (groups_of (states_of es))
   groups_order es sorted hosted = in_order (states_of es) (subst (IsStrictlySortedBy key_cmp) (sym (same_keys es)) sorted)
@@ -325,25 +386,8 @@ module _ {W : Type 0} (holding : W → Held) (clock : ℕ) where
       by_test false b more ih = passed more (is_at (id_cmp group) e.0) refl (ih more)
 
   -- each window is what a look-up finds
-  found_behind : (e : List ℕ × W) (rest windows : List (List ℕ × W)) → AllByRecursion (λ g. id_cmp e.0 g ≡ Less) (keys_of rest)
-      → AllByRecursion (λ (f : List ℕ × W). lookup (is_at (id_cmp f.0)) windows ≡ Some f.1) rest → AllByRecursion (λ (f : List ℕ × W). lookup (is_at (id_cmp f.0)) (e ∷ windows) ≡ Some f.1) rest
-  found_behind e [] windows all h = tt
-  found_behind e (f ∷ rest) windows all h = (
-    ap (λ (t : Bool). cond t (Some e.1) (lookup (is_at (id_cmp f.0)) windows)) (apart (is_at (id_cmp f.0) e.0) refl) ∙ h.0,
-    found_behind e rest windows all.1 h.1,
-  )
-    where
-      apart : (t : Bool) → is_at (id_cmp f.0) e.0 ≡ t → is_at (id_cmp f.0) e.0 ≡ false
-      apart true t = absurd (not_below e.0 (subst (λ (g : List ℕ). id_cmp e.0 g ≡ Less) (at_is id_cmp nat_list_cmp_total exact_bytes f.0 e.0 t) all.0))
-      apart false t = t
-
   pub found_all : (windows : List (List ℕ × W)) → InOrder (keys_of windows) → AllByRecursion (λ (e : List ℕ × W). lookup (is_at (id_cmp e.0)) windows ≡ Some e.1) windows
-  unfolding IsStrictlySortedBy
-  found_all [] sorted = tt
-  found_all (e ∷ windows) sorted = (
-    ap (λ (t : Bool). cond t (Some e.1) (lookup (is_at (id_cmp e.0)) windows)) (at_self id_cmp nat_list_cmp_total exact_bytes e.0),
-    found_behind e windows windows sorted.0 (found_all windows sorted.1),
-  )
+  found_all windows sorted = each_found id_cmp nat_list_cmp_total exact_bytes windows sorted
 
   -- where nothing is due, no window has anything due
   not_due : (held : Held) → IsRising held → NameNone (ending clock held) → has_due clock held ≡ false

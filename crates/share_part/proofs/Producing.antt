@@ -2,24 +2,30 @@
 use Rattle.std.proofs.Common.{◌≡◌, ◌≢◌, ◌⊎◌, ⊎_elim, ◌∙◌, inl, inr, refl, sym, ap, subst, arith, ℕ, zero, suc, ◌+◌, ◌<◌, ◌≤◌, max, List, [], ◌∷◌, ◌++◌, length, slice_index_or, Option, Some, None, Bool, true, false, nat_le, if◌then◌else◌}
 use Rattle.std.specs.Prelude.{Result, Ok, Err}
 use Rattle.std.specs.List.{Contains}
+use Rattle.std.specs.Option.{option_map}
 use Rattle.edge_io.specs.Armed.{StarvesUnarmed}
 use Rattle.edge_io.specs.Causes.{Rose}
 use Rattle.edge_io.specs.Moments.{LeavesOnly}
 use Rattle.edge_io.specs.declared.fault.Armed.{Armed}
+use Rattle.gate_journal.specs.Journals.{Stands}
 use Rattle.share_model.specs.ForeignRules.{ShareStates, size_of}
 use Rattle.share_model.specs.Held.{Held}
 use Rattle.share_model.specs.Logs.{Batch, end_of}
 use Rattle.share_model.specs.declared.fault.LogFault.{LogFault}
 use Rattle.share_model.specs.declared.fault.LogFault.TheVariants.{Batch as BadBatch, Behind, Store, NoMemory}
 use Rattle.share_model.specs.declared.fault.StoreFault.TheVariants.{Device, Full}
-use Rattle.part_log.specs.Logs.{AddsOnce, IsStoredLog, IsWithin, Keeps, LogParts, MayFollow}
+use Rattle.part_log.specs.Logs.{AddsOnce, IsAdded, IsStoredLog, IsWithin, Keeps, LogParts, MayFollow, frames_of}
 use Rattle.part_log.specs.Shards.{LogShardState, CarriesLog, IsLogOf, StepsLog, at_end}
 use Rattle.part_log.proofs.Frames.{bounds}
-use Rattle.part_log.proofs.Rising.{end_more, sound_more}
+use Rattle.part_log.proofs.Rising.{end_more, frames_more, sound_more}
+use Rattle.share_coord.proofs.Ends.{later_end, same_end}
 use Rattle.share_part.specs.Hosting.{PartConfParts, AreHosted}
 use Rattle.share_part.specs.Once.{ProducesOnce}
 use Rattle.share_part.specs.Shards.{PartShardState, PartParts, Carries, IsPendingHosted}
 use Rattle.share_part.specs.Slots.{and_more, next_slot, slots_from}
+
+abbrev bytes_of : Batch → List ℕ
+bytes_of b = b.bytes
 
 -- ---- a log that grows
 
@@ -154,6 +160,38 @@ module _ {D W : Type 0} (content : D → Option (List ℕ)) (image : D → List 
       let is : record { batches = old.log.batches; pending = shard.log.pending } ≡ shard.log = λ i. record { batches = sym c.log.batches i; pending = shard.log.pending } in
       subst Moments is (moments_at shard.log.pending c.log.keeps)
 
+  -- the journal never ends before where it did
+  abbrev Later : Type 0
+  Later = (pending : Option Batch) → Keeps image old.log pending → old.log.journal.end ≤ log.journal.end
+
+  later_kept : (pending after : Option Batch) → log.batches ≡ old.log.batches → Keeps image old.log pending → Keeps image log after → old.log.journal.end ≤ log.journal.end
+  later_kept pending after same was is =
+      let ends : log.journal.end ≡ old.log.journal.end = same_end image old.log.journal log.journal (frames_of old.log.batches) (option_map bytes_of pending)
+      (option_map bytes_of after) was.stands
+      (subst (λ (l : List Batch). Stands image log.journal (frames_of l) (option_map bytes_of after)) same is.stands) in
+      omega (arith, ends)
+
+  later_same : log ≡ old.log → Later
+  later_same same pending keeps = let ends : log.journal.end ≡ old.log.journal.end = λ i. (same i).journal.end in omega (arith, ends)
+
+  later_added : IsAdded image old.log log (at_end old.log.batches bytes) → Later
+  later_added added pending keeps = later_end image old.log.journal log.journal (frames_of old.log.batches) (option_map bytes_of pending) None
+      (at_end old.log.batches bytes).bytes keeps.stands
+      (subst (λ (fs : List (List ℕ)). Stands image log.journal fs None) (ap frames_of added.batches ∙ frames_more old.log.batches (at_end old.log.batches bytes))
+      (added.kept pending keeps).stands)
+
+  later_by : (r : Result ℕ LogFault) → AddsOnce content image moment since armed starved faults old.log log (at_end old.log.batches bytes) r → Later
+  later_by (Ok base) o = later_added o.ok.1
+  later_by (Err (Store Device)) o = λ pending keeps. let u = (o.device refl).0 in ⊎_elim
+      (λ k. later_kept pending pending u.batches keeps k) (λ k. later_kept pending (Some (at_end old.log.batches bytes)) u.batches keeps k) (u.kept pending keeps)
+  later_by (Err (BadBatch fault)) o = later_same (o.unchanged (BadBatch fault) refl (λ e. let clash : ⊥ = cc in clash))
+  later_by (Err (Behind at)) o = later_same (o.unchanged (Behind at) refl (λ e. let clash : ⊥ = cc in clash))
+  later_by (Err (Store (Full at))) o = later_same (o.unchanged (Store (Full at)) refl (λ e. let clash : ⊥ = cc in clash))
+  later_by (Err NoMemory) o = later_same (o.unchanged NoMemory refl (λ e. let clash : ⊥ = cc in clash))
+
+  ends : (shard : PartShardState) → Carries image holding old shard → old.log.journal.end ≤ log.journal.end
+  ends shard c = later_by result once shard.log.pending c.log.keeps
+
   sound : result ≡ Err (Store Device) → StarvesUnarmed content armed starved old.log.journal.disk log.journal.disk
   sound is = (once.device is).3
 
@@ -166,6 +204,7 @@ module _ {D W : Type 0} (content : D → Option (List ℕ)) (image : D → List 
         λ i. record { conf = old.conf; log = l i; states = old.states; windows = old.windows; clock = same i };
     sound = sound;
     any_moment = moments;
+    ends = ends;
     states = refl;
     conf = refl;
   }
@@ -196,6 +235,7 @@ module _ {D W : Type 0} (content : D → Option (List ℕ)) (image : D → List 
     memory = λ is. absurd (fed is);
     sound = sound;
     any_moment = moments;
+    ends = ends;
     states = refl;
     conf = refl;
   }

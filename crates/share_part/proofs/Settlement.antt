@@ -1,10 +1,11 @@
 -- The acknowledgements of a group, by what came of their write.
 use Rattle.std.proofs.Common.{◌≡◌, ◌∙◌, refl, sym, ap, subst, ℕ, ◌^◌, ◌≤◌, List, Option, Some, None}
-use Rattle.std.specs.Prelude.{pos, IfSome, Result, Ok, Err}
+use Rattle.std.specs.Prelude.{pos, IfSome, Result, Ok, Err, IsErr}
+use Rattle.flex_fields.specs.declared.fault.NoMemory.{NoMemory as want}
 use Rattle.share_coord.specs.Calls.{IsTooMany, write_refusal}
 use Rattle.share_coord.specs.Holding.{WritesOnce}
 use Rattle.share_coord.specs.Parts.{StoreParts}
-use Rattle.share_coord.specs.Stored.{kept_at}
+use Rattle.share_coord.specs.Stored.{Entries, kept_at}
 use Rattle.share_coord.specs.declared.fault.CoordFault.{CoordFault}
 use Rattle.share_coord.specs.declared.fault.CoordFault.TheVariants.{Invalid, Unknown, FencedLeader, FencedState, TooMany, Store, NoMemory}
 use Rattle.share_model.specs.ForeignRules.{share_state_at, size_of}
@@ -14,15 +15,19 @@ use Rattle.share_model.specs.Logs.{Batch}
 use Rattle.share_model.specs.ShareStates.{ShareState}
 use Rattle.share_model.specs.declared.fault.StoreFault.{StoreFault}
 use Rattle.share_model.specs.declared.run.Run.{Run}
+use Rattle.share_model.specs.declared.visit.AckOutcome.{AckOutcome}
 use Rattle.part_log.specs.Logs.{IsStoredLog}
 use Rattle.share_part.specs.Acting.{JudgesGroup}
 use Rattle.share_part.specs.Hosting.{PartConfParts, AreHeldWell, AreHosted, HoldsWell, IsHosted, key_of, states_of}
+use Rattle.share_part.specs.Releasing.{told_in}
 use Rattle.share_part.specs.Settling.{Acts, AreHeldBy, IsChange, Judges}
-use Rattle.share_part.specs.Storing.{IsActsStored, IsStored, StoresOnce, TellsStored, start_number}
+use Rattle.share_part.specs.Storing.{IsActsStored, IsStored, SettlesGroup, StoresGroup, StoresOnce, TellsStored, start_number}
 use Rattle.share_part.specs.Tables.{table_of}
+use Rattle.share_part.specs.declared.release.Released.{Released}
 use Rattle.share_part.specs.declared.settle.Change.{Change}
 use Rattle.share_part.specs.declared.settle.Judged.{Judged}
 use Rattle.share_part.specs.declared.settle.Judged.TheVariants.{NotHeld, Changes}
+use Rattle.share_part.proofs.Visiting.{err_is}
 use Rattle.share_part.proofs.Writing.{start_bound, granted, not_many}
 
 -- the state that acts change, and what is to be stored of it
@@ -60,6 +65,34 @@ told_fault (Err (FencedState n)) fault tells = absurd tells
 told_fault (Err (TooMany n)) fault tells = absurd tells
 told_fault (Err (Store its)) fault tells = let same : its ≡ fault = cc in ap (λ (f : StoreFault). Err (Store f)) same
 told_fault (Err NoMemory) fault tells = absurd (let clash : ⊥ = cc in clash)
+
+-- ---- no memory was found for the write
+
+module _ {D : Type 0} (image : D → List ℕ → Type 0) (moment : D → ℕ) (since : D → ℕ → List ℕ → Type 0) (Failed : D → D → Type 0) (old new : StoreParts D) where
+  module _ (Written : Entries → Type 0) where
+    by_memory : (done : Result (Unit {0}) CoordFault) (result : Result (Option StoreFault) want) → IsErr result → TellsStored done result
+        → WritesOnce image moment since Failed Written old new done → new ≡ old
+    by_memory (Ok u) result none tells once = absurd (let clash : ⊥ = cc in clash)
+    by_memory (Err Invalid) result none tells once = absurd tells
+    by_memory (Err Unknown) result none tells once = absurd tells
+    by_memory (Err (FencedLeader n)) result none tells once = absurd tells
+    by_memory (Err (FencedState n)) result none tells once = absurd tells
+    by_memory (Err (TooMany n)) result none tells once = absurd tells
+    by_memory (Err (Store fault)) result none tells once = absurd (let clash : ⊥ = cc in clash)
+    by_memory (Err NoMemory) result none tells once = once.unchanged (λ e. let clash : ⊥ = cc in clash)
+
+    pub unstored : (result : Result (Option StoreFault) want) (e : want) → result ≡ Err e → StoresOnce image moment since Failed Written old new result → new ≡ old
+    unstored result e is once = by_memory once.done result (err_is result e is) once.tells once.once
+
+  module _ (conf : PartConfParts) (log : List Batch) (group : List ℕ) (acts : Acts) (was : Held) (same ends : Type 0) (stays : new ≡ old) (is_same : same) where
+    pub unreleased : (answer : Result Released want) → IsErr answer → StoresGroup image moment since Failed conf log group acts was old new same ends (told_in answer)
+    unreleased (Ok released) none = absurd (let clash : ⊥ = cc in clash)
+    unreleased (Err e) none = (stays, is_same)
+
+    pub unsettled : (member : List ℕ) (answer : Result AckOutcome want) → IsErr answer
+        → SettlesGroup image moment since Failed conf log group member acts was old new same ends answer
+    unsettled member (Ok outcome) none = absurd (let clash : ⊥ = cc in clash)
+    unsettled member (Err e) none = (stays, is_same)
 
 module _ {D : Type 0} (conf : PartConfParts) (log : List Batch) (group : List ℕ) (acts : Acts) (held : Held) (old : StoreParts D)
     (sound : IsStoredLog log) (few : conf.limit ≤ 10) (hosted : AreHosted conf log (states_of old.entries))

@@ -1,5 +1,5 @@
 -- Rows that may stand in a log.
-use Rattle.std.proofs.Common.{◌≡◌, ⊎_elim, ◌∙◌, inl, inr, refl, sym, ap, subst, arith, rules, ℕ, zero, suc, ◌+◌, ◌<◌, ◌≤◌, List, [], ◌∷◌, ◌++◌, length, get_or, drop, drop-cons, add-one, Option, Some, None, Bool, true, false, cond, nat_le, ◌&&◌, if◌then◌else◌, slice_get, ℤ, pos, negsuc, ◌≤ℤ◌, ◌<ℤ◌}
+use Rattle.std.proofs.Common.{◌≡◌, ⊎_elim, ◌∙◌, inl, inr, refl, sym, ap, subst, arith, rules, ℕ, zero, suc, ◌+◌, ◌<◌, ◌≤◌, List, [], ◌∷◌, ◌++◌, length, get_or, drop, drop-cons, add-one, Option, Some, None, Bool, true, false, nat_le, ◌&&◌, if◌then◌else◌, ℤ, pos, negsuc, ◌≤ℤ◌, ◌<ℤ◌}
 use Rattle.std.proofs.lemmas.Bool.{cases_lt}
 use Rattle.std.proofs.lemmas.Int.{ints}
 use Rattle.std.proofs.lemmas.Bool.Decides.{nat_tests}
@@ -9,22 +9,12 @@ use Rattle.share_model.specs.Runs.{IsCanonical, row_at, row_of}
 use Rattle.share_model.specs.declared.run.Run.{Run}
 use Rattle.part_log.specs.Logs.{IsPlaceOf}
 use Rattle.part_log.specs.declared.place.BatchPlace.{BatchPlace}
-use Rattle.share_part.specs.Hosting.{IsHostedRow, states_of}
+use Rattle.share_part.specs.Hosting.{IsHostedRow}
 use Rattle.share_part.specs.Judging.{AllIn, IsBefore, MayBeStored, RowsMayStand, behind, slot_behind}
 use Rattle.share_part.specs.Slots.{and_more, next_slot, slots_from}
 use Rattle.share_part.proofs.Producing.{front_or, front_in, behind_in, none_in}
 use Rattle.share_part.proofs.Slotting.{next_meets}
-use Rattle.std.specs.BTreeMap.{is_at}
-use Rattle.std.specs.Map.{keys_of}
-use Rattle.std.specs.Option.{option_map}
-use Rattle.share_model.specs.ForeignRules.{share_state_at, size_of}
-use Rattle.share_model.specs.Keys.{KeyParts, key_cmp}
-use Rattle.share_model.specs.ShareStates.{ShareState}
-use Rattle.share_coord.specs.Stored.{Entries, kept_at}
-use Rattle.share_coord.specs.declared.view.Kept.{Kept}
-use Rattle.share_coord.proofs.Keys.{some_is}
-use Rattle.share_part.proofs.Mapping.{at_is, at_self, keys_total, keys_exact}
-use Rattle.share_part.proofs.Seeing.{state_seen, view_of}
+use Rattle.share_model.specs.ForeignRules.{size_of}
 
 pub behind_more : (n k : ℕ) (log : List Batch) (from : ℕ) → n ≡ suc k → slot_behind n log from ≡ behind (next_slot log from) (λ slot. slot_behind k log (slot + 1))
 unfolding slot_behind
@@ -197,76 +187,11 @@ module _ (log : List Batch) (start : ℕ) where
   run_order (run ∷ runs) c zero d lt = c.0
   run_order (run ∷ runs) c (suc i) d lt = run_order runs c.2 i d (omega (arith, lt))
 
--- ---- all states
-
-module _ (P : KeyParts → ShareState → Type 0) (es : Entries) where
-  -- the state with this number is such
-  abbrev pub IsAtPlace : ℕ → Type 0
-  IsAtPlace k = (key : KeyParts) → slice_get (keys_of es) k ≡ Some key → (state : ShareState) → share_state_at (states_of es) key ≡ Some state → P key state
-
-pub none_there : (es : Entries) (k : ℕ) → None ≡ slice_get (keys_of es) k → length es ≤ k
-none_there [] k is = omega arith
-none_there (e ∷ es) zero is = absurd (let clash : ⊥ = cc in clash)
-none_there (e ∷ es) (suc k) is = let le = none_there es k is in omega (arith, le)
-
-pub some_there : (es : Entries) (k : ℕ) (key : KeyParts) → Some key ≡ slice_get (keys_of es) k → k < length es
-some_there [] k key is = absurd (let clash : ⊥ = cc in clash)
-some_there (e ∷ es) zero key is = omega arith
-some_there (e ∷ es) (suc k) key is = let lt = some_there es k key is in omega (arith, lt)
-
-pub known_there : (es : Entries) (k : ℕ) (key : KeyParts) → Some key ≡ slice_get (keys_of es) k → kept_at es key ≡ None → ⊥
-known_there [] k key is none = let clash : ⊥ = cc in clash
-known_there (e ∷ es) zero key is none =
-    let same : key ≡ e.0 = cc in
-    let found : is_at (key_cmp key) e.0 ≡ true = ap (is_at (key_cmp key)) (sym same) ∙ at_self key_cmp keys_total keys_exact key in
-    let some = sym (ap (λ (b : Bool). cond b (Some e.1) (kept_at es key)) found) ∙ none in
-    let clash : ⊥ = cc in clash
-known_there (e ∷ es) (suc k) key is none = by_test (is_at (key_cmp key) e.0) none (known_there es k key is)
-  where
-    by_test : (b : Bool) → cond b (Some e.1) (kept_at es key) ≡ None → (kept_at es key ≡ None → ⊥) → ⊥
-    by_test true none ih = let clash : ⊥ = cc in clash
-    by_test false none ih = ih none
-
-found_at : (es : Entries) (key : KeyParts) (state : ShareState) → share_state_at (states_of es) key ≡ Some state → (k : ℕ) × (k < length es) × (slice_get (keys_of es) k ≡ Some key)
-found_at [] key state is = absurd (let clash : ⊥ = cc in clash)
-found_at (e ∷ es) key state is = by_test (is_at (key_cmp key) e.0) refl is (found_at es key state)
-  where
-    by_test : (b : Bool) → is_at (key_cmp key) e.0 ≡ b → cond b (Some e.1.view) (share_state_at (states_of es) key) ≡ Some state
-        → (share_state_at (states_of es) key ≡ Some state → (k : ℕ) × (k < length es) × (slice_get (keys_of es) k ≡ Some key))
-        → (k : ℕ) × (k < length (e ∷ es)) × (slice_get (keys_of (e ∷ es)) k ≡ Some key)
-    by_test true same is ih = (0, omega arith, ap (λ (k : KeyParts). Some k) (sym (at_is key_cmp keys_total keys_exact key e.0 same)))
-    by_test false same is ih = let r = ih is in (suc r.0, (let lt = r.1 in omega (arith, lt)), r.2)
-
-pub all_places : (P : KeyParts → ShareState → Type 0) (es : Entries) (n : ℕ) → length es ≤ n → ((k : ℕ) → k < n → IsAtPlace P es k)
-    → (key : KeyParts) (state : ShareState) → share_state_at (states_of es) key ≡ Some state → P key state
-all_places P es n le all key state is =
-    let f = found_at es key state is in
-    let lt = f.1 in
-    all f.0 (omega (arith, lt, le)) key f.2 state is
-
--- the state at a place
-pub seen_at : (es : Entries) (key : KeyParts) (state : ShareState) → Some state ≡ option_map view_of (kept_at es key) → share_state_at (states_of es) key ≡ Some state
-seen_at es key state is = state_seen es key ∙ sym is
-
-pub place_is : (P : KeyParts → ShareState → Type 0) (es : Entries) (k : ℕ) (key : KeyParts) (state : ShareState) → Some key ≡ slice_get (keys_of es) k
-    → share_state_at (states_of es) key ≡ Some state → P key state → IsAtPlace P es k
-place_is P es k key state at is p other there its found =
-    let same : key ≡ other = some_is key other (at ∙ there) in
-    let value : state ≡ its = some_is state its (sym is ∙ (ap (share_state_at (states_of es)) same ∙ found)) in
-    subst (λ (x : KeyParts). P x its) same (subst (P key) value p)
-
 pub drop_all : (runs : List Run) (i : ℕ) → length runs ≤ i → drop i runs ≡ []
 drop_all [] zero le = refl
 drop_all [] (suc i) le = refl
 drop_all (run ∷ runs) zero le = absurd (omega (arith, le))
 drop_all (run ∷ runs) (suc i) le = drop_all runs i (omega (arith, le))
-
-pub none_kept : (es : Entries) (key : KeyParts) → ◌≡◌ {A = Option ShareState} None (option_map view_of (kept_at es key)) → kept_at es key ≡ None
-none_kept es key is = by_option (kept_at es key) is
-  where
-    by_option : (o : Option Kept) → ◌≡◌ {A = Option ShareState} None (option_map view_of o) → o ≡ None
-    by_option None e = refl
-    by_option (Some kept) e = absurd (let clash : ⊥ = cc in clash)
 
 -- ---- a start
 

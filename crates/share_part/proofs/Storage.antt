@@ -21,6 +21,8 @@ use Rattle.share_coord.specs.Parts.{StoreParts}
 use Rattle.share_coord.specs.Stored.{Entries}
 use Rattle.share_coord.specs.declared.fault.CoordFault.{CoordFault}
 use Rattle.share_coord.specs.declared.fault.CoordFault.TheVariants.{Store as coord_store}
+use Rattle.share_coord.proofs.Ends.{EndsLater, later_once, later_same}
+use Rattle.share_coord.proofs.Once.{held_still}
 use Rattle.share_part.specs.Acknowledging.{AreSettled, NameNone, NameOne, StoresActs}
 use Rattle.share_part.specs.Hosting.{AreHosted, IsHosted, KeepsHolds, key_of, states_of}
 use Rattle.share_part.specs.Settling.{Acts, IsSettled, held_after}
@@ -116,7 +118,7 @@ module _ {D W : Type 0} (content : D → Option (List ℕ)) (image : D → List 
         (set_well (Ok tt) h.1 states.entries h.1.once.written),
   )
   stands_stored (Ok (Some fault)) h = stands_same (ap states_of h.1.once.same) h.2
-  stands_stored (Err e) h = stands_same (ap states_of h.0) h.2
+  stands_stored (Err e) h = stands_same (ap (λ (s : StoreParts D). states_of s.entries) h.0) h.1
 
   -- ---- the step
 
@@ -205,7 +207,7 @@ module _ {D W : Type 0} (content : D → Option (List ℕ)) (image : D → List 
   stored_steps (Some (Full at)) h = carried image holding old (Steps (DoesActs (Some (Full at)))) (λ batch pending k.
       let full = h.1.once.full at refl in record {
         then = shard_same batch pending;
-        carries = same_carried batch pending pending k h.1.once.same (h.1.once.stays (λ e. let never : ⊥ = cc in never) pending k.holds) k.pending_hosted h.2;
+        carries = same_carried batch pending pending k h.1.once.same (held_still image old.states states (h.1.once.unchanged (λ e. let never : ⊥ = cc in never)) pending k.holds) k.pending_hosted h.2;
         log = refl;
         clock_is = refl;
         does = (
@@ -219,19 +221,40 @@ module _ {D W : Type 0} (content : D → Option (List ℕ)) (image : D → List 
             is_before = refl;
             is_after = are_settled (Err (coord_store (Full at))) h.1 full.1.1 full.1.2 batch pending;
             accepted = full.1.3;
-            past = subst (λ (n : ℕ). 2 ^ 62 < n + (length full.1.0 + 5)) full.0 full.1.4;
+            fits = full.1.4;
+            past = subst (λ (n : ℕ). 2 ^ 62 < n + (length full.1.0 + 5)) full.0 full.1.5;
           },
         );
       })
 
   -- where nothing is named, the store is as it was
-  pub stored_none : (fault : Option StoreFault) → Stores (Ok fault) → NameNone acts → states ≡ old.states
-  stored_none None (inl n) nothing = n.1
-  stored_none None (inr h) nothing = absurd (clash_named h.0 nothing)
+  pub stored_none : (r : Result (Option StoreFault) want) → Stores r → NameNone acts → states ≡ old.states
+  stored_none (Ok None) (inl n) nothing = n.1
+  stored_none (Ok None) (inr h) nothing = absurd (clash_named h.0 nothing)
     where
       clash_named : NameOne acts → NameNone acts → ⊥
       clash_named one none = let e = none one.0 in let some = one.1 in let clash : ⊥ = cc in clash
-  stored_none (Some fault) h nothing = absurd (let e = nothing h.0.0 in let some = h.0.1 in let clash : ⊥ = cc in clash)
+  stored_none (Ok (Some fault)) h nothing = absurd (let e = nothing h.0.0 in let some = h.0.1 in let clash : ⊥ = cc in clash)
+  stored_none (Err e) h nothing = h.0
+
+  -- where no memory was found, the shard is as it was
+  pub unstored_carries : (e : want) → Stores (Err e) → clock ≡ old.clock → (s : PartShardState) → Carries image holding old s → Carries image holding behind s
+  unstored_carries e h same = carried image holding old (λ s. Carries image holding behind s) (λ batch pending k.
+      subst (λ (n : ℕ). Carries image holding behind (record {
+        log = record { batches = old.log.batches; pending = batch };
+        states = states_of old.states.entries;
+        pending = option_map states_of pending;
+        held = held_in holding old.windows;
+        clock = n;
+      })) same
+      (same_carried batch pending pending k (ap (λ (s : StoreParts D). s.entries) h.0) (held_still image old.states states h.0 pending k.holds) k.pending_hosted h.1))
+
+  -- the journal never ends before where it did
+  pub stored_later : (r : Result (Option StoreFault) want) → Stores r → EndsLater image old.states states
+  stored_later (Ok None) (inl n) = later_same image old.states states n.1
+  stored_later (Ok None) (inr h) = later_once image moment since Failed _ old.states states (Ok tt) h.1.once
+  stored_later (Ok (Some fault)) h = later_once image moment since Failed _ old.states states (Err (coord_store fault)) h.1.once
+  stored_later (Err e) h = later_same image old.states states h.0
 
   -- a device fault
   pub stored_device : (fault : Option StoreFault) → Stores (Ok fault) → fault ≡ Some Device → StarvesUnarmed content armed starved old.states.journal.live.disk states.journal.live.disk

@@ -30,13 +30,15 @@ use Rattle.share_coord.specs.Stored.{Entries, kept_at}
 use Rattle.share_coord.specs.declared.fault.CoordFault.{CoordFault}
 use Rattle.share_coord.specs.declared.fault.CoordFault.TheVariants.{Invalid, Unknown, FencedLeader, FencedState, TooMany, Store, NoMemory}
 use Rattle.share_coord.specs.declared.view.Kept.{Kept}
+use Rattle.share_coord.proofs.Ends.{EndsLater, later_once, later_same}
+use Rattle.share_coord.proofs.Once.{held_still}
 use Rattle.share_part.specs.declared.limits.Limits.{Limits}
 use Rattle.share_part.specs.Hosting.{PartConfParts, AreHosted, HoldsWell, KeepsHolds, key_of, states_of}
 use Rattle.share_part.specs.declared.plan.Plan.{Plan}
 use Rattle.share_part.specs.Collecting.{IsPlanOf}
 use Rattle.share_part.specs.Making.{MakesOnce, MakesTableOnce, Tells, numbered_bytes, state_for}
 use Rattle.share_part.specs.Once.{Followed, FollowsOnce}
-use Rattle.share_part.specs.Following.{Acquires, Does, Fetches, IsEmptyAnswer, MakesTable, StepsThen}
+use Rattle.share_part.specs.Following.{Acquires, Does, Fetches, HasNothingToWrite, IsEmptyAnswer, MakesTable, StepsThen}
 use Rattle.share_part.specs.Shards.{PartShardState, PartParts, Carries, IsStill, IsPendingHosted, held_in, with_held, new_state, first_start}
 use Rattle.share_part.specs.Tables.{table_of, with_holds}
 use Rattle.share_part.specs.Walks.{acquired, AreRunsOf, bytes_in, written_out}
@@ -152,13 +154,30 @@ module _ {D W : Type 0} (content : D → Option (List ℕ)) (image : D → List 
   abbrev key : KeyParts
   key = key_of old.conf visit.group
 
-  answered : (answer : VisitAnswer) → Followed image faults holding now visit old new answer → (answer.then ≡ store_outcome Device → Starves) → Once (Ok answer)
-  answered answer visited sound = record { steps = visited; memory = tt; sound = sound; log = log; idle = idle; conf = conf }
+  -- what is written
+  record Writes : Type 0 where
+    later : EndsLater image old.states new.states
+    unwritten : (s : PartShardState) → Carries image holding old s → HasNothingToWrite old.conf s visit visit.then → new.states ≡ old.states
+
+  writes_none : new.states ≡ old.states → Writes
+  writes_none same = record { later = later_same image old.states new.states same; unwritten = λ s c nothing. same }
+
+  answered : (answer : VisitAnswer) → Writes → Followed image faults holding now visit old new answer → (answer.then ≡ store_outcome Device → Starves) → Once (Ok answer)
+  answered answer writes visited sound = record {
+    steps = visited;
+    memory = tt;
+    sound = sound;
+    unwritten = writes.unwritten;
+    ends = λ s c. writes.later c.pending c.holds;
+    log = log;
+    idle = idle;
+    conf = conf;
+  }
 
   -- no memory was found
-  pub hungry : (e : want) → new.states.entries ≡ old.states.entries → ((pending : Option Entries) → Holds image old.states pending → Holds image new.states pending)
+  pub hungry : (e : want) → new.states ≡ old.states
       → ((group : List ℕ) → held_in holding new.windows group ≡ held_in holding old.windows group) → new.clock ≡ old.clock → Once (Err e)
-  hungry e entries stays held clock = record {
+  hungry e states held clock = record {
     steps = tt;
     memory = carried image holding old (λ s. Carries image holding new s) (λ batch pending k.
         subst (λ (c : ℕ). Carries image holding new (record {
@@ -168,23 +187,25 @@ module _ {D W : Type 0} (content : D → Option (List ℕ)) (image : D → List 
           held = held_in holding old.windows;
           clock = c;
         })) clock
-        (carries_with image holding old new batch pending pending (held_in holding old.windows) k conf log entries (stays pending k.holds) k.pending_hosted
-        (λ group. sym (held group))));
+        (carries_with image holding old new batch pending pending (held_in holding old.windows) k conf log (ap (λ (s : StoreParts D). s.entries) states)
+        (held_still image old.states new.states states pending k.holds) k.pending_hosted (λ group. sym (held group))));
     sound = tt;
+    unwritten = λ s c nothing. states;
+    ends = λ s c. later_same image old.states new.states states c.pending c.holds;
     log = log;
     idle = idle;
     conf = conf;
   }
 
-  pub starved_so : (result : Result VisitAnswer want) → IsErr result → new.states.entries ≡ old.states.entries → ((pending : Option Entries) → Holds image old.states pending → Holds image new.states pending)
+  pub starved_so : (result : Result VisitAnswer want) → IsErr result → new.states ≡ old.states
       → ((group : List ℕ) → held_in holding new.windows group ≡ held_in holding old.windows group) → new.clock ≡ old.clock → Once result
-  starved_so (Ok answer) is entries stays held clock = absurd (let clash : ⊥ = cc in clash)
-  starved_so (Err e) is entries stays held clock = hungry e entries stays held clock
+  starved_so (Ok answer) is states held clock = absurd (let clash : ⊥ = cc in clash)
+  starved_so (Err e) is states held clock = hungry e states held clock
 
   -- nothing is fetched
   pub idly : (answer : VisitAnswer) → answer.ack ≡ acknowledged → IsEmptyAnswer Done answer → visit.then ≡ Nothing
       → new.states ≡ old.states → new.windows ≡ old.windows → new.clock ≡ max old.clock now → Once (Ok answer)
-  idly answer ack empty what states windows clock = answered answer
+  idly answer ack empty what states windows clock = answered answer (writes_none states)
       (carried image holding old (Leads answer) (λ batch pending k.
       let t : PartShardState = record {
         log = record { batches = old.log.batches; pending = batch };
@@ -247,7 +268,7 @@ module _ {D W : Type 0} (content : D → Option (List ℕ)) (image : D → List 
 
     -- the table was there
     pub acquired_there : (answer : VisitAnswer) (kept : Kept) → kept_at old.states.entries key ≡ Some kept → new.states ≡ old.states → Took answer kept.view → Once (Ok answer)
-    acquired_there answer kept is states took = answered answer
+    acquired_there answer kept is states took = answered answer (writes_none states)
         (carried image holding old (Leads answer) (λ batch pending k. (
           shard_then batch (states_of old.states.entries) (option_map states_of pending) kept.view,
           carries_with image holding old new batch pending pending (held_then kept.view) k conf log (ap (λ (s : StoreParts D). s.entries) states)
@@ -280,9 +301,20 @@ module _ {D W : Type 0} (content : D → Option (List ℕ)) (image : D → List 
     none_there : kept_at old.states.entries key ≡ None → share_state_at (states_of old.states.entries) key ≡ None
     none_there is = state_seen old.states.entries key ∙ ap (option_map view_of) is
 
+    -- the group has no table, and so there is one to write
+    writes_one : kept_at old.states.entries key ≡ None → (done : Result (Unit {0}) CoordFault) → Wrote done → Writes
+    writes_one none done once = record {
+      later = later_once image moment since (HasFailed content armed starved faults) Written old.states new.states done once;
+      unwritten = λ s c nothing.
+          let there : IsSome (share_state_at s.states key) = subst (HasNothingToWrite old.conf s visit) is_fetch nothing in
+          let gone : share_state_at s.states key ≡ None = ap (λ (states : ShareStates). share_state_at states key) c.states ∙ none_there none in
+          let never : IsSome {T = ShareState} None = subst (λ (o : Option ShareState). IsSome o) gone there in
+          absurd (let clash : ⊥ = cc in clash);
+    }
+
     -- the table was made
     pub acquired_first : (answer : VisitAnswer) (done : Unit {0}) → kept_at old.states.entries key ≡ None → Wrote (Ok done) → Took answer made → Once (Ok answer)
-    acquired_first answer done none once took = answered answer
+    acquired_first answer done none once took = answered answer (writes_one none (Ok done) once)
         (carried image holding old (Leads answer) (λ batch pending k. (
           shard_then batch (states_of new.states.entries) None made,
           record {
@@ -346,7 +378,8 @@ module _ {D W : Type 0} (content : D → Option (List ℕ)) (image : D → List 
     pub unstored : (answer : VisitAnswer) (fault : StoreFault) → kept_at old.states.entries key ≡ None → Wrote (Err (Store fault)) → Refused answer fault → Once (Ok answer)
     unstored answer Device none once refused =
         let failed = once.device refl in
-        answered answer (carried image holding old (Leads answer) (λ batch pending k.
+        answered answer (writes_one none (Err (Store Device)) once)
+        (carried image holding old (Leads answer) (λ batch pending k.
         ⊎_elim
         (λ holds. unmade answer Device batch pending pending k refused once.same holds k.pending_hosted none
         (failed.0.0, refused.empty, record { states = refl; pending = inl refl; held = refl }))
@@ -356,8 +389,9 @@ module _ {D W : Type 0} (content : D → Option (List ℕ)) (image : D → List 
         (λ is. failed.0.1)
     unstored answer (Full at) none once refused =
         let full = once.full at refl in
-        answered answer (carried image holding old (Leads answer) (λ batch pending k.
-        unmade answer (Full at) batch pending pending k refused once.same (once.stays (λ e. let never : ⊥ = cc in never) pending k.holds) k.pending_hosted none (
+        answered answer (writes_one none (Err (Store (Full at))) once)
+        (carried image holding old (Leads answer) (λ batch pending k.
+        unmade answer (Full at) batch pending pending k refused once.same (held_still image old.states new.states (once.unchanged (λ e. let never : ⊥ = cc in never)) pending k.holds) k.pending_hosted none (
           full.0,
           refused.empty,
           record { states = refl; pending = refl; held = refl },
@@ -368,7 +402,8 @@ module _ {D W : Type 0} (content : D → Option (List ℕ)) (image : D → List 
             is_before = refl;
             is_after = made_states full.1.1 full.1.2;
             accepted = full.1.3;
-            past = subst (λ (n : ℕ). 2 ^ 62 < n + (length full.1.0 + 5)) full.0 full.1.4;
+            fits = full.1.4;
+            past = subst (λ (n : ℕ). 2 ^ 62 < n + (length full.1.0 + 5)) full.0 full.1.5;
           },
         )))
         (λ is. absurd (let never : store_outcome (Full at) ≡ store_outcome Device = sym refused.empty.outcome_is ∙ is in let clash : ⊥ = cc in clash))
@@ -406,10 +441,7 @@ module _ {D W : Type 0} (content : D → Option (List ℕ)) (image : D → List 
     hosted_after result end at made h = hosted_told result (kept_at old.states.entries key) (told result end at made (kept_at old.states.entries key) refl) h
 
     -- it found no memory
-    abbrev Stays : Type 0
-    Stays = (new.states.entries ≡ old.states.entries) × ((pending : Option Entries) → Holds image old.states pending → Holds image new.states pending)
-
-    stays_done : (done : Result (Unit {0}) CoordFault) (result : Result ThenOutcome want) → IsErr result → Tells done result → Wrote done → Stays
+    stays_done : (done : Result (Unit {0}) CoordFault) (result : Result ThenOutcome want) → IsErr result → Tells done result → Wrote done → new.states ≡ old.states
     stays_done (Ok u) result is tells once = absurd (let clash : ⊥ = cc in clash)
     stays_done (Err Invalid) result is tells once = absurd tells
     stays_done (Err Unknown) result is tells once = absurd tells
@@ -417,17 +449,16 @@ module _ {D W : Type 0} (content : D → Option (List ℕ)) (image : D → List 
     stays_done (Err (FencedState n)) result is tells once = absurd tells
     stays_done (Err (TooMany n)) result is tells once = absurd tells
     stays_done (Err (Store fault)) result is tells once = absurd (let clash : ⊥ = cc in clash)
-    stays_done (Err NoMemory) result is tells once = (once.same, once.stays (λ e. let clash : ⊥ = cc in clash))
+    stays_done (Err NoMemory) result is tells once = once.unchanged (λ e. let clash : ⊥ = cc in clash)
 
-    stays_told : (result : Result ThenOutcome want) → IsErr result → (o : Option Kept) → Told o result → Stays
+    stays_told : (result : Result ThenOutcome want) → IsErr result → (o : Option Kept) → Told o result → new.states ≡ old.states
     stays_told result is None told = stays_done told.done result is told.tells told.once
     stays_told result is (Some kept) told = absurd (let e = told.1 in let clash : ⊥ = cc in clash)
 
     pub unanswered : (answer : Result VisitAnswer want) → IsErr answer → (result : Result ThenOutcome want) → IsErr result → (end : ℕ) → end ≡ end_of old.log.batches → Made end result
         → ((group : List ℕ) → held_in holding new.windows group ≡ held_in holding old.windows group) → new.clock ≡ old.clock → Once answer
     unanswered answer none result is end at made held clock =
-        let s = stays_told result is (kept_at old.states.entries key) (told result end at made (kept_at old.states.entries key) refl) in
-        starved_so answer none s.0 s.1 held clock
+        starved_so answer none (stays_told result is (kept_at old.states.entries key) (told result end at made (kept_at old.states.entries key) refl)) held clock
 
     -- it couldn't be stored
     store_done : (done : Result (Unit {0}) CoordFault) (fault : StoreFault) → Tells done (Ok (store_outcome fault)) → Wrote done → Wrote (Err (Store fault))

@@ -8,6 +8,7 @@ use Rattle.std.specs.Prelude.{◌≡◌, ◌⊎◌, ◌+◌, ◌<◌, ◌^◌, �
 use Rattle.std.specs.BTreeMap.{insert_entry}
 use Rattle.ack_ranges.specs.Batches.{IsWellFormed, kind_at}
 use Rattle.ack_ranges.specs.Faults.{IsFirstFault}
+use Rattle.gate_journal.specs.Frames.{IsFrame}
 use Rattle.share_model.specs.ForeignRules.{ShareStates, share_state_at}
 use Rattle.share_model.specs.Keys.{key_cmp}
 use Rattle.share_model.specs.ShareStates.{ShareState}
@@ -50,6 +51,7 @@ pub record HasNoRoomFor (conf : PartConfParts) (end : ℕ) (old : PartShardState
   pub is_before : states_of before ≡ old.states
   pub is_after : AreSettled conf old group acts (states_of after)
   pub accepted : Accepts before frame after
+  pub fits : IsFrame frame
   pub past : 2 ^ 62 < end + (length frame + 5)
 
 -- acts that name no offset, and acts that name one
@@ -61,7 +63,8 @@ NameOne acts = (offset : ℕ) × IsSome (acts offset)
 
 -- Acts on a group's table that are stored by one write, by the fault that it met, if it met one; where they name no offset there is no write.
 -- `rose` says that the count of faults of the first state disk rose, `end` is where its journal ends.
-abbrev pub StoresActs : PartConfParts → (rose : Type 0) → (end : ℕ) → PartShardState → (group : List ℕ) → Acts → PartShardState → Option StoreFault → Type 0
+abbrev pub StoresActs : PartConfParts → (rose : Type 0) → (end : ℕ) → PartShardState → (group : List ℕ) → Acts → PartShardState
+    → Option StoreFault → Type 0
 StoresActs conf rose end old group acts new None = (NameNone acts × IsStill old new) ⊎ (NameOne acts × IsActedOn conf old group acts new)
 StoresActs conf rose end old group acts new (Some Device) = NameOne acts × rose × IsNotActedOn conf old group acts new
 StoresActs conf rose end old group acts new (Some (Full at)) = NameOne acts × (at ≡ end) × IsStill old new × HasNoRoomFor conf end old group acts
@@ -76,4 +79,5 @@ Acknowledges conf rose end old visit new (Malformed fault) = IsFirstFault visit.
 Acknowledges conf rose end old visit new (NotHeld offset) =
     IsWellFormed visit.acks × IsLeastMissing visit.member (kind_at visit.acks) (old.held visit.group) offset × IsStill old new
 Acknowledges conf rose end old visit new Done = AreTheirs old visit × StoresActs conf rose end old visit.group (kind_at visit.acks) new None
-Acknowledges conf rose end old visit new (Store fault) = AreTheirs old visit × StoresActs conf rose end old visit.group (kind_at visit.acks) new (Some fault)
+Acknowledges conf rose end old visit new (Store fault) =
+    AreTheirs old visit × StoresActs conf rose end old visit.group (kind_at visit.acks) new (Some fault)

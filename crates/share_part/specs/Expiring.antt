@@ -37,33 +37,36 @@ abbrev pub more_freed : ℕ → ℕ → ℕ
 more_freed freed count = min (freed + count) (2 ^ 64 - 1)
 
 -- What has ended is released of one group, by the fault that its write met, if it met one. `count` and `later` are the faults of the first
--- state disk before it and behind it, `end` is where the journal ends before it.
-pub record StepsGroup (conf : PartConfParts) (count later end : ℕ) (old : PartShardState) (group : List ℕ) (fault : Option StoreFault)
+-- state disk before it and behind it, `end` and `last` are where the journal ends before it and behind it.
+pub record StepsGroup (conf : PartConfParts) (count later end last : ℕ) (old : PartShardState) (group : List ℕ) (fault : Option StoreFault)
     (new : PartShardState) : Type 0 where
   pub counts : count ≤ later
+  pub ends : end ≤ last
   pub log : new.log ≡ old.log
   pub clock : new.clock ≡ old.clock
   pub stores : StoresActs conf (Rose count later) end old group (ending old.clock (old.held group)) new fault
 
 -- Of groups one after another, where so many records were freed before: each is passed or done, and the others follow; or its write fails, and it
 -- is the last.
-abbrev pub StepsGroups : PartConfParts → (count later end : ℕ) → List (List ℕ) → (freed : ℕ) → PartShardState → ExpireAnswer → PartShardState → Type 0
-StepsGroups conf count later end [] freed old answer new = (answer ≡ Done freed) × (new ≡ old) × (count ≤ later)
-StepsGroups conf count later end (group ∷ groups) freed old answer new =
-    ((between : PartShardState) × (counted : ℕ) × (at : ℕ) × StepsGroup conf count counted end old group None between
+abbrev pub StepsGroups : PartConfParts → (count later end last : ℕ) → List (List ℕ) → (freed : ℕ) → PartShardState → ExpireAnswer → PartShardState
+    → Type 0
+StepsGroups conf count later end last [] freed old answer new = (answer ≡ Done freed) × (new ≡ old) × (count ≤ later) × (end ≤ last)
+StepsGroups conf count later end last (group ∷ groups) freed old answer new =
+    ((between : PartShardState) × (counted : ℕ) × (at : ℕ) × StepsGroup conf count counted end at old group None between
     × (NameNone (ending old.clock (old.held group)) → at ≡ end)
-    × StepsGroups conf counted later at groups (more_freed freed (due_count old.clock (old.held group))) between answer new)
-    ⊎ ((fault : StoreFault) × (answer ≡ Store freed group fault) × StepsGroup conf count later end old group (Some fault) new)
+    × StepsGroups conf counted later at last groups (more_freed freed (due_count old.clock (old.held group))) between answer new)
+    ⊎ ((fault : StoreFault) × (answer ≡ Store freed group fault) × StepsGroup conf count later end last old group (Some fault) new)
 
--- An expiry at the moment `now`. `count` and `later` are the faults of the first state disk before it and behind it, `end` is where its journal
--- ends before it.
-pub record StepsExpire (conf : PartConfParts) (count later end : ℕ) (old : PartShardState) (now : ℕ) (answer : ExpireAnswer) (new : PartShardState) : Type 0 where
+-- An expiry at the moment `now`. `count` and `later` are the faults of the first state disk before it and behind it, `end` and `last` are where its
+-- journal ends before it and behind it.
+pub record StepsExpire (conf : PartConfParts) (count later end last : ℕ) (old : PartShardState) (now : ℕ) (answer : ExpireAnswer)
+    (new : PartShardState) : Type 0 where
   pub clock : new.clock ≡ max old.clock now
   pub log : new.log ≡ old.log
-  pub groups : StepsGroups conf count later end (groups_of old.states) 0 (raised_to now old) answer new
+  pub groups : StepsGroups conf count later end last (groups_of old.states) 0 (raised_to now old) answer new
 
 -- Memory ran out behind the writes of some groups, which freed a record at least: they are done, and those behind them are as they were.
-pub record ExpiresPart (conf : PartConfParts) (count later end : ℕ) (old : PartShardState) (now : ℕ) (new : PartShardState) : Type 0 where
+pub record ExpiresPart (conf : PartConfParts) (count later end last : ℕ) (old : PartShardState) (now : ℕ) (new : PartShardState) : Type 0 where
   pub clock : new.clock ≡ max old.clock now
   pub log : new.log ≡ old.log
   pub done : List (List ℕ)
@@ -71,4 +74,4 @@ pub record ExpiresPart (conf : PartConfParts) (count later end : ℕ) (old : Par
   pub parted : groups_of old.states ≡ done ++ behind
   pub freed : ℕ
   pub some : 0 < freed
-  pub groups : StepsGroups conf count later end done 0 (raised_to now old) (Done freed) new
+  pub groups : StepsGroups conf count later end last done 0 (raised_to now old) (Done freed) new

@@ -6,7 +6,8 @@
 -- of 2 records by `a` at 5000 stores a table with start 0 and no rows, and acquires 0 and 1 with count 1 until 35000. A fetch by `b` at
 -- 1000 acquires 2, until 35000 as well. Each is answered with the whole batch. A release of `a` then stores 0 and 1 as available with
 -- count 1, and `b` still holds 2.
-use Rattle.std.specs.Prelude.{◌≡◌, ◌⊎◌, ◌+◌, ◌<◌, ◌^◌, max, ℕ, List, [], length, Option, Some, None}
+use Rattle.std.specs.Prelude.{◌≡◌, ◌⊎◌, ◌+◌, ◌<◌, ◌^◌, max, ℕ, List, [], length, Option, Some, None, IsSome}
+use Rattle.gate_journal.specs.Frames.{IsFrame}
 use Rattle.share_model.specs.ForeignRules.{share_state_at}
 use Rattle.share_model.specs.Held.{Held}
 use Rattle.share_model.specs.Logs.{end_of}
@@ -21,7 +22,7 @@ use Rattle.share_model.specs.declared.visit.Then.TheVariants.{Nothing, Release, 
 use Rattle.share_model.specs.declared.visit.ThenOutcome.{ThenOutcome}
 use Rattle.share_model.specs.declared.visit.ThenOutcome.TheVariants.{Done, Store}
 use Rattle.share_coord.specs.Stored.{Entries, Accepts}
-use Rattle.share_part.specs.Acknowledging.{StoresActs}
+use Rattle.share_part.specs.Acknowledging.{NameNone, StoresActs}
 use Rattle.share_part.specs.Hosting.{PartConfParts, key_of, states_of}
 use Rattle.share_part.specs.Settling.{Acts, is_chosen, releasing}
 use Rattle.share_part.specs.Shards.{PartShardState, IsStill, new_state, with_held, with_new}
@@ -76,16 +77,19 @@ pub record HasNoRoom (conf : PartConfParts) (end : ℕ) (old : PartShardState) (
   pub is_before : states_of before ≡ old.states
   pub is_after : states_of after ≡ with_new conf old visit.group
   pub accepted : Accepts before frame after
+  pub fits : IsFrame frame
   pub past : 2 ^ 62 < end + (length frame + 5)
 
 -- a first fetch, by what became of it
-abbrev pub MakesTable : PartConfParts → (rose : Type 0) → (end : ℕ) → PartShardState → Visit → Limits → VisitAnswer → PartShardState → ThenOutcome → Type 0
+abbrev pub MakesTable : PartConfParts → (rose : Type 0) → (end : ℕ) → PartShardState → Visit → Limits → VisitAnswer → PartShardState
+    → ThenOutcome → Type 0
 MakesTable conf rose end old visit limits answer new Done = FetchesFirst conf old visit limits answer new
 MakesTable conf rose end old visit limits answer new (Store Device) = rose × IsEmptyAnswer (Store Device) answer × IsUnmade conf old visit new
 MakesTable conf rose end old visit limits answer new (Store (Full at)) =
     (at ≡ end) × IsEmptyAnswer (Store (Full at)) answer × IsStill old new × HasNoRoom conf end old visit
 
-abbrev pub Fetches : PartConfParts → (rose : Type 0) → (end : ℕ) → PartShardState → Visit → Limits → VisitAnswer → PartShardState → Option ShareState → Type 0
+abbrev pub Fetches : PartConfParts → (rose : Type 0) → (end : ℕ) → PartShardState → Visit → Limits → VisitAnswer → PartShardState
+    → Option ShareState → Type 0
 Fetches conf rose end old visit limits answer new (Some state) = FetchesThere conf old state visit limits answer new
 Fetches conf rose end old visit limits answer new None = MakesTable conf rose end old visit limits answer new answer.then
 
@@ -108,7 +112,14 @@ Does conf rose end old visit answer new Nothing = IsEmptyAnswer Done answer × I
 Does conf rose end old visit answer new Release = IsEmptyAnswer answer.then answer
     × StoresActs conf rose end old visit.group (releases_of visit.member (old.held visit.group)) new (fault_of answer.then)
 Does conf rose end old visit answer new (Fetch records bytes first) =
-    Fetches conf rose end old visit (record { records = records; bytes = bytes; first = first }) answer new (share_state_at old.states (key_of conf visit.group))
+    Fetches conf rose end old visit (record { records = records; bytes = bytes; first = first }) answer new
+    (share_state_at old.states (key_of conf visit.group))
+
+-- There is nothing to write: nothing is asked for, or a release by a member who holds nothing, or a fetch of a group that has a table.
+abbrev pub HasNothingToWrite : PartConfParts → PartShardState → Visit → Then → Type 0
+HasNothingToWrite conf old visit Nothing = Unit {0}
+HasNothingToWrite conf old visit Release = NameNone (releases_of visit.member (old.held visit.group))
+HasNothingToWrite conf old visit (Fetch records bytes first) = IsSome (share_state_at old.states (key_of conf visit.group))
 
 -- What follows the acknowledgements, at the moment `now`. `rose` says that the count of faults of the first state disk rose, `end` is where
 -- its journal ends.

@@ -61,7 +61,8 @@ HoldsWell log (Some state) held = AreHeldWell log (size_of state.start) held
 -- nothing is held that is stored as acknowledged or archived
 abbrev pub AreFree : Option ShareState → Held → Type 0
 AreFree None held = Unit {0}
-AreFree (Some state) held = (offset : ℕ) (hold : Hold) (row : Row) → hold_at held offset ≡ Some hold → row_at state.runs offset ≡ Some row → row.state ≡ Available
+AreFree (Some state) held = (offset : ℕ) (hold : Hold) (row : Row) → hold_at held offset ≡ Some hold → row_at state.runs offset ≡ Some row →
+    row.state ≡ Available
 
 abbrev pub KeepsHolds : List Batch → Option ShareState → Held → Type 0
 KeepsHolds log state held = HoldsWell log state held × AreFree state held

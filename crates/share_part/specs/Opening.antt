@@ -36,11 +36,16 @@ pub record AreMisplaced (conf : PartConfParts) (log first second : List ℕ) : T
   pub are_states : AreStates first second states
   pub broken : AreHosted conf batches states → ⊥
 
--- contents are damaged on that disk, at that place; rules that are broken are told of the first state disk and place 0
+abbrev pub StandsForLog : List ℕ → Type 0
+StandsForLog log = (batches : List Batch) × IsLogText log batches
+
+-- Contents are damaged on that disk, at that place; rules that are broken are told of the first state disk and place 0. Where a state disk is
+-- told, the log is sound.
 abbrev pub AreDamagedAt : PartConfParts → List ℕ → List ℕ → List ℕ → DiskPlace → ℕ → Type 0
 AreDamagedAt conf log first second Log place = IsNoLogText log place
-AreDamagedAt conf log first second StateA place = AreDamaged first second false place ⊎ ((place ≡ 0) × AreMisplaced conf log first second)
-AreDamagedAt conf log first second StateB place = AreDamaged first second true place
+AreDamagedAt conf log first second StateA place =
+    StandsForLog log × (AreDamaged first second false place ⊎ ((place ≡ 0) × AreMisplaced conf log first second))
+AreDamagedAt conf log first second StateB place = StandsForLog log × AreDamaged first second true place
 
 -- The disks that come back where none was opened, and why. The members of the disk come first.
 pub record IsNotOpened {D : Type 0} (content : D → Option (List ℕ)) (armed : D → Armed) (starved : D → Bool) (faults : D → ℕ)

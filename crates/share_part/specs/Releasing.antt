@@ -1,6 +1,6 @@
 -- The releases of what a group holds, whether of a member or by lock end. Private clauses cite this alone.
 -- For example where `a` holds 0 to 2 and `b` holds 3, the releases of `a` are three, and where their write fails none of them is done.
-use Rattle.std.specs.Prelude.{◌≡◌, ◌≤◌, ◌<◌, ℕ, List, Bool, true, false, Option, Some, None, Result, Ok, Err, IfOk, OnErr, OnOk, not, nat_eq, map, filter}
+use Rattle.std.specs.Prelude.{◌≡◌, ◌≤◌, ◌<◌, ℕ, List, Bool, true, false, Option, Some, None, Result, Ok, Err, IfOk, OnErr, not, nat_eq, map, filter}
 use Rattle.std.specs.List.{count_by}
 use Rattle.edge_io.specs.Armed.{StarvesUnarmed}
 use Rattle.edge_io.specs.Causes.{Rose}
@@ -74,26 +74,30 @@ told_in (Err e) = Err e
 
 -- The releases of a group, where the clock is raised to `clock`. `rose` says that the count of faults of the first state disk rose, `end` is
 -- where its journal ends.
-pub record StepsRelease (conf : PartConfParts) (rose : Type 0) (end : ℕ) (old : PartShardState) (clock : ℕ) (group : List ℕ) (whose : Whose) (released : Released)
-    (new : PartShardState) : Type 0 where
+pub record StepsRelease (conf : PartConfParts) (rose : Type 0) (end : ℕ) (old : PartShardState) (clock : ℕ) (group : List ℕ) (whose : Whose)
+    (released : Released) (new : PartShardState) : Type 0 where
   pub log : new.log ≡ old.log
   pub clock_is : new.clock ≡ clock
   pub stores : StoresActs conf rose end old group (releasing (is_chosen whose) (old.held group)) new (fault_in released)
   pub counts : Counts whose (old.held group) released
 
-abbrev pub ReleasedSo : {D W : Type 0} → (D → List ℕ → Type 0) → (D → ℕ) → (W → Held) → ℕ → List ℕ → Whose → PartParts D W → PartParts D W → Released → Type 0
-ReleasedSo image faults holding clock group whose before after released = (old : PartShardState) → Carries image holding before old → (new : PartShardState)
-    × Carries image holding after new
-    × StepsRelease before.conf (Rose (faults before.states.journal.live.disk) (faults after.states.journal.live.disk)) before.states.journal.live.end old clock group whose released new
+abbrev pub ReleasedSo : {D W : Type 0} → (D → List ℕ → Type 0) → (D → ℕ) → (W → Held) → ℕ → List ℕ → Whose → PartParts D W → PartParts D W
+    → Released → Type 0
+ReleasedSo image faults holding clock group whose before after released = (old : PartShardState) → Carries image holding before old →
+    (new : PartShardState) × Carries image holding after new
+    × StepsRelease before.conf (Rose (faults before.states.journal.live.disk) (faults after.states.journal.live.disk)) before.states.journal.live.end
+    old clock group whose released new
 
 -- The releases of a group on a shard in memory. The members of the disk come first.
 pub record ReleasesOnce {D W : Type 0} (content : D → Option (List ℕ)) (image : D → List ℕ → Type 0) (armed : D → Armed) (starved : D → Bool)
-    (faults : D → ℕ) (holding : W → Held) (clock : ℕ) (group : List ℕ) (whose : Whose) (before after : PartParts D W) (result : Result Released NoMemory) : Type 0 where
+    (faults : D → ℕ) (holding : W → Held) (clock : ℕ) (group : List ℕ) (whose : Whose) (before after : PartParts D W)
+    (result : Result Released NoMemory) : Type 0 where
   pub steps : IfOk result (ReleasedSo image faults holding clock group whose before after)
-  pub unwritten : OnOk result (NameNone (releasing (is_chosen whose) (held_in holding before.windows group)) → after.states ≡ before.states)
+  pub unwritten : NameNone (releasing (is_chosen whose) (held_in holding before.windows group)) → after.states ≡ before.states
   pub memory : OnErr result ((old : PartShardState) → Carries image holding before old → Carries image holding after old)
   pub sound : IfOk result (λ released. released ≡ Store Device →
       StarvesUnarmed content armed starved before.states.journal.live.disk after.states.journal.live.disk)
+  pub ends : (old : PartShardState) → Carries image holding before old → before.states.journal.live.end ≤ after.states.journal.live.end
   pub log : after.log ≡ before.log
   pub idle : after.states.journal.idle ≡ before.states.journal.idle
   pub conf : after.conf ≡ before.conf

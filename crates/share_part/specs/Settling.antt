@@ -6,7 +6,8 @@
 -- releases 1 and rejects 2, with delivery limit 5: then 1 is available with count 1, and 2 is archived. The start is 1, since 1 isn't
 -- closed, and the rows of 1 and 2 are written; that of 0 lies below the start. With limit 1 the release archives 1, the start is 3, and no
 -- row is written.
-use Rattle.std.specs.Prelude.{◌≡◌, ◌≢◌, ◌⊎◌, ◌^◌, ◌≤◌, ◌<◌, ◌+◌, ℕ, pos, List, [], ◌∷◌, Option, Some, None, Bool, true, false, IsSome, is_none, filter, unwrap_or, nat_eq, nat_le, nat_lt, if◌then◌else◌}
+use Rattle.std.specs.Prelude.{◌≡◌, ◌≢◌, ◌⊎◌, ◌^◌, ◌≤◌, ◌<◌, ◌+◌, ℕ, pos, List, [], ◌∷◌, Option, Some, None, Bool, true, false}
+use Rattle.std.specs.Prelude.{IsSome, is_none, filter, unwrap_or, nat_eq, nat_le, nat_lt, if◌then◌else◌}
 use Rattle.std.specs.Option.{option_or}
 use Rattle.std.specs.BTreeMap.{is_at}
 use Rattle.std.specs.Cmp.Lexicographic.{slice_cmp}
@@ -72,7 +73,8 @@ pub record Books : Type 0 where
 -- one act on one offset
 abbrev pub act_on : ℕ → ℕ × AckKind → Books → Books
 act_on limit act books = record {
-  stored = λ offset. if nat_eq offset act.0 then option_or (act_row limit (Some act.1) (hold_at books.held offset)) (books.stored offset) else books.stored offset;
+  stored = λ offset.
+      if nat_eq offset act.0 then option_or (act_row limit (Some act.1) (hold_at books.held offset)) (books.stored offset) else books.stored offset;
   held = without_range act.0 act.0 books.held;
 }
 

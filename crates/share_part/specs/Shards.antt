@@ -36,7 +36,13 @@ pub record PartShardState : Type 0 where
 
 -- what a shard is that was opened or has lost power: nothing is pending, nothing is held, and the clock is 0
 abbrev pub shard_with : List Batch → ShareStates → PartShardState
-shard_with batches states = record { log = record { batches = batches; pending = None }; states = states; pending = None; held = λ group. []; clock = 0 }
+shard_with batches states = record {
+  log = record { batches = batches; pending = None };
+  states = states;
+  pending = None;
+  held = λ group. [];
+  clock = 0;
+}
 
 -- one group's holds in place of those it had
 abbrev pub with_held : (List ℕ → Held) → List ℕ → Held → List ℕ → Held

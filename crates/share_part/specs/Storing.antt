@@ -21,7 +21,7 @@ use Rattle.share_part.specs.declared.settle.Change.{Change}
 use Rattle.share_model.specs.declared.fault.StoreFault.{StoreFault}
 use Rattle.share_model.specs.declared.run.Run.{Run}
 use Rattle.share_coord.specs.Calls.{IsWritten}
-use Rattle.share_coord.specs.Holding.{Holds, WritesOnce}
+use Rattle.share_coord.specs.Holding.{WritesOnce}
 use Rattle.share_coord.specs.Parts.{StoreParts}
 use Rattle.share_coord.specs.Stored.{Entries}
 use Rattle.share_coord.specs.declared.fault.CoordFault.{CoordFault}
@@ -61,7 +61,8 @@ pub record StoresOnce {D : Type 0} (image : D → List ℕ → Type 0) (moment :
 
 -- the group has a table, and this came of the write of what acts change of it
 pub record IsActsStored {D : Type 0} (image : D → List ℕ → Type 0) (moment : D → ℕ) (since : D → ℕ → List ℕ → Type 0) (Failed : D → D → Type 0)
-    (conf : PartConfParts) (log : List Batch) (group : List ℕ) (acts : Acts) (held : Held) (old new : StoreParts D) (done : Result (Unit {0}) CoordFault) : Type 0 where
+    (conf : PartConfParts) (log : List Batch) (group : List ℕ) (acts : Acts) (held : Held) (old new : StoreParts D)
+    (done : Result (Unit {0}) CoordFault) : Type 0 where
   pub state : ShareState
   pub change : Change
   pub known : share_state_at (states_of old.entries) (key_of conf group) ≡ Some state
@@ -71,20 +72,22 @@ pub record IsActsStored {D : Type 0} (image : D → List ℕ → Type 0) (moment
 -- Acts on the table of a group, by the fault that is told: `was` is what the group held, `same` says that all groups hold what they did, and
 -- `ends` that the named offsets aren't held any more. The members of the disk come first.
 abbrev pub StoresGroup : {D : Type 0} (image : D → List ℕ → Type 0) (moment : D → ℕ) (since : D → ℕ → List ℕ → Type 0) (Failed : D → D → Type 0)
-    (conf : PartConfParts) (log : List Batch) (group : List ℕ) (acts : Acts) (was : Held) (old new : StoreParts D) (same ends : Type 0) → Result (Option StoreFault) want → Type 0
+    (conf : PartConfParts) (log : List Batch) (group : List ℕ) (acts : Acts) (was : Held) (old new : StoreParts D) (same ends : Type 0)
+    → Result (Option StoreFault) want → Type 0
 StoresGroup image moment since Failed conf log group acts was old new same ends (Ok None) =
     (NameNone acts × (new ≡ old) × same) ⊎ (NameOne acts × IsActsStored image moment since Failed conf log group acts was old new (Ok tt) × ends)
 StoresGroup image moment since Failed conf log group acts was old new same ends (Ok (Some fault)) =
     NameOne acts × IsActsStored image moment since Failed conf log group acts was old new (Err (Store fault)) × same
-StoresGroup image moment since Failed conf log group acts was old new same ends (Err e) =
-    (new.entries ≡ old.entries) × ((pending : Option Entries) → Holds image old pending → Holds image new pending) × same
+StoresGroup image moment since Failed conf log group acts was old new same ends (Err e) = (new ≡ old) × same
 
 -- ---- the acknowledgements of a group
 
 -- the acknowledgements of a group, by their answer
 abbrev pub SettlesGroup : {D : Type 0} (image : D → List ℕ → Type 0) (moment : D → ℕ) (since : D → ℕ → List ℕ → Type 0) (Failed : D → D → Type 0)
-    (conf : PartConfParts) (log : List Batch) (group member : List ℕ) (acts : Acts) (was : Held) (old new : StoreParts D) (same ends : Type 0) → Result AckOutcome want → Type 0
-SettlesGroup image moment since Failed conf log group member acts was old new same ends (Ok (NotHeld offset)) = IsLeastMissing member acts was offset × (new ≡ old) × same
+    (conf : PartConfParts) (log : List Batch) (group member : List ℕ) (acts : Acts) (was : Held) (old new : StoreParts D) (same ends : Type 0)
+    → Result AckOutcome want → Type 0
+SettlesGroup image moment since Failed conf log group member acts was old new same ends (Ok (NotHeld offset)) =
+    IsLeastMissing member acts was offset × (new ≡ old) × same
 SettlesGroup image moment since Failed conf log group member acts was old new same ends (Ok (Malformed fault)) = ⊥
 SettlesGroup image moment since Failed conf log group member acts was old new same ends (Ok Done) =
     AreHeldBy member acts was × StoresGroup image moment since Failed conf log group acts was old new same ends (Ok None)

@@ -9,12 +9,13 @@ use Rattle.share_model.specs.declared.visit.Visit.{Visit}
 use Rattle.share_model.specs.declared.visit.VisitAnswer.{VisitAnswer}
 use Rattle.edge_io.specs.Causes.{Rose}
 use Rattle.share_part.specs.Acknowledging.{Acknowledges, AreTheirs, NameOne}
-use Rattle.share_part.specs.Following.{Does}
+use Rattle.share_part.specs.Following.{Does, HasNothingToWrite}
 use Rattle.share_part.specs.Hosting.{PartConfParts}
 use Rattle.share_part.specs.Shards.{PartShardState}
 
 -- the acknowledgements are done, and the log and the clock are as they were
-pub record StepsAcks (conf : PartConfParts) (rose : Type 0) (end : ℕ) (old : PartShardState) (visit : Visit) (ack : AckOutcome) (new : PartShardState) : Type 0 where
+pub record StepsAcks (conf : PartConfParts) (rose : Type 0) (end : ℕ) (old : PartShardState) (visit : Visit) (ack : AckOutcome)
+    (new : PartShardState) : Type 0 where
   pub log : new.log ≡ old.log
   pub clock : new.clock ≡ old.clock
   pub does : Acknowledges conf rose end old visit new ack
@@ -23,9 +24,9 @@ pub record StepsAcks (conf : PartConfParts) (rose : Type 0) (end : ℕ) (old : P
 abbrev pub AreToWrite : PartShardState → Visit → Type 0
 AreToWrite old visit = AreTheirs old visit × NameOne (kind_at visit.acks)
 
--- A visit at the moment `now`. `count` and `later` are the faults of the first state disk before it and behind it, `end` is where its journal ends
--- before it.
-pub record StepsVisit (conf : PartConfParts) (count later end : ℕ) (old : PartShardState) (now : ℕ) (visit : Visit) (answer : VisitAnswer)
+-- A visit at the moment `now`. `count` and `later` are the faults of the first state disk before it and behind it, `end` and `last` are where its
+-- journal ends before it and behind it.
+pub record StepsVisit (conf : PartConfParts) (count later end last : ℕ) (old : PartShardState) (now : ℕ) (visit : Visit) (answer : VisitAnswer)
     (new : PartShardState) : Type 0 where
   -- what the acknowledgements left, the faults by then, and where the journal ended then
   pub between : PartShardState
@@ -33,7 +34,9 @@ pub record StepsVisit (conf : PartConfParts) (count later end : ℕ) (old : Part
   pub at : ℕ
   pub acks : StepsAcks conf (Rose count counted) end old visit answer.ack between
   pub counts : (count ≤ counted) × (counted ≤ later)
+  pub ends : (end ≤ at) × (at ≤ last)
   pub unwritten : (AreToWrite old visit → ⊥) → at ≡ end
+  pub still : HasNothingToWrite conf between visit visit.then → last ≡ at
   pub does : Does conf (Rose counted later) at between visit answer new visit.then
   pub clock : new.clock ≡ max old.clock now
   pub log : new.log ≡ old.log

@@ -5,7 +5,8 @@
 -- Worked example: a log has batches from 0 to 1 and from 5 to 6, of 80 bytes each; 0 is held. With 500 records and 80 bytes, 1 is taken
 -- and the walk ends at 5; the answer has the first batch whole. With 0 bytes it is the same where no batch is in the reply yet, and
 -- nothing is taken where one is.
-use Rattle.std.specs.Prelude.{◌≡◌, ◌≤◌, ◌<◌, ◌-◌, ◌+◌, ◌^◌, ℕ, zero, suc, List, [], ◌∷◌, ◌++◌, length, Option, Some, None, Bool, false, nat_le, nat_eq, ◌&&◌, ◌||◌, if◌then◌else◌}
+use Rattle.std.specs.Prelude.{◌≡◌, ◌≤◌, ◌<◌, ◌-◌, ◌+◌, ◌^◌, ℕ, zero, suc, List, [], ◌∷◌, ◌++◌, length}
+use Rattle.std.specs.Prelude.{Option, Some, None, Bool, false, nat_le, nat_eq, ◌&&◌, ◌||◌, if◌then◌else◌}
 use Rattle.std.specs.Option.{option_map}
 use Rattle.share_model.specs.Logs.{Batch}
 use Rattle.share_model.specs.declared.hold.Grant.{Grant}

@@ -1,7 +1,6 @@
 // The rules on the states that a hosted partition may have.
-ghost use Rattle.std.specs.Prelude.{◌≡◌, ◌↔◌, ◌≤◌, ◌<◌, ◌^◌, ℕ, pos, true, length};
+ghost use Rattle.std.specs.Prelude.{◌≡◌, ◌↔◌, ◌≤◌, ◌^◌, ℕ, pos, true};
 ghost use Rattle.share_model.specs.Logs.{IsSlot};
-ghost use Rattle.share_model.specs.ForeignRules.{size_of};
 ghost use Rattle.share_model.specs.Runs.{IsCanonical, row_of};
 ghost use Rattle.part_log.specs.Logs.{IsStoredLog};
 ghost use Rattle.share_part.specs.Hosting.{AreHosted, IsHosted, IsHostedRow, states_of};
@@ -145,19 +144,12 @@ fn is_hosted<D: Disk>(conf: &PartConf, log: &PartLog<D>, key: &Key, view: &State
 /// Whether all states are ones that the partition may have. It costs the rows, and for each key a walk over its first slots.
 pub fn are_hosted<D: Disk>(conf: &PartConf, log: &PartLog<D>, states: &Coord<D>) -> bool
     requires sound { IsStoredLog log.now.batches }
-    requires few { length states.now.entries < 2 ^ 63 }
     ensures { (result ≡ true) ↔ AreHosted conf.now log.now.batches (states_of states.now.entries) }
 {
-    for place in 0..u64::MAX {
-        let Some(key) = states.key_at(place) else {
-            return true;
-        };
-        let Some(view) = states.look(key) else {
-            unreachable!()
-        };
+    for (key, view) in states.states() {
         if !is_hosted(conf, log, key, view) {
             return false;
         }
     }
-    unreachable!()
+    true
 }

@@ -105,7 +105,8 @@ fn end_released<W: Window>(windows: &mut BTreeMap<Name, W>, group: &Name, whose:
     requires there { IsSome (lookup (is_at (slice_cmp nat_cmp group.now)) windows.old.entries) }
     requires below { AreBelow (held_in W.held windows.old.entries group.now) }
     ensures held { (other : List ℕ) → held_in W.held windows.new.entries other ≡ with_held (held_in W.held windows.old.entries) group.now
-        (held_after (releasing (is_chosen whose.now) (held_in W.held windows.old.entries group.now)) (held_in W.held windows.old.entries group.now)) other }
+        (held_after (releasing (is_chosen whose.now) (held_in W.held windows.old.entries group.now)) (held_in W.held windows.old.entries group.now))
+        other }
     ensures count { result ≡ chosen_count whose.now (held_in W.held windows.old.entries group.now) }
 {
     match windows.get_mut(group) {
@@ -127,8 +128,8 @@ fn judge_release<D: Disk, W: Window>(
     requires sound { IsStoredLog log.now.batches }
     requires well { HoldsWell log.now.batches (share_state_at (states_of states.now.entries) (key_of conf.now group.now))
         (held_in W.held windows.now.entries group.now) }
-    ensures judged { IfOk result (ReleasesGroup conf.now.limit (releasing (is_chosen whose.now) (held_in W.held windows.now.entries group.now)) log.now.batches
-        (held_in W.held windows.now.entries group.now) (share_state_at (states_of states.now.entries) (key_of conf.now group.now))) }
+    ensures judged { IfOk result (ReleasesGroup conf.now.limit (releasing (is_chosen whose.now) (held_in W.held windows.now.entries group.now))
+        log.now.batches (held_in W.held windows.now.entries group.now) (share_state_at (states_of states.now.entries) (key_of conf.now group.now))) }
     ensures below { AreBelow (held_in W.held windows.now.entries group.now) }
     ensures rising { IsRising (held_in W.held windows.now.entries group.now) }
 {
@@ -169,10 +170,12 @@ pub fn release_held<D: Disk, W: Window>(
     requires well { HoldsWell log.now.batches (share_state_at (states_of states.old.entries) (key_of conf.now group.now))
         (held_in W.held windows.old.entries group.now) }
     ensures once { StoresGroup D.image D.moment D.since (HasFailed D.content D.armed D.starved D.faults) conf.now log.now.batches
-        group.now (releasing (is_chosen whose.now) (held_in W.held windows.old.entries group.now)) (held_in W.held windows.old.entries group.now) states.old states.new
+        group.now (releasing (is_chosen whose.now) (held_in W.held windows.old.entries group.now)) (held_in W.held windows.old.entries group.now)
+        states.old states.new
         ((other : List ℕ) → held_in W.held windows.new.entries other ≡ held_in W.held windows.old.entries other)
         ((other : List ℕ) → held_in W.held windows.new.entries other ≡ with_held (held_in W.held windows.old.entries) group.now
-        (held_after (releasing (is_chosen whose.now) (held_in W.held windows.old.entries group.now)) (held_in W.held windows.old.entries group.now)) other) (told_in result) }
+        (held_after (releasing (is_chosen whose.now) (held_in W.held windows.old.entries group.now)) (held_in W.held windows.old.entries group.now))
+        other) (told_in result) }
     ensures count { IfOk result (Counts whose.now (held_in W.held windows.old.entries group.now)) }
     ensures runs { RunsOn D.content D.losses D.arms D.armed D.starved D.faults states.old.journal.live.disk states.new.journal.live.disk }
     ensures idle { states.new.journal.idle ≡ states.old.journal.idle }

@@ -165,7 +165,8 @@ impl<D: Disk, W: Window> PartShard<D, W> {
         requires now { now ≤ 2 ^ 62 }
         requires fetch { visit.now.then ≡ Then.Fetch limits.records limits.bytes limits.first }
         ensures once { FollowsOnce D.content D.image D.armed D.starved D.faults W.held now visit.now self.old self.new result }
-        ensures runs { RunsOn D.content D.losses D.arms D.armed D.starved D.faults self.old.states.journal.live.disk self.new.states.journal.live.disk }
+        ensures runs { RunsOn D.content D.losses D.arms D.armed D.starved D.faults
+            self.old.states.journal.live.disk self.new.states.journal.live.disk }
         ensures ranges { IfOk result (λ answer. AllByRecursion IsSmallGrant answer.grants) }
     {
         let group = &visit.group;
@@ -202,7 +203,8 @@ impl<D: Disk, W: Window> PartShard<D, W> {
     fn release(&mut self, clock: u64, group: &Name, whose: &Whose) -> Result<Released, NoMemory>
         requires clock { clock ≤ 2 ^ 62 }
         ensures once { ReleasesOnce D.content D.image D.armed D.starved D.faults W.held clock group.now whose.now self.old self.new result }
-        ensures runs { RunsOn D.content D.losses D.arms D.armed D.starved D.faults self.old.states.journal.live.disk self.new.states.journal.live.disk }
+        ensures runs { RunsOn D.content D.losses D.arms D.armed D.starved D.faults
+            self.old.states.journal.live.disk self.new.states.journal.live.disk }
     {
         let released = release_held(
             self.alloc,
@@ -222,7 +224,8 @@ impl<D: Disk, W: Window> PartShard<D, W> {
         requires now { now ≤ 2 ^ 62 }
         requires release { visit.now.then ≡ Then.Release }
         ensures once { FollowsOnce D.content D.image D.armed D.starved D.faults W.held now visit.now self.old self.new result }
-        ensures runs { RunsOn D.content D.losses D.arms D.armed D.starved D.faults self.old.states.journal.live.disk self.new.states.journal.live.disk }
+        ensures runs { RunsOn D.content D.losses D.arms D.armed D.starved D.faults
+            self.old.states.journal.live.disk self.new.states.journal.live.disk }
         ensures ranges { IfOk result (λ answer. AllByRecursion IsSmallGrant answer.grants) }
     {
         let clock = self.clock.max(now);
@@ -234,7 +237,8 @@ impl<D: Disk, W: Window> PartShard<D, W> {
     fn follow(&mut self, now: u64, visit: &Visit) -> Result<VisitAnswer, NoMemory>
         requires now { now ≤ 2 ^ 62 }
         ensures once { FollowsOnce D.content D.image D.armed D.starved D.faults W.held now visit.now self.old self.new result }
-        ensures runs { RunsOn D.content D.losses D.arms D.armed D.starved D.faults self.old.states.journal.live.disk self.new.states.journal.live.disk }
+        ensures runs { RunsOn D.content D.losses D.arms D.armed D.starved D.faults
+            self.old.states.journal.live.disk self.new.states.journal.live.disk }
         ensures ranges { IfOk result (λ answer. AllByRecursion IsSmallGrant answer.grants) }
     {
         match visit.then {
@@ -268,7 +272,8 @@ impl<D: Disk, W: Window> PartShard<D, W> {
     pub fn visit(&mut self, now: u64, visit: &Visit) -> Result<VisitAnswer, NoMemory>
         requires now { now ≤ 2 ^ 62 }
         ensures once { VisitsOnce D.content D.image D.armed D.starved D.faults W.held now visit.now self.old self.new result }
-        ensures runs { RunsOn D.content D.losses D.arms D.armed D.starved D.faults self.old.states.journal.live.disk self.new.states.journal.live.disk }
+        ensures runs { RunsOn D.content D.losses D.arms D.armed D.starved D.faults
+            self.old.states.journal.live.disk self.new.states.journal.live.disk }
         ensures ranges { IfOk result (λ answer. AllByRecursion IsSmallGrant answer.grants) }
     {
         let ack = acknowledge_visit(
@@ -302,7 +307,8 @@ impl<D: Disk, W: Window> PartShard<D, W> {
     pub fn expire(&mut self, now: u64) -> Result<ExpireAnswer, NoMemory>
         requires { now ≤ 2 ^ 62 }
         ensures once { ExpiresOnce D.content D.image D.armed D.starved D.faults W.held now self.old self.new result }
-        ensures runs { RunsOn D.content D.losses D.arms D.armed D.starved D.faults self.old.states.journal.live.disk self.new.states.journal.live.disk }
+        ensures runs { RunsOn D.content D.losses D.arms D.armed D.starved D.faults
+            self.old.states.journal.live.disk self.new.states.journal.live.disk }
     {
         let clock = self.clock.max(now);
         let due = due_groups(self.alloc, &self.windows, clock)?;
@@ -379,10 +385,12 @@ impl<D: Disk, W: Window> PartShard<D, W> {
             ArmsAlone D.content D.image D.losses D.arms D.armed D.starved D.faults after mode self.old.log.journal.disk self.new.log.journal.disk
             × (self.new.states ≡ self.old.states) }
         ensures first { disk ≡ DiskPlace.StateA →
-            ArmsAlone D.content D.image D.losses D.arms D.armed D.starved D.faults after mode self.old.states.journal.live.disk self.new.states.journal.live.disk
+            ArmsAlone D.content D.image D.losses D.arms D.armed D.starved D.faults after mode
+            self.old.states.journal.live.disk self.new.states.journal.live.disk
             × (self.new.states.journal.idle ≡ self.old.states.journal.idle) × (self.new.log ≡ self.old.log) }
         ensures second { disk ≡ DiskPlace.StateB →
-            ArmsAlone D.content D.image D.losses D.arms D.armed D.starved D.faults after mode self.old.states.journal.idle self.new.states.journal.idle
+            ArmsAlone D.content D.image D.losses D.arms D.armed D.starved D.faults after mode
+            self.old.states.journal.idle self.new.states.journal.idle
             × (self.new.states.journal.live ≡ self.old.states.journal.live) × (self.new.log ≡ self.old.log) }
         ensures conf { self.new.conf ≡ self.old.conf }
         ensures ends { (self.new.log.journal.end ≡ self.old.log.journal.end) × (self.new.states.journal.live.end ≡ self.old.states.journal.live.end) }

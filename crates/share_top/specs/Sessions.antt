@@ -14,11 +14,11 @@ use Rattle.session_script.specs.declared.event.Outcome.{Outcome}
 use Rattle.session_script.specs.Output.{output_of, damaged_line}
 use Rattle.topic_conf.specs.Configs.{ConfigParts}
 use Rattle.broker_model.specs.Hosted.{IsTaken}
-use Rattle.broker_model.specs.Shards.{Counts, Shards, ShardCall}
+use Rattle.broker_model.specs.Shards.{Counts, Ends, Shards, ShardCall}
 use Rattle.broker_model.specs.Machine.{Machine, StandsFor}
 use Rattle.broker_model.specs.Disks.{Disks}
 use Rattle.broker_model.specs.Steps.{StepsTo, StopsWithin}
-use Rattle.broker_model.specs.States.{State, faults_of}
+use Rattle.broker_model.specs.States.{ReachTo, State, faults_of}
 use Rattle.broker_model.specs.Runs.{Step, IsRun, events_of, outcomes_of}
 use Rattle.broker_model.specs.Laws.{HoldsOfRun}
 use Rattle.broker_model.specs.Starts.{IsWell}
@@ -50,32 +50,40 @@ WritesPart conf line output outcomes =
 
 -- ---- what a run leaves on the disks
 
--- what is known of the disks behind a run, and for which shards they stand, by its last state
+-- what is known of the disks behind a run, for which shards they stand, and to which ends of journals they reach, by its last state
 abbrev pub Ending : Type 1
-Ending = (Shards → Type 0) → Disks → State → Type 0
+Ending = (Shards → Type 0) → ((List ℕ → ℕ) → Type 0) → Disks → State → Type 0
 
--- what is known is what the last state has, and its shards are those for which the disks stand
-pub record Leaves (conf : ConfigParts) (Stand : Shards → Type 0) (now : Disks) (last : State) : Type 0 where
+-- what is known is what the last state has, its shards are those for which the disks stand, and its journals end within them
+pub record Leaves (conf : ConfigParts) (Stand : Shards → Type 0) (Reach : (List ℕ → ℕ) → Type 0) (now : Disks) (last : State) : Type 0 where
   pub known : (name : List ℕ) → IsTaken conf name → now name ≡ last.disks name
   pub stands : Stand last.machine.shards
+  pub reach : Reach last.ends
 
 -- of each disk, its count of faults in the last state, and the one that is known now
 abbrev pub counts_since : State → Disks → Counts
 counts_since last now name = (faults_of last name, (now name).faults)
 
--- one event more was done, or it was left in the midst of its part
-abbrev pub DoesMore : ConfigParts → State → Disks → Event → Machine → Type 0
-DoesMore conf last now event after =
+-- where the journal on each disk ends in the last state, and now
+abbrev pub ends_since : State → (List ℕ → ℕ) → Ends
+ends_since last ends name = (last.ends name, ends name)
+
+-- one event more was done, or it was left in the midst of its part; the journals end there now
+abbrev pub DoesMore : ConfigParts → State → Disks → (ends : List ℕ → ℕ) → Event → Machine → Type 0
+DoesMore conf last now ends event after =
     ((call : Option ShardCall) × (outcomes : List Outcome)
-    × StepsTo conf (counts_since last now) last.ends last.machine event call outcomes after)
-    ⊎ StopsWithin conf (counts_since last now) last.ends last.machine event after
+    × StepsTo conf (counts_since last now) (ends_since last ends) last.machine event call outcomes after)
+    ⊎ StopsWithin conf (counts_since last now) (ends_since last ends) last.machine event after
 
 -- the disks stand for the last state's shards, or for those of one event more, done or left within, of whose outcomes nothing was written
-pub record LeavesWithin (conf : ConfigParts) (Stand : Shards → Type 0) (now : Disks) (last : State) : Type 0 where
+pub record LeavesWithin (conf : ConfigParts) (Stand : Shards → Type 0) (Reach : (List ℕ → ℕ) → Type 0) (now : Disks) (last : State) : Type 0 where
   pub after : Machine
-  pub reaches : (after ≡ last.machine) ⊎ ((event : Event) × DoesMore conf last now event after)
+  pub ends : List ℕ → ℕ
+  pub reaches : (after ≡ last.machine) ⊎ ((event : Event) × DoesMore conf last now ends event after)
   pub later : (name : List ℕ) → IsTaken conf name → faults_of last name ≤ (now name).faults
+  pub ends_later : (name : List ℕ) → IsTaken conf name → last.ends name ≤ ends name
   pub stands : Stand after.shards
+  pub reach : Reach ends
 
 -- ---- one run
 
@@ -95,7 +103,7 @@ pub record IsSession (conf : ConfigParts) (events : List Event) (Tells : List Ou
   pub first : State
   -- it begins with the opening of the contents
   pub opens : IsFirst conf contents was first
-  pub ran : Ran conf first events Tells (Ends (StandsFor left) now)
+  pub ran : Ran conf first events Tells (Ends (StandsFor left) (ReachTo conf left) now)
   -- its losses, arms and counts, and what it promises of records: locks are exclusive, starts pass what was acknowledged or archived alone,
   -- and an acknowledgement of what its member holds is refused by the store alone
   pub holds : HoldsOfRun conf first ran.steps ran.last

@@ -1,8 +1,19 @@
-use Rattle.std.proofs.Common.{◌∷◌, [], refl, subst, List, ℕ, Some}
+use Rattle.std.proofs.Common.{◌≡◌, ◌∷◌, [], refl, subst, List, ℕ, Some, Err, rules}
 use Rattle.std.specs.declared.option.Option.{Option}
-use Rattle.broker_core.specs.Taking.{GetsAll}
-use Rattle.broker_core.proofs.Pairs.{gets_states, put_state, refused_both, taken_both}
+use Rattle.broker_core.specs.Taking.{GetsAll, GetsNone, RefusesForeign}
+use Rattle.broker_core.proofs.Pairs.{gets_states, none_both, put_state, refused_both, taken_both}
+use Rattle.broker_core.proofs.Stepping.{err_at}
 use Rattle.broker_core.proofs.bay.take_foreign.Goals as goal
+
+pub returns-in_err-first-clause-err : goal.returns-in_err-first-clause-err
+returns-in_err-first-clause-err g c =
+    let err : c.from_residual.result ≡ Err c.in_err-first.field-0.0 = search rules in
+    err_at (λ e. RefusesForeign g.B.Bay.disk g.B.Bay.out g.B.Bay.taken g.B.Bay.steady g.B.Bay.faults g.D.Disk.content g.D.Disk.image g.D.Disk.starved g.D.Disk.faults g.D.Disk.arms g.D.Disk.armed
+    e c.args.bay.now c.take_two.new.bay) c.from_residual.result c.in_err-first.field-0.0 err
+    (none_both g.B.Bay.disk g.B.Bay.out g.B.Bay.taken g.B.Bay.steady g.B.Bay.faults g.D.Disk.content g.D.Disk.image g.D.Disk.starved g.D.Disk.faults g.D.Disk.arms g.D.Disk.armed
+    c.args.bay.now c.take_two.new.bay c.in_err-first.field-0.0
+    (subst (λ (names : List (List ℕ)). GetsNone g.B.Bay.disk g.B.Bay.out g.B.Bay.taken g.B.Bay.steady g.B.Bay.faults names c.in_err-first.field-0.0
+    c.args.bay.now c.take_two.new.bay) (λ i. c.foreign_state_a-first_name.ensures i ∷ c.foreign_state_b-second_name.ensures i ∷ []) c.in_err-first.ensures.err))
 
 pub returns-in-Ok-clause-ok : goal.returns-in-Ok-clause-ok
 returns-in-Ok-clause-ok g c = taken_both g.B.Bay.disk g.B.Bay.out g.B.Bay.taken g.B.Bay.steady g.B.Bay.faults g.D.Disk.content g.D.Disk.image g.D.Disk.starved g.D.Disk.faults g.D.Disk.losses g.D.Disk.arms g.D.Disk.armed
@@ -49,4 +60,4 @@ returns-in-Err-clause-err g c = refused_both g.B.Bay.disk g.B.Bay.out g.B.Bay.ta
         refl,
       ),
     )
-    c.in-Err.ensures.recovers c.in-Err.ensures.sound c.in-Err.ensures.damaged c.in-Err.ensures.device c.in-Err.ensures.no_bay
+    c.in-Err.ensures.recovers c.in-Err.ensures.sound c.in-Err.ensures.damaged c.in-Err.ensures.device c.in-Err.ensures.no_bay c.in-Err.ensures.images

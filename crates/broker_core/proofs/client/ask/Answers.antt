@@ -2,7 +2,7 @@ use Rattle.std.proofs.Common.{refl, sym, ap, ◌∙◌, ◌++◌}
 use Rattle.conn_core.specs.Conns.{without_replies}
 use Rattle.conn_core.specs.Turning.{conn_after_answer}
 use Rattle.broker_model.specs.Steps.{replies_to}
-use Rattle.broker_core.specs.Hosts.{counts_in, disks_in, ends_in, faults_in, parts_of}
+use Rattle.broker_core.specs.Hosts.{counts_in, disks_in, ends_over, faults_in, parts_of}
 use Rattle.broker_core.proofs.Clients.{part_done, step_told}
 use Rattle.broker_core.proofs.Stepping.{on_err, ok_both}
 use Rattle.broker_core.proofs.Leading.{halts_so, leads_halts, leads_to}
@@ -16,7 +16,7 @@ returns-in_err-answer-clause-stopped g c = on_err c.from_residual.result
     let conn = conn_after_answer h.0 c.args.conn.now in (
       faults_in c.args.part h.0 ++ replies_to c.args.id conn,
       without_replies conn,
-      part_done (counts_in g.D.Disk.faults g.D.Disk.losses g.D.Disk.arms g.D.Disk.armed (disks_in (parts_of c.args.hosts.now)) (disks_in (parts_of c.act.new.hosts))) (ends_in (parts_of c.args.hosts.now))
+      part_done (counts_in g.D.Disk.faults g.D.Disk.losses g.D.Disk.arms g.D.Disk.armed (disks_in (parts_of c.args.hosts.now)) (disks_in (parts_of c.act.new.hosts))) (ends_over (parts_of c.args.hosts.now) (parts_of c.act.new.hosts))
           c.args.id c.args.now c.args.part h.0 c.args.conn.now _ _ refl refl a call b h.1,
     ))
     (λ a b h. (c.args.part, refl, h))
@@ -31,7 +31,7 @@ returns-in_err-outcomes-clause-stopped g c = on_err c.from_residual-in_err-outco
     (λ a call b h. (
       faults_in c.args.part c.in_ok-answer.answer ++ replies_to c.args.id conn,
       without_replies conn,
-      part_done (counts_in g.D.Disk.faults g.D.Disk.losses g.D.Disk.arms g.D.Disk.armed (disks_in (parts_of c.args.hosts.now)) (disks_in (parts_of c.act.new.hosts))) (ends_in (parts_of c.args.hosts.now))
+      part_done (counts_in g.D.Disk.faults g.D.Disk.losses g.D.Disk.arms g.D.Disk.armed (disks_in (parts_of c.args.hosts.now)) (disks_in (parts_of c.act.new.hosts))) (ends_over (parts_of c.args.hosts.now) (parts_of c.act.new.hosts))
           c.args.id c.args.now c.args.part c.in_ok-answer.answer c.args.conn.now _ _ refl refl a call b h,
     )) (c.in_ok-answer.ensures.ok s k))
 
@@ -44,7 +44,7 @@ returns-in_err-give-clause-stopped g c = on_err c.from_residual-in_err-give.resu
     (λ a call b h. (
       faults_in c.args.part c.in_ok-answer.answer ++ replies_to c.args.id conn,
       without_replies conn,
-      part_done (counts_in g.D.Disk.faults g.D.Disk.losses g.D.Disk.arms g.D.Disk.armed (disks_in (parts_of c.args.hosts.now)) (disks_in (parts_of c.act.new.hosts))) (ends_in (parts_of c.args.hosts.now))
+      part_done (counts_in g.D.Disk.faults g.D.Disk.losses g.D.Disk.arms g.D.Disk.armed (disks_in (parts_of c.args.hosts.now)) (disks_in (parts_of c.act.new.hosts))) (ends_over (parts_of c.args.hosts.now) (parts_of c.act.new.hosts))
           c.args.id c.args.now c.args.part c.in_ok-answer.answer c.args.conn.now _ _ refl refl a call b h,
     )) (c.in_ok-answer.ensures.ok s k))
 
@@ -57,14 +57,14 @@ returns-in_err-replies-clause-stopped g c = on_err c.from_residual-in_err-replie
     (λ a call b h. (
       faults_in c.args.part c.in_ok-answer.answer ++ replies_to c.args.id conn,
       without_replies conn,
-      part_done (counts_in g.D.Disk.faults g.D.Disk.losses g.D.Disk.arms g.D.Disk.armed (disks_in (parts_of c.args.hosts.now)) (disks_in (parts_of c.act.new.hosts))) (ends_in (parts_of c.args.hosts.now))
+      part_done (counts_in g.D.Disk.faults g.D.Disk.losses g.D.Disk.arms g.D.Disk.armed (disks_in (parts_of c.args.hosts.now)) (disks_in (parts_of c.act.new.hosts))) (ends_over (parts_of c.args.hosts.now) (parts_of c.act.new.hosts))
           c.args.id c.args.now c.args.part c.in_ok-answer.answer c.args.conn.now _ _ refl refl a call b h,
     )) (c.in_ok-answer.ensures.ok s k))
 
 pub returns-clause-ok : goal.returns-clause-ok
 returns-clause-ok g c = λ s k. leads_to g.D.Disk.content g.D.Disk.image g.D.Disk.starved g.D.Disk.faults g.D.Disk.losses g.D.Disk.arms g.D.Disk.armed
     (parts_of c.args.hosts.now) (parts_of c.act.new.hosts) s _ _
-    (λ a call b h. part_done (counts_in g.D.Disk.faults g.D.Disk.losses g.D.Disk.arms g.D.Disk.armed (disks_in (parts_of c.args.hosts.now)) (disks_in (parts_of c.act.new.hosts))) (ends_in (parts_of c.args.hosts.now))
+    (λ a call b h. part_done (counts_in g.D.Disk.faults g.D.Disk.losses g.D.Disk.arms g.D.Disk.armed (disks_in (parts_of c.args.hosts.now)) (disks_in (parts_of c.act.new.hosts))) (ends_over (parts_of c.args.hosts.now) (parts_of c.act.new.hosts))
     c.args.id c.args.now c.args.part c.in_ok-answer.answer c.args.conn.now _ _
     (c.in_ok-replies.ensures.told ∙ ap (λ l. l ++ replies_to c.args.id c.give.new.self) (c.in_ok-outcomes.ensures ∙ c.fault_in.ensures)
     ∙ ap (λ conn. faults_in c.args.part c.in_ok-answer.answer ++ replies_to c.args.id conn) c.in_ok-give.ensures.answer)

@@ -1,6 +1,6 @@
 use Rattle.std.proofs.Common.{ap, ◌∙◌, ◌++◌}
 use Rattle.broker_model.specs.Steps.{replies_to}
-use Rattle.broker_core.specs.Hosts.{disks_in, ends_in, parts_of, counts_in}
+use Rattle.broker_core.specs.Hosts.{disks_in, ends_over, parts_of, counts_in}
 use Rattle.broker_core.proofs.Stepping.{ok_weaker, on_err, on_err_weaker}
 use Rattle.broker_core.proofs.Clients.{asks_next, halves_asked, replies_told}
 use Rattle.broker_core.proofs.Leading.{go_on_same, halts_so, halts_still, leads_to}
@@ -11,7 +11,7 @@ returns-in-Ask-clause-ok g c = ok_weaker _ _ c.ask.result
     (λ outcomes h s k. leads_to g.D.Disk.content g.D.Disk.image g.D.Disk.starved g.D.Disk.faults g.D.Disk.losses g.D.Disk.arms g.D.Disk.armed
     (parts_of c.args.hosts.now) (parts_of c.ask.new.hosts) s _ _
     (λ a call b does. asks_next
-    (counts_in g.D.Disk.faults g.D.Disk.losses g.D.Disk.arms g.D.Disk.armed (disks_in (parts_of c.args.hosts.now)) (disks_in (parts_of c.ask.new.hosts))) (ends_in (parts_of c.args.hosts.now))
+    (counts_in g.D.Disk.faults g.D.Disk.losses g.D.Disk.arms g.D.Disk.armed (disks_in (parts_of c.args.hosts.now)) (disks_in (parts_of c.ask.new.hosts))) (ends_over (parts_of c.args.hosts.now) (parts_of c.ask.new.hosts))
     c.args.id c.args.now c.in-Ask.part c.args.next c.args.conn.now c.ask.new.conn outcomes.items c.in-Ask.is a call b does)
     (h s k))
     c.ask.ensures.ok
@@ -24,10 +24,10 @@ returns-in-Ask-clause-stopped g c = on_err_weaker c.ask.result
       does.0,
       does.1,
       asks_next
-          (counts_in g.D.Disk.faults g.D.Disk.losses g.D.Disk.arms g.D.Disk.armed (disks_in (parts_of c.args.hosts.now)) (disks_in (parts_of c.ask.new.hosts))) (ends_in (parts_of c.args.hosts.now))
+          (counts_in g.D.Disk.faults g.D.Disk.losses g.D.Disk.arms g.D.Disk.armed (disks_in (parts_of c.args.hosts.now)) (disks_in (parts_of c.ask.new.hosts))) (ends_over (parts_of c.args.hosts.now) (parts_of c.ask.new.hosts))
           c.args.id c.args.now c.in-Ask.part c.args.next c.args.conn.now does.1 does.0 c.in-Ask.is a call b does.2,
     ))
-    (halves_asked (counts_in g.D.Disk.faults g.D.Disk.losses g.D.Disk.arms g.D.Disk.armed (disks_in (parts_of c.args.hosts.now)) (disks_in (parts_of c.ask.new.hosts))) (ends_in (parts_of c.args.hosts.now)) c.in-Ask.part c.args.next c.in-Ask.is)
+    (halves_asked (counts_in g.D.Disk.faults g.D.Disk.losses g.D.Disk.arms g.D.Disk.armed (disks_in (parts_of c.args.hosts.now)) (disks_in (parts_of c.ask.new.hosts))) (ends_over (parts_of c.args.hosts.now) (parts_of c.ask.new.hosts)) c.in-Ask.part c.args.next c.in-Ask.is)
     (h s k))
     c.ask.ensures.stopped
 

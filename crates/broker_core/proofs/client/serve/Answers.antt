@@ -3,7 +3,7 @@ use Rattle.std.specs.Map.{set_value, remove_entry}
 use Rattle.conn_core.specs.Conns.{is_gone}
 use Rattle.broker_model.specs.Machine.{named, conn_at, left}
 use Rattle.broker_model.specs.Steps.{Serves}
-use Rattle.broker_core.specs.Hosts.{HalvesServe, counts_in, disks_in, ends_in, parts_of}
+use Rattle.broker_core.specs.Hosts.{HalvesServe, counts_in, disks_in, ends_over, parts_of}
 use Rattle.broker_core.proofs.Stepping.{on_err, left_at}
 use Rattle.broker_core.proofs.Leading.{go_on_same, halts_so, leads_to}
 use Rattle.broker_core.proofs.client.serve.Goals as goal
@@ -19,11 +19,11 @@ returns-in_err-outcomes-clause-stopped g c =
       h.0,
       record { connections = left c.args.id h.1 es; shards = b },
       refl,
-      subst (λ o. Serves c.args.conf.now (counts_in g.D.Disk.faults g.D.Disk.losses g.D.Disk.arms g.D.Disk.armed (disks_in (parts_of c.args.hosts.now)) (disks_in (parts_of c.step.new.hosts))) (ends_in (parts_of c.args.hosts.now))
+      subst (λ o. Serves c.args.conf.now (counts_in g.D.Disk.faults g.D.Disk.losses g.D.Disk.arms g.D.Disk.armed (disks_in (parts_of c.args.hosts.now)) (disks_in (parts_of c.step.new.hosts))) (ends_over (parts_of c.args.hosts.now) (parts_of c.step.new.hosts))
           (record { connections = es; shards = a }) c.args.id c.args.now o call h.0 (record { connections = left c.args.id h.1 es; shards = b })) (sym found)
           (record { after = h.1; does = h.2; leaves = refl }),
     ))
-    (λ a b h. subst (λ o. HalvesServe c.args.conf.now (counts_in g.D.Disk.faults g.D.Disk.losses g.D.Disk.arms g.D.Disk.armed (disks_in (parts_of c.args.hosts.now)) (disks_in (parts_of c.step.new.hosts))) (ends_in (parts_of c.args.hosts.now)) o a b) (sym found) h)
+    (λ a b h. subst (λ o. HalvesServe c.args.conf.now (counts_in g.D.Disk.faults g.D.Disk.losses g.D.Disk.arms g.D.Disk.armed (disks_in (parts_of c.args.hosts.now)) (disks_in (parts_of c.step.new.hosts))) (ends_over (parts_of c.args.hosts.now) (parts_of c.step.new.hosts)) o a b) (sym found) h)
     (c.in_err-outcomes.ensures.stopped s k))
 
 pub returns-clause-ok : goal.returns-clause-ok
@@ -39,7 +39,7 @@ returns-clause-ok g c =
     λ s k. leads_to g.D.Disk.content g.D.Disk.image g.D.Disk.starved g.D.Disk.faults g.D.Disk.losses g.D.Disk.arms g.D.Disk.armed
     (parts_of c.args.hosts.now) (parts_of c.step.new.hosts) s _ _
     (λ a call b h.
-    subst (λ o. Serves c.args.conf.now (counts_in g.D.Disk.faults g.D.Disk.losses g.D.Disk.arms g.D.Disk.armed (disks_in (parts_of c.args.hosts.now)) (disks_in (parts_of c.step.new.hosts))) (ends_in (parts_of c.args.hosts.now))
+    subst (λ o. Serves c.args.conf.now (counts_in g.D.Disk.faults g.D.Disk.losses g.D.Disk.arms g.D.Disk.armed (disks_in (parts_of c.args.hosts.now)) (disks_in (parts_of c.step.new.hosts))) (ends_over (parts_of c.args.hosts.now) (parts_of c.step.new.hosts))
     (record { connections = es; shards = a }) c.args.id c.args.now o call c.in_ok-outcomes.outcomes.items (record { connections = c.let_go.new.clients.entries; shards = b }))
     (sym found) (record { after = after; does = h; leaves = leaves }))
     (c.in_ok-outcomes.ensures.ok s k)

@@ -1,5 +1,5 @@
 use Rattle.conn_core.specs.Turning.{turn}
-use Rattle.broker_core.specs.Hosts.{disks_in, ends_in, parts_of, counts_in}
+use Rattle.broker_core.specs.Hosts.{disks_in, ends_over, parts_of, counts_in}
 use Rattle.broker_core.proofs.Stepping.{on_err}
 use Rattle.broker_core.proofs.Clients.{does_turn, halves_turn}
 use Rattle.broker_core.proofs.Leading.{go_on_same, halts_so, halts_still, leads_to}
@@ -13,18 +13,18 @@ returns-in_err-outcomes-clause-stopped g c = on_err c.from_residual-in_err-outco
       h.0,
       h.1,
       does_turn
-          (counts_in g.D.Disk.faults g.D.Disk.losses g.D.Disk.arms g.D.Disk.armed (disks_in (parts_of c.args.hosts.now)) (disks_in (parts_of c.done.new.hosts))) (ends_in (parts_of c.args.hosts.now))
+          (counts_in g.D.Disk.faults g.D.Disk.losses g.D.Disk.arms g.D.Disk.armed (disks_in (parts_of c.args.hosts.now)) (disks_in (parts_of c.done.new.hosts))) (ends_over (parts_of c.args.hosts.now) (parts_of c.done.new.hosts))
           c.args.id c.args.now (turn c.args.conf.now c.args.conn.now) c.in_ok-next.next c.next_part.new.self h.1 h.0
           c.in_ok-next.ensures.next a call b h.2,
     ))
-    (halves_turn (counts_in g.D.Disk.faults g.D.Disk.losses g.D.Disk.arms g.D.Disk.armed (disks_in (parts_of c.args.hosts.now)) (disks_in (parts_of c.done.new.hosts))) (ends_in (parts_of c.args.hosts.now)) (turn c.args.conf.now c.args.conn.now) c.in_ok-next.next c.next_part.new.self c.in_ok-next.ensures.next)
+    (halves_turn (counts_in g.D.Disk.faults g.D.Disk.losses g.D.Disk.arms g.D.Disk.armed (disks_in (parts_of c.args.hosts.now)) (disks_in (parts_of c.done.new.hosts))) (ends_over (parts_of c.args.hosts.now) (parts_of c.done.new.hosts)) (turn c.args.conf.now c.args.conn.now) c.in_ok-next.next c.next_part.new.self c.in_ok-next.ensures.next)
     (c.in_err-outcomes.ensures.stopped s k))
 
 pub returns-clause-ok : goal.returns-clause-ok
 returns-clause-ok g c = λ s k. leads_to g.D.Disk.content g.D.Disk.image g.D.Disk.starved g.D.Disk.faults g.D.Disk.losses g.D.Disk.arms g.D.Disk.armed
     (parts_of c.args.hosts.now) (parts_of c.done.new.hosts) s _ _
     (λ a call b h. does_turn
-    (counts_in g.D.Disk.faults g.D.Disk.losses g.D.Disk.arms g.D.Disk.armed (disks_in (parts_of c.args.hosts.now)) (disks_in (parts_of c.done.new.hosts))) (ends_in (parts_of c.args.hosts.now))
+    (counts_in g.D.Disk.faults g.D.Disk.losses g.D.Disk.arms g.D.Disk.armed (disks_in (parts_of c.args.hosts.now)) (disks_in (parts_of c.done.new.hosts))) (ends_over (parts_of c.args.hosts.now) (parts_of c.done.new.hosts))
     c.args.id c.args.now (turn c.args.conf.now c.args.conn.now) c.in_ok-next.next c.next_part.new.self _ _
     c.in_ok-next.ensures.next a call b h)
     (c.in_ok-outcomes.ensures.ok s k)

@@ -9,7 +9,7 @@ use Rattle.broker_model.specs.Shards.MembersCall.{Beats}
 use Rattle.broker_model.specs.Shards.ShardCall.{CallPart, CallMembers}
 use Rattle.broker_core.specs.Carried.Begun.{BeginsVisit}
 use Rattle.broker_model.specs.Hosted.{HoldsAt}
-use Rattle.broker_core.specs.Hosts.{AreOpen, GoOn, IsThere, LeadsSlot, StaysHosted, counts_in, disks_in, ends_in, parts_of}
+use Rattle.broker_core.specs.Hosts.{AreOpen, GoOn, IsThere, LeadsSlot, StaysHosted, counts_in, disks_in, ends_over, parts_of}
 use Rattle.broker_core.specs.declared.slot.ForeignSlot.TheVariants.{Open}
 use Rattle.broker_core.proofs.Stepping.{on_err}
 use Rattle.broker_core.proofs.Calling.{beat_does, half_of_visit, led_turned, look_does, produce_halts, visit_halts, looked_at, may_on, part_halts, part_leads, turned_hosted, turned_on, turned_open, with_parts}
@@ -106,7 +106,7 @@ returns-in_err-answer-in-Visit-clause-stopped g c = on_err c.from_residual-in_er
     (λ s k. halts_so g.D.Disk.content g.D.Disk.image g.D.Disk.starved g.D.Disk.faults g.D.Disk.losses g.D.Disk.arms g.D.Disk.armed
     (with_parts g.D.Disk.content g.D.Disk.image g.D.Disk.starved g.D.Disk.faults g.D.Disk.losses g.D.Disk.arms g.D.Disk.armed (parts_of c.args.hosts.now) c.visit_at.new.parts.items) s _ _ _ _
     (λ a call b d. (AnswerVisit d.1.0, visit_halts g.D.Disk.content g.D.Disk.image g.D.Disk.starved g.D.Disk.faults g.D.Disk.losses g.D.Disk.arms g.D.Disk.armed _ _ c.args.now c.in-Visit.shard c.args.part.now c.in-Visit.visit c.in-Visit.is d.0 d.1.0 d.1.1 a call b d.2))
-    (λ a b d. half_of_visit g.D.Disk.content g.D.Disk.image g.D.Disk.starved g.D.Disk.faults g.D.Disk.losses g.D.Disk.arms g.D.Disk.armed (counts_in g.D.Disk.faults g.D.Disk.losses g.D.Disk.arms g.D.Disk.armed (disks_in (parts_of c.args.hosts.now)) (disks_in (with_parts g.D.Disk.content g.D.Disk.image g.D.Disk.starved g.D.Disk.faults g.D.Disk.losses g.D.Disk.arms g.D.Disk.armed (parts_of c.args.hosts.now) c.visit_at.new.parts.items))) (ends_in (parts_of c.args.hosts.now)) c.args.now c.args.part.now c.in-Visit.shard c.in-Visit.visit c.in-Visit.is d.0 d.1 a b d.2)
+    (λ a b d. half_of_visit g.D.Disk.content g.D.Disk.image g.D.Disk.starved g.D.Disk.faults g.D.Disk.losses g.D.Disk.arms g.D.Disk.armed (counts_in g.D.Disk.faults g.D.Disk.losses g.D.Disk.arms g.D.Disk.armed (disks_in (parts_of c.args.hosts.now)) (disks_in (with_parts g.D.Disk.content g.D.Disk.image g.D.Disk.starved g.D.Disk.faults g.D.Disk.losses g.D.Disk.arms g.D.Disk.armed (parts_of c.args.hosts.now) c.visit_at.new.parts.items))) (ends_over (parts_of c.args.hosts.now) (with_parts g.D.Disk.content g.D.Disk.image g.D.Disk.starved g.D.Disk.faults g.D.Disk.losses g.D.Disk.arms g.D.Disk.armed (parts_of c.args.hosts.now) c.visit_at.new.parts.items)) c.args.now c.args.part.now c.in-Visit.shard c.in-Visit.visit c.in-Visit.is d.0 d.1 a b d.2)
     (part_halts g.D.Disk.content g.D.Disk.image g.D.Disk.starved g.D.Disk.faults g.D.Disk.losses g.D.Disk.arms g.D.Disk.armed (parts_of c.args.hosts.now) c.visit_at.new.parts.items c.in-Visit.shard c.args.now (λ did. (answer : VisitAnswer) × (did ≡ Visits c.in-Visit.visit answer)) (λ begun. begun ≡ BeginsVisit c.in-Visit.visit) c.in_err-answer-in-Visit.ensures.stopped c.requires.apart s k))
 
 pub returns-in_ok-answer-in-Visit-clause-there : goal.returns-in_ok-answer-in-Visit-clause-there
@@ -135,7 +135,7 @@ returns-in_err-looked-in-Look-clause-disks g c = go_on_same g.D.Disk.content g.D
 pub returns-in_ok-reply-in-Heartbeat-clause-ok : goal.returns-in_ok-reply-in-Heartbeat-clause-ok
 returns-in_ok-reply-in-Heartbeat-clause-ok g c = λ s k. leads_to g.D.Disk.content g.D.Disk.image g.D.Disk.starved g.D.Disk.faults g.D.Disk.losses g.D.Disk.arms g.D.Disk.armed
     (parts_of c.args.hosts.now) (record { parts = c.args.hosts.now.parts.items; members = c.heartbeat.new.self; foreign = c.args.hosts.now.foreign }) s _ _
-    (beat_does g.D.Disk.content g.D.Disk.image g.D.Disk.starved g.D.Disk.faults g.D.Disk.losses g.D.Disk.arms g.D.Disk.armed (counts_in g.D.Disk.faults g.D.Disk.losses g.D.Disk.arms g.D.Disk.armed (disks_in (parts_of c.args.hosts.now)) (disks_in (record { parts = c.args.hosts.now.parts.items; members = c.heartbeat.new.self; foreign = c.args.hosts.now.foreign }))) (ends_in (parts_of c.args.hosts.now)) c.args.now c.args.part.now c.in-Heartbeat.request c.in-Heartbeat.is c.in_ok-reply-in-Heartbeat.reply)
+    (beat_does g.D.Disk.content g.D.Disk.image g.D.Disk.starved g.D.Disk.faults g.D.Disk.losses g.D.Disk.arms g.D.Disk.armed (counts_in g.D.Disk.faults g.D.Disk.losses g.D.Disk.arms g.D.Disk.armed (disks_in (parts_of c.args.hosts.now)) (disks_in (record { parts = c.args.hosts.now.parts.items; members = c.heartbeat.new.self; foreign = c.args.hosts.now.foreign }))) (ends_over (parts_of c.args.hosts.now) (record { parts = c.args.hosts.now.parts.items; members = c.heartbeat.new.self; foreign = c.args.hosts.now.foreign })) c.args.now c.args.part.now c.in-Heartbeat.request c.in-Heartbeat.is c.in_ok-reply-in-Heartbeat.reply)
     (members_lead g.D.Disk.content g.D.Disk.image g.D.Disk.starved g.D.Disk.faults g.D.Disk.losses g.D.Disk.arms g.D.Disk.armed (parts_of c.args.hosts.now) c.heartbeat.new.self (Beats c.in-Heartbeat.request c.in_ok-reply-in-Heartbeat.reply) c.args.now
     (c.in_ok-reply-in-Heartbeat.ensures.told, c.in_ok-reply-in-Heartbeat.ensures.after) s k)
 

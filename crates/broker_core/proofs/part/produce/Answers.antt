@@ -7,12 +7,12 @@ use Rattle.broker_core.proofs.part.produce.Goals as goal
 pub returns-then-starved-clause-stopped : goal.returns-then-starved-clause-stopped
 returns-then-starved-clause-stopped g c = produce_halts g.D.Disk.content g.D.Disk.image g.D.Disk.starved g.D.Disk.faults g.D.Disk.losses g.D.Disk.arms g.D.Disk.armed
     c.args.part.now c.produce-added.new.self c.args.now c.args.batch.now c.produce-added.result c.produce-added.ensures.behind
-    (record { runs = c.produce-added.ensures.runs; states = c.produce-added.ensures.once.states; conf = c.produce-added.ensures.once.conf })
+    (record { runs = c.produce-added.ensures.runs; ends = c.produce-added.ensures.once.ends; states = c.produce-added.ensures.once.states; conf = c.produce-added.ensures.once.conf })
     c.produce-added.ensures.once.steps c.produce-added.ensures.once.memory
 
 pub returns-then-starved-clause-disks : goal.returns-then-starved-clause-disks
 returns-then-starved-clause-disks g c = log_goes g.D.Disk.content g.D.Disk.image g.D.Disk.starved g.D.Disk.faults g.D.Disk.losses g.D.Disk.arms g.D.Disk.armed c.args.part.now c.produce-added.new.self
-    (record { runs = c.produce-added.ensures.runs; states = c.produce-added.ensures.once.states; conf = c.produce-added.ensures.once.conf })
+    (record { runs = c.produce-added.ensures.runs; ends = c.produce-added.ensures.once.ends; states = c.produce-added.ensures.once.states; conf = c.produce-added.ensures.once.conf })
 
 pub returns-clause-ok : goal.returns-clause-ok
 returns-clause-ok g c =
@@ -20,7 +20,7 @@ returns-clause-ok g c =
     ok_weaker _ _ c.told.result
     (λ produced is s k. produce_leads g.D.Disk.content g.D.Disk.image g.D.Disk.starved g.D.Disk.faults g.D.Disk.losses g.D.Disk.arms g.D.Disk.armed
     c.args.part.now c.produce-added.new.self c.args.now c.args.batch.now c.produce-added.result produced is
-    (record { runs = c.produce-added.ensures.runs; states = c.produce-added.ensures.once.states; conf = c.produce-added.ensures.once.conf })
+    (record { runs = c.produce-added.ensures.runs; ends = c.produce-added.ensures.once.ends; states = c.produce-added.ensures.once.states; conf = c.produce-added.ensures.once.conf })
     c.produce-added.ensures.once.steps (fed_three c.starved.result _ _ _ no c.starved.ensures) s k)
     c.told.ensures.ok
 
@@ -28,10 +28,10 @@ pub returns-clause-stopped : goal.returns-clause-stopped
 returns-clause-stopped g c = on_err_weaker c.told.result
     (λ is. produce_halts g.D.Disk.content g.D.Disk.image g.D.Disk.starved g.D.Disk.faults g.D.Disk.losses g.D.Disk.arms g.D.Disk.armed
     c.args.part.now c.produce-added.new.self c.args.now c.args.batch.now c.produce-added.result c.produce-added.ensures.behind
-    (record { runs = c.produce-added.ensures.runs; states = c.produce-added.ensures.once.states; conf = c.produce-added.ensures.once.conf })
+    (record { runs = c.produce-added.ensures.runs; ends = c.produce-added.ensures.once.ends; states = c.produce-added.ensures.once.states; conf = c.produce-added.ensures.once.conf })
     c.produce-added.ensures.once.steps c.produce-added.ensures.once.memory)
     c.told.ensures.memory
 
 pub returns-clause-disks : goal.returns-clause-disks
 returns-clause-disks g c = log_goes g.D.Disk.content g.D.Disk.image g.D.Disk.starved g.D.Disk.faults g.D.Disk.losses g.D.Disk.arms g.D.Disk.armed c.args.part.now c.produce-added.new.self
-    (record { runs = c.produce-added.ensures.runs; states = c.produce-added.ensures.once.states; conf = c.produce-added.ensures.once.conf })
+    (record { runs = c.produce-added.ensures.runs; ends = c.produce-added.ensures.once.ends; states = c.produce-added.ensures.once.states; conf = c.produce-added.ensures.once.conf })

@@ -3,8 +3,8 @@ use Rattle.broker_core.specs.declared.fault.CoreOpen.TheVariants.{NoMemory}
 use Rattle.broker_core.specs.Carried.{IsPartCarried}
 use Rattle.broker_core.specs.Hosts.{PartStandsAlone}
 use Rattle.broker_core.proofs.Opening.{flip}
-use Rattle.broker_core.proofs.Reopens.{goes_same, goes_still, lost_still, part_stays_shut, restarted_part, stands_within, told_at, told_same, within_on, within_same}
-use Rattle.broker_core.proofs.Stepping.{ok_weaker}
+use Rattle.broker_core.proofs.Reopens.{goes_same, goes_still, images_behind, images_within, lost_still, part_stays_shut, restarted_part, stands_within, told_at, told_same, within_on, within_same}
+use Rattle.broker_core.proofs.Stepping.{match_err, match_weaker, ok_weaker}
 use Rattle.broker_core.proofs.part.restart_part.Goals as goal
 
 pub returns-in-Err-clause-err : goal.returns-in-Err-clause-err
@@ -93,7 +93,54 @@ returns-clause-err g c = flip (IsPartCarried g.D.Disk.content g.D.Disk.image g.D
     c.args.choice c.args.part.states.journal.idle c.into_disks-log.result.2 c.lose-3.new.disk c.into_disks-log.ensures.2 k.second.told c.in_default-lose-2.ensures.lost in
     part_stays_shut g.D.Disk.content g.D.Disk.image g.D.Disk.starved g.D.Disk.faults g.D.Disk.losses g.D.Disk.arms g.D.Disk.armed
     c.args.choice c.args.conf c.args.part s c.lose.new.disk c.lose-2.new.disk c.lose-3.new.disk on_log.0 on_first.0 on_second.0 k on_log.1 on_first.1 on_second.1
-    c.open_part.result c.open_part.ensures.images c.open_part.ensures.recovers c.open_part.ensures.sound c.open_part.ensures.no_bay
+    c.open_part.result (match_err _ _ c.open_part.result c.open_part.ensures.images) c.open_part.ensures.recovers c.open_part.ensures.sound c.open_part.ensures.no_bay
     (told_at g.D.Disk.content g.D.Disk.image g.D.Disk.starved g.D.Disk.faults g.D.Disk.losses g.D.Disk.arms g.D.Disk.armed (λ new. new.log.journal.disk) (λ d. d.0) c.lose.new.disk c.open_part.result c.open_part.ensures.log)
     (told_at g.D.Disk.content g.D.Disk.image g.D.Disk.starved g.D.Disk.faults g.D.Disk.losses g.D.Disk.arms g.D.Disk.armed (λ new. new.states.journal.live.disk) (λ d. d.1) c.lose-2.new.disk c.open_part.result c.open_part.ensures.first)
     (told_at g.D.Disk.content g.D.Disk.image g.D.Disk.starved g.D.Disk.faults g.D.Disk.losses g.D.Disk.arms g.D.Disk.armed (λ new. new.states.journal.idle) (λ d. d.2) c.lose-3.new.disk c.open_part.result c.open_part.ensures.second))
+
+pub returns-in-Err-clause-images : goal.returns-in-Err-clause-images
+returns-in-Err-clause-images g c = images_within g.D.Disk.content g.D.Disk.image g.D.Disk.starved g.D.Disk.faults g.D.Disk.losses g.D.Disk.arms g.D.Disk.armed
+    c.args.part c.lose.new.disk c.into_disks-log.result.1 c.into_disks-log.result.2
+    (within_on g.D.Disk.content g.D.Disk.image g.D.Disk.starved g.D.Disk.faults g.D.Disk.losses g.D.Disk.arms g.D.Disk.armed
+    c.args.part.log.journal.disk c.into_disks-log.result.0 c.lose.new.disk c.into_disks-log.ensures.0 c.lose.ensures.images)
+    (within_same g.D.Disk.content g.D.Disk.image g.D.Disk.starved g.D.Disk.faults g.D.Disk.losses g.D.Disk.arms g.D.Disk.armed
+    c.args.part.states.journal.live.disk c.into_disks-log.result.1 c.into_disks-log.ensures.1)
+    (within_same g.D.Disk.content g.D.Disk.image g.D.Disk.starved g.D.Disk.faults g.D.Disk.losses g.D.Disk.arms g.D.Disk.armed
+    c.args.part.states.journal.idle c.into_disks-log.result.2 c.into_disks-log.ensures.2)
+
+pub returns-in-Err-lose-clause-images : goal.returns-in-Err-lose-clause-images
+returns-in-Err-lose-clause-images g c = images_within g.D.Disk.content g.D.Disk.image g.D.Disk.starved g.D.Disk.faults g.D.Disk.losses g.D.Disk.arms g.D.Disk.armed
+    c.args.part c.lose.new.disk c.lose-2.new.disk c.into_disks-log.result.2
+    (within_on g.D.Disk.content g.D.Disk.image g.D.Disk.starved g.D.Disk.faults g.D.Disk.losses g.D.Disk.arms g.D.Disk.armed
+    c.args.part.log.journal.disk c.into_disks-log.result.0 c.lose.new.disk c.into_disks-log.ensures.0 c.lose.ensures.images)
+    (within_on g.D.Disk.content g.D.Disk.image g.D.Disk.starved g.D.Disk.faults g.D.Disk.losses g.D.Disk.arms g.D.Disk.armed
+    c.args.part.states.journal.live.disk c.into_disks-log.result.1 c.lose-2.new.disk c.into_disks-log.ensures.1 c.lose-2.ensures.images)
+    (within_same g.D.Disk.content g.D.Disk.image g.D.Disk.starved g.D.Disk.faults g.D.Disk.losses g.D.Disk.arms g.D.Disk.armed
+    c.args.part.states.journal.idle c.into_disks-log.result.2 c.into_disks-log.ensures.2)
+
+pub returns-in-Err-lose-2-clause-images : goal.returns-in-Err-lose-2-clause-images
+returns-in-Err-lose-2-clause-images g c = images_within g.D.Disk.content g.D.Disk.image g.D.Disk.starved g.D.Disk.faults g.D.Disk.losses g.D.Disk.arms g.D.Disk.armed
+    c.args.part c.lose.new.disk c.lose-2.new.disk c.lose-3.new.disk
+    (within_on g.D.Disk.content g.D.Disk.image g.D.Disk.starved g.D.Disk.faults g.D.Disk.losses g.D.Disk.arms g.D.Disk.armed
+    c.args.part.log.journal.disk c.into_disks-log.result.0 c.lose.new.disk c.into_disks-log.ensures.0 c.lose.ensures.images)
+    (within_on g.D.Disk.content g.D.Disk.image g.D.Disk.starved g.D.Disk.faults g.D.Disk.losses g.D.Disk.arms g.D.Disk.armed
+    c.args.part.states.journal.live.disk c.into_disks-log.result.1 c.lose-2.new.disk c.into_disks-log.ensures.1 c.lose-2.ensures.images)
+    (within_on g.D.Disk.content g.D.Disk.image g.D.Disk.starved g.D.Disk.faults g.D.Disk.losses g.D.Disk.arms g.D.Disk.armed
+    c.args.part.states.journal.idle c.into_disks-log.result.2 c.lose-3.new.disk c.into_disks-log.ensures.2 c.lose-3.ensures.images)
+
+pub returns-clause-images : goal.returns-clause-images
+returns-clause-images g c =
+    let on_log = (within_on g.D.Disk.content g.D.Disk.image g.D.Disk.starved g.D.Disk.faults g.D.Disk.losses g.D.Disk.arms g.D.Disk.armed
+    c.args.part.log.journal.disk c.into_disks-log.result.0 c.lose.new.disk c.into_disks-log.ensures.0 c.lose.ensures.images) in
+    let on_first = (within_on g.D.Disk.content g.D.Disk.image g.D.Disk.starved g.D.Disk.faults g.D.Disk.losses g.D.Disk.arms g.D.Disk.armed
+    c.args.part.states.journal.live.disk c.into_disks-log.result.1 c.lose-2.new.disk c.into_disks-log.ensures.1 c.lose-2.ensures.images) in
+    let on_second = (within_on g.D.Disk.content g.D.Disk.image g.D.Disk.starved g.D.Disk.faults g.D.Disk.losses g.D.Disk.arms g.D.Disk.armed
+    c.args.part.states.journal.idle c.into_disks-log.result.2 c.lose-3.new.disk c.into_disks-log.ensures.2 c.lose-3.ensures.images) in
+    match_weaker _ _ _ _ c.open_part.result
+    (λ new. images_behind g.D.Disk.content g.D.Disk.image g.D.Disk.starved g.D.Disk.faults g.D.Disk.losses g.D.Disk.arms g.D.Disk.armed
+    c.args.part c.lose.new.disk c.lose-2.new.disk c.lose-3.new.disk new.log.journal.disk new.states.journal.live.disk new.states.journal.idle
+    on_log on_first on_second)
+    (λ e. images_behind g.D.Disk.content g.D.Disk.image g.D.Disk.starved g.D.Disk.faults g.D.Disk.losses g.D.Disk.arms g.D.Disk.armed
+    c.args.part c.lose.new.disk c.lose-2.new.disk c.lose-3.new.disk e.0.0 e.0.1 e.0.2
+    on_log on_first on_second)
+    c.open_part.ensures.images

@@ -13,6 +13,7 @@ returns-in-Ok-clause-ok g c =
       new_is = refl;
       first = c.in-Ok.ensures.first;
       second = c.in-Ok.ensures.second;
+      images = c.in-Ok.ensures.images;
       reopens = c.in-Ok.ensures.ok;
     }
 
@@ -27,6 +28,7 @@ returns-in-Err-clause-stopped g c =
       new_is = refl;
       on_first = c.in-Err.ensures.first;
       on_second = c.in-Err.ensures.second;
+      images = c.in-Err.ensures.images;
       shuts = λ s k. (let v = c.in-Err.ensures.err s k in (v.0, c.told.ensures.memory v.1));
       device = λ e. c.in-Err.ensures.device (sym (c.told.ensures.reopen Device e).0);
       never = λ f e. (let r = c.told.ensures.reopen f e in (λ b. c.in-Err.ensures.no_bay (sym r.0 ∙ b), r.1));

@@ -14,6 +14,7 @@ returns-in-Ok-clause-ok g c =
       topic = refl;
       conf = refl;
       goes = record { log = c.in-Ok.ensures.log; first = c.in-Ok.ensures.first; second = c.in-Ok.ensures.second };
+      images = c.in-Ok.ensures.images;
       reopens = c.in-Ok.ensures.ok;
     }
 
@@ -32,6 +33,7 @@ returns-in-Err-clause-stopped g c =
       on_log = c.in-Err.ensures.log;
       on_first = c.in-Err.ensures.first;
       on_second = c.in-Err.ensures.second;
+      images = c.in-Err.ensures.images;
       shuts = λ s k. (let v = c.in-Err.ensures.err s k in (v.0, c.told.ensures.memory v.1));
       device = λ e. c.in-Err.ensures.device (sym (c.told.ensures.reopen Device e).0);
       never = λ f e. (let r = c.told.ensures.reopen f e in (λ b. c.in-Err.ensures.no_bay (sym r.0 ∙ b), r.1));

@@ -4,17 +4,17 @@ use Rattle.topic_conf.specs.declared.topic.Topic.{Topic}
 use Rattle.broker_model.specs.Machine.{no_members}
 use Rattle.broker_core.specs.declared.fault.CoreFault.TheVariants.{NoMemory, Reopen}
 use Rattle.broker_core.specs.declared.fault.CoreOpen.TheVariants.{Device}
-use Rattle.broker_core.specs.Hosts.{AreCarried, IsHeld, IsOpen, StandStill, disks_in, parts_of}
-use Rattle.broker_core.proofs.Leading.{go_on_same, still_all}
+use Rattle.broker_core.specs.Hosts.{AreCarried, IsHeld, IsOpen, disks_in, parts_of}
+use Rattle.broker_core.proofs.Leading.{go_on_same}
 use Rattle.broker_core.proofs.Stepping.{err_at, err_same}
-use Rattle.broker_core.proofs.Losing.{all_on, all_reopened, held_of_open, held_open_foreign, hosted_stay, hosted_stopped, opened_held, opened_open, parts_stopped, parts_stopped_on, state_rose, state_stopped, state_stopped_on, stopped_held, stopped_never, stopped_rose}
+use Rattle.broker_core.proofs.Losing.{Stopped, all_on, all_reopened, held_of_open, held_open_foreign, hosted_stay, hosted_stopped, none_stopped, opened_held, opened_open, parts_stopped, parts_stopped_on, state_rose, state_stopped, state_stopped_on, stopped_held, stopped_never, stopped_rose}
 use Rattle.broker_core.proofs.power.lose_power.Goals as goal
 
 pub returns-in_err-members-clause-stopped : goal.returns-in_err-members-clause-stopped
 returns-in_err-members-clause-stopped g c =
     let err : c.from_residual.result ≡ Err NoMemory = search rules in
-    err_at (λ e. (s : _) → AreCarried g.D.Disk.content g.D.Disk.image g.D.Disk.starved (parts_of c.args.hosts.now) s → StandStill g.D.Disk.content g.D.Disk.image s (disks_in (parts_of c.args.hosts.now)) × (e ≡ NoMemory))
-    c.from_residual.result NoMemory err (λ s k. (still_all g.D.Disk.content g.D.Disk.image g.D.Disk.starved g.D.Disk.faults g.D.Disk.losses g.D.Disk.arms g.D.Disk.armed (parts_of c.args.hosts.now) s k, refl))
+    err_at (λ e. (s : _) → AreCarried g.D.Disk.content g.D.Disk.image g.D.Disk.starved (parts_of c.args.hosts.now) s → Stopped g.D.Disk.content g.D.Disk.image g.D.Disk.starved g.D.Disk.faults g.D.Disk.losses g.D.Disk.arms g.D.Disk.armed (parts_of c.args.hosts.now) s (parts_of c.args.hosts.now) e)
+    c.from_residual.result NoMemory err (none_stopped g.D.Disk.content g.D.Disk.image g.D.Disk.starved g.D.Disk.faults g.D.Disk.losses g.D.Disk.arms g.D.Disk.armed (parts_of c.args.hosts.now))
 
 pub returns-in_err-members-clause-disks : goal.returns-in_err-members-clause-disks
 returns-in_err-members-clause-disks g c = go_on_same g.D.Disk.content g.D.Disk.image g.D.Disk.starved g.D.Disk.faults g.D.Disk.losses g.D.Disk.arms g.D.Disk.armed (disks_in (parts_of c.args.hosts.now))
@@ -28,7 +28,7 @@ returns-in_err-members-clause-held g c = record {
 pub returns-in_err-lose_parts-clause-stopped : goal.returns-in_err-lose_parts-clause-stopped
 returns-in_err-lose_parts-clause-stopped g c =
     let err : c.from_residual-in_err-lose_parts.result ≡ Err c.in_err-lose_parts.field-0.0 = search rules in
-    err_at (λ e. (s : _) → AreCarried g.D.Disk.content g.D.Disk.image g.D.Disk.starved (parts_of c.args.hosts.now) s → StandStill g.D.Disk.content g.D.Disk.image s (disks_in (record { parts = c.lose_parts.new.parts.items; members = c.args.hosts.now.members; foreign = c.args.hosts.now.foreign })) × (e ≡ NoMemory))
+    err_at (λ e. (s : _) → AreCarried g.D.Disk.content g.D.Disk.image g.D.Disk.starved (parts_of c.args.hosts.now) s → Stopped g.D.Disk.content g.D.Disk.image g.D.Disk.starved g.D.Disk.faults g.D.Disk.losses g.D.Disk.arms g.D.Disk.armed (parts_of c.args.hosts.now) s (record { parts = c.lose_parts.new.parts.items; members = c.args.hosts.now.members; foreign = c.args.hosts.now.foreign }) e)
     c.from_residual-in_err-lose_parts.result c.in_err-lose_parts.field-0.0 err (parts_stopped g.D.Disk.content g.D.Disk.image g.D.Disk.starved g.D.Disk.faults g.D.Disk.losses g.D.Disk.arms g.D.Disk.armed c.args.choice c.in_err-lose_parts.field-0.0 (parts_of c.args.hosts.now) (record { parts = c.lose_parts.new.parts.items; members = c.args.hosts.now.members; foreign = c.args.hosts.now.foreign }) c.in_err-lose_parts.ensures.stopped refl)
 
 pub returns-in_err-lose_parts-clause-device : goal.returns-in_err-lose_parts-clause-device
@@ -59,7 +59,7 @@ returns-in_err-lose_parts-clause-stays g c = record {
 pub returns-in_err-lose_foreign-clause-stopped : goal.returns-in_err-lose_foreign-clause-stopped
 returns-in_err-lose_foreign-clause-stopped g c =
     let err : c.from_residual-in_err-lose_foreign.result ≡ Err c.in_err-lose_foreign.field-0.0 = search rules in
-    err_at (λ e. (s : _) → AreCarried g.D.Disk.content g.D.Disk.image g.D.Disk.starved (parts_of c.args.hosts.now) s → StandStill g.D.Disk.content g.D.Disk.image s (disks_in (record { parts = c.lose_parts.new.parts.items; members = c.args.hosts.now.members; foreign = c.lose_foreign.new.slot })) × (e ≡ NoMemory))
+    err_at (λ e. (s : _) → AreCarried g.D.Disk.content g.D.Disk.image g.D.Disk.starved (parts_of c.args.hosts.now) s → Stopped g.D.Disk.content g.D.Disk.image g.D.Disk.starved g.D.Disk.faults g.D.Disk.losses g.D.Disk.arms g.D.Disk.armed (parts_of c.args.hosts.now) s (record { parts = c.lose_parts.new.parts.items; members = c.args.hosts.now.members; foreign = c.lose_foreign.new.slot }) e)
     c.from_residual-in_err-lose_foreign.result c.in_err-lose_foreign.field-0.0 err (state_stopped g.D.Disk.content g.D.Disk.image g.D.Disk.starved g.D.Disk.faults g.D.Disk.losses g.D.Disk.arms g.D.Disk.armed c.args.choice c.in_err-lose_foreign.field-0.0 (parts_of c.args.hosts.now) (record { parts = c.lose_parts.new.parts.items; members = c.args.hosts.now.members; foreign = c.lose_foreign.new.slot }) c.in_ok-lose_parts.ensures.ok c.in_err-lose_foreign.ensures.stopped)
 
 pub returns-in_err-lose_foreign-clause-disks : goal.returns-in_err-lose_foreign-clause-disks

@@ -1,6 +1,6 @@
 use Rattle.std.proofs.Common.{◌≡◌, ◌∙◌, ap, is_some, IsErr, rules}
-use Rattle.broker_core.proofs.Stepping.{ok_weaker}
-use Rattle.broker_core.proofs.Opening.{lost_of, loss_refused, within_still, told_on, not_lost, stays_shut, restarted, flip, told_first, told_second}
+use Rattle.broker_core.proofs.Stepping.{match_err, match_weaker, ok_weaker}
+use Rattle.broker_core.proofs.Opening.{images_behind, images_within, lost_of, loss_refused, within_still, told_on, not_lost, stays_shut, restarted, flip, told_first, told_second}
 use Rattle.broker_core.specs.declared.fault.CoreOpen.TheVariants.{NoMemory}
 use Rattle.broker_core.specs.Carried.{IsCarried}
 use Rattle.broker_core.specs.Restarts.{IsNotRestarted}
@@ -72,6 +72,35 @@ returns-clause-err g c = flip (IsCarried g.D.Disk.content g.D.Disk.image g.D.Dis
     c.in_default-power_loss.ensures.loses c.power_loss-2.ensures.told c.power_loss-2.ensures.arms c.in_default-power_loss.ensures.quiet in
     stays_shut g.D.Disk.content g.D.Disk.image g.D.Disk.starved g.D.Disk.faults g.D.Disk.losses g.D.Disk.arms g.D.Disk.armed
     c.args.choice c.args.shard s c.power_loss.new.self c.power_loss-2.new.self c.open.result k (first.0, first.1) (second.0, second.1)
-    c.open.ensures.images c.open.ensures.recovers c.open.ensures.sound c.open.ensures.no_bay
+    (match_err _ _ c.open.result c.open.ensures.images) c.open.ensures.recovers c.open.ensures.sound c.open.ensures.no_bay
     (told_first g.D.Disk.content g.D.Disk.image g.D.Disk.starved g.D.Disk.faults g.D.Disk.losses g.D.Disk.arms g.D.Disk.armed c.power_loss.new.self c.open.result c.open.ensures.first)
     (told_second g.D.Disk.content g.D.Disk.image g.D.Disk.starved g.D.Disk.faults g.D.Disk.losses g.D.Disk.arms g.D.Disk.armed c.power_loss-2.new.self c.open.result c.open.ensures.second))
+
+pub returns-in-Err-clause-images : goal.returns-in-Err-clause-images
+returns-in-Err-clause-images g c = images_within g.D.Disk.content g.D.Disk.image g.D.Disk.starved g.D.Disk.faults g.D.Disk.losses g.D.Disk.arms g.D.Disk.armed
+    c.args.shard.journal.live.disk c.args.shard.journal.idle c.power_loss.new.self c.into_disks-first.result.1
+    (within_still g.D.Disk.content g.D.Disk.image g.D.Disk.starved g.D.Disk.faults g.D.Disk.losses g.D.Disk.arms g.D.Disk.armed
+    c.args.shard.journal.live.disk c.into_disks-first.result.0 c.power_loss.new.self c.into_disks-first.ensures.0 c.power_loss.ensures.images)
+    (within_still g.D.Disk.content g.D.Disk.image g.D.Disk.starved g.D.Disk.faults g.D.Disk.losses g.D.Disk.arms g.D.Disk.armed
+    c.args.shard.journal.idle c.into_disks-first.result.1 c.into_disks-first.result.1 c.into_disks-first.ensures.1 (λ x now. now))
+
+pub returns-in-Err-power_loss-clause-images : goal.returns-in-Err-power_loss-clause-images
+returns-in-Err-power_loss-clause-images g c = images_within g.D.Disk.content g.D.Disk.image g.D.Disk.starved g.D.Disk.faults g.D.Disk.losses g.D.Disk.arms g.D.Disk.armed
+    c.args.shard.journal.live.disk c.args.shard.journal.idle c.power_loss.new.self c.power_loss-2.new.self
+    (within_still g.D.Disk.content g.D.Disk.image g.D.Disk.starved g.D.Disk.faults g.D.Disk.losses g.D.Disk.arms g.D.Disk.armed
+    c.args.shard.journal.live.disk c.into_disks-first.result.0 c.power_loss.new.self c.into_disks-first.ensures.0 c.power_loss.ensures.images)
+    (within_still g.D.Disk.content g.D.Disk.image g.D.Disk.starved g.D.Disk.faults g.D.Disk.losses g.D.Disk.arms g.D.Disk.armed
+    c.args.shard.journal.idle c.into_disks-first.result.1 c.power_loss-2.new.self c.into_disks-first.ensures.1 c.power_loss-2.ensures.images)
+
+pub returns-clause-images : goal.returns-clause-images
+returns-clause-images g c =
+    let on_first = (within_still g.D.Disk.content g.D.Disk.image g.D.Disk.starved g.D.Disk.faults g.D.Disk.losses g.D.Disk.arms g.D.Disk.armed
+    c.args.shard.journal.live.disk c.into_disks-first.result.0 c.power_loss.new.self c.into_disks-first.ensures.0 c.power_loss.ensures.images) in
+    let on_second = (within_still g.D.Disk.content g.D.Disk.image g.D.Disk.starved g.D.Disk.faults g.D.Disk.losses g.D.Disk.arms g.D.Disk.armed
+    c.args.shard.journal.idle c.into_disks-first.result.1 c.power_loss-2.new.self c.into_disks-first.ensures.1 c.power_loss-2.ensures.images) in
+    match_weaker _ _ _ _ c.open.result
+    (λ new. images_behind g.D.Disk.content g.D.Disk.image g.D.Disk.starved g.D.Disk.faults g.D.Disk.losses g.D.Disk.arms g.D.Disk.armed
+    c.args.shard.journal.live.disk c.args.shard.journal.idle c.power_loss.new.self c.power_loss-2.new.self new.journal.live.disk new.journal.idle on_first on_second)
+    (λ e. images_behind g.D.Disk.content g.D.Disk.image g.D.Disk.starved g.D.Disk.faults g.D.Disk.losses g.D.Disk.arms g.D.Disk.armed
+    c.args.shard.journal.live.disk c.args.shard.journal.idle c.power_loss.new.self c.power_loss-2.new.self e.0 e.1 on_first on_second)
+    c.open.ensures.images

@@ -3,7 +3,7 @@ use Rattle.share_model.specs.declared.visit.ExpireAnswer.{ExpireAnswer}
 use Rattle.broker_model.specs.Shards.{fault_of_expiry}
 use Rattle.broker_model.specs.Shards.PartCall.{Expires}
 use Rattle.broker_core.specs.Carried.Begun.{BeginsExpiry}
-use Rattle.broker_core.specs.Hosts.{AreOpen, GoOn, LeadsSlot, StaysHosted, counts_in, disks_in, ends_in, parts_of}
+use Rattle.broker_core.specs.Hosts.{AreOpen, GoOn, LeadsSlot, StaysHosted, counts_in, disks_in, ends_over, parts_of}
 use Rattle.broker_core.proofs.Calling.{expiry_halts, half_of_expiry, led_turned, may_on, part_halts, part_leads, turned_hosted, turned_on, turned_open, with_parts}
 use Rattle.broker_core.proofs.Leading.{go_on_same, halts_so, leads_halts, leads_to}
 use Rattle.broker_core.proofs.Places.{changes_within}
@@ -34,7 +34,7 @@ returns-in_err-answer-clause-stopped g c = on_err c.from_residual.result
     (λ s k. halts_so g.D.Disk.content g.D.Disk.image g.D.Disk.starved g.D.Disk.faults g.D.Disk.losses g.D.Disk.arms g.D.Disk.armed
     (with_parts g.D.Disk.content g.D.Disk.image g.D.Disk.starved g.D.Disk.faults g.D.Disk.losses g.D.Disk.arms g.D.Disk.armed (parts_of c.args.hosts.now) c.expire_at.new.parts.items) s _ _ _ _
     (λ a call b d. (fault_of_expiry c.args.shard d.1.0, expiry_halts g.D.Disk.content g.D.Disk.image g.D.Disk.starved g.D.Disk.faults g.D.Disk.losses g.D.Disk.arms g.D.Disk.armed _ _ c.args.now c.args.shard d.0 d.1.0 d.1.1 a call b d.2))
-    (λ a b d. half_of_expiry g.D.Disk.content g.D.Disk.image g.D.Disk.starved g.D.Disk.faults g.D.Disk.losses g.D.Disk.arms g.D.Disk.armed (counts_in g.D.Disk.faults g.D.Disk.losses g.D.Disk.arms g.D.Disk.armed (disks_in (parts_of c.args.hosts.now)) (disks_in (with_parts g.D.Disk.content g.D.Disk.image g.D.Disk.starved g.D.Disk.faults g.D.Disk.losses g.D.Disk.arms g.D.Disk.armed (parts_of c.args.hosts.now) c.expire_at.new.parts.items))) (ends_in (parts_of c.args.hosts.now)) c.args.now c.args.shard d.0 d.1 a b d.2)
+    (λ a b d. half_of_expiry g.D.Disk.content g.D.Disk.image g.D.Disk.starved g.D.Disk.faults g.D.Disk.losses g.D.Disk.arms g.D.Disk.armed (counts_in g.D.Disk.faults g.D.Disk.losses g.D.Disk.arms g.D.Disk.armed (disks_in (parts_of c.args.hosts.now)) (disks_in (with_parts g.D.Disk.content g.D.Disk.image g.D.Disk.starved g.D.Disk.faults g.D.Disk.losses g.D.Disk.arms g.D.Disk.armed (parts_of c.args.hosts.now) c.expire_at.new.parts.items))) (ends_over (parts_of c.args.hosts.now) (with_parts g.D.Disk.content g.D.Disk.image g.D.Disk.starved g.D.Disk.faults g.D.Disk.losses g.D.Disk.arms g.D.Disk.armed (parts_of c.args.hosts.now) c.expire_at.new.parts.items)) c.args.now c.args.shard d.0 d.1 a b d.2)
     (part_halts g.D.Disk.content g.D.Disk.image g.D.Disk.starved g.D.Disk.faults g.D.Disk.losses g.D.Disk.arms g.D.Disk.armed (parts_of c.args.hosts.now) c.expire_at.new.parts.items c.args.shard c.args.now (λ did. (answer : ExpireAnswer) × (did ≡ Expires answer)) (λ begun. begun ≡ BeginsExpiry) c.in_err-answer.ensures.stopped c.requires.apart s k))
 
 pub returns-clause-ok : goal.returns-clause-ok

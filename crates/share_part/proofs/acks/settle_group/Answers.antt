@@ -6,7 +6,7 @@ use Rattle.share_model.specs.declared.ack.AckBatch.{AckBatch}
 use Rattle.share_part.specs.Hosting.{key_of, states_of}
 use Rattle.share_part.specs.Settling.{held_after}
 use Rattle.share_part.specs.Shards.{held_in, with_held}
-use Rattle.share_part.proofs.Settlement.{all_stored, change_there, few_there, granted_there, none_stored, start_within, theirs_there}
+use Rattle.share_part.proofs.Settlement.{all_stored, change_there, few_there, granted_there, none_stored, start_within, theirs_there, unsettled, unstored}
 use Rattle.share_part.proofs.acks.settle_group.Goals as goal
 
 pub store_change-requires-clause-start : goal.store_change-requires-clause-start
@@ -26,6 +26,18 @@ store_change-requires-clause-few g c = few_there c.args.conf.now c.args.log.now.
     c.requires.sound c.requires.limit.few c.requires.hosted c.requires.well c.in-Changes.change
     (change_there c.args.conf.now.limit c.args.visit.now.member (kind_at c.args.visit.now.acks) c.args.log.now.batches (held_in g.W.Window.held c.args.windows.now.entries c.args.visit.now.group)
     (share_state_at (states_of c.args.states.now.entries) (key_of c.args.conf.now c.args.visit.now.group)) c.in_ok-judged.judged c.in-Changes.change c.in-Changes.is c.in_ok-judged.ensures) c.key-key.result c.deref.result.now c.key-key.ensures c.deref.ensures.value
+
+pub returns-in_err-fault-clause-settles : goal.returns-in_err-fault-clause-settles
+returns-in_err-fault-clause-settles g c =
+    let held = held_in g.W.Window.held c.args.windows.now.entries in
+    let acts = kind_at c.args.visit.now.acks in
+    unsettled g.D.Disk.image g.D.Disk.moment g.D.Disk.since (HasFailed g.D.Disk.content g.D.Disk.armed g.D.Disk.starved g.D.Disk.faults)
+    c.args.states.now c.store_change.new.states c.args.conf.now c.args.log.now.batches c.args.visit.now.group acts (held c.args.visit.now.group)
+    ((other : List ℕ) → held other ≡ held other)
+    ((other : List ℕ) → held other ≡ with_held held c.args.visit.now.group (held_after acts (held c.args.visit.now.group)) other)
+    (unstored g.D.Disk.image g.D.Disk.moment g.D.Disk.since (HasFailed g.D.Disk.content g.D.Disk.armed g.D.Disk.starved g.D.Disk.faults)
+    c.args.states.now c.store_change.new.states _ c.store_change.result _ c.in_err-fault.was c.store_change.ensures.once) (λ other. refl)
+    c.args.visit.now.member c.from_residual-in_err-fault.result c.from_residual-in_err-fault.ensures.0
 
 pub returns-in-Some-clause-settles : goal.returns-in-Some-clause-settles
 returns-in-Some-clause-settles g c = (

@@ -1,7 +1,6 @@
-use Rattle.std.proofs.Common.{ℕ, ◌<◌, ◌≤◌, length}
-use Rattle.share_part.specs.Hosting.{IsHosted}
-use Rattle.share_part.proofs.Standing.{IsAtPlace}
+use Rattle.share_part.specs.Hosting.{IsHosted, states_of}
+use Rattle.share_part.proofs.Ordered.{Walks}
 use Rattle.share_part.proofs.judge.are_hosted.Given as goal
 
-abbrev pub invariant-loop-place : goal.invariant-loop-place
-invariant-loop-place g l = (l.place ≤ length l.states.entries) × ((k : ℕ) → k < l.place → IsAtPlace (IsHosted l.conf l.log.batches) l.states.entries k)
+abbrev pub invariant-loop-key : goal.invariant-loop-key
+invariant-loop-key g l = Walks (IsHosted l.conf l.log.batches) (states_of l.states.entries) l.key-iterator

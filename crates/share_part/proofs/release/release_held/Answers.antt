@@ -1,13 +1,25 @@
-use Rattle.std.proofs.Common.{inr, refl, sym}
+use Rattle.std.proofs.Common.{◌≡◌, inr, refl, sym, ℕ, List}
 use Rattle.coord_checkpoint.specs.Disks.{HasFailed}
 use Rattle.share_model.specs.ForeignRules.{share_state_at}
 use Rattle.share_part.specs.Hosting.{key_of, states_of}
-use Rattle.share_part.specs.Settling.{is_chosen, releasing}
-use Rattle.share_part.specs.Shards.{held_in}
+use Rattle.share_part.specs.Settling.{held_after, is_chosen, releasing}
+use Rattle.share_part.specs.Shards.{held_in, with_held}
 use Rattle.share_part.proofs.Letting.{none_counted}
 use Rattle.share_part.proofs.Releases.{change_of_group, none_of_group, one_of_group}
-use Rattle.share_part.proofs.Settlement.{all_stored, few_there, granted_there, none_stored, start_within}
+use Rattle.share_part.proofs.Settlement.{all_stored, few_there, granted_there, none_stored, start_within, unreleased, unstored}
 use Rattle.share_part.proofs.release.release_held.Goals as goal
+
+pub returns-in_err-fault-clause-once : goal.returns-in_err-fault-clause-once
+returns-in_err-fault-clause-once g c =
+    let held = held_in g.W.Window.held c.args.windows.now.entries in
+    let acts = releasing (is_chosen c.args.whose.now) (held c.args.group.now) in
+    unreleased g.D.Disk.image g.D.Disk.moment g.D.Disk.since (HasFailed g.D.Disk.content g.D.Disk.armed g.D.Disk.starved g.D.Disk.faults)
+    c.args.states.now c.store_change.new.states c.args.conf.now c.args.log.now.batches c.args.group.now acts (held c.args.group.now)
+    ((other : List ℕ) → held other ≡ held other)
+    ((other : List ℕ) → held other ≡ with_held held c.args.group.now (held_after acts (held c.args.group.now)) other)
+    (unstored g.D.Disk.image g.D.Disk.moment g.D.Disk.since (HasFailed g.D.Disk.content g.D.Disk.armed g.D.Disk.starved g.D.Disk.faults)
+    c.args.states.now c.store_change.new.states _ c.store_change.result _ c.in_err-fault.was c.store_change.ensures.once) (λ other. refl)
+    c.from_residual-in_err-fault.result c.from_residual-in_err-fault.ensures.0
 
 pub returns-in_default-clause-count : goal.returns-in_default-clause-count
 returns-in_default-clause-count g c = sym (none_counted (is_chosen c.args.whose.now) (held_in g.W.Window.held c.args.windows.now.entries c.args.group.now) c.in_ok-judged.ensures.rising

@@ -7,13 +7,23 @@ use Rattle.broker_core.specs.Bays.{IsFirst}
 use Rattle.broker_core.specs.Cores.{IsCore, core_of, state_of}
 use Rattle.broker_core.specs.Hosts.{parts_of}
 use Rattle.broker_core.proofs.Stepping.{err_same, on_err}
-use Rattle.broker_core.proofs.Starting.{all_counted, all_moves, all_out, hosts_apart, hosts_are, hosts_held, hosts_named, hosts_open, refused, started}
+use Rattle.broker_core.proofs.Starting.{all_counted, all_moves, all_others, all_out, hosts_apart, hosts_are, hosts_held, hosts_named, hosts_open, refused, started}
 use Rattle.broker_core.proofs.broker.Core.start.Goals as goal
 
 pub returns-in_err-hosts-clause-back : goal.returns-in_err-hosts-clause-back
 returns-in_err-hosts-clause-back g c = on_err c.from_residual.result
     ((refused g.B.Bay.disk g.B.Bay.out g.B.Bay.taken g.B.Bay.steady g.B.Bay.faults g.D.Disk.content g.D.Disk.image g.D.Disk.starved g.D.Disk.faults g.D.Disk.losses g.D.Disk.arms g.D.Disk.armed
     c.args.conf c.in_err-hosts.ensures.list c.in_err-hosts.field-0.0 c.args.bay.now c.take_hosts.new.bay c.in_err-hosts.ensures.err).back c.requires)
+
+pub returns-in_err-hosts-clause-others : goal.returns-in_err-hosts-clause-others
+returns-in_err-hosts-clause-others g c =
+    (refused g.B.Bay.disk g.B.Bay.out g.B.Bay.taken g.B.Bay.steady g.B.Bay.faults g.D.Disk.content g.D.Disk.image g.D.Disk.starved g.D.Disk.faults g.D.Disk.losses g.D.Disk.arms g.D.Disk.armed
+    c.args.conf c.in_err-hosts.ensures.list c.in_err-hosts.field-0.0 c.args.bay.now c.take_hosts.new.bay c.in_err-hosts.ensures.err).others
+
+pub returns-in_err-hosts-clause-stays : goal.returns-in_err-hosts-clause-stays
+returns-in_err-hosts-clause-stays g c = on_err c.from_residual.result
+    (refused g.B.Bay.disk g.B.Bay.out g.B.Bay.taken g.B.Bay.steady g.B.Bay.faults g.D.Disk.content g.D.Disk.image g.D.Disk.starved g.D.Disk.faults g.D.Disk.losses g.D.Disk.arms g.D.Disk.armed
+    c.args.conf c.in_err-hosts.ensures.list c.in_err-hosts.field-0.0 c.args.bay.now c.take_hosts.new.bay c.in_err-hosts.ensures.err).stays
 
 pub returns-in_err-hosts-clause-damaged : goal.returns-in_err-hosts-clause-damaged
 returns-in_err-hosts-clause-damaged g c = λ disk place e contents was tells.
@@ -91,6 +101,10 @@ returns-clause-open g c = (
 pub returns-clause-taken : goal.returns-clause-taken
 returns-clause-taken g c = all_out g.B.Bay.disk g.B.Bay.out g.B.Bay.taken g.B.Bay.steady g.B.Bay.faults g.D.Disk.content g.D.Disk.image g.D.Disk.starved g.D.Disk.faults g.D.Disk.losses g.D.Disk.arms g.D.Disk.armed
     c.args.conf c.in_ok-hosts.ensures.list c.args.bay.now (parts_of c.in_ok-hosts.hosts) c.take_hosts.new.bay c.in_ok-hosts.ensures.ok c.requires
+
+pub returns-clause-others : goal.returns-clause-others
+returns-clause-others g c = all_others g.B.Bay.disk g.B.Bay.out g.B.Bay.taken g.B.Bay.steady g.B.Bay.faults g.D.Disk.content g.D.Disk.image g.D.Disk.starved g.D.Disk.faults g.D.Disk.losses g.D.Disk.arms g.D.Disk.armed
+    c.args.conf c.in_ok-hosts.ensures.list c.args.bay.now (parts_of c.in_ok-hosts.hosts) c.take_hosts.new.bay c.in_ok-hosts.ensures.ok
 
 pub returns-clause-counts : goal.returns-clause-counts
 returns-clause-counts g c = all_counted g.B.Bay.disk g.B.Bay.out g.B.Bay.taken g.B.Bay.steady g.B.Bay.faults g.D.Disk.content g.D.Disk.image g.D.Disk.starved g.D.Disk.faults g.D.Disk.losses g.D.Disk.arms g.D.Disk.armed

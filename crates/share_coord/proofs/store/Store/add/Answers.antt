@@ -11,7 +11,7 @@ returns-in-Err-put_record-clause-once g c =
     (c.remove.ensures.entries ∙ (ap (λ (es : Entries). without_key es c.args.key.now) c.in_default.ensures.entries
     ∙ removed_again c.args.key.now c.args.change.kept c.args.self.now.map.entries c.requires.absent))
     (refused g.D.Disk.image g.D.Disk.moment g.D.Disk.since _ _ _ _ _ _ _ c.requires.follows refl
-    c.put_record.ensures.any_moment c.put_record.result _ c.in-Err-put_record.is c.in-Err-put_record.ensures.causes c.in-Err-put_record.ensures.failed
+    c.put_record.ensures.any_moment c.put_record.result _ c.in-Err-put_record.is c.requires.frame c.in-Err-put_record.ensures.causes c.in-Err-put_record.ensures.failed
     c.put_record.ensures.device c.put_record.ensures.full c.put_record.ensures.memory)
 
 pub returns-clause-once : goal.returns-clause-once

@@ -14,7 +14,7 @@ returns-in-Err-clause-once g c = λ there.
     let es = c.args.self.now.map.entries in
     let key = c.args.key.now in
     refused g.D.Disk.image g.D.Disk.moment g.D.Disk.since _ _ (Removal key) _ _ es (without_key es key) (removes es key there) (forgets es key there)
-    c.put_record.ensures.any_moment c.put_record.result _ c.in-Err.is c.in-Err.ensures.causes c.in-Err.ensures.failed
+    c.put_record.ensures.any_moment c.put_record.result _ c.in-Err.is (removal_fits _ _ refl c.key_fits.ensures) c.in-Err.ensures.causes c.in-Err.ensures.failed
     c.put_record.ensures.device c.put_record.ensures.full c.put_record.ensures.memory
 
 pub returns-clause-once : goal.returns-clause-once

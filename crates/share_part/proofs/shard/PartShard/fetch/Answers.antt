@@ -15,20 +15,20 @@ use Rattle.share_part.proofs.shard.PartShard.fetch.Goals as goal
 
 pub returns-in_err-add_window-clause-once : goal.returns-in_err-add_window-clause-once
 returns-in_err-add_window-clause-once g c = rw (← c.self.view_is) (starved_so g.D.Disk.content g.D.Disk.image g.D.Disk.moment g.D.Disk.since g.D.Disk.armed g.D.Disk.starved g.D.Disk.faults g.W.Window.held c.args.now c.args.visit.now _ _ refl refl refl
-    c.from_residual.result c.from_residual.ensures.0 refl (λ pending h. h) c.in_err-add_window.ensures.held refl)
+    c.from_residual.result c.from_residual.ensures.0 refl c.in_err-add_window.ensures.held refl)
 
 pub returns-in_err-plan-clause-once : goal.returns-in_err-plan-clause-once
 returns-in_err-plan-clause-once g c = rw (← c.self.view_is) (starved_so g.D.Disk.content g.D.Disk.image g.D.Disk.moment g.D.Disk.since g.D.Disk.armed g.D.Disk.starved g.D.Disk.faults g.W.Window.held c.args.now c.args.visit.now _ _ refl refl refl
-    c.from_residual-in_err-plan.result c.from_residual-in_err-plan.ensures.0 refl (λ pending h. h) c.in_ok-add_window.ensures.held refl)
+    c.from_residual-in_err-plan.result c.from_residual-in_err-plan.ensures.0 refl c.in_ok-add_window.ensures.held refl)
 
 pub returns-in_err-set_aside-clause-once : goal.returns-in_err-set_aside-clause-once
 returns-in_err-set_aside-clause-once g c = rw (← c.self.view_is) (starved_so g.D.Disk.content g.D.Disk.image g.D.Disk.moment g.D.Disk.since g.D.Disk.armed g.D.Disk.starved g.D.Disk.faults g.W.Window.held c.args.now c.args.visit.now _ _ refl refl refl
-    c.from_residual-in_err-set_aside.result c.from_residual-in_err-set_aside.ensures.0 refl (λ pending h. h)
+    c.from_residual-in_err-set_aside.result c.from_residual-in_err-set_aside.ensures.0 refl
     (λ group. c.in_err-set_aside.ensures.held group ∙ c.in_ok-add_window.ensures.held group) refl)
 
 pub returns-in_err-reserve-clause-once : goal.returns-in_err-reserve-clause-once
 returns-in_err-reserve-clause-once g c = rw (← c.self.view_is) (starved_so g.D.Disk.content g.D.Disk.image g.D.Disk.moment g.D.Disk.since g.D.Disk.armed g.D.Disk.starved g.D.Disk.faults g.W.Window.held c.args.now c.args.visit.now _ _ refl refl refl
-    c.from_residual-in_err-reserve.result c.from_residual-in_err-reserve.ensures.0 refl (λ pending h. h) (λ group. c.in_ok-set_aside.ensures.held group ∙ c.in_ok-add_window.ensures.held group) refl)
+    c.from_residual-in_err-reserve.result c.from_residual-in_err-reserve.ensures.0 refl (λ group. c.in_ok-set_aside.ensures.held group ∙ c.in_ok-add_window.ensures.held group) refl)
 
 pub invariant_of-self-in_err-outcome : goal.invariant_of-self-in_err-outcome
 invariant_of-self-in_err-outcome g c = record {

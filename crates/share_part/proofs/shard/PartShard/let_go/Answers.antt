@@ -1,7 +1,12 @@
 use Rattle.std.proofs.Common.{◌∙◌, ap, max}
 use Rattle.share_part.specs.Shards.{PartParts}
-use Rattle.share_part.proofs.Freeing.{let_go}
+use Rattle.share_part.proofs.Freeing.{kept_back, let_go}
 use Rattle.share_part.proofs.shard.PartShard.let_go.Goals as goal
+
+pub returns-in_err-released-clause-once : goal.returns-in_err-released-clause-once
+returns-in_err-released-clause-once g c = kept_back g.D.Disk.content g.D.Disk.image g.D.Disk.armed g.D.Disk.starved g.D.Disk.faults g.W.Window.held
+    c.args.now c.max-clock.result c.args.visit.now c.args.self.now c.release.new.self c.requires.release c.release.result _ c.in_err-released.was
+    c.release.ensures.once c.from_residual.result c.from_residual.ensures.0
 
 pub returns-clause-once : goal.returns-clause-once
 returns-clause-once g c = let_go g.D.Disk.content g.D.Disk.image g.D.Disk.armed g.D.Disk.starved g.D.Disk.faults g.W.Window.held c.args.now c.max-clock.result c.args.visit.now c.args.self.now c.release.new.self c.requires.release

@@ -16,7 +16,8 @@ pub returns-in-Err-open-clause-refused : goal.returns-in-Err-open-clause-refused
 returns-in-Err-open-clause-refused g c =
     subst (λ (f : PartFault). IsNotOpened g.D.Disk.content g.D.Disk.armed g.D.Disk.starved g.D.Disk.faults c.args.conf c.args.disks.0 c.args.disks.1 c.args.disks.2
     c.into_disk.result c.in-Err-open.a c.in-Err-open.b f) (sym c.fault_of_states.ensures)
-    (by_states g.D.Disk.content g.D.Disk.image g.W.Window.held g.D.Disk.armed g.D.Disk.starved g.D.Disk.faults c.args.conf c.args.disks.0 c.args.disks.1 c.args.disks.2 c.into_disk.result c.in-Err-open.a c.in-Err-open.b c.in-Err-open.fault c.in-Err-open.ensures.refused)
+    (by_states g.D.Disk.content g.D.Disk.image g.W.Window.held g.D.Disk.armed g.D.Disk.starved g.D.Disk.faults c.args.conf c.args.disks.0 c.args.disks.1 c.args.disks.2 c.into_disk.result c.in-Err-open.a c.in-Err-open.b c.in-Err-open.fault
+    c.in-Ok.log.batches c.in-Ok.ensures.opens c.in-Err-open.ensures.refused)
 
 pub returns-then-not-are_hosted-clause-refused : goal.returns-then-not-are_hosted-clause-refused
 returns-then-not-are_hosted-clause-refused g c = misplaced g.D.Disk.content g.D.Disk.image g.W.Window.held g.D.Disk.armed g.D.Disk.starved g.D.Disk.faults c.args.conf c.args.disks.0 c.args.disks.1 c.args.disks.2 _ _ _ c.in-Ok.log c.in-Ok-open.states
