@@ -14,6 +14,8 @@ mod reply;
 mod shard;
 mod subscription;
 
-pub use law::{memberships_stay_whole, partitions_are_shared_evenly};
+pub use law::{
+    behind_the_greatest_epoch_comes_1, memberships_stay_whole, partitions_are_shared_evenly,
+};
 pub use member::Member;
 pub use shard::GroupShard;
