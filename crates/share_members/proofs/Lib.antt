@@ -1,4 +1,5 @@
 pub mod Maps
+pub mod Searched
 pub mod Shared
 pub mod Numbered
 pub mod Evenly

@@ -1,5 +1,5 @@
 ghost use Rattle.std.specs.Prelude.{◌≡◌, ◌≤◌, ◌+◌, ◌<◌, ◌^◌, ◌++◌, ◌&&◌, ℕ, pos, true, not, map, IfOk, length, count_by};
-ghost use Rattle.std.specs.Ordering.{is_lt, is_gt};
+ghost use Rattle.std.specs.Ordering.{is_lt, is_gt, nat_cmp};
 ghost use Rattle.std.specs.List.Sorted.{IsStrictlySortedBy};
 ghost use Rattle.std.specs.Map.{keys_of};
 ghost use Rattle.share_members.specs.Topics.{AreHosted};
@@ -7,7 +7,8 @@ ghost use Rattle.share_members.specs.declared.member.Member.{Member as Kept};
 ghost use Rattle.share_members.specs.Groups.{id_cmp, with_member};
 ghost use Rattle.share_members.specs.Assignments.{owns, share, has_place, subscribes, assigned_topic, assignment};
 
-use crate::member::{Member, has_place};
+use crate::member::Member;
+use crate::places::has_place;
 use flex_fields::{Items, NoMemory};
 use msgs_group::{AssignedTopic, Assignment};
 use share_model::Name;
@@ -57,7 +58,7 @@ fn before(members: &BTreeMap<Name, Member>, id: &Name, place: u32) -> usize
 {
     members
         .iter()
-        .filter(|(other, member)| *other < id && has_place(place, member.topics.as_slice()))
+        .filter(|(other, member)| *other < id && member.topics.contains(place))
         .count()
 }
 
@@ -69,7 +70,7 @@ fn behind(members: &BTreeMap<Name, Member>, id: &Name, place: u32) -> usize
 {
     members
         .iter()
-        .filter(|(other, member)| *other > id && has_place(place, member.topics.as_slice()))
+        .filter(|(other, member)| *other > id && member.topics.contains(place))
         .count()
 }
 
@@ -104,7 +105,8 @@ pub fn assignment(
     id: &Name,
     subscription: &[u32],
 ) -> Result<Assignment, NoMemory>
-    requires { AreHosted topics.now }
+    requires topics { AreHosted topics.now }
+    requires rising { IsStrictlySortedBy nat_cmp subscription.now }
     ensures { (member : Kept) → member.topics ≡ subscription.now →
         IfOk result (λ assigned.
         assigned ≡ assignment topics.now (with_member id.now member members.now.entries) id.now subscription.now) }
