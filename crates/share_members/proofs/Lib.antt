@@ -7,3 +7,4 @@ pub mod Entries
 pub mod Whole
 pub mod Lists
 pub mod Putting
+pub mod Unexpired
