@@ -75,7 +75,8 @@ impl GroupShard {
     }
 
     /// Does a ShareGroupHeartbeat at this moment, in milliseconds: a member joins, starts again, stays or leaves, or the request
-    /// is refused with code 42, 25, 81 or 110, the first of these that applies. A refused one raises the clock alone.
+    /// is refused with code 42, 25, 81 or 110, the first of these that applies. A refused one raises the clock alone. A moment before
+    /// the greatest so far counts as that one.
     ///
     /// Where memory runs out nothing has changed, not even the clock.
     pub fn heartbeat(
@@ -99,9 +100,11 @@ impl GroupShard {
         Ok(reply)
     }
 
-    /// Removes the members whose last accepted heartbeat was 45000 ms ago or longer, and forgets the groups that have none then.
-    /// Each removal is a change of its group. It answers how many were removed, 2^64 - 1 where there were more. It takes no
-    /// memory, and goes over the members once where nobody is removed, else twice.
+    /// Removes the members whose last accepted heartbeat was 45000 ms ago or longer at this moment, in milliseconds, and forgets the
+    /// groups that have none then. Each removal is a change of its group. It answers how many were removed, 2^64 - 1 where there were
+    /// more. A moment before the greatest so far counts as that one, and a later one raises the clock.
+    ///
+    /// It takes no memory, and goes over the members once where nobody is removed, else twice.
     pub fn expire(&mut self, now: u64) -> u64
         ensures after { self.new ≡ expire_step now self.old }
         ensures removed { result ≡ min (removed self.new.clock self.old.groups) u64.MAX }
