@@ -1,4 +1,5 @@
 pub mod Maps
+pub mod Searched
 pub mod Shared
 pub mod Numbered
 pub mod Evenly
@@ -6,3 +7,4 @@ pub mod Entries
 pub mod Whole
 pub mod Lists
 pub mod Putting
+pub mod Unexpired

@@ -37,7 +37,7 @@ module _ (names : List (List ℕ)) where
     by true rest = (less low place lt, rest)
     by false rest = rest
 
-  rising_named : (place : ℕ) (topics : List Topic) → IsStrictlySortedBy nat_cmp (places_named names place topics)
+  pub rising_named : (place : ℕ) (topics : List Topic) → IsStrictlySortedBy nat_cmp (places_named names place topics)
   unfolding IsStrictlySortedBy
   rising_named place [] = tt
   rising_named place (topic ∷ topics) = by (list_any (λ name. bytes_eq name topic.name) names) (rising_named (place + 1) topics) where

@@ -1,5 +1,5 @@
 ghost use Rattle.std.specs.Prelude.{◌≡◌, ◌≤◌, ◌+◌, ◌<◌, ◌^◌, ◌++◌, ◌&&◌, ℕ, pos, true, not, map, IfOk, length, count_by};
-ghost use Rattle.std.specs.Ordering.{is_lt, is_gt};
+ghost use Rattle.std.specs.Ordering.{is_lt, is_gt, nat_cmp};
 ghost use Rattle.std.specs.List.Sorted.{IsStrictlySortedBy};
 ghost use Rattle.std.specs.Map.{keys_of};
 ghost use Rattle.share_members.specs.Topics.{AreHosted};
@@ -7,11 +7,13 @@ ghost use Rattle.share_members.specs.declared.member.Member.{Member as Kept};
 ghost use Rattle.share_members.specs.Groups.{id_cmp, with_member};
 ghost use Rattle.share_members.specs.Assignments.{owns, share, has_place, subscribes, assigned_topic, assignment};
 
-use crate::member::{Member, has_place};
+use crate::member::Member;
+use crate::places::has_place;
 use flex_fields::{Items, NoMemory};
 use msgs_group::{AssignedTopic, Assignment};
 use share_model::Name;
 use std::alloc::Global;
+use std::cmp::Ordering;
 use std::collections::BTreeMap;
 use topic_conf::Topic;
 
@@ -50,27 +52,31 @@ fn share(
     Ok(Items::new(list))
 }
 
-// How many subscribers of a topic come before an id.
-fn before(members: &BTreeMap<Name, Member>, id: &Name, place: u32) -> usize
-    ensures count { result ≡ count_by (λ member. is_lt (id_cmp member.0 id.now) && subscribes place member) members.now.entries }
-    ensures few { result < 2 ^ 63 }
-{
-    members
-        .iter()
-        .filter(|(other, member)| *other < id && has_place(place, member.topics.as_slice()))
-        .count()
+// How many other subscribers of a topic come before an id, and how many behind it.
+#[derive(Clone, Copy)]
+struct Others {
+    before: usize,
+    behind: usize,
 }
 
-// How many come behind it.
-fn behind(members: &BTreeMap<Name, Member>, id: &Name, place: u32) -> usize
-    ensures count { result ≡ count_by (λ member. is_gt (id_cmp member.0 id.now) && subscribes place member) members.now.entries }
-    ensures few { result < 2 ^ 63 }
+// Counts the subscribers of a topic on both sides of an id, in one pass.
+fn count_others(members: &BTreeMap<Name, Member>, id: &Name, place: u32) -> Others
+    ensures before { result.before ≡ count_by (λ member. is_lt (id_cmp member.0 id.now) && subscribes place member) members.now.entries }
+    ensures behind { result.behind ≡ count_by (λ member. is_gt (id_cmp member.0 id.now) && subscribes place member) members.now.entries }
+    ensures few { result.before + result.behind < 2 ^ 63 }
     ensures ordered { IsStrictlySortedBy id_cmp (keys_of members.now.entries) }
 {
-    members
-        .iter()
-        .filter(|(other, member)| *other > id && has_place(place, member.topics.as_slice()))
-        .count()
+    let (mut before, mut behind) = (0, 0);
+    for (other, member) in members.iter() {
+        if member.topics.contains(place) {
+            match other.cmp(id) {
+                Ordering::Less => before += 1,
+                Ordering::Equal => {}
+                Ordering::Greater => behind += 1,
+            }
+        }
+    }
+    Others { before, behind }
 }
 
 // A topic with the partitions of the member of this id, which subscribes to it.
@@ -86,9 +92,9 @@ fn assigned_topic(
     ensures { (member : Kept) → subscribes place (id.now, member) ≡ true →
         IfOk result (λ assigned. assigned ≡ assigned_topic (with_member id.now member members.now.entries) id.now place topic.now) }
 {
-    let number = before(members, id, place);
-    let others = number + behind(members, id, place);
-    let partitions = share(alloc, topic.parts, others + 1, number)?;
+    let others = count_others(members, id, place);
+    let subscribers = others.before + others.behind + 1;
+    let partitions = share(alloc, topic.parts, subscribers, others.before)?;
     Ok(AssignedTopic {
         topic_id: topic.id,
         partitions,
@@ -96,7 +102,7 @@ fn assigned_topic(
 }
 
 /// What the member of this id and with this subscription is to read, beside the other members. What `members` has of it itself
-/// isn't looked at.
+/// isn't looked at. It costs the partitions, and for each topic of the subscription a search in that of each member.
 pub fn assignment(
     alloc: Global,
     topics: &[Topic],
@@ -104,7 +110,8 @@ pub fn assignment(
     id: &Name,
     subscription: &[u32],
 ) -> Result<Assignment, NoMemory>
-    requires { AreHosted topics.now }
+    requires topics { AreHosted topics.now }
+    requires rising { IsStrictlySortedBy nat_cmp subscription.now }
     ensures { (member : Kept) → member.topics ≡ subscription.now →
         IfOk result (λ assigned.
         assigned ≡ assignment topics.now (with_member id.now member members.now.entries) id.now subscription.now) }

@@ -6,9 +6,10 @@ ghost use Rattle.share_members.specs.Heartbeats.{no_member, member_refusal, left
 ghost use Rattle.share_members.specs.Expiry.{later_epoch, due, group_expired};
 
 use crate::member::Member;
+use crate::places::Places;
 use crate::plan::{next_epoch, planned};
 use crate::refusal::member_refusal;
-use flex_fields::{Items, NoMemory};
+use flex_fields::NoMemory;
 use msgs_group::{HeartbeatReply, HeartbeatRequest};
 use share_model::{Code, Name};
 use std::alloc::Global;
@@ -49,7 +50,7 @@ fn renew(
     members: &mut BTreeMap<Name, Member>,
     id: &Name,
     epoch: i32,
-    change: Option<Items<u32>>,
+    change: Option<Places>,
     moment: u64,
 ) -> Result<(), NoMemory>
     ensures ok { OnOk result (members.new.entries ≡

@@ -106,7 +106,7 @@ fn stay(
     }
 }
 
-/// Does a heartbeat at this moment. Where memory runs out nothing has changed.
+/// Does a heartbeat at this moment, in milliseconds. Where memory runs out nothing has changed.
 pub fn heartbeat(
     alloc: Global,
     topics: &[Topic],

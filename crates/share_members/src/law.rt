@@ -1,9 +1,10 @@
-// What assignments promise, and what holds of all memberships, by their definitions alone.
-ghost use Rattle.std.specs.Prelude.{◌≤◌, ℕ, List, []};
+// What assignments promise, what holds of all memberships, and epochs around the greatest one, by their definitions alone.
+ghost use Rattle.std.specs.Prelude.{◌≡◌, ◌≤◌, ℕ, pos, true, List, []};
 ghost use Rattle.std.specs.List.Sorted.{IsStrictlySortedBy};
 ghost use Rattle.std.specs.Map.{keys_of};
-ghost use Rattle.share_members.specs.Groups.{Members, Memberships, id_cmp};
-ghost use Rattle.share_members.specs.Heartbeats.{heartbeat_step};
+ghost use Rattle.share_members.specs.declared.member.Member.{Member as Kept};
+ghost use Rattle.share_members.specs.Groups.{Members, Memberships, id_cmp, next_epoch};
+ghost use Rattle.share_members.specs.Heartbeats.{is_fenced, heartbeat_step};
 ghost use Rattle.share_members.specs.Expiry.{expire_step};
 ghost use Rattle.share_members.specs.Whole.{AreWhole};
 ghost use Rattle.topic_conf.specs.declared.topic.Topic.{Topic};
@@ -24,4 +25,12 @@ pub fn memberships_stay_whole()
     ensures heartbeat { (now : ℕ) (request : HeartbeatRequest) (old : Memberships) → AreWhole old →
         AreWhole (heartbeat_step now request old).after }
     ensures expire { (now : ℕ) (old : Memberships) → AreWhole old → AreWhole (expire_step now old) }
+{}
+
+/// Behind epoch 2147483646 comes 2147483647, the greatest, and behind that 1. A member in epoch 1 is fenced by a heartbeat of the
+/// greatest epoch, also where that was its previous one.
+pub fn behind_the_greatest_epoch_comes_1()
+    ensures greatest { next_epoch (pos 2147483646) ≡ pos 2147483647 }
+    ensures first { next_epoch (pos 2147483647) ≡ pos 1 }
+    ensures fenced { (member : Kept) → member.epoch ≡ pos 1 → is_fenced (pos 2147483647) member ≡ true }
 {}

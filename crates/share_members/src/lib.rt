@@ -8,12 +8,16 @@ mod group;
 mod heartbeat;
 mod law;
 mod member;
+mod places;
 mod plan;
 mod refusal;
 mod reply;
 mod shard;
 mod subscription;
 
-pub use law::{memberships_stay_whole, partitions_are_shared_evenly};
+pub use law::{
+    behind_the_greatest_epoch_comes_1, memberships_stay_whole, partitions_are_shared_evenly,
+};
 pub use member::Member;
+pub use places::Places;
 pub use shard::GroupShard;

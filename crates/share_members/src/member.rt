@@ -1,10 +1,9 @@
 ghost use Rattle.std.specs.Prelude.{◌≡◌, ℕ, IsTrue, Some};
-ghost use Rattle.share_members.specs.Assignments.{has_place};
 ghost use Rattle.share_members.specs.Expiry.{session_timeout};
 ghost use Rattle.share_members.specs.Heartbeats.{no_member, member_after};
 ghost use Rattle.std.specs.Prelude.{nat_le, ◌+◌};
 
-use flex_fields::Items;
+use crate::places::Places;
 use std::alloc::Global;
 
 /// How long a member may be silent, in milliseconds.
@@ -18,7 +17,7 @@ const SESSION_TIMEOUT: u64 = 45000;
 pub struct Member {
     pub epoch: i32,
     pub previous_epoch: i32,
-    pub topics: Items<u32>,
+    pub topics: Places,
     pub heartbeat: u64,
 }
 
@@ -30,13 +29,13 @@ impl Member {
         Member {
             epoch: 0,
             previous_epoch: 0,
-            topics: Items::new(Vec::new(alloc)),
+            topics: Places::none(alloc),
             heartbeat: 0,
         }
     }
 
     // Takes an accepted heartbeat, in a group of this epoch. `None` leaves its subscription.
-    pub(crate) fn renew(&mut self, epoch: i32, topics: Option<Items<u32>>, moment: u64)
+    pub(crate) fn renew(&mut self, epoch: i32, topics: Option<Places>, moment: u64)
         ensures { self.new ≡ member_after epoch topics moment self.old }
     {
         if self.epoch != epoch {
@@ -55,11 +54,4 @@ impl Member {
     {
         moment.saturating_sub(self.heartbeat) >= SESSION_TIMEOUT
     }
-}
-
-// Whether a topic's place is among those of a subscription.
-pub(crate) fn has_place(place: u32, topics: &[u32]) -> bool
-    ensures { result ≡ has_place place topics.now }
-{
-    topics.contains(&place)
 }

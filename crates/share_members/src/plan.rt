@@ -1,5 +1,7 @@
 ghost use Rattle.std.specs.Prelude.{◌≡◌, ◌≤◌, IfOk, Some, None, if◌then◌else◌, length};
 ghost use Rattle.std.specs.Option.{option_copied, unwrap_or};
+ghost use Rattle.std.specs.Ordering.{nat_cmp};
+ghost use Rattle.std.specs.List.Sorted.{IsStrictlySortedBy};
 ghost use Rattle.share_members.specs.Topics.{AreHosted};
 ghost use Rattle.share_members.specs.declared.member.Member.{Member as Kept};
 ghost use Rattle.share_members.specs.Groups.{member_at, with_member, next_epoch};
@@ -8,9 +10,10 @@ ghost use Rattle.share_members.specs.Heartbeats.{no_member, new_subscription, ep
 
 use crate::assignment::assignment;
 use crate::member::Member;
+use crate::places::Places;
 use crate::reply::accepted;
 use crate::subscription::new_subscription;
-use flex_fields::{Items, NoMemory};
+use flex_fields::NoMemory;
 use msgs_group::{Assignment, HeartbeatReply, HeartbeatRequest};
 use share_model::Name;
 use std::alloc::Global;
@@ -25,7 +28,7 @@ const HEARTBEAT_INTERVAL: i32 = 5000;
 #[derive(Drop)]
 pub struct Plan {
     pub epoch: i32,
-    pub change: Option<Items<u32>>,
+    pub change: Option<Places>,
     pub reply: HeartbeatReply,
 }
 
@@ -36,7 +39,7 @@ pub fn next_epoch(epoch: i32) -> i32
     if epoch == i32::MAX { 1 } else { epoch + 1 }
 }
 
-fn epoch_after(change: &Option<Items<u32>>, epoch: i32) -> i32
+fn epoch_after(change: &Option<Places>, epoch: i32) -> i32
     ensures { result ≡ epoch_after change.now epoch }
 {
     match change {
@@ -64,7 +67,8 @@ fn epoch_of(member: Option<&Member>) -> i32
 
 // The topics of a member.
 fn topics_of(member: Option<&Member>) -> &[u32]
-    ensures { result.now ≡ (unwrap_or (option_copied member.entry) no_member).topics }
+    ensures topics { result.now ≡ (unwrap_or (option_copied member.entry) no_member).topics }
+    ensures rising { IsStrictlySortedBy nat_cmp result.now }
 {
     match member {
         Some(member) => member.topics.as_slice(),
@@ -73,8 +77,9 @@ fn topics_of(member: Option<&Member>) -> &[u32]
 }
 
 // What the member subscribes to after the change.
-fn subscription<'a>(change: &'a Option<Items<u32>>, member: Option<&'a Member>) -> &'a [u32]
-    ensures { result.now ≡ unwrap_or change.now (unwrap_or (option_copied member.entry) no_member).topics }
+fn subscription<'a>(change: &'a Option<Places>, member: Option<&'a Member>) -> &'a [u32]
+    ensures topics { result.now ≡ unwrap_or change.now (unwrap_or (option_copied member.entry) no_member).topics }
+    ensures rising { IsStrictlySortedBy nat_cmp result.now }
 {
     match change {
         Some(topics) => topics.as_slice(),
@@ -91,7 +96,8 @@ fn told_assignment(
     subscription: &[u32],
     told: bool,
 ) -> Result<Option<Assignment>, NoMemory>
-    requires { AreHosted topics.now }
+    requires topics { AreHosted topics.now }
+    requires rising { IsStrictlySortedBy nat_cmp subscription.now }
     ensures { (member : Kept) → member.topics ≡ subscription.now →
         IfOk result (λ assigned. assigned ≡ (if told
         then Some (assignment topics.now (with_member id.now member members.now.entries) id.now subscription.now) else None)) }

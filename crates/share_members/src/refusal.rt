@@ -15,11 +15,7 @@ const MOST_MEMBERS: usize = 200;
 pub fn id_of(text: &Text) -> Option<Name>
     ensures { result ≡ (if is_id text.now then Some text.now else None) }
 {
-    let text = text.as_str();
-    if text.is_empty() || text.len() > 255 {
-        return None;
-    }
-    Name::new(text)
+    Name::new(text.as_str())
 }
 
 /// Whether it is one that no member may send, whatever its ids.

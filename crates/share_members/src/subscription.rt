@@ -5,6 +5,7 @@ ghost use Rattle.std.specs.Str.{bytes_eq};
 ghost use Rattle.share_members.specs.Heartbeats.{places_named, new_subscription};
 
 use crate::member::Member;
+use crate::places::Places;
 use flex_fields::{Items, NoMemory, Text};
 use share_model::Name;
 use std::alloc::Global;
@@ -17,7 +18,7 @@ fn is_named(topic: &Name, names: &[Text]) -> bool
 }
 
 // The places of the hosted topics that are named.
-fn places_named(alloc: Global, names: &[Text], topics: &[Topic]) -> Result<Items<u32>, NoMemory>
+fn places_named(alloc: Global, names: &[Text], topics: &[Topic]) -> Result<Places, NoMemory>
     requires { length topics.now ≤ 64 }
     ensures { IfOk result (λ places. places ≡ places_named names.now 0 topics.now) }
 {
@@ -31,7 +32,7 @@ fn places_named(alloc: Global, names: &[Text], topics: &[Topic]) -> Result<Items
         place += 1;
         rest = others;
     }
-    Ok(Items::new(places))
+    Ok(Places::new(Items::new(places)))
 }
 
 /// The subscription that changes the member's group. `None` where it stays.
@@ -40,14 +41,14 @@ pub fn new_subscription(
     topics: &[Topic],
     names: &Option<Items<Text>>,
     member: Option<&Member>,
-) -> Result<Option<Items<u32>>, NoMemory>
+) -> Result<Option<Places>, NoMemory>
     requires { length topics.now ≤ 64 }
     ensures { IfOk result (λ change. change ≡ new_subscription topics.now names.now (option_copied member.entry)) }
 {
     let Some(names) = names else {
         return Ok(match member {
             Some(_) => None,
-            None => Some(Items::new(Vec::new(alloc))),
+            None => Some(Places::none(alloc)),
         });
     };
     let places = places_named(alloc, names.as_slice(), topics)?;
