@@ -1,6 +1,6 @@
 -- An armed fault, seen by the names of the disks.
-use Rattle.std.proofs.Common.{◌≡◌, ◌≢◌, ◌≤◌, ◌+◌, ◌⊎◌, arith, ◌∷◌, [], inl, inr, refl, sym, ap, ◌∙◌, subst, ℕ, zero, suc, List, length, Bool, true, false, cond, Some, is_some, if◌then◌else◌}
-use Rattle.std.specs.List.{AllByRecursion, AllZip, flat_map}
+use Rattle.std.proofs.Common.{◌≡◌, ◌≤◌, ◌+◌, ◌⊎◌, arith, ◌∷◌, [], inl, inr, refl, sym, ap, ◌∙◌, subst, ℕ, suc, List, length, Bool, true, false, cond, Some, is_some, if◌then◌else◌}
+use Rattle.std.specs.List.{AllZip, flat_map}
 use Rattle.std.specs.declared.option.Option.{Option}
 use Rattle.edge_io.specs.declared.fault.Armed.{Armed}
 use Rattle.edge_io.specs.declared.fault.FaultMode.{FaultMode}
@@ -24,13 +24,13 @@ use Rattle.broker_core.specs.declared.slot.PartState.{PartState}
 use Rattle.broker_core.specs.declared.slot.PartSlot.{PartSlot}
 use Rattle.broker_core.specs.Carried.{GoesOn, IsCarried, IsFed, IsPartCarried, OpenPart, PartGoesOn, holding}
 use Rattle.broker_core.specs.Foreign.{ArmsForeign, ArmsEither}
-use Rattle.broker_core.specs.Hosts.{AreApart, AreCarried, AreDistinct, AreNamed, ArmsPlace, ArmsSlot, BothGoOn, DiskGoesOn, GoOn, HostsParts, IsPartSlot, IsPartState, IsSlot, NotIn, among, disks_in, ends_in, facts_at, facts_in, foreign_disks, foreign_end, foreign_facts, hosted_slot, hosted_slots, open_disk, open_end, part_disk, part_end, slot_disks, slot_ends, slots_disks}
+use Rattle.broker_core.specs.Hosts.{AreApart, AreCarried, AreDistinct, AreNamed, ArmsPlace, ArmsSlot, BothGoOn, DiskGoesOn, GoOn, HostsParts, IsPartSlot, IsPartState, IsSlot, NotIn, among, disks_in, ends_in, facts_at, facts_in, foreign_disks, foreign_end, foreign_facts, hosted_slot, hosted_slots, open_disk, part_disk, part_end, slot_disks, slot_ends, slots_disks}
 use Rattle.broker_core.specs.Cores.{IsArmed}
 use Rattle.broker_core.proofs.Calling.{Turned, with_parts}
 use Rattle.broker_core.proofs.Flats.{among_changed}
 use Rattle.broker_core.proofs.Places.{Changed, changed, changes_not, changes_same, zip_same, among_past, among_zip, differs, holds_both, is_same, not_both, one_in_either, same_self}
-use Rattle.broker_core.proofs.Leading.{least_on, not_a_part, not_a_part_too, parts_apart, same_both, same_goes}
-use Rattle.broker_core.proofs.Slots.{Turns, disk_names, known_at, three}
+use Rattle.broker_core.proofs.Leading.{least_on, not_a_part, not_a_part_too, parts_apart, same_goes}
+use Rattle.broker_core.proofs.Slots.{disk_names, known_at, three}
 
 -- ---- a look-up of a disk by its name
 

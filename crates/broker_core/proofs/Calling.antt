@@ -1,12 +1,11 @@
 -- Calls on the shard of a hosted partition, seen by all shards.
 use Rattle.std.proofs.Common.{◌≡◌, ◌≤◌, ◌⊎◌, arith, inl, inr, refl, sym, ap, ◌∙◌, subst, ℕ, zero, suc, List, [], ◌∷◌, Bool, false, Some}
-use Rattle.std.specs.List.{AllByRecursion, AllZip, flat_map}
+use Rattle.std.specs.List.{AllZip}
 use Rattle.std.specs.declared.option.Option.{Option}
 use Rattle.edge_io.specs.declared.fault.Armed.{Armed}
 use Rattle.edge_io.specs.declared.name.DiskPlace.{DiskPlace}
 use Rattle.edge_io.specs.declared.name.DiskPlace.TheVariants.{Log, StateA, StateB}
 use Rattle.share_part.specs.Hosting.{PartConfParts}
-use Rattle.share_part.specs.Shards.{PartShardState}
 use Rattle.share_model.specs.declared.visit.Visit.{Visit}
 use Rattle.call_fold.specs.declared.part.Part.{Part}
 use Rattle.call_fold.specs.declared.part.Part.TheVariants.{Produce, Visit as PartVisit, Look, Heartbeat}
@@ -18,7 +17,7 @@ use Rattle.msgs_group.specs.declared.heartbeat_reply.HeartbeatReply.{HeartbeatRe
 use Rattle.share_model.specs.declared.visit.ExpireAnswer.{ExpireAnswer}
 use Rattle.share_model.specs.declared.visit.VisitAnswer.{VisitAnswer}
 use Rattle.broker_model.specs.Hosted.{ChangesAt, HoldsAt, Hosted, first_of, log_of, part_disks, second_of}
-use Rattle.broker_model.specs.Shards.{Counts, Ends, HostedPart, PartCall, Shards, ShardCall, StepsHosted, StepsShards, calls, fault_of_expiry, part_calls}
+use Rattle.broker_model.specs.Shards.{Counts, Ends, HostedPart, PartCall, Shards, ShardCall, StepsHosted, StepsShards, fault_of_expiry, part_calls}
 use Rattle.broker_model.specs.Shards.ShardCall.{CallPart, CallMembers}
 use Rattle.broker_model.specs.Shards.MembersCall.{Beats}
 use Rattle.broker_model.specs.Shards.PartCall.{Visits, Produces, Looks, Expires}
@@ -27,11 +26,11 @@ use Rattle.broker_model.proofs.Lists.{change_of, changes_so}
 use Rattle.broker_core.specs.declared.slot.PartState.{PartState}
 use Rattle.broker_core.specs.declared.slot.PartState.TheVariants as part
 use Rattle.broker_core.specs.declared.slot.PartSlot.{PartSlot}
-use Rattle.broker_core.specs.Carried.{Begun, EndsGoOn, GoesOn, HaltsPart, HalvesOn, IsPartCarried, LeadsPart, OpenPart, PartGoesOn, StepsOn, Uses}
+use Rattle.broker_core.specs.Carried.{Begun, EndsGoOn, GoesOn, HalvesOn, OpenPart, PartGoesOn, StepsOn, Uses}
 use Rattle.broker_core.specs.Carried.Begun.{BeginsVisit, BeginsExpiry}
-use Rattle.broker_core.specs.Hosts.{AreApart, AreCarried, AreDistinct, AreOpen, Did, DiskGoesOn, ExpiresShard, GoesOnIf, GoOn, Halts, HaltsSlot, HalvesExpiry, HostsParts, IsHalfDone, IsLeftIn, IsOpenState, IsPartSlot, IsPartState, Leads, LeadsSlot, PartsStill, StandStill, StaysHosted, among, counts_in, disks_in, ends_in, ends_over, facts_at, facts_in, foreign_disks, foreign_end, foreign_facts, hosted_slot, hosted_slots, open_disk, part_disk, slot_disks, slot_ends, slots_disks}
+use Rattle.broker_core.specs.Hosts.{AreApart, AreCarried, AreDistinct, AreOpen, Did, DiskGoesOn, ExpiresShard, GoesOnIf, GoOn, Halts, HaltsSlot, HalvesExpiry, HostsParts, IsHalfDone, IsLeftIn, IsOpenState, IsPartSlot, IsPartState, Leads, LeadsSlot, StaysHosted, among, counts_in, disks_in, ends_in, ends_over, facts_at, facts_in, foreign_disks, foreign_end, foreign_facts, hosted_slot, hosted_slots, open_disk, part_disk, slot_disks, slot_ends}
 use Rattle.broker_core.proofs.Flats.{among_changed, zip_flat}
-use Rattle.broker_core.proofs.Leading.{StillSlot, halts_still, least_on, open_still, parts_apart, parts_still, same_both, same_goes, slot_still, still_foreign, still_parts}
+use Rattle.broker_core.proofs.Leading.{StillSlot, halts_still, open_still, parts_apart, parts_still, same_both, same_goes, slot_still, still_foreign}
 use Rattle.broker_core.proofs.Reaching.{SlotLater, SlotReaches, foreign_reaches, names_later, names_reach, open_reaches, same_later, slot_later, slot_reaches, slots_reach}
 use Rattle.broker_core.proofs.Places.{Changed, changed, changes_all, changes_either, changes_not, changes_same, changes_zip, zip_same, zip_weaker}
 use Rattle.broker_core.proofs.Slots.{AreOf, Halves, Turns, are_of, called_same, half_named, slot_end_stays, slot_used, step_named}

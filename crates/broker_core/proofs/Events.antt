@@ -17,7 +17,6 @@ use Rattle.topic_conf.proofs.Lists.{partitions_cons}
 use Rattle.session_script.specs.Output.{IsTold}
 use Rattle.conn_core.specs.Conns.{ConnParts, conn_after_bytes}
 use Rattle.conn_core.specs.Turning.{turn}
-use Rattle.conn_core.specs.declared.next.Next.{Next}
 use Rattle.conn_core.specs.declared.next.Next.TheVariants.{Ask}
 use Rattle.call_fold.specs.declared.part.Part.{Part}
 use Rattle.call_fold.specs.declared.part.Part.TheVariants.{Foreign, Produce, Visit as PartVisit, Look, Heartbeat}
@@ -28,7 +27,7 @@ use Rattle.broker_model.specs.Shards.ShardCall.{CallMembers}
 use Rattle.broker_model.specs.Shards.MembersCall.{Ticks}
 use Rattle.broker_model.specs.Machine.{Machine, LandsPart, no_members, conn_at, opened, at_connection, ended_in}
 use Rattle.broker_model.specs.Disks.{Facts, OnCalled}
-use Rattle.broker_model.specs.Steps.{StepsTo, StopsWithin, Serves, DoesNothing, ExpiresAt, IsLeftInVisit, IsLeftInExpiry}
+use Rattle.broker_model.specs.Steps.{StepsTo, Serves, DoesNothing, ExpiresAt, IsLeftInVisit}
 use Rattle.broker_model.specs.States.{State}
 use Rattle.broker_core.specs.declared.fault.CoreFault.{CoreFault}
 use Rattle.broker_core.specs.declared.fault.CoreFault.TheVariants.{NoMemory}
@@ -37,7 +36,7 @@ use Rattle.broker_core.specs.declared.slot.ForeignSlot.TheVariants as foreign
 use Rattle.broker_core.specs.declared.slot.PartState.{PartState}
 use Rattle.broker_core.specs.declared.slot.PartState.TheVariants as part
 use Rattle.broker_core.specs.declared.slot.PartSlot.{PartSlot}
-use Rattle.broker_core.specs.Hosts.{AreCarried, AreDistinct, AreHeld, AreHeldParts, AreNamed, AreOpen, AreOpenParts, BothGoOn, DiskGoesOn, DisksReach, GoesOnIf, GoOn, Halts, HalvesExpiry, HalvesNext, HalvesServe, HostsParts, IsHalfDone, IsHeld, IsHeldState, IsOpen, IsOpenState, IsPartSlot, Leads, LeftDisks, StandStill, StaysHosted, all_names, counts_in, disks_in, ends_in, ends_over, facts_at, facts_in, foreign_facts, hosted_slots}
+use Rattle.broker_core.specs.Hosts.{AreCarried, AreDistinct, AreHeld, AreHeldParts, AreNamed, AreOpen, AreOpenParts, BothGoOn, DiskGoesOn, DisksReach, GoesOnIf, GoOn, Halts, HalvesExpiry, HalvesServe, HostsParts, IsHalfDone, IsHeld, IsHeldState, IsOpen, IsOpenState, IsPartSlot, Leads, LeftDisks, StandStill, StaysHosted, all_names, counts_in, disks_in, ends_in, ends_over, facts_at, facts_in, foreign_facts, hosted_slots}
 use Rattle.broker_core.specs.Cores.{AreReopened, CoreParts, HasMoment, IsArmed, IsCore, IsWhole, StopsIn, Advances, state_of}
 use Rattle.broker_core.proofs.Places.{among_zip, zip_weaker, one_in_front, one_in_rest}
 use Rattle.broker_core.proofs.Leading.{still_all}

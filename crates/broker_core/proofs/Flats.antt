@@ -1,5 +1,5 @@
 -- Look-ups by name in what the entries of a list have together: each entry has pieces, and each piece has a name.
-use Rattle.std.proofs.Common.{◌≡◌, refl, sym, ap, ◌∙◌, subst, ℕ, zero, suc, List, [], ◌∷◌, ◌++◌, map, Bool, true, false, cond}
+use Rattle.std.proofs.Common.{◌≡◌, refl, sym, ap, subst, ℕ, zero, suc, List, [], ◌∷◌, ◌++◌, map, Bool, true, false, cond}
 use Rattle.std.specs.List.{AllByRecursion, AllZip, flat_map}
 use Rattle.broker_model.specs.Hosted.{ChangesAt, HoldsAt, same_name}
 use Rattle.broker_core.specs.Hosts.{among}

@@ -2,7 +2,7 @@
 use Rattle.std.proofs.lemmas.List.Elements.{All-from_recursion}
 use Rattle.std.specs.List.{AllByRecursion, AllZip, flat_map}
 use Rattle.std.specs.Prelude.{All}
-use Rattle.std.proofs.Common.{◌≡◌, ◌⊎◌, ◌↔◌, ◌≤◌, ◌<◌, [], ◌∷◌, arith, inl, inr, refl, sym, ap, ◌∙◌, subst, ℕ, zero, suc, List, map, Bool, true, false, cond, Some, None, is_some}
+use Rattle.std.proofs.Common.{◌≡◌, ◌⊎◌, ◌↔◌, ◌≤◌, [], ◌∷◌, arith, inl, inr, refl, sym, ap, ◌∙◌, subst, ℕ, List, Bool, true, false, cond, Some, None, is_some}
 use Rattle.std.specs.declared.option.Option.{Option}
 use Rattle.edge_io.specs.declared.fault.Armed.{Armed}
 use Rattle.edge_io.specs.declared.name.DiskPlace.TheVariants.{Log, StateA, StateB}
@@ -24,7 +24,6 @@ use Rattle.broker_model.specs.Shards.{Counts, HostedPart, MembersCall, Shards, S
 use Rattle.broker_model.specs.Shards.ShardCall.{CallForeign, CallMembers}
 use Rattle.broker_model.specs.Disks.{Facts, IsUsed, OnCalled, facts_of}
 use Rattle.call_fold.specs.Parts.{IsTellable}
-use Rattle.call_fold.specs.declared.part.Part.{Part}
 use Rattle.call_fold.specs.declared.part.Part.TheVariants.{Foreign}
 use Rattle.call_fold.specs.declared.part.PartAnswer.{PartAnswer}
 use Rattle.call_fold.specs.declared.part.PartAnswer.TheVariants.{Foreign as AnswerForeign}
@@ -34,7 +33,7 @@ use Rattle.broker_core.specs.declared.slot.PartState.{PartState}
 use Rattle.broker_core.specs.declared.slot.PartState.TheVariants as part
 use Rattle.broker_core.specs.declared.slot.PartSlot.{PartSlot}
 use Rattle.broker_core.specs.Carried.{HaltsForeign, IsCarried, LeadsForeign, GoesOn, OpenPart, holding}
-use Rattle.broker_core.specs.Hosts.{AreApart, AreCarried, AreDistinct, BothGoOn, Did, DiskGoesOn, DisksReach, ForeignStill, GoesOnIf, GoOn, Halts, HostsParts, IsPartSlot, IsPartState, IsSlot, Leads, LeftDisks, NotIn, PartStill, PartsStill, StandStill, all_names, among, counts_in, disks_in, ends_in, ends_over, facts_at, facts_in, foreign_disks, foreign_end, foreign_facts, hosted_slot, hosted_slots, part_disk, slot_ends, slots_disks}
+use Rattle.broker_core.specs.Hosts.{AreApart, AreCarried, AreDistinct, BothGoOn, Did, DiskGoesOn, ForeignStill, GoesOnIf, GoOn, Halts, HostsParts, IsPartSlot, IsPartState, IsSlot, Leads, LeftDisks, NotIn, PartStill, PartsStill, StandStill, all_names, among, counts_in, disks_in, ends_in, ends_over, facts_at, facts_in, foreign_disks, foreign_end, foreign_facts, hosted_slot, hosted_slots, part_disk, slot_ends, slots_disks}
 use Rattle.broker_core.proofs.Opening.{carried_stands}
 use Rattle.broker_core.proofs.Places.{zip_same, zip_weaker, apart_from, distinct_front, among_past, among_same}
 use Rattle.broker_core.proofs.Reaching.{SlotLater, foreign_open, names_later, names_reach, reach_all, same_later, slot_reaches, slots_reach}

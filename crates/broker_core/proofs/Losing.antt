@@ -30,14 +30,14 @@ use Rattle.broker_core.specs.declared.slot.ForeignSlot.TheVariants as foreign
 use Rattle.broker_core.specs.declared.slot.PartState.{PartState}
 use Rattle.broker_core.specs.declared.slot.PartState.TheVariants as part
 use Rattle.broker_core.specs.declared.slot.PartSlot.{PartSlot}
-use Rattle.broker_core.specs.Carried.{GoesOn, IsCarried, IsPartCarried, OpenPart, PartGoesOn}
+use Rattle.broker_core.specs.Carried.{GoesOn, IsCarried, IsPartCarried, OpenPart}
 use Rattle.broker_core.specs.Restarts.{IsRestartedPart, IsRestartedShard, ReopensSlot, ShutsSlot, StopsAt}
 use Rattle.broker_core.specs.Foreign.{ReopensForeign, ShutsForeign}
-use Rattle.broker_core.specs.Hosts.{AreApart, AreCarried, AreDistinct, AreHeldParts, AreNamed, AreOpenParts, BothGoOn, BothRose, DiskGoesOn, DisksReach, ForeignStill, GoesOnIf, GoOn, HostsParts, IsHeld, IsHeldState, IsOpen, IsOpenState, IsPartSlot, IsPartState, IsSlot, NotIn, OneRose, PartRose, PartStandsAlone, PartStill, ReachesTo, RoseIf, StandStill, all_names, among, disks_in, ends_in, facts_at, facts_in, foreign_disk, foreign_disks, foreign_end, foreign_facts, hosted_slot, hosted_slots, open_disk, open_end, part_disk, part_end, shut_disk, slot_disks, slot_ends, slots_disks}
+use Rattle.broker_core.specs.Hosts.{AreApart, AreCarried, AreDistinct, AreHeldParts, AreNamed, AreOpenParts, BothGoOn, BothRose, DiskGoesOn, DisksReach, ForeignStill, GoesOnIf, GoOn, HostsParts, IsHeld, IsHeldState, IsOpen, IsOpenState, IsPartSlot, IsPartState, IsSlot, NotIn, OneRose, PartRose, PartStandsAlone, ReachesTo, RoseIf, StandStill, all_names, disks_in, ends_in, facts_at, facts_in, foreign_disk, foreign_disks, foreign_end, foreign_facts, hosted_slot, hosted_slots, open_disk, open_end, part_disk, part_end, shut_disk, slot_disks, slot_ends, slots_disks}
 use Rattle.broker_core.specs.Cores.{AreReopened}
-use Rattle.broker_core.proofs.Calling.{Turned, slot_goes}
+use Rattle.broker_core.proofs.Calling.{slot_goes}
 use Rattle.broker_core.proofs.Flats.{all_pieces, zip_flat}
-use Rattle.broker_core.proofs.Leading.{StillSlot, not_a_part, not_a_part_too, open_still, parts_apart, parts_still, same_both, same_goes, slot_still, still_all, still_foreign}
+use Rattle.broker_core.proofs.Leading.{StillSlot, not_a_part, not_a_part_too, parts_apart, parts_still, same_both, same_goes, slot_still, still_all, still_foreign}
 use Rattle.broker_core.proofs.Opening.{pending_map}
 use Rattle.broker_core.proofs.Places.{DoneTo, among_past, among_zip, each_found, not_both, one_in_either, zip_same, zip_weaker}
 use Rattle.broker_core.proofs.Reaching.{SlotReaches, again_reaches, fewer, foreign_left, foreign_reaches, names_reach, part_long, reach_all, reach_less, reaches_less, shut_reaches, slot_reaches, slots_reach}

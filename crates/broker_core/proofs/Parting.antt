@@ -1,12 +1,11 @@
 -- Calls on the shard of a hosted partition.
-use Rattle.std.proofs.Common.{◌≡◌, ◌≢◌, ◌≤◌, ◌<◌, ◌^◌, ◌⊎◌, arith, inl, inr, refl, sym, ap, ◌∙◌, subst, ℕ, List, [], ◌∷◌, Bool, false, Some, None, is_some, Result, Ok, Err}
+use Rattle.std.proofs.Common.{◌≡◌, ◌≢◌, ◌≤◌, ◌⊎◌, arith, inl, inr, refl, sym, ap, ◌∙◌, subst, ℕ, List, [], ◌∷◌, Bool, false, is_some, Result, Ok, Err}
 use Rattle.std.specs.List.{AllByRecursion}
 use Rattle.std.specs.Prelude.{All}
 use Rattle.std.proofs.lemmas.List.Elements.{All-from_recursion}
 use Rattle.std.specs.declared.option.Option.{Option}
 use Rattle.edge_io.specs.declared.fault.Armed.{Armed}
 use Rattle.edge_io.specs.Armed.{RunsOn}
-use Rattle.edge_io.specs.Causes.{Rose}
 use Rattle.edge_io.specs.Disk.{IsTold}
 use Rattle.share_model.specs.ForeignRules.{share_state_at}
 use Rattle.share_model.specs.declared.fault.LogFault.{LogFault}
@@ -21,7 +20,7 @@ use Rattle.share_part.specs.Hosting.{PartConfParts, key_of, states_of}
 use Rattle.share_part.specs.Once.{AcksStand, Expired, PartStands, Produced as ProducedSo, Visited}
 use Rattle.share_part.specs.Shards.{Carries, PartShardState}
 use Rattle.share_part.specs.Walks.{IsSmallGrant}
-use Rattle.call_fold.specs.Parts.{IsTellableGrant, IsTellableVisit}
+use Rattle.call_fold.specs.Parts.{IsTellableGrant}
 use Rattle.call_fold.specs.declared.part.Looked.{Looked}
 use Rattle.call_fold.specs.declared.part.Produced.{Produced}
 use Rattle.call_fold.specs.declared.part.Produced.TheVariants.{Base, Batch, Store}

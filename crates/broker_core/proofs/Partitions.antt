@@ -1,5 +1,5 @@
 -- The three disks of each partition are taken from a bay and its shard opened, one partition after another, and they are put back.
-use Rattle.std.proofs.Common.{◌≡◌, ◌≢◌, ◌≤◌, ◌<◌, ◌-◌, ◌^◌, ◌⊎◌, inl, inr, refl, sym, ap, ◌∙◌, subst, ℕ, List, [], ◌∷◌, ◌++◌, append_assoc, append-nil, Bool, true, false, Some, None, is_some}
+use Rattle.std.proofs.Common.{◌≡◌, ◌≢◌, ◌≤◌, ◌<◌, ◌-◌, ◌^◌, ◌⊎◌, inl, inr, refl, sym, ap, ◌∙◌, subst, ℕ, List, [], ◌∷◌, ◌++◌, append_assoc, append-nil, Bool, true, false, Some, is_some}
 use Rattle.std.proofs.lemmas.Grind.{flat_map-append}
 use Rattle.std.specs.List.{AllByRecursion}
 use Rattle.std.specs.declared.option.Option.{Option}
@@ -23,7 +23,7 @@ use Rattle.broker_core.specs.Bays.{HoldsIf, IsTakenFrom, StaysAs, TakenIf, Tells
 use Rattle.broker_core.specs.Carried.{OpenPart}
 use Rattle.broker_core.specs.Hosts.{AreDistinct, AreHeldParts, AreNamed, AreOpenParts, IsHeldState, IsNamed, IsOpenState, NotIn, hosted_slot, hosted_slots, open_disk, part_disk, slot_disks, slots_disks}
 use Rattle.broker_core.specs.Restarts.{IsDamagedPart, IsOpenedPart, PartImagesStandAs}
-use Rattle.broker_core.specs.Taking.{GetsAll, GetsNone, Moves, PutsAll, RefusesPart, TakesPart, TakesParts, TellsThese}
+use Rattle.broker_core.specs.Taking.{GetsAll, GetsNone, Moves, PutsAll, RefusesPart, TakesPart, TakesParts}
 use Rattle.broker_core.proofs.Places.{apart_from, distinct_front, not_in_front, not_in_rest, one_in_either, one_in_rest}
 use Rattle.broker_core.proofs.Taking.{IsGiven, gets_each, gets_moves, gets_others, greater, moves_same, moves_then, named, puts_hold, puts_in, puts_moves, puts_others, puts_rise, puts_then, rose_between, slot_same, slot_then, stays_kept, stays_put}
 
@@ -410,26 +410,26 @@ module _ {B D : Type 0} (disk : B → List ℕ → Option D) (out : B → List �
   slots_stay old mid behind new [] all holds still m one = absurd one
   slots_stay old mid behind new (s ∷ slots) all holds still m one =
       go one (λ more. slots_stay old mid behind new slots all.1 holds.1.1.1 still m more) where
-    t : IsTakenSlot (hosted_slot s) old mid s
-    t = all.0
+        t : IsTakenSlot (hosted_slot s) old mid s
+        t = all.0
 
-    at : (state : PartState D) → state ≡ part.Open t.shard → (place : DiskPlace) (name : List ℕ) → HoldsIf disk behind new (name, part_disk state place)
-        → HoldsIf disk behind new (name, Some (open_disk t.shard place))
-    at state is place name h = subst (λ (p : PartState D). HoldsIf disk behind new (name, part_disk p place)) is h
+        at : (state : PartState D) → state ≡ part.Open t.shard → (place : DiskPlace) (name : List ℕ) → HoldsIf disk behind new (name, part_disk state place)
+            → HoldsIf disk behind new (name, Some (open_disk t.shard place))
+        at state is place name h = subst (λ (p : PartState D). HoldsIf disk behind new (name, part_disk p place)) is h
 
-    go : IsOneOf (part_disks (hosted_slots (s ∷ slots))) m → (IsOneOf (part_disks (hosted_slots slots)) m → StaysAs disk image m old new)
-        → StaysAs disk image m old new
-    go (inl e) others = subst (λ (n : List ℕ). StaysAs disk image n old new) (sym e)
-        (stays_put disk image (log_of (hosted_slot s)) old behind new t.on_log.given t.shard.log.journal.disk t.on_log.as_told
-        (still (log_of (hosted_slot s))) (at s.state t.is_open Log (log_of (hosted_slot s)) holds.0) t.images.on_log)
-    go (inr (inl e)) others = subst (λ (n : List ℕ). StaysAs disk image n old new) (sym e)
-        (stays_put disk image (first_of (hosted_slot s)) old behind new t.on_first.given t.shard.states.journal.live.disk t.on_first.as_told
-        (still (first_of (hosted_slot s))) (at s.state t.is_open StateA (first_of (hosted_slot s)) holds.1.0) t.images.on_first)
-    go (inr (inr (inl e))) others = subst (λ (n : List ℕ). StaysAs disk image n old new) (sym e)
-        (stays_put disk image (second_of (hosted_slot s)) old behind new t.on_second.given t.shard.states.journal.idle t.on_second.as_told
-        (still (second_of (hosted_slot s))) (at s.state t.is_open StateB (second_of (hosted_slot s)) holds.1.1.0)
-        (λ c on. (c, t.images.on_second c on, inl refl)))
-    go (inr (inr (inr more))) others = others more
+        go : IsOneOf (part_disks (hosted_slots (s ∷ slots))) m → (IsOneOf (part_disks (hosted_slots slots)) m → StaysAs disk image m old new)
+            → StaysAs disk image m old new
+        go (inl e) others = subst (λ (n : List ℕ). StaysAs disk image n old new) (sym e)
+            (stays_put disk image (log_of (hosted_slot s)) old behind new t.on_log.given t.shard.log.journal.disk t.on_log.as_told
+            (still (log_of (hosted_slot s))) (at s.state t.is_open Log (log_of (hosted_slot s)) holds.0) t.images.on_log)
+        go (inr (inl e)) others = subst (λ (n : List ℕ). StaysAs disk image n old new) (sym e)
+            (stays_put disk image (first_of (hosted_slot s)) old behind new t.on_first.given t.shard.states.journal.live.disk t.on_first.as_told
+            (still (first_of (hosted_slot s))) (at s.state t.is_open StateA (first_of (hosted_slot s)) holds.1.0) t.images.on_first)
+        go (inr (inr (inl e))) others = subst (λ (n : List ℕ). StaysAs disk image n old new) (sym e)
+            (stays_put disk image (second_of (hosted_slot s)) old behind new t.on_second.given t.shard.states.journal.idle t.on_second.as_told
+            (still (second_of (hosted_slot s))) (at s.state t.is_open StateB (second_of (hosted_slot s)) holds.1.1.0)
+            (λ c on. (c, t.images.on_second c on, inl refl)))
+        go (inr (inr (inr more))) others = others more
 
   -- each of their disks has the count with which it was taken, or a greater one
   pub slots_counted : (old mid new : B) (slots : List (PartSlot D)) → Slots old mid slots

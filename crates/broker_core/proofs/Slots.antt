@@ -1,6 +1,6 @@
 -- One slot of a hosted partition that a call changes: what is known of its disks by name, and the machine's step.
-use Rattle.std.proofs.Common.{◌≡◌, inl, refl, sym, ap, ◌∙◌, subst, ℕ, List, [], ◌∷◌, map, Bool, true, false, cond, Some}
-use Rattle.std.specs.List.{AllByRecursion, flat_map}
+use Rattle.std.proofs.Common.{◌≡◌, inl, refl, sym, ap, ◌∙◌, subst, ℕ, List, [], ◌∷◌, map, Bool, true, false, cond}
+use Rattle.std.specs.List.{flat_map}
 use Rattle.std.specs.declared.option.Option.{Option}
 use Rattle.edge_io.specs.declared.fault.Armed.{Armed}
 use Rattle.edge_io.specs.declared.name.DiskPlace.{DiskPlace}

@@ -1,10 +1,10 @@
 -- A start over a bay, and its end.
-use Rattle.std.proofs.Common.{◌≡◌, ◌≢◌, ◌≤◌, ◌<◌, ◌-◌, ◌^◌, ◌⊎◌, arith, inl, inr, refl, sym, ap, ◌∙◌, subst, ℕ, List, [], ◌∷◌, ◌++◌, map, Bool, true, false, cond, Some, None, is_some}
+use Rattle.std.proofs.Common.{◌≡◌, ◌≢◌, ◌≤◌, ◌<◌, ◌-◌, ◌^◌, ◌⊎◌, arith, inl, inr, refl, sym, ap, ◌∙◌, subst, ℕ, List, [], ◌∷◌, ◌++◌, Bool, true, false, cond, Some, None, is_some}
 use Rattle.std.specs.List.{AllByRecursion, AllZip}
 use Rattle.std.specs.declared.option.Option.{Option}
 use Rattle.edge_io.specs.declared.fault.Armed.{Armed}
 use Rattle.edge_io.specs.declared.name.DiskPlace.TheVariants.{Log, StateA, StateB}
-use Rattle.edge_io.specs.Bays.{IsAsTold, IsSound, IsSoundDisk, SameSlot}
+use Rattle.edge_io.specs.Bays.{IsAsTold, IsSound, SameSlot}
 use Rattle.edge_io.specs.Causes.{Rose}
 use Rattle.share_part.specs.Shards.{shard_with}
 use Rattle.topic_conf.specs.Configs.{ConfigParts}
@@ -26,7 +26,7 @@ use Rattle.broker_core.specs.Taking.{Moves, PutsAll, PutsAllBack, PutsBack, Refu
 use Rattle.broker_core.proofs.Places.{among_past, apart_from, distinct_front, is_same, not_both, not_in_front, not_in_rest, one_in_either, one_in_front, one_in_rest, same_self}
 use Rattle.broker_core.proofs.Naming.{are_disk_names, distinct_names, named_of, not_in_both, states_apart}
 use Rattle.broker_core.proofs.Taking.{moves_same, moves_then, named, put_moves, puts_hold, puts_in, puts_moves, puts_others, puts_rise, rose_between, slot_same, slot_then, stays_between, stays_same}
-use Rattle.broker_core.proofs.Partitions.{IsTakenSlot, apart_behind, disks_then, names_of_disks, slots_counted, slots_open, slots_stay, takes_held, takes_hosts, takes_moves, takes_others, takes_out, takes_slots}
+use Rattle.broker_core.proofs.Partitions.{IsTakenSlot, disks_then, names_of_disks, slots_counted, slots_open, slots_stay, takes_held, takes_hosts, takes_moves, takes_others, takes_out, takes_slots}
 
 -- a name is one of these, or none of them
 pub one_or_none : (names : List (List ℕ)) (name : List ℕ) → IsOneOf names name ⊎ NotIn names name

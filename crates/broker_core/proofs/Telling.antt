@@ -1,9 +1,8 @@
 -- What is told of writes that failed, and by which parts.
-use Rattle.std.proofs.Common.{◌≡◌, ◌<◌, ◌∷◌, ◌++◌, [], inl, inr, refl, sym, ap, ◌∙◌, subst, ℕ, zero, suc, List, map, length, Bool, Some, None, Option}
+use Rattle.std.proofs.Common.{◌≡◌, ◌<◌, sym, ap, subst, ℕ, List, Some, None}
 use Rattle.std.specs.List.{AllByRecursion}
 use Rattle.std.specs.Prelude.{All}
 use Rattle.std.proofs.lemmas.List.Elements.{All-from_recursion}
-use Rattle.std.specs.Option.{option_to_list}
 use Rattle.share_model.specs.declared.visit.Then.{Then}
 use Rattle.share_model.specs.declared.visit.Then.TheVariants.{Nothing, Release, Fetch}
 use Rattle.share_model.specs.declared.visit.ThenOutcome.{ThenOutcome}
@@ -18,7 +17,7 @@ use Rattle.call_fold.specs.declared.part.Part.{Part}
 use Rattle.call_fold.specs.declared.part.Part.TheVariants.{Foreign, Produce, Visit as PartVisit, Look, Heartbeat}
 use Rattle.call_fold.specs.declared.part.PartAnswer.{PartAnswer}
 use Rattle.call_fold.specs.declared.part.PartAnswer.TheVariants.{Foreign as AnswerForeign, Produce as AnswerProduce, Visit as AnswerVisit, Look as AnswerLook, Heartbeat as AnswerHeartbeat}
-use Rattle.broker_model.specs.Shards.{Answered, PartCall, MembersCall, ShardCall, answered_by, fault_of_expiry, fault_of_release, faults_told}
+use Rattle.broker_model.specs.Shards.{Answered, ShardCall, answered_by, fault_of_expiry, fault_of_release, faults_told}
 use Rattle.broker_model.specs.Shards.ShardCall.{CallForeign, CallPart, CallMembers}
 use Rattle.broker_model.specs.Shards.PartCall.{Visits, Produces, Looks, Expires}
 use Rattle.broker_model.specs.Shards.MembersCall.{Beats, Ticks}

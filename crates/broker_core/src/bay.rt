@@ -1,5 +1,5 @@
 // The disks of the shards are taken from a bay, and put back.
-ghost use Rattle.std.specs.Prelude.{◌≡◌, ◌≢◌, ◌⊎◌, ◌≤◌, ◌++◌, ◌∷◌, [], List, ℕ, true, false, Some, IfOk, IfErr, OnOk};
+ghost use Rattle.std.specs.Prelude.{◌≡◌, ◌⊎◌, ◌≤◌, ◌++◌, ◌∷◌, [], List, ℕ, true, false, Some, IfOk, IfErr, OnOk};
 ghost use Rattle.edge_io.specs.Names.{IsTopicName, most_partitions};
 ghost use Rattle.edge_io.specs.declared.name.DiskPlace.TheVariants.{Log, StateA, StateB};
 ghost use Rattle.topic_conf.specs.Topics.{IsTopicList};

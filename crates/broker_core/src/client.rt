@@ -1,5 +1,5 @@
 // The clients that are connected, each under the number of its connection.
-ghost use Rattle.std.specs.Prelude.{◌≡◌, ◌≤◌, ◌^◌, ◌∷◌, ◌++◌, [], List, ℕ, All, OnOk, OnErr, IfOk, length, if◌then◌else◌};
+ghost use Rattle.std.specs.Prelude.{◌≡◌, ◌≤◌, ◌^◌, ◌∷◌, ◌++◌, [], List, All, OnOk, OnErr, IfOk, length, if◌then◌else◌};
 ghost use Rattle.std.specs.Map.{remove_entry};
 ghost use Rattle.session_script.specs.declared.event.Outcome.{Outcome};
 ghost use Rattle.session_script.specs.Output.{IsTold};

@@ -1,5 +1,5 @@
 // All shards as a broker holds them, and the parts that they do.
-ghost use Rattle.std.specs.Prelude.{◌≡◌, ◌≤◌, ◌^◌, ℕ, IfOk, OnErr, OnOk, length};
+ghost use Rattle.std.specs.Prelude.{◌≤◌, ◌^◌, IfOk, OnErr, OnOk, length};
 ghost use Rattle.call_fold.specs.Parts.{IsAnswerTo};
 ghost use Rattle.call_fold.specs.declared.part.PartAnswer.{PartAnswer};
 ghost use Rattle.broker_model.specs.Shards.{Shards};

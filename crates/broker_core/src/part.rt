@@ -1,5 +1,5 @@
 // Calls, openings and restarts of the shard of a hosted partition on its three disks.
-ghost use Rattle.std.specs.Prelude.{◌≡◌, ◌≢◌, ◌⊎◌, ◌≤◌, ◌<◌, ◌+◌, ◌^◌, List, ℕ, true, false, Some, None, Err, IfOk, IfErr, OnOk, OnErr, MatchResult, length};
+ghost use Rattle.std.specs.Prelude.{◌≡◌, ◌≢◌, ◌⊎◌, ◌≤◌, ◌<◌, ◌+◌, ◌^◌, List, ℕ, true, false, Some, Err, IfOk, IfErr, OnErr, MatchResult, length};
 ghost use Rattle.edge_io.specs.declared.fault.Armed.TheVariants.{Nothing};
 ghost use Rattle.edge_io.specs.declared.name.DiskPlace.{DiskPlace};
 ghost use Rattle.edge_io.specs.Causes.{Rose};
@@ -13,9 +13,9 @@ ghost use Rattle.call_fold.specs.Parts.{HasTellableBase, IsTellableLook, IsTella
 ghost use Rattle.call_fold.specs.declared.part.Produced.{Produced};
 ghost use Rattle.share_part.specs.Hosting.{ArePartText, key_of, states_of};
 ghost use Rattle.share_part.specs.Shards.{PartShardState};
-ghost use Rattle.broker_model.specs.Shards.{PartCall, look_at, result_of};
+ghost use Rattle.broker_model.specs.Shards.{look_at, result_of};
 ghost use Rattle.broker_model.specs.Shards.PartCall.{Visits, Produces, Expires};
-ghost use Rattle.broker_core.specs.Carried.{Begun, GoesOn, HaltsPart, IsPartCarried, LeadsPart, PartGoesOn};
+ghost use Rattle.broker_core.specs.Carried.{GoesOn, HaltsPart, IsPartCarried, LeadsPart, PartGoesOn};
 ghost use Rattle.broker_core.specs.Carried.Begun.{BeginsVisit, BeginsExpiry};
 ghost use Rattle.broker_core.specs.Hosts.{PartStandsAlone};
 ghost use Rattle.broker_core.specs.Restarts.{IsOpenedPart, IsDamagedPart, IsRestartedPart, PartImagesStandAs};

@@ -1,5 +1,5 @@
 // Power losses: all disks lose their power, and each shard is opened again.
-ghost use Rattle.std.specs.Prelude.{◌≡◌, ◌≢◌, ◌⊎◌, ◌-◌, IfErr, OnOk, Err};
+ghost use Rattle.std.specs.Prelude.{◌≡◌, ◌≢◌, ◌-◌, IfErr, OnOk, Err};
 ghost use Rattle.std.specs.List.{AllZip};
 ghost use Rattle.edge_io.specs.Names.{IsTopicName};
 ghost use Rattle.broker_model.specs.Shards.{Shards};
