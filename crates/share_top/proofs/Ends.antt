@@ -37,7 +37,7 @@ use Rattle.share_top.specs.declared.status.Status.{Status}
 use Rattle.share_top.specs.declared.status.Status.TheVariants.{Done, Usage, Malformed, ReadFault, WriteFault, Damaged, Device, NoMemory}
 use Rattle.share_top.specs.Changes.{InputChange, OutputChange}
 use Rattle.share_top.specs.Sessions.{Ending, Leaves, LeavesWithin, Ran, IsSession, OfBay, OverBay, CountRose, Writes, WritesThen, WritesFront, WritesPart}
-use Rattle.share_top.specs.Statuses.{IsPlayed, IsNotOpened, IsRefusedScript, IsBegun}
+use Rattle.share_top.specs.Statuses.{ComesNext, IsPlayed, IsNotOpened, IsRefusedScript, IsBegun}
 use Rattle.share_top.specs.Going.{FromCore, NeverFrom, IsRefusal}
 
 -- ---- how a run may end
@@ -55,8 +55,8 @@ leaves_ends conf = record {
   along = λ S T Q R now last f g l. record { known = l.known; stands = f last.machine.shards l.stands; reach = g last.ends l.reach };
 }
 
-pub within_ends : (conf : ConfigParts) → IsEnding (LeavesWithin conf)
-within_ends conf = record {
+pub within_ends : (conf : ConfigParts) (Next : Event → Type 0) → IsEnding (LeavesWithin conf Next)
+within_ends conf Next = record {
   some = λ S Q now last l. (l.after.shards, l.stands);
   along = λ S T Q R now last f g l. record {
     after = l.after;
@@ -74,10 +74,11 @@ within_ends conf = record {
 module _ (conf : ConfigParts) (input : InputChange) (output : OutputChange)
     (S T : List Event → (List Outcome → Type 0) → Ending → Type 0) (Untold Never Rises Rose_over : Type 0)
     (leaves : (events : List Event) (Tells : List Outcome → Type 0) → S events Tells (Leaves conf) → T events Tells (Leaves conf))
-    (within : (events : List Event) (Tells : List Outcome → Type 0) → S events Tells (LeavesWithin conf) → T events Tells (LeavesWithin conf))
+    (within : (Next : Event → Type 0) (events : List Event) (Tells : List Outcome → Type 0) → S events Tells (LeavesWithin conf Next) → T events Tells (LeavesWithin conf Next))
     (never : Untold → Never) (rises : Rises → Rose_over) where
-  begun : IsBegun input (λ events. S events (WritesFront conf output) (LeavesWithin conf)) → IsBegun input (λ events. T events (WritesFront conf output) (LeavesWithin conf))
-  begun b = record { events = b.events; begins = b.begins; session = within b.events (WritesFront conf output) b.session }
+  begun : IsBegun input (λ events. S events (WritesFront conf output) (LeavesWithin conf (ComesNext input events)))
+      → IsBegun input (λ events. T events (WritesFront conf output) (LeavesWithin conf (ComesNext input events)))
+  begun b = record { events = b.events; begins = b.begins; session = within (ComesNext input b.events) b.events (WritesFront conf output) b.session }
 
   refused : (Tells : ℕ → List Outcome → Type 0) → IsRefusedScript input (λ events fault. S events (Tells fault) (Leaves conf))
       → IsRefusedScript input (λ events fault. T events (Tells fault) (Leaves conf))
@@ -110,9 +111,9 @@ module _ (conf : ConfigParts) (input : InputChange) (output : OutputChange)
     },
   )
   played WriteFault r = (r.0, stopped r.1) where
-    stopped : IsBegun input (λ events. S events (WritesFront conf output) (LeavesWithin conf))
+    stopped : IsBegun input (λ events. S events (WritesFront conf output) (LeavesWithin conf (ComesNext input events)))
         ⊎ IsRefusedScript input (λ events fault. S events (WritesPart conf (malformed_line fault) output) (Leaves conf))
-        → IsBegun input (λ events. T events (WritesFront conf output) (LeavesWithin conf))
+        → IsBegun input (λ events. T events (WritesFront conf output) (LeavesWithin conf (ComesNext input events)))
         ⊎ IsRefusedScript input (λ events fault. T events (WritesPart conf (malformed_line fault) output) (Leaves conf))
     stopped (inl b) = inl (begun b)
     stopped (inr l) = inr (refused (λ fault. WritesPart conf (malformed_line fault) output) l)
@@ -536,7 +537,7 @@ module _ {B D : Type 0} (disk : B → List ℕ → Option D) (content : D → Op
         played conf input output (FromCore content image starved faults losses arms armed core left) Session
         (NeverFrom content image starved core) (OfBay disk content faults losses arms armed conf old (λ contents was. ⊥)) Rises Rose_over
         (λ events Says from. over (Leaves conf) (leaves_ends conf) events Says from)
-        (λ events Says from. over (LeavesWithin conf) (within_ends conf) events Says from)
+        (λ Next events Says from. over (LeavesWithin conf Next) (within_ends conf Next) events Says from)
         (λ never contents was t. let o = opens contents was t in never o.0 o.1) rises
         status
         (subst (λ (c : ConfigParts). IsPlayed c input output (FromCore content image starved faults losses arms armed core left)

@@ -1,5 +1,5 @@
 -- A run goes on by one event, or ends.
-use Rattle.std.proofs.Common.{◌≡◌, ◌≤◌, ◌-◌, ◌⊎◌, inl, inr, refl, sym, ap, ◌∙◌, subst, arith, append-nil, ℕ, List, [], ◌∷◌, ◌++◌, Bool, Some, None}
+use Rattle.std.proofs.Common.{◌≡◌, ◌⊎◌, inl, inr, refl, sym, ap, ◌∙◌, subst, arith, append-nil, ℕ, List, [], ◌∷◌, ◌++◌, Bool}
 use Rattle.std.specs.declared.option.Option.{Option}
 use Rattle.std.proofs.lemmas.List.Concat.{flat_map-append}
 use Rattle.std.specs.Io.KnownBytes.{Appends, Keeps}
@@ -15,10 +15,10 @@ use Rattle.broker_model.specs.Machine.{Machine}
 use Rattle.broker_model.specs.Disks.{Disks}
 use Rattle.broker_model.specs.States.{State, IsStep}
 use Rattle.broker_model.specs.Runs.{Step, outcomes_of}
-use Rattle.broker_core.specs.Hosts.{DisksReach, LeftDisks, ReachesTo, StandStill, disk_in, disks_in, ends_in, facts_in}
+use Rattle.broker_core.specs.Hosts.{DisksReach, LeftDisks, StandStill, disks_in, ends_in, facts_in}
 use Rattle.broker_core.specs.Cores.{CoreParts, IsCore, Reaches, state_of}
 use Rattle.broker_core.proofs.Leading.{still_all}
-use Rattle.broker_core.proofs.Reaching.{reach_all}
+use Rattle.broker_core.proofs.Reaching.{reach_all, reach_less}
 use Rattle.broker_core.proofs.Events.{later as counts_later}
 use Rattle.share_top.specs.Changes.{OutputChange}
 use Rattle.share_top.specs.Sessions.{DoesMore, Leaves, LeavesWithin, Ran, counts_since, ends_since}
@@ -117,14 +117,7 @@ module _ {D : Type 0} (content : D → Option (List ℕ)) (image : D → List �
   Reach left ends = DisksReach image left ends
 
   core_reach : (core : CoreParts D) (m : Machine) → Stands core m → Reach (disks_in core.hosts) (ends_in core.hosts)
-  core_reach core m k = reach_all content image starved faults losses arms armed core.hosts m.shards k.shards
-
-  -- nearer ends are reached as well
-  reach_less : (left : LeftDisks D) (near far : List ℕ → ℕ) → ((name : List ℕ) → near name ≤ far name) → Reach left far → Reach left near
-  reach_less left near far le reach = λ name. less (near name) (far name) (le name) (disk_in left name) (reach name) where
-    less : (low high : ℕ) → low ≤ high → (d : Option D) → ReachesTo image d high → ReachesTo image d low
-    less low high le None r = tt
-    less low high le (Some d) r = λ c is. let here = r c is in omega (arith, le, here)
+  core_reach core m k = reach_all content image starved core.hosts m.shards k.shards
 
   pub ran : (conf : ConfigParts) (first : State) (events : List Event) (T : List Outcome → Type 0) (core : CoreParts D) → G conf first events T core
       → Ran conf first events T (Leaves conf (Still (disks_in core.hosts)) (Reach (disks_in core.hosts)) (facts_in faults losses arms armed (disks_in core.hosts)))
@@ -137,9 +130,9 @@ module _ {D : Type 0} (content : D → Option (List ℕ)) (image : D → List �
     ends = record { known = λ name taken. refl; stands = core_still core g.machine g.core; reach = core_reach core g.machine g.core };
   }
 
-  pub ran_within : (conf : ConfigParts) (first : State) (events : List Event) (T : List Outcome → Type 0) (core : CoreParts D) → G conf first events T core
-      → Ran conf first events T (LeavesWithin conf (Still (disks_in core.hosts)) (Reach (disks_in core.hosts)) (facts_in faults losses arms armed (disks_in core.hosts)))
-  ran_within conf first events T core g = record {
+  pub ran_within : (conf : ConfigParts) (Next : Event → Type 0) (first : State) (events : List Event) (T : List Outcome → Type 0) (core : CoreParts D) → G conf first events T core
+      → Ran conf first events T (LeavesWithin conf Next (Still (disks_in core.hosts)) (Reach (disks_in core.hosts)) (facts_in faults losses arms armed (disks_in core.hosts)))
+  ran_within conf Next first events T core g = record {
     steps = g.steps;
     last = at g.machine core;
     run = g.run;
@@ -152,7 +145,7 @@ module _ {D : Type 0} (content : D → Option (List ℕ)) (image : D → List �
       later = λ name taken. omega arith;
       ends_later = λ name taken. omega arith;
       stands = core_still core g.machine g.core;
-      reach = reach_less (disks_in core.hosts) (λ name. ends_in core.hosts name - 1) (ends_in core.hosts) (λ name. omega arith) (core_reach core g.machine g.core);
+      reach = reach_less image (disks_in core.hosts) (ends_in core.hosts) (core_reach core g.machine g.core);
     };
   }
 
@@ -162,18 +155,19 @@ module _ {D : Type 0} (content : D → Option (List ℕ)) (image : D → List �
   known core = facts_in faults losses arms armed (disks_in core.hosts)
 
   -- the event was done, or left within, or not begun
-  reached : (conf : ConfigParts) (core next : CoreParts D) → core.conf ≡ conf → (old after : Machine) (ends : List ℕ → ℕ) (e : Event)
+  reached : (conf : ConfigParts) (Next : Event → Type 0) (core next : CoreParts D) → core.conf ≡ conf → (old after : Machine) (ends : List ℕ → ℕ)
+      (e : Event) → Next e
       → Reaches core.conf (counts_since (at old core) (known next)) (ends_since (at old core) ends) old e after
-      → (after ≡ old) ⊎ ((event : Event) × DoesMore conf (at old core) (known next) ends event after)
-  reached conf core next same old after ends e (inl still) = inl still
-  reached conf core next same old after ends e (inr more) =
-      inr (e, subst (λ (c : ConfigParts). DoesMore c (at old core) (known next) ends e after) same more)
+      → (after ≡ old) ⊎ ((event : Event) × Next event × DoesMore conf (at old core) (known next) ends event after)
+  reached conf Next core next same old after ends e comes (inl still) = inl still
+  reached conf Next core next same old after ends e comes (inr more) =
+      inr (e, comes, subst (λ (c : ConfigParts). DoesMore c (at old core) (known next) ends e after) same more)
 
-  pub halted : (conf : ConfigParts) (first : State) (events : List Event) (e : Event) (T U : List Outcome → Type 0) (output : OutputChange)
+  pub halted : (conf : ConfigParts) (Next : Event → Type 0) (first : State) (events : List Event) (e : Event) → Next e → (T U : List Outcome → Type 0) (output : OutputChange)
       → ((xs : List Outcome) → T xs → Keeps output.held output.held_after → U xs) → (core next : CoreParts D) → core.conf ≡ conf → G conf first events T core
       → ((m : Machine) → Stands core m → Halts content image faults losses arms armed core m e next output)
-      → Ran conf first events U (LeavesWithin conf (Still (disks_in next.hosts)) (Reach (disks_in next.hosts)) (facts_in faults losses arms armed (disks_in next.hosts)))
-  halted conf first events e T U output keep core next same g halts =
+      → Ran conf first events U (LeavesWithin conf Next (Still (disks_in next.hosts)) (Reach (disks_in next.hosts)) (facts_in faults losses arms armed (disks_in next.hosts)))
+  halted conf Next first events e comes T U output keep core next same g halts =
       let h = halts g.machine g.core in
       record {
         steps = g.steps;
@@ -184,7 +178,7 @@ module _ {D : Type 0} (content : D → Option (List ℕ)) (image : D → List �
         ends = record {
           after = h.stops.after;
           ends = h.stops.ends;
-          reaches = reached conf core next same g.machine h.stops.after h.stops.ends e h.stops.reaches;
+          reaches = reached conf Next core next same g.machine h.stops.after h.stops.ends e comes h.stops.reaches;
           later = λ name taken. counts_later content image starved faults losses arms armed (disks_in core.hosts) (disks_in next.hosts) h.disks name;
           ends_later = λ name taken. h.stops.ends_later name;
           stands = h.stops.still;

@@ -75,12 +75,13 @@ DoesMore conf last now ends event after =
     × StepsTo conf (counts_since last now) (ends_since last ends) last.machine event call outcomes after)
     ⊎ StopsWithin conf (counts_since last now) (ends_since last ends) last.machine event after
 
--- The disks stand for the last state's shards, or for those of one event more, done or left within, of whose outcomes nothing was written.
+-- The disks stand for the last state's shards, or for those of the next event, done or left within, of whose outcomes nothing was written.
 -- They reach to the last byte before where the journals end: a power loss after which no memory was found may leave that one out.
-pub record LeavesWithin (conf : ConfigParts) (Stand : Shards → Type 0) (Reach : (List ℕ → ℕ) → Type 0) (now : Disks) (last : State) : Type 0 where
+pub record LeavesWithin (conf : ConfigParts) (Next : Event → Type 0) (Stand : Shards → Type 0) (Reach : (List ℕ → ℕ) → Type 0) (now : Disks)
+    (last : State) : Type 0 where
   pub after : Machine
   pub ends : List ℕ → ℕ
-  pub reaches : (after ≡ last.machine) ⊎ ((event : Event) × DoesMore conf last now ends event after)
+  pub reaches : (after ≡ last.machine) ⊎ ((event : Event) × Next event × DoesMore conf last now ends event after)
   pub later : (name : List ℕ) → IsTaken conf name → faults_of last name ≤ (now name).faults
   pub ends_later : (name : List ℕ) → IsTaken conf name → last.ends name ≤ ends name
   pub stands : Stand after.shards
