@@ -1,12 +1,12 @@
-use Rattle.std.proofs.Common.{inl, inr, ⊎_elim, refl, ◌≡◌, subst}
+use Rattle.std.proofs.Common.{inl, inr, ⊎_elim, refl, sym, ◌≡◌, ◌∙◌, subst}
 use Rattle.share_top.specs.declared.status.Status.TheVariants.{Usage, NoMemory}
 use Rattle.share_top.specs.declared.words.Words.TheVariants.{Replay, Load}
 use Rattle.share_top.specs.Changes.{input_change, output_change}
 use Rattle.topic_conf.specs.Configs.{ConfigParts}
 use Rattle.share_top.specs.Words.{AreLoadWords, AreReplayWords, texts}
 use Rattle.share_top.specs.Sessions.{HoldsStates, CountRose}
-use Rattle.share_top.proofs.OneCommand.{one_replay}
-use Rattle.share_top.proofs.Completes.{completes_on, not_device_on}
+use Rattle.share_top.proofs.OneCommand.{one_replay, two_commands}
+use Rattle.share_top.proofs.Completes.{completes_on, not_device_on, not_seven}
 use Rattle.share_top.proofs.LoadWords.{loads, is_complete, other_loads, other_completes, hungry_loads}
 use Rattle.share_top.proofs.top.run_alone.Goals as goal
 
@@ -30,10 +30,10 @@ returns-clause-complete g c = λ conf words told sound read write.
     let stand = subst (λ (k : ConfigParts). HoldsStates g.B.Bay.disk g.B.D.Disk.content g.B.D.Disk.faults g.B.D.Disk.losses g.B.D.Disk.arms g.B.D.Disk.armed k c.args.bay.now)
     same told in
     let device = ⊎_elim c.session.ensures.sound
-    (λ still. not_device_on g.B.Bay.disk g.B.D.Disk.content g.B.D.Disk.faults g.B.D.Disk.losses g.B.D.Disk.arms g.B.D.Disk.armed g.B.Bay.faults c.args.bay.now c.session.new.bay
+    (λ still. not_device_on g.B.Bay.disk g.B.D.Disk.content g.B.D.Disk.image g.B.D.Disk.faults g.B.D.Disk.losses g.B.D.Disk.arms g.B.D.Disk.armed g.B.Bay.faults c.args.bay.now c.session.new.bay
     c.in-Ok-Replay.conf input output c.session.result c.session.ensures.replay stand
     (subst (λ (k : ConfigParts). CountRose g.B.Bay.disk g.B.D.Disk.faults g.B.Bay.faults k c.args.bay.now c.session.new.bay → ⊥) same still)) sound in
-    completes_on g.B.Bay.disk g.B.D.Disk.content g.B.D.Disk.faults g.B.D.Disk.losses g.B.D.Disk.arms g.B.D.Disk.armed g.B.Bay.faults c.args.bay.now c.session.new.bay
+    completes_on g.B.Bay.disk g.B.D.Disk.content g.B.D.Disk.image g.B.D.Disk.faults g.B.D.Disk.losses g.B.D.Disk.arms g.B.D.Disk.armed g.B.Bay.faults c.args.bay.now c.session.new.bay
     c.in-Ok-Replay.conf input output _ c.session.result c.number-2.ensures c.session.ensures.replay (c.session.ensures.recovers stand) device read write
 
 -- ---- load
@@ -75,3 +75,13 @@ returns-in-Err-NoMemory-clause-loads g c =
     hungry_loads g.B.Bay.disk g.B.D.Disk.content g.B.D.Disk.image g.B.D.Disk.faults g.B.Bay.faults c.args.bay.now c.args.bay.now c.args.words.now
     (input_change g.I.Source.left g.I.Source.ended g.I.Source.faults c.args.input.now c.args.input.now)
     (output_change g.O.Sink.held g.O.Sink.faults c.args.output.now c.args.output.now) c.number-in-Err-NoMemory.result c.number-in-Err-NoMemory.ensures refl refl refl
+
+-- ---- a sound bay
+
+pub returns-clause-sound : goal.returns-clause-sound
+returns-clause-sound g c = λ words sound is. not_seven c.session.result (c.session.ensures.sound sound) (sym c.number-2.ensures ∙ is)
+
+pub returns-in-Ok-Load-clause-sound : goal.returns-in-Ok-Load-clause-sound
+returns-in-Ok-Load-clause-sound g c = λ words sound is.
+    let are : AreLoadWords (texts c.args.words.now) c.in-Ok-Load.conf c.in-Ok-Load.shard = rw c.in-Ok-Load.field-0-is at c.in-Ok-Load.ensures.found in
+    two_commands (texts c.args.words.now) words.0 c.in-Ok-Load.conf c.in-Ok-Load.shard words.1 are

@@ -45,6 +45,7 @@ returns-in-Ok-clause-sound g c = λ sound is.
 pub returns-in-Err-clause-replay : goal.returns-in-Err-clause-replay
 returns-in-Err-clause-replay g c = inr (
   refl,
+  (c.start.ensures.told, c.in-Err.ensures.stays),
   not_opened g.B.Bay.disk g.B.D.Disk.content g.B.D.Disk.image g.B.D.Disk.starved g.B.D.Disk.faults g.B.D.Disk.losses g.B.D.Disk.arms g.B.D.Disk.armed
       c.args.bay.now c.start.new.bay g.B.Bay.faults c.args.conf (output_change g.O.Sink.held g.O.Sink.faults c.args.output.now c.refuse.new.output) c.in-Err.fault
       (λ name place e. c.start.ensures.damaged name place (c.in-Err.is ∙ ap (λ (f : CoreOpen). Err f) e))
