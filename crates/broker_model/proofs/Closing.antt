@@ -18,7 +18,6 @@ use Rattle.share_model.specs.Logs.{Batch as LogBatch, IsLog, end_of}
 use Rattle.share_model.specs.Runs.{row_at}
 use Rattle.share_model.specs.ShareStates.{ShareState}
 use Rattle.share_model.specs.declared.ack.AckKind.{AckKind}
-use Rattle.share_model.specs.declared.ack.AckKind.TheVariants.{Gap, Accept, Release as ReleaseAct, Reject}
 use Rattle.share_model.specs.declared.fault.StoreFault.{StoreFault}
 use Rattle.share_model.specs.declared.fault.StoreFault.TheVariants.{Device, Full}
 use Rattle.share_model.specs.declared.hold.Hold.{Hold}
@@ -49,7 +48,7 @@ use Rattle.topic_conf.specs.Configs.{ConfigParts}
 use Rattle.broker_model.specs.Hosted.{Hosted, first_of}
 use Rattle.broker_model.specs.Shards.{HostedPart, PartCall, StepsPart}
 use Rattle.broker_model.specs.Shards.PartCall.{Visits, Produces, Looks, Expires}
-use Rattle.broker_model.specs.Keeping.{HasKept, IsClosedIn, KeepsAcknowledgements}
+use Rattle.broker_model.specs.Keeping.{HasKept, IsActedOnIn, KeepsAcknowledgements}
 use Rattle.broker_model.specs.Locks.{Record}
 use Rattle.broker_model.specs.Starts.{IsWell, table_in}
 use Rattle.broker_model.specs.Runs.{Step, IsRun}
@@ -301,12 +300,6 @@ module _ (o : ℕ) (row : Row) (closed : is_closed_state row.state ≡ true) whe
 
 -- ---- the act
 
-closes_by : (limit : ℕ) (kind : AckKind) (count : ℕ) → kind ≢ ReleaseAct → is_closed_state (settled limit kind count).state ≡ true
-closes_by limit Accept count final = refl
-closes_by limit Gap count final = refl
-closes_by limit Reject count final = refl
-closes_by limit ReleaseAct count final = absurd (final refl)
-
 held_some : (member : List ℕ) (h : Option Hold) → IsHeldBy member h → (hold : Hold) × (h ≡ Some hold)
 held_some member None theirs = absurd theirs
 held_some member (Some hold) theirs = (hold, refl)
@@ -420,14 +413,15 @@ logs_on conf n first last (s ∷ steps) run x y at there is_log =
     let w = went conf s run.1 n x (ap (λ (z : State). entry_at n (parts_of z)) run.0 ∙ at) in
     logs_on conf n s.after last steps run.2 w.0 y w.1 there ((goes_log n s x w.0 w.2).still is_log)
 
-module _ (conf : ConfigParts) (r : Record) (s : Step) (c : IsClosedIn r s) (step : IsStepOf conf s) where
+module _ (conf : ConfigParts) (r : Record) (s : Step) (c : IsActedOnIn r s) (step : IsStepOf conf s) where
   abbrev call_of : Called r.shard s c.hosted (Visits c.visit c.answer)
   call_of = called conf s step r.shard c.hosted (Visits c.visit c.answer) c.call
 
   record Begun : Type 0 where
     hold : Hold
     at : hold_in call_of.old.shard r.group r.offset ≡ Some hold
-    keeps : KeepsPart r.offset (settled c.hosted.conf.limit c.kind hold.count) (closes_by c.hosted.conf.limit c.kind hold.count c.final) r.group call_of.new
+    keeps : (closed : is_closed_state (settled c.hosted.conf.limit c.kind hold.count).state ≡ true)
+        → KeepsPart r.offset (settled c.hosted.conf.limit c.kind hold.count) closed r.group call_of.new
 
   acted : IsLog call_of.old.shard.log.batches → Begun
   acted is_log = by_stored does.1 where
@@ -442,25 +436,23 @@ module _ (conf : ConfigParts) (r : Record) (s : Step) (c : IsClosedIn r s) (step
     h : (hold : Hold) × (hold_at (call_of.old.shard.held c.visit.group) r.offset ≡ Some hold)
     h = held_some c.visit.member (hold_at (call_of.old.shard.held c.visit.group) r.offset) (does.0.1 r.offset (subst IsSome (sym c.named) refl))
 
-    closed : is_closed_state (settled c.hosted.conf.limit c.kind h.0.count).state ≡ true
-    closed = closes_by c.hosted.conf.limit c.kind h.0.count c.final
-
     by_stored : StoresActs c.hosted.conf (Rose (counts_of s.before s.after (first_of c.hosted)).0 p.counted) (s.before.ends (first_of c.hosted))
         call_of.old.shard c.visit.group (kind_at c.visit.acks) p.between None → Begun
     by_stored (inl none) = absurd (none_not c.kind (sym (none.0 r.offset) ∙ c.named))
     by_stored (inr some) =
         let between : Keeps r.offset (settled c.hosted.conf.limit c.kind h.0.count) c.hosted.conf c.visit.group call_of.old.shard.log.batches p.between =
         begins c.hosted.conf c.visit.group r.offset (kind_at c.visit.acks) c.kind c.named call_of.old.shard p.between h.0 h.1 is_log some.1 in
-        let after : Keeps r.offset (settled c.hosted.conf.limit c.kind h.0.count) c.hosted.conf c.visit.group call_of.old.shard.log.batches call_of.new.shard =
+        let after : is_closed_state (settled c.hosted.conf.limit c.kind h.0.count).state ≡ true
+        → Keeps r.offset (settled c.hosted.conf.limit c.kind h.0.count) c.hosted.conf c.visit.group call_of.old.shard.log.batches call_of.new.shard = λ closed.
         does_keep r.offset (settled c.hosted.conf.limit c.kind h.0.count) closed c.hosted.conf c.visit.group call_of.old.shard.log.batches is_log _ p.at p.between c.visit c.answer call_of.new.shard
         (ap (λ (z : LogShardState). z.batches) p.acks.log) c.visit.then p.does between in
         record {
           hold = h.0;
           at = ap (λ (g : List ℕ). hold_in call_of.old.shard g r.offset) (sym c.group) ∙ h.1;
-          keeps = subst (λ (x : Hosted). Keeps r.offset (settled c.hosted.conf.limit c.kind h.0.count) x.conf r.group call_of.new.shard.log.batches call_of.new.shard) (sym call_of.step.is)
+          keeps = λ closed. subst (λ (x : Hosted). Keeps r.offset (settled c.hosted.conf.limit c.kind h.0.count) x.conf r.group call_of.new.shard.log.batches call_of.new.shard) (sym call_of.step.is)
               (subst (λ (l : List LogBatch). Keeps r.offset (settled c.hosted.conf.limit c.kind h.0.count) c.hosted.conf r.group l call_of.new.shard)
               (sym (ap (λ (z : LogShardState). z.batches) p.log))
-              (subst (λ (g : List ℕ). Keeps r.offset (settled c.hosted.conf.limit c.kind h.0.count) c.hosted.conf g call_of.old.shard.log.batches call_of.new.shard) c.group after));
+              (subst (λ (g : List ℕ). Keeps r.offset (settled c.hosted.conf.limit c.kind h.0.count) c.hosted.conf g call_of.old.shard.log.batches call_of.new.shard) c.group (after closed)));
         }
 
 pub acknowledgements_kept : (conf : ConfigParts) (first last : State) (steps : List Step) → IsRun conf first steps last → KeepsAcknowledgements first steps last
@@ -473,11 +465,12 @@ acknowledgements_kept conf first last steps run well before after s split r c =
     let is_log = logs_on conf r.shard first p.0 before p.1 x.0 call.old x.1 there (all_entry r.shard IsWell (parts_of first) x.0 x.1 well).0 in
     let b = acted conf r s c step is_log in
     let new_log = subst IsLog (sym (ap (λ (z : LogShardState). z.batches) call.step.step.log)) is_log in
-    let e = run_keeps r.offset (settled c.hosted.conf.limit c.kind b.hold.count) (closes_by c.hosted.conf.limit c.kind b.hold.count c.final) r.group conf r.shard
-    s.after last after p.2.2 call.new call.is new_log b.keeps in
     record {
       hold = b.hold;
       held = entry_holds r.shard (λ (q : HostedPart). hold_at (q.shard.held r.group) r.offset ≡ Some b.hold) (parts_of s.before) call.old call.was b.at;
-      row = entry_holds r.shard (λ (q : HostedPart). HasKept r.offset (settled c.hosted.conf.limit c.kind b.hold.count) (table_in q r.group)) (parts_of last) e.0 e.1
+      row = λ closed.
+          let e = run_keeps r.offset (settled c.hosted.conf.limit c.kind b.hold.count) closed r.group conf r.shard
+          s.after last after p.2.2 call.new call.is new_log (b.keeps closed) in
+          entry_holds r.shard (λ (q : HostedPart). HasKept r.offset (settled c.hosted.conf.limit c.kind b.hold.count) (table_in q r.group)) (parts_of last) e.0 e.1
           (kept_has r.offset (settled c.hosted.conf.limit c.kind b.hold.count) e.0.shard.log.batches (table_in e.0 r.group) e.2.now);
     }

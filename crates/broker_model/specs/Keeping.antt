@@ -1,8 +1,9 @@
 -- What a run keeps: each batch that was ever answered with a base, and each record whose acknowledgement was answered as done (this project's
 -- own).
 -- For example a batch that is answered with base 3 stands in its log, at offset 3, at each later time, also behind a power loss. A record of
--- it that is accepted at its first delivery is stored as acknowledged with count 1 from then on, or lies below the start.
-use Rattle.std.specs.Prelude.{◌≡◌, ◌≢◌, ◌⊎◌, ◌<◌, ℕ, List, ◌∷◌, ◌++◌, Option, Some, None}
+-- it that is accepted at its first delivery is stored as acknowledged with count 1 from then on, or lies below the start; and one that is
+-- released at its fifth, where that is the limit, as archived with count 5.
+use Rattle.std.specs.Prelude.{◌≡◌, ◌⊎◌, ◌<◌, ℕ, List, ◌∷◌, ◌++◌, Option, Some, None, true}
 use Rattle.std.specs.List.{AllByRecursion, AllZip}
 use Rattle.ack_ranges.specs.Batches.{kind_at}
 use Rattle.rec_batch.specs.Placing.{placed}
@@ -12,13 +13,12 @@ use Rattle.share_model.specs.Logs.{Batch}
 use Rattle.share_model.specs.Runs.{row_at}
 use Rattle.share_model.specs.ShareStates.{ShareState}
 use Rattle.share_model.specs.declared.ack.AckKind.{AckKind}
-use Rattle.share_model.specs.declared.ack.AckKind.TheVariants.{Release}
 use Rattle.share_model.specs.declared.hold.Hold.{Hold}
 use Rattle.share_model.specs.declared.row.Row.{Row}
 use Rattle.share_model.specs.declared.visit.AckOutcome.TheVariants.{Done}
 use Rattle.share_model.specs.declared.visit.Visit.{Visit}
 use Rattle.share_model.specs.declared.visit.VisitAnswer.{VisitAnswer}
-use Rattle.share_part.specs.Settling.{settled}
+use Rattle.share_part.specs.Settling.{is_closed_state, settled}
 use Rattle.part_log.specs.Batches.{batch_in}
 use Rattle.call_fold.specs.declared.part.Produced.TheVariants.{Base}
 use Rattle.broker_model.specs.Hosted.{Hosted, HoldsAt}
@@ -49,8 +49,8 @@ pub record KeepsBatches (first : State) (steps : List Step) (last : State) : Typ
 
 -- ---- acknowledgements
 
--- an accept, a reject or a gap of the record was answered as done
-pub record IsClosedIn (r : Record) (s : Step) : Type 0 where
+-- an accept, a reject, a gap or a release of the record was answered as done
+pub record IsActedOnIn (r : Record) (s : Step) : Type 0 where
   pub hosted : Hosted
   pub visit : Visit
   pub answer : VisitAnswer
@@ -58,7 +58,6 @@ pub record IsClosedIn (r : Record) (s : Step) : Type 0 where
   pub call : s.call ≡ Some (CallPart r.shard hosted (Visits visit answer))
   pub group : visit.group ≡ r.group
   pub named : kind_at visit.acks r.offset ≡ Some kind
-  pub final : kind ≢ Release
   pub done : answer.ack ≡ Done
 
 -- the record has this row, or lies below the start
@@ -66,15 +65,16 @@ abbrev pub HasKept : ℕ → Row → Option ShareState → Type 0
 HasKept offset row None = ⊥
 HasKept offset row (Some state) = (offset < size_of state.start) ⊎ (row_at state.runs offset ≡ Some row)
 
--- it was held then, and has in the end the row that the act gives it, with the count of that delivery, or lies below the start
-pub record IsKept (r : Record) (s : Step) (c : IsClosedIn r s) (last : State) : Type 0 where
+-- It was held then; and where the act closes it, by an accept, a reject or a gap, or by a release at the limit, it has in the end the row that
+-- the act gives it, with the count of that delivery, or lies below the start.
+pub record IsKept (r : Record) (s : Step) (c : IsActedOnIn r s) (last : State) : Type 0 where
   pub hold : Hold
   pub held : HoldsAt r.shard (λ (p : HostedPart). hold_at (p.shard.held r.group) r.offset ≡ Some hold) s.before.machine.shards.parts
-  pub row : HoldsAt r.shard (λ (p : HostedPart). HasKept r.offset (settled c.hosted.conf.limit c.kind hold.count) (table_in p r.group))
-      last.machine.shards.parts
+  pub row : is_closed_state (settled c.hosted.conf.limit c.kind hold.count).state ≡ true
+      → HoldsAt r.shard (λ (p : HostedPart). HasKept r.offset (settled c.hosted.conf.limit c.kind hold.count) (table_in p r.group)) last.machine.shards.parts
 
 -- Where each partition was well at first, as behind an opening, no acknowledgement that was answered as done is lost, whatever fails and however
 -- often power is lost.
 abbrev pub KeepsAcknowledgements : State → List Step → State → Type 0
 KeepsAcknowledgements first steps last = AllByRecursion IsWell first.machine.shards.parts → (before after : List Step) (s : Step) →
-    steps ≡ before ++ (s ∷ after) → (r : Record) (c : IsClosedIn r s) → IsKept r s c last
+    steps ≡ before ++ (s ∷ after) → (r : Record) (c : IsActedOnIn r s) → IsKept r s c last

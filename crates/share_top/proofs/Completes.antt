@@ -11,7 +11,7 @@ use Rattle.share_top.specs.declared.status.Status.{Status}
 use Rattle.share_top.specs.declared.status.Status.TheVariants.{Done, Usage, Malformed, ReadFault, WriteFault, Damaged, Device, NoMemory}
 use Rattle.share_top.specs.Changes.{InputChange, OutputChange}
 use Rattle.share_top.specs.Sessions.{Ending, IsSession, OfBay, OverBay, HoldsStates, CountRose}
-use Rattle.share_top.specs.Statuses.{IsPlayed, IsNotOpened, IsRefusedScript, IsReplay, status_number}
+use Rattle.share_top.specs.Statuses.{DisksStay, IsPlayed, IsNotOpened, IsRefusedScript, IsReplay, status_number}
 
 some_each : (o : Option (List ℕ)) (P Q : List ℕ → Type 0) → ((x : List ℕ) → P x → Q x) → IfSome o P → IfSome o Q
 some_each None P Q f h = tt
@@ -22,9 +22,9 @@ always None P h = tt
 always (Some x) P h = h x
 
 module _ (conf : ConfigParts) (input : InputChange) (output : OutputChange) (Session : List Event → (List Outcome → Type 0) → Ending → Type 0)
-    (Untold Same : Type 0) (AtEntry : ((List ℕ → List ℕ) → Disks → Type 0) → Type 0) (Rises : Type 0) where
+    (Untold Same Stay : Type 0) (AtEntry : ((List ℕ → List ℕ) → Disks → Type 0) → Type 0) (Rises : Type 0) where
   abbrev Ends : Status → Type 0
-  Ends status = IsPlayed conf input output Session Untold Rises status ⊎ (Same × IsNotOpened conf output AtEntry Rises status)
+  Ends status = IsPlayed conf input output Session Untold Rises status ⊎ (Same × Stay × IsNotOpened conf output AtEntry Rises status)
 
   abbrev IsWhole : ℕ → Type 0
   IsWhole number = IfSome input.left (λ text. (events : List Event) → IsScript text events → (number ≡ 0) ⊎ (number ≡ 8))
@@ -38,13 +38,13 @@ module _ (conf : ConfigParts) (input : InputChange) (output : OutputChange) (Ses
       → (Rose input.faults input.faults_after → ⊥) → (Rose output.faults output.faults_after → ⊥) → IsWhole number
   completes number Done is e whole fed read write = always input.left _ (λ text events s. inl is)
   completes number Usage is (inl e) whole fed read write = absurd e
-  completes number Usage is (inr e) whole fed read write = absurd e.1
+  completes number Usage is (inr e) whole fed read write = absurd e.2
   completes number Malformed is (inl e) whole fed read write = none_refused _ number e
-  completes number Malformed is (inr e) whole fed read write = absurd e.1
+  completes number Malformed is (inr e) whole fed read write = absurd e.2
   completes number ReadFault is (inl e) whole fed read write = absurd (read e.0)
-  completes number ReadFault is (inr e) whole fed read write = absurd e.1
+  completes number ReadFault is (inr e) whole fed read write = absurd e.2
   completes number WriteFault is (inl e) whole fed read write = absurd (write e.0)
-  completes number WriteFault is (inr e) whole fed read write = absurd (write e.1.0)
+  completes number WriteFault is (inr e) whole fed read write = absurd (write e.2.0)
   completes number Damaged is e whole fed read write = absurd (whole refl)
   completes number Device is e whole fed read write = absurd (fed refl)
   completes number NoMemory is e whole fed read write = always input.left _ (λ text events s. inr is)
@@ -54,13 +54,24 @@ module _ (conf : ConfigParts) (input : InputChange) (output : OutputChange) (Ses
   not_device status e told still is = device (subst Ends is e) where
     device : Ends Device → ⊥
     device (inl stopped) = told stopped.1
-    device (inr refusal) = still refusal.1.0
+    device (inr refusal) = still refusal.2.0
+
+-- a status that isn't that of a device fault isn't 7
+pub not_seven : (status : Status) → status ≢ Device → status_number status ≢ 7
+not_seven Done not is = absurd cc
+not_seven Usage not is = absurd cc
+not_seven Malformed not is = absurd cc
+not_seven ReadFault not is = absurd cc
+not_seven WriteFault not is = absurd cc
+not_seven Damaged not is = absurd cc
+not_seven Device not is = absurd (not refl)
+not_seven NoMemory not is = absurd cc
 
 -- the same over a bay; the members of the bay and of its disks come first
-module _ {B D : Type 0} (disk : B → List ℕ → Option D) (content : D → Option (List ℕ)) (faults : D → ℕ) (losses : D → List (ℕ × List ℕ)) (arms : D → ℕ)
+module _ {B D : Type 0} (disk : B → List ℕ → Option D) (content : D → Option (List ℕ)) (image : D → List ℕ → Type 0) (faults : D → ℕ) (losses : D → List (ℕ × List ℕ)) (arms : D → ℕ)
     (armed : D → Armed) (bay_faults : B → ℕ) (old new : B) (conf : ConfigParts) (input : InputChange) (output : OutputChange) where
   abbrev Replay : Status → Type 0
-  Replay status = IsReplay disk content faults losses arms armed bay_faults old new conf input output status
+  Replay status = IsReplay disk content image faults losses arms armed bay_faults old new conf input output status
 
   abbrev Session : List Event → (List Outcome → Type 0) → Ending → Type 0
   Session events Tells Ends = OverBay disk content faults losses arms armed conf old new (IsSession conf events Tells Ends)
@@ -77,8 +88,8 @@ module _ {B D : Type 0} (disk : B → List ℕ → Option D) (content : D → Op
   pub completes_on : (number : ℕ) (status : Status) → number ≡ status_number status → Replay status → status ≢ Damaged → status ≢ Device
       → (Rose input.faults input.faults_after → ⊥) → (Rose output.faults output.faults_after → ⊥)
       → IfSome input.left (λ text. (events : List Event) → IsScript text events → (number ≡ 0) ⊎ (number ≡ 8))
-  completes_on number status is e whole fed read write = completes conf input output Session Untold input.Same AtEntry Rises number status is e whole fed read write
+  completes_on number status is e whole fed read write = completes conf input output Session Untold input.Same (DisksStay disk image old new) AtEntry Rises number status is e whole fed read write
 
   pub not_device_on : (status : Status) → Replay status → HoldsStates disk content faults losses arms armed conf old → (Rises → ⊥) → status ≢ Device
   not_device_on status e told still =
-      not_device conf input output Session Untold input.Same AtEntry Rises status e (λ untold. untold told.0 told.1 told.2) still
+      not_device conf input output Session Untold input.Same (DisksStay disk image old new) AtEntry Rises status e (λ untold. untold told.0 told.1 told.2) still

@@ -1,5 +1,5 @@
 -- A session over a bay: what its replay says of the broker's disks is said of those of the bay.
-use Rattle.std.proofs.Common.{◌≡◌, ◌<◌, ◌+◌, ◌++◌, map, ◌⊎◌, inl, inr, refl, sym, ap, ◌∙◌, subst, ℕ, zero, suc, List, [], ◌∷◌, All, Bool, true, false, Some, None, is_some, if◌then◌else◌, arith}
+use Rattle.std.proofs.Common.{◌≡◌, ◌≤◌, ◌<◌, ◌+◌, ◌-◌, ◌++◌, length, map, ◌⊎◌, inl, inr, refl, sym, ap, ◌∙◌, subst, ℕ, zero, suc, List, [], ◌∷◌, All, Bool, true, false, Some, None, is_some, if◌then◌else◌, arith}
 use Rattle.std.proofs.lemmas.Bool.{cases_Bool}
 use Rattle.std.specs.List.{AllByRecursion, AllZip}
 use Rattle.std.proofs.lemmas.List.Concat.{flat_map-append}
@@ -21,14 +21,14 @@ use Rattle.broker_model.specs.Hosted.{IsOneOf, IsTaken, disks_of, first_of, host
 use Rattle.broker_model.specs.Shards.{Shards, HostedPart, hosted_by}
 use Rattle.broker_model.specs.Machine.{Machine, StandWith, StandsFor, StandsForPart}
 use Rattle.broker_model.specs.Disks.{Facts, Disks, facts_of}
-use Rattle.broker_model.specs.States.{State}
+use Rattle.broker_model.specs.States.{ReachTo, State}
 use Rattle.broker_model.proofs.Holds.{holds}
 use Rattle.broker_model.proofs.Passing.{openings_well}
 use Rattle.broker_core.specs.declared.fault.CoreOpen.{CoreOpen}
 use Rattle.broker_core.specs.declared.fault.CoreOpen.TheVariants as open_fault
 use Rattle.broker_core.specs.declared.slot.PartSlot.{PartSlot}
 use Rattle.broker_core.specs.Bays.{TellsDisks, TellsStill, IsFirst, ArePutBack, HoldsIf, BothHold, HasName}
-use Rattle.broker_core.specs.Hosts.{LeftDisks, GoOn, DiskGoesOn, IsPartSlot, StandStill, ForeignStill, PartStill, PartsStill, disks_in, facts_at, facts_in, facts_among, foreign_facts, hosted_slot, hosted_slots, slots_disks}
+use Rattle.broker_core.specs.Hosts.{LeftDisks, GoOn, DiskGoesOn, DisksReach, IsPartSlot, StandStill, ForeignStill, PartStill, PartsStill, ReachesTo, among, disk_in, disks_in, facts_at, facts_in, facts_among, foreign_disk, foreign_facts, hosted_slot, hosted_slots, slots_disks}
 use Rattle.broker_core.specs.Cores.{CoreParts, IsCore, state_of}
 use Rattle.broker_core.specs.Restarts.{IsDamagedDisk}
 use Rattle.broker_core.proofs.Opening.{is_told}
@@ -37,26 +37,36 @@ use Rattle.share_top.specs.declared.status.Status.{Status}
 use Rattle.share_top.specs.declared.status.Status.TheVariants.{Done, Usage, Malformed, ReadFault, WriteFault, Damaged, Device, NoMemory}
 use Rattle.share_top.specs.Changes.{InputChange, OutputChange}
 use Rattle.share_top.specs.Sessions.{Ending, Leaves, LeavesWithin, Ran, IsSession, OfBay, OverBay, CountRose, Writes, WritesThen, WritesFront, WritesPart}
-use Rattle.share_top.specs.Statuses.{IsPlayed, IsNotOpened, IsRefusedScript, IsBegun}
+use Rattle.share_top.specs.Statuses.{ComesNext, IsPlayed, IsNotOpened, IsRefusedScript, IsBegun}
 use Rattle.share_top.specs.Going.{FromCore, NeverFrom, IsRefusal}
 
 -- ---- how a run may end
 
--- it says of one value of shards that the disks stand for it, and says the same of what follows from that
+-- it says of one value of shards that the disks stand for it, and of one value of ends that they reach to it, and says the same of what
+-- follows from that
 pub record IsEnding (Ends : Ending) : Type 1 where
-  pub some : (S : Shards → Type 0) (now : Disks) (last : State) → Ends S now last → (shards : Shards) × S shards
-  pub along : (S T : Shards → Type 0) (now : Disks) (last : State) → ((shards : Shards) → S shards → T shards) → Ends S now last → Ends T now last
+  pub some : (S : Shards → Type 0) (Q : (List ℕ → ℕ) → Type 0) (now : Disks) (last : State) → Ends S Q now last → (shards : Shards) × S shards
+  pub along : (S T : Shards → Type 0) (Q R : (List ℕ → ℕ) → Type 0) (now : Disks) (last : State) → ((shards : Shards) → S shards → T shards)
+      → ((ends : List ℕ → ℕ) → Q ends → R ends) → Ends S Q now last → Ends T R now last
 
 pub leaves_ends : (conf : ConfigParts) → IsEnding (Leaves conf)
 leaves_ends conf = record {
-  some = λ S now last l. (last.machine.shards, l.stands);
-  along = λ S T now last f l. record { known = l.known; stands = f last.machine.shards l.stands };
+  some = λ S Q now last l. (last.machine.shards, l.stands);
+  along = λ S T Q R now last f g l. record { known = l.known; stands = f last.machine.shards l.stands; reach = g last.ends l.reach };
 }
 
-pub within_ends : (conf : ConfigParts) → IsEnding (LeavesWithin conf)
-within_ends conf = record {
-  some = λ S now last l. (l.after.shards, l.stands);
-  along = λ S T now last f l. record { after = l.after; reaches = l.reaches; later = l.later; stands = f l.after.shards l.stands };
+pub within_ends : (conf : ConfigParts) (Next : Event → Type 0) → IsEnding (LeavesWithin conf Next)
+within_ends conf Next = record {
+  some = λ S Q now last l. (l.after.shards, l.stands);
+  along = λ S T Q R now last f g l. record {
+    after = l.after;
+    ends = l.ends;
+    reaches = l.reaches;
+    later = l.later;
+    ends_later = l.ends_later;
+    stands = f l.after.shards l.stands;
+    reach = g (λ name. l.ends name - 1) l.reach;
+  };
 }
 
 -- ---- a table of one kind of sessions gives that of another
@@ -64,10 +74,11 @@ within_ends conf = record {
 module _ (conf : ConfigParts) (input : InputChange) (output : OutputChange)
     (S T : List Event → (List Outcome → Type 0) → Ending → Type 0) (Untold Never Rises Rose_over : Type 0)
     (leaves : (events : List Event) (Tells : List Outcome → Type 0) → S events Tells (Leaves conf) → T events Tells (Leaves conf))
-    (within : (events : List Event) (Tells : List Outcome → Type 0) → S events Tells (LeavesWithin conf) → T events Tells (LeavesWithin conf))
+    (within : (Next : Event → Type 0) (events : List Event) (Tells : List Outcome → Type 0) → S events Tells (LeavesWithin conf Next) → T events Tells (LeavesWithin conf Next))
     (never : Untold → Never) (rises : Rises → Rose_over) where
-  begun : IsBegun input (λ events. S events (WritesFront conf output) (LeavesWithin conf)) → IsBegun input (λ events. T events (WritesFront conf output) (LeavesWithin conf))
-  begun b = record { events = b.events; begins = b.begins; session = within b.events (WritesFront conf output) b.session }
+  begun : IsBegun input (λ events. S events (WritesFront conf output) (LeavesWithin conf (ComesNext input events)))
+      → IsBegun input (λ events. T events (WritesFront conf output) (LeavesWithin conf (ComesNext input events)))
+  begun b = record { events = b.events; begins = b.begins; session = within (ComesNext input b.events) b.events (WritesFront conf output) b.session }
 
   refused : (Tells : ℕ → List Outcome → Type 0) → IsRefusedScript input (λ events fault. S events (Tells fault) (Leaves conf))
       → IsRefusedScript input (λ events fault. T events (Tells fault) (Leaves conf))
@@ -100,9 +111,9 @@ module _ (conf : ConfigParts) (input : InputChange) (output : OutputChange)
     },
   )
   played WriteFault r = (r.0, stopped r.1) where
-    stopped : IsBegun input (λ events. S events (WritesFront conf output) (LeavesWithin conf))
+    stopped : IsBegun input (λ events. S events (WritesFront conf output) (LeavesWithin conf (ComesNext input events)))
         ⊎ IsRefusedScript input (λ events fault. S events (WritesPart conf (malformed_line fault) output) (Leaves conf))
-        → IsBegun input (λ events. T events (WritesFront conf output) (LeavesWithin conf))
+        → IsBegun input (λ events. T events (WritesFront conf output) (LeavesWithin conf (ComesNext input events)))
         ⊎ IsRefusedScript input (λ events fault. T events (WritesPart conf (malformed_line fault) output) (Leaves conf))
     stopped (inl b) = inl (begun b)
     stopped (inr l) = inr (refused (λ fault. WritesPart conf (malformed_line fault) output) l)
@@ -166,6 +177,40 @@ module _ {D : Type 0} where
   pub names_stay : (content : D → Option (List ℕ)) (faults : D → ℕ) (old new : List (PartSlot D))
       → AllZip (DiskGoesOn content faults) (slots_disks old) (slots_disks new) → part_disks (hosted_slots new) ≡ part_disks (hosted_slots old)
   names_stay content faults old new z = sym (names_of_slots new) ∙ names_go_on content faults (slots_disks old) (slots_disks new) z ∙ names_of_slots old
+
+-- what is known of a disk is that of the one that is found under its name
+module _ {D : Type 0} (faults : D → ℕ) (losses : D → List (ℕ × List ℕ)) (arms : D → ℕ) (armed : D → Armed) where
+  abbrev facts_at_disk : Option D → Facts
+  facts_at_disk found = facts_at faults losses arms armed found
+
+  either : (first : Bool) (d there : Option D) (rest : Facts) → rest ≡ facts_at_disk there
+      → (if first then facts_at_disk d else rest) ≡ facts_at_disk (if first then d else there)
+  either true d there rest same = refl
+  either false d there rest same = same
+
+  among_facts : (es : List (List ℕ × Option D)) (name : List ℕ) (other : Option D)
+      → facts_among faults losses arms armed es (facts_at_disk other) name
+      ≡ facts_at_disk (among (λ (e : List ℕ × Option D). e.0) (λ (e : List ℕ × Option D). e.1) es other name)
+  among_facts [] name other = refl
+  among_facts (e ∷ es) name other =
+      either (same_name name e.0) e.1 (among (λ (e : List ℕ × Option D). e.0) (λ (e : List ℕ × Option D). e.1) es other name)
+      (facts_among faults losses arms armed es (facts_at_disk other) name) (among_facts es name other)
+
+  foreign_facts_of : (left : Option (D × D)) (name : List ℕ) → foreign_facts faults losses arms armed left name ≡ facts_at_disk (foreign_disk left name)
+  foreign_facts_of None name = refl
+  foreign_facts_of (Some disks) name = go (same_name name state_a) where
+    go : (b : Bool) → record {
+      faults = if b then faults disks.0 else faults disks.1;
+      losses = if b then losses disks.0 else losses disks.1;
+      arms = if b then arms disks.0 else arms disks.1;
+      armed = if b then armed disks.0 else armed disks.1;
+    } ≡ facts_at_disk (Some (if b then disks.0 else disks.1))
+    go true = refl
+    go false = refl
+
+  pub facts_of_disk : (left : LeftDisks D) (name : List ℕ) → facts_in faults losses arms armed left name ≡ facts_at_disk (disk_in left name)
+  facts_of_disk left name = ap (λ (f : Facts). facts_among faults losses arms armed left.parts f name) (foreign_facts_of left.foreign name)
+      ∙ among_facts left.parts name (foreign_disk left.foreign name)
 
 -- ---- over a bay; the members of the bay and of its disks come first
 
@@ -260,9 +305,9 @@ module _ {B D : Type 0} (disk : B → List ℕ → Option D) (content : D → Op
     abbrev Told : List ℕ → Type 0
     Told name = is_some (disk mid name) ≡ true
 
-    -- under this name the bay has a disk of which this is known
-    abbrev Known : List ℕ → Facts → Type 0
-    Known name facts = (d : D) × (disk new name ≡ Some d) × IsTold (content d) × (facts ≡ facts_of faults losses arms armed d)
+    -- under this name the bay has the disk that was found, and it tells its content
+    abbrev Known : List ℕ → Option D → Type 0
+    Known name found = (d : D) × (disk new name ≡ Some d) × IsTold (content d) × (found ≡ Some d)
 
     -- it is there, and tells its content
     abbrev IsToldEntry : List ℕ × Option D → Type 0
@@ -284,18 +329,21 @@ module _ {B D : Type 0} (disk : B → List ℕ → Option D) (content : D → Op
           ),
         )
 
-    of_entry : (e : List ℕ × Option D) → HoldsIf disk mid new e → IsToldEntry e → Told e.0 → Known e.0 (facts_at faults losses arms armed e.1)
+    of_entry : (e : List ℕ × Option D) → HoldsIf disk mid new e → IsToldEntry e → Told e.0 → Known e.0 e.1
     of_entry (n, None) back entry told = absurd back
     of_entry (n, Some d) back entry told =
         let is : Some d ≡ Some entry.0 = entry.1 in
         let same : entry.0 ≡ d = cc in
         (d, back told, subst (λ (x : D). IsTold (content x)) same entry.2, refl)
 
-    abbrev cond : Bool → Facts → Facts → Facts
-    cond b f g = if b then f else g
+    abbrev among_disks : List (List ℕ × Option D) → Option D → List ℕ → Option D
+    among_disks es other name = among (λ (e : List ℕ × Option D). e.0) (λ (e : List ℕ × Option D). e.1) es other name
+
+    abbrev cond : Bool → Option D → Option D → Option D
+    cond b d e = if b then d else e
 
     of_entries : (es : List (List ℕ × Option D)) → AllByRecursion (HoldsIf disk mid new) es → AllByRecursion IsToldEntry es
-        → (name : List ℕ) → Told name → (other : Facts) → HasName es name ⊎ Known name other → Known name (facts_among faults losses arms armed es other name)
+        → (name : List ℕ) → Told name → (other : Option D) → HasName es name ⊎ Known name other → Known name (among_disks es other name)
     of_entries [] back entries name told other (inl one) = absurd one
     of_entries [] back entries name told other (inr known) = known
     of_entries (e ∷ es) back entries name told other h = go (λ r. of_entries es back.1 entries.1 name told other r) (cases_Bool (same_name name e.0)) where
@@ -306,42 +354,40 @@ module _ {B D : Type 0} (disk : B → List ℕ → Option D) (content : D → Op
       rest differs (inl (inr one)) = inl one
       rest differs (inr known) = inr known
 
-      go : (HasName es name ⊎ Known name other → Known name (facts_among faults losses arms armed es other name))
-          → (same_name name e.0 ≡ true) ⊎ (same_name name e.0 ≡ false) → Known name (facts_among faults losses arms armed (e ∷ es) other name)
+      go : (HasName es name ⊎ Known name other → Known name (among_disks es other name))
+          → (same_name name e.0 ≡ true) ⊎ (same_name name e.0 ≡ false) → Known name (among_disks (e ∷ es) other name)
       go others (inl eq) =
           let is : name ≡ e.0 = is_same name e.0 eq in
           let k = of_entry e back.0 entries.0 (subst Told is told) in
-          subst (λ (b : Bool). Known name (cond b (facts_at faults losses arms armed e.1) (facts_among faults losses arms armed es other name))) (sym eq)
-          (subst (λ (n : List ℕ). Known n (facts_at faults losses arms armed e.1)) (sym is) k)
-      go others (inr not) = subst (λ (b : Bool). Known name (cond b (facts_at faults losses arms armed e.1) (facts_among faults losses arms armed es other name))) (sym not)
-          (others (rest not h))
+          subst (λ (b : Bool). Known name (cond b e.1 (among_disks es other name))) (sym eq) (subst (λ (n : List ℕ). Known n e.1) (sym is) k)
+      go others (inr not) = subst (λ (b : Bool). Known name (cond b e.1 (among_disks es other name))) (sym not) (others (rest not h))
 
     of_first : (left : Option (D × D)) (shards : Shards) → BothHold disk mid new left → ForeignStill content image shards.foreign left → Told state_a
-        → Known state_a (foreign_facts faults losses arms armed left state_a)
+        → Known state_a (foreign_disk left state_a)
     of_first None shards back still told = absurd still
     of_first (Some (first, second)) shards back still told = (first, back.0 told, still.told, refl)
 
     of_second : (left : Option (D × D)) (shards : Shards) → BothHold disk mid new left → ForeignStill content image shards.foreign left → Told state_b
-        → Known state_b (foreign_facts faults losses arms armed left state_b)
+        → Known state_b (foreign_disk left state_b)
     of_second None shards back still told = absurd still
     of_second (Some (first, second)) shards back still told = (second, back.1 told, still.second_told, refl)
 
     module _ (left : LeftDisks D) (shards : Shards) (back : ArePutBack disk mid new left) (still : StandStill content image shards left) where
-      abbrev F : List ℕ → Facts
-      F name = facts_in faults losses arms armed left name
+      abbrev F : List ℕ → Option D
+      F name = disk_in left name
 
       entries : AllByRecursion IsToldEntry left.parts
       entries = told_entries left.parts shards.parts still.parts
 
       parts_known : (name : List ℕ) → Told name → HasName left.parts name → Known name (F name)
-      parts_known name told one = of_entries left.parts back.parts entries name told (foreign_facts faults losses arms armed left.foreign name) (inl one)
+      parts_known name told one = of_entries left.parts back.parts entries name told (foreign_disk left.foreign name) (inl one)
 
       first_known : Told state_a → Known state_a (F state_a)
-      first_known told = of_entries left.parts back.parts entries state_a told (foreign_facts faults losses arms armed left.foreign state_a)
+      first_known told = of_entries left.parts back.parts entries state_a told (foreign_disk left.foreign state_a)
           (inr (of_first left.foreign shards back.foreign still.foreign told))
 
       second_known : Told state_b → Known state_b (F state_b)
-      second_known told = of_entries left.parts back.parts entries state_b told (foreign_facts faults losses arms armed left.foreign state_b)
+      second_known told = of_entries left.parts back.parts entries state_b told (foreign_disk left.foreign state_b)
           (inr (of_second left.foreign shards back.foreign still.foreign told))
 
     -- ---- what their contents stand for
@@ -398,7 +444,7 @@ module _ {B D : Type 0} (disk : B → List ℕ → Option D) (content : D → Op
       (same : core.conf ≡ conf) (opens : Opens conf old core) (still : TellsStill disk old mid) (goes : GoOn content faults (disks_in core.hosts) left)
       (back : ArePutBack disk mid new left) where
     abbrev Before : Ending → State → Type 0
-    Before Ends last = Ends (λ shards. StandStill content image shards left) (facts_in faults losses arms armed left) last
+    Before Ends last = Ends (λ shards. StandStill content image shards left) (λ ends. DisksReach image left ends) (facts_in faults losses arms armed left) last
 
     told_in : (contents : List ℕ → List ℕ) (was : Disks) → Tells conf old contents was → (name : List ℕ) → IsTaken conf name → is_some (disk mid name) ≡ true
     told_in contents was t name taken = still name (ap is_some (t name taken).1)
@@ -415,15 +461,28 @@ module _ {B D : Type 0} (disk : B → List ℕ → Option D) (content : D → Op
     TellsAt name = (d : D) × (disk new name ≡ Some d) × (content d ≡ Some (text_in new name))
         × (facts_in faults losses arms armed left name ≡ facts_of faults losses arms armed d)
 
-    of_known : (name : List ℕ) → Known mid new name (facts_in faults losses arms armed left name) → TellsAt name
-    of_known name k = (k.0, k.1, content_of new name k.0 k.1 k.2, k.3)
+    abbrev Found : List ℕ → Type 0
+    Found name = Known mid new name (disk_in left name)
 
-    tells_at : (shards : Shards) → StandStill content image shards left → (name : List ℕ) → is_some (disk mid name) ≡ true → Place name → TellsAt name
-    tells_at shards stands name told (inl one) = of_known name (parts_known mid new left shards back stands name told one)
-    tells_at shards stands name told (inr (inl is)) = subst TellsAt (sym is)
-        (of_known state_a (first_known mid new left shards back stands (subst (λ (n : List ℕ). is_some (disk mid n) ≡ true) is told)))
-    tells_at shards stands name told (inr (inr is)) = subst TellsAt (sym is)
-        (of_known state_b (second_known mid new left shards back stands (subst (λ (n : List ℕ). is_some (disk mid n) ≡ true) is told)))
+    found_at : (shards : Shards) → StandStill content image shards left → (name : List ℕ) → is_some (disk mid name) ≡ true → Place name → Found name
+    found_at shards stands name told (inl one) = parts_known mid new left shards back stands name told one
+    found_at shards stands name told (inr (inl is)) = subst Found (sym is)
+        (first_known mid new left shards back stands (subst (λ (n : List ℕ). is_some (disk mid n) ≡ true) is told))
+    found_at shards stands name told (inr (inr is)) = subst Found (sym is)
+        (second_known mid new left shards back stands (subst (λ (n : List ℕ). is_some (disk mid n) ≡ true) is told))
+
+    tells_at : (name : List ℕ) → Found name → TellsAt name
+    tells_at name k = (
+      k.0,
+      k.1,
+      content_of new name k.0 k.1 k.2,
+      facts_of_disk faults losses arms armed left name ∙ ap (facts_at faults losses arms armed) k.3,
+    )
+
+    -- its content reaches to the ends to which the disks do
+    reaches_at : (ends : List ℕ → ℕ) → DisksReach image left ends → (name : List ℕ) → Found name → ends name ≤ length (text_in new name)
+    reaches_at ends reached name k =
+        (subst (λ (found : Option D). ReachesTo image found (ends name)) k.3 (reached name)) (text_in new name) (is_text mid new read name k.0 k.1 k.2)
 
     -- they have the names of the configuration's
     left_names : (m : Machine) → IsCore content image starved core m → hosted_by m.shards.parts ≡ hosted_of conf → names_in left.parts ≡ part_disks (hosted_of conf)
@@ -437,13 +496,14 @@ module _ {B D : Type 0} (disk : B → List ℕ → Option D) (content : D → Op
         let o = opens contents was t in
         let r : Ran conf (began o.0 core) events Says (Before Ends) =
         subst (λ (c : ConfigParts). Ran c (began o.0 core) events Says (Before Ends)) same (from o.0 o.1) in
-        let some = is.some (λ shards. StandStill content image shards left) (facts_in faults losses arms armed left) r.last r.ends in
+        let some = is.some (λ shards. StandStill content image shards left) (λ ends. DisksReach image left ends) (facts_in faults losses arms armed left) r.last r.ends in
         let told = told_in contents was t in
-        let names : names_in left.parts ≡ part_disks (hosted_of conf) = left_names o.0 o.1 o.2.opens.hosts in (
+        let names : names_in left.parts ≡ part_disks (hosted_of conf) = left_names o.0 o.1 o.2.opens.hosts in
+        let found : (name : List ℕ) → IsTaken conf name → Found name = λ name taken. found_at some.0 some.1 name (told name taken)
+        (here name (λ one. has_of_one left.parts name (subst (λ (l : List (List ℕ)). IsOneOf l name) (sym names) one)) taken) in (
           text_in new,
           facts_in faults losses arms armed left,
-          λ name taken. tells_at some.0 some.1 name (told name taken)
-              (here name (λ one. has_of_one left.parts name (subst (λ (l : List (List ℕ)). IsOneOf l name) (sym names) one)) taken),
+          λ name taken. tells_at name (found name taken),
           record {
             first = began o.0 core;
             opens = o.2;
@@ -453,11 +513,13 @@ module _ {B D : Type 0} (disk : B → List ℕ → Option D) (content : D → Op
               run = r.run;
               events_are = r.events_are;
               tells = r.tells;
-              ends = is.along (λ shards. StandStill content image shards left) (StandsFor (text_in new)) (facts_in faults losses arms armed left) r.last
+              ends = is.along (λ shards. StandStill content image shards left) (StandsFor (text_in new)) (λ ends. DisksReach image left ends)
+                  (ReachTo conf (text_in new)) (facts_in faults losses arms armed left) r.last
                   (λ shards stands. all_stand mid new read left shards back
                   (λ name one. told name (inl (subst (λ (l : List (List ℕ)). IsOneOf l name)
                   (sym (names_still content image left.parts shards.parts stands.parts) ∙ names) one)))
-                  (told state_a (inr (inl refl))) (told state_b (inr (inr refl))) stands) r.ends;
+                  (told state_a (inr (inl refl))) (told state_b (inr (inr refl))) stands)
+                  (λ ends reached name taken. reaches_at ends reached name (found name taken)) r.ends;
             };
             holds = holds conf (began o.0 core) r.last r.steps r.run;
             well = openings_well conf contents o.0 o.2.opens;
@@ -475,7 +537,7 @@ module _ {B D : Type 0} (disk : B → List ℕ → Option D) (content : D → Op
         played conf input output (FromCore content image starved faults losses arms armed core left) Session
         (NeverFrom content image starved core) (OfBay disk content faults losses arms armed conf old (λ contents was. ⊥)) Rises Rose_over
         (λ events Says from. over (Leaves conf) (leaves_ends conf) events Says from)
-        (λ events Says from. over (LeavesWithin conf) (within_ends conf) events Says from)
+        (λ Next events Says from. over (LeavesWithin conf Next) (within_ends conf Next) events Says from)
         (λ never contents was t. let o = opens contents was t in never o.0 o.1) rises
         status
         (subst (λ (c : ConfigParts). IsPlayed c input output (FromCore content image starved faults losses arms armed core left)

@@ -15,12 +15,13 @@ use Rattle.broker_model.specs.Machine.{Machine}
 use Rattle.broker_model.specs.Disks.{Disks}
 use Rattle.broker_model.specs.States.{State, IsStep}
 use Rattle.broker_model.specs.Runs.{Step, outcomes_of}
-use Rattle.broker_core.specs.Hosts.{LeftDisks, StandStill, facts_in, ends_in, disks_in}
+use Rattle.broker_core.specs.Hosts.{DisksReach, LeftDisks, StandStill, disks_in, ends_in, facts_in}
 use Rattle.broker_core.specs.Cores.{CoreParts, IsCore, Reaches, state_of}
 use Rattle.broker_core.proofs.Leading.{still_all}
+use Rattle.broker_core.proofs.Reaching.{reach_all, reach_less}
 use Rattle.broker_core.proofs.Events.{later as counts_later}
 use Rattle.share_top.specs.Changes.{OutputChange}
-use Rattle.share_top.specs.Sessions.{DoesMore, Leaves, LeavesWithin, Ran, counts_since}
+use Rattle.share_top.specs.Sessions.{DoesMore, Leaves, LeavesWithin, Ran, counts_since, ends_since}
 use Rattle.share_top.specs.Going.{Goes, Plays, Halts}
 use Rattle.share_top.proofs.Fronts.{front_behind, keeps_appends}
 use Rattle.share_top.proofs.Steps.{run_then, events_then, outcomes_then}
@@ -112,20 +113,26 @@ module _ {D : Type 0} (content : D → Option (List ℕ)) (image : D → List �
   core_still : (core : CoreParts D) (m : Machine) → Stands core m → Still (disks_in core.hosts) m.shards
   core_still core m k = still_all content image starved faults losses arms armed core.hosts m.shards k.shards
 
+  abbrev Reach : LeftDisks D → (List ℕ → ℕ) → Type 0
+  Reach left ends = DisksReach image left ends
+
+  core_reach : (core : CoreParts D) (m : Machine) → Stands core m → Reach (disks_in core.hosts) (ends_in core.hosts)
+  core_reach core m k = reach_all content image starved core.hosts m.shards k.shards
+
   pub ran : (conf : ConfigParts) (first : State) (events : List Event) (T : List Outcome → Type 0) (core : CoreParts D) → G conf first events T core
-      → Ran conf first events T (Leaves conf (Still (disks_in core.hosts)) (facts_in faults losses arms armed (disks_in core.hosts)))
+      → Ran conf first events T (Leaves conf (Still (disks_in core.hosts)) (Reach (disks_in core.hosts)) (facts_in faults losses arms armed (disks_in core.hosts)))
   ran conf first events T core g = record {
     steps = g.steps;
     last = at g.machine core;
     run = g.run;
     events_are = g.events_are;
     tells = g.tells;
-    ends = record { known = λ name taken. refl; stands = core_still core g.machine g.core };
+    ends = record { known = λ name taken. refl; stands = core_still core g.machine g.core; reach = core_reach core g.machine g.core };
   }
 
-  pub ran_within : (conf : ConfigParts) (first : State) (events : List Event) (T : List Outcome → Type 0) (core : CoreParts D) → G conf first events T core
-      → Ran conf first events T (LeavesWithin conf (Still (disks_in core.hosts)) (facts_in faults losses arms armed (disks_in core.hosts)))
-  ran_within conf first events T core g = record {
+  pub ran_within : (conf : ConfigParts) (Next : Event → Type 0) (first : State) (events : List Event) (T : List Outcome → Type 0) (core : CoreParts D) → G conf first events T core
+      → Ran conf first events T (LeavesWithin conf Next (Still (disks_in core.hosts)) (Reach (disks_in core.hosts)) (facts_in faults losses arms armed (disks_in core.hosts)))
+  ran_within conf Next first events T core g = record {
     steps = g.steps;
     last = at g.machine core;
     run = g.run;
@@ -133,9 +140,12 @@ module _ {D : Type 0} (content : D → Option (List ℕ)) (image : D → List �
     tells = g.tells;
     ends = record {
       after = g.machine;
+      ends = ends_in core.hosts;
       reaches = inl refl;
       later = λ name taken. omega arith;
+      ends_later = λ name taken. omega arith;
       stands = core_still core g.machine g.core;
+      reach = reach_less image (disks_in core.hosts) (ends_in core.hosts) (core_reach core g.machine g.core);
     };
   }
 
@@ -145,17 +155,19 @@ module _ {D : Type 0} (content : D → Option (List ℕ)) (image : D → List �
   known core = facts_in faults losses arms armed (disks_in core.hosts)
 
   -- the event was done, or left within, or not begun
-  reached : (conf : ConfigParts) (core next : CoreParts D) → core.conf ≡ conf → (old after : Machine) (e : Event)
-      → Reaches core.conf (counts_since (at old core) (known next)) (ends_in core.hosts) old e after
-      → (after ≡ old) ⊎ ((event : Event) × DoesMore conf (at old core) (known next) event after)
-  reached conf core next same old after e (inl still) = inl still
-  reached conf core next same old after e (inr more) = inr (e, subst (λ (c : ConfigParts). DoesMore c (at old core) (known next) e after) same more)
+  reached : (conf : ConfigParts) (Next : Event → Type 0) (core next : CoreParts D) → core.conf ≡ conf → (old after : Machine) (ends : List ℕ → ℕ)
+      (e : Event) → Next e
+      → Reaches core.conf (counts_since (at old core) (known next)) (ends_since (at old core) ends) old e after
+      → (after ≡ old) ⊎ ((event : Event) × Next event × DoesMore conf (at old core) (known next) ends event after)
+  reached conf Next core next same old after ends e comes (inl still) = inl still
+  reached conf Next core next same old after ends e comes (inr more) =
+      inr (e, comes, subst (λ (c : ConfigParts). DoesMore c (at old core) (known next) ends e after) same more)
 
-  pub halted : (conf : ConfigParts) (first : State) (events : List Event) (e : Event) (T U : List Outcome → Type 0) (output : OutputChange)
+  pub halted : (conf : ConfigParts) (Next : Event → Type 0) (first : State) (events : List Event) (e : Event) → Next e → (T U : List Outcome → Type 0) (output : OutputChange)
       → ((xs : List Outcome) → T xs → Keeps output.held output.held_after → U xs) → (core next : CoreParts D) → core.conf ≡ conf → G conf first events T core
       → ((m : Machine) → Stands core m → Halts content image faults losses arms armed core m e next output)
-      → Ran conf first events U (LeavesWithin conf (Still (disks_in next.hosts)) (facts_in faults losses arms armed (disks_in next.hosts)))
-  halted conf first events e T U output keep core next same g halts =
+      → Ran conf first events U (LeavesWithin conf Next (Still (disks_in next.hosts)) (Reach (disks_in next.hosts)) (facts_in faults losses arms armed (disks_in next.hosts)))
+  halted conf Next first events e comes T U output keep core next same g halts =
       let h = halts g.machine g.core in
       record {
         steps = g.steps;
@@ -165,8 +177,11 @@ module _ {D : Type 0} (content : D → Option (List ℕ)) (image : D → List �
         tells = keep (outcomes_of g.steps) g.tells h.kept;
         ends = record {
           after = h.stops.after;
-          reaches = reached conf core next same g.machine h.stops.after e h.stops.reaches;
+          ends = h.stops.ends;
+          reaches = reached conf Next core next same g.machine h.stops.after h.stops.ends e comes h.stops.reaches;
           later = λ name taken. counts_later content image starved faults losses arms armed (disks_in core.hosts) (disks_in next.hosts) h.disks name;
+          ends_later = λ name taken. h.stops.ends_later name;
           stands = h.stops.still;
+          reach = h.stops.reach;
         };
       }

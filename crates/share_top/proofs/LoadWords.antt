@@ -17,7 +17,7 @@ use Rattle.share_top.proofs.OneCommand.{one_load, two_commands}
 use Rattle.share_top.proofs.PartitionWords.{one_partition}
 use Rattle.share_top.proofs.LoadCompletes.{completes}
 
-one_disk : (topics : List Topic) (shard : ℕ) (name other : List ℕ) → IsLogDisk topics shard name → IsLogDisk topics shard other → name ≡ other
+pub one_disk : (topics : List Topic) (shard : ℕ) (name other : List ℕ) → IsLogDisk topics shard name → IsLogDisk topics shard other → name ≡ other
 one_disk topics shard name other p q =
     let s = one_partition topics shard p.0 q.0 p.1 q.1 p.2 q.2 in
     p.3 ∙ ap (λ (t : Topic). hosted_name t.name p.1 Log) s.0 ∙ ap (λ (n : ℕ). hosted_name q.0.name n Log) s.1 ∙ sym q.3

@@ -18,7 +18,7 @@ use Rattle.share_top.specs.declared.status.Status.{Status}
 use Rattle.share_top.specs.declared.status.Status.TheVariants.{Done, Usage, Malformed, ReadFault, WriteFault, Damaged, Device, NoMemory}
 use Rattle.share_top.specs.Changes.{InputChange, OutputChange}
 use Rattle.share_top.specs.Sessions.{Ending, Leaves, LeavesWithin, WritesFront}
-use Rattle.share_top.specs.Statuses.{IsPlayed, IsDone, IsRefusedScript, IsCut, IsBegun}
+use Rattle.share_top.specs.Statuses.{ComesNext, IsPlayed, IsDone, IsRefusedScript, IsCut, IsBegun}
 use Rattle.share_top.specs.Going.{Going, FromCore, NeverFrom, Plays, PlaysPart, IsNotPlayed}
 use Rattle.share_top.proofs.ScriptReads as reads
 use Rattle.share_top.proofs.Counts.{go_on_then, rises}
@@ -83,22 +83,23 @@ module _ {D : Type 0} (content : D → Option (List ℕ)) (image : D → List �
 
     -- nothing more was told
     pub still : (U : List Outcome → Type 0) → ((xs : List Outcome) → T xs → U xs) → Took []
-        → IsBegun input (λ events. From first now events U (LeavesWithin first.conf))
-    still U f t = reads.begun_still input mid u v going.read (λ events. From first now events U (LeavesWithin first.conf)) t
-        (λ m k. ran_within content image starved faults losses arms armed first.conf (begun m) going.read.events U now
+        → IsBegun input (λ events. From first now events U (LeavesWithin first.conf (ComesNext input events)))
+    still U f t = reads.begun_still input mid u v going.read (λ events. From first now events U (LeavesWithin first.conf (ComesNext input events))) t
+        (λ m k. ran_within content image starved faults losses arms armed first.conf (ComesNext input going.read.events) (begun m) going.read.events U now
         (retold content image starved faults losses arms armed first.conf (begun m) going.read.events T U f now (going.goes m k)))
 
     module _ (output : OutputChange) (U : List Outcome → Type 0) (e : Event) (next : CoreParts D)
         (join : (xs ys : List Outcome) → T xs → WritesFront now.conf output ys → U (xs ++ ys))
         (keep : (xs : List Outcome) → T xs → Keeps output.held output.held_after → U xs)
         (t : Took (line_of e)) (is : IsEvent e) (le : v.place ≤ longest) where
-      part : PlaysPart content image starved faults losses arms armed now e next output → IsBegun input (λ events. From first next events U (LeavesWithin first.conf))
-      part (inl plays) = reads.begun_behind input mid u v going.read (λ events. From first next events U (LeavesWithin first.conf)) e t is le
-          (λ m k. ran_within content image starved faults losses arms armed first.conf (begun m) (going.read.events ++ e ∷ []) U next
+      part : PlaysPart content image starved faults losses arms armed now e next output → IsBegun input (λ events. From first next events U (LeavesWithin first.conf (ComesNext input events)))
+      part (inl plays) = reads.begun_behind input mid u v going.read (λ events. From first next events U (LeavesWithin first.conf (ComesNext input events))) e t is le
+          (λ m k. ran_within content image starved faults losses arms armed first.conf (ComesNext input (going.read.events ++ e ∷ [])) (begun m) (going.read.events ++ e ∷ []) U next
           (goes_on content image starved faults losses arms armed first.conf (begun m) going.read.events e T (WritesFront now.conf output) U join now next going.conf
           (going.goes m k) plays))
-      part (inr halts) = reads.begun_before input mid u v going.read (λ events. From first next events U (LeavesWithin first.conf)) e t is le
-          (λ m k. halted content image starved faults losses arms armed first.conf (begun m) going.read.events e T U output keep now next going.conf
+      part (inr halts) = reads.begun_before input mid u v going.read (λ events. From first next events U (LeavesWithin first.conf (ComesNext input events))) e t is le
+          (λ m k. halted content image starved faults losses arms armed first.conf (ComesNext input going.read.events) (begun m) going.read.events e
+          (reads.begins_behind input mid u v going.read e t is le) T U output keep now next going.conf
           (going.goes m k) halts)
 
       never : NeverFrom content image starved now → NeverFrom content image starved first

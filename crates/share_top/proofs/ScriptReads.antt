@@ -200,7 +200,7 @@ module _ (input : InputChange) (mid : Held) (u v : Unread) (g : IsRead input.lef
         session = session;
       }
 
-  begins_behind : (e : Event) (t : Took (line_of e)) → IsEvent e → v.place ≤ longest → IfSome input.left (λ text. (rest : List ℕ) × Begins text (g.events ++ e ∷ []) rest)
+  pub begins_behind : (e : Event) (t : Took (line_of e)) → IsEvent e → v.place ≤ longest → IfSome input.left (λ text. (rest : List ℕ) × Begins text (g.events ++ e ∷ []) rest)
   begins_behind e t is le =
       let given = g.given ++ t.given in
       let b = begins_line input.left mid input.left_after u v e g t is le in

@@ -1,7 +1,7 @@
 -- A recorded session on the disks of a bay: all that is promised of it is said of one run of the broker. This project's own.
 -- For example the session `power 5` on empty disks is a run of one step, from the opening of empty logs, no tables and no keys to the
 -- opening of the contents that are each disk's one loss, with choice 5; and what was written is its outcome's line `restarted`.
-use Rattle.std.specs.Prelude.{◌≡◌, ◌⊎◌, ◌≤◌, ◌++◌, ℕ, List}
+use Rattle.std.specs.Prelude.{◌≡◌, ◌⊎◌, ◌≤◌, ◌-◌, ◌++◌, ℕ, List}
 use Rattle.std.specs.List.{AllByRecursion}
 use Rattle.std.specs.declared.option.Option.{Option}
 use Rattle.std.specs.Io.KnownBytes.{Appends}
@@ -75,15 +75,17 @@ DoesMore conf last now ends event after =
     × StepsTo conf (counts_since last now) (ends_since last ends) last.machine event call outcomes after)
     ⊎ StopsWithin conf (counts_since last now) (ends_since last ends) last.machine event after
 
--- the disks stand for the last state's shards, or for those of one event more, done or left within, of whose outcomes nothing was written
-pub record LeavesWithin (conf : ConfigParts) (Stand : Shards → Type 0) (Reach : (List ℕ → ℕ) → Type 0) (now : Disks) (last : State) : Type 0 where
+-- The disks stand for the last state's shards, or for those of the next event, done or left within, of whose outcomes nothing was written.
+-- They reach to the last byte before where the journals end: a power loss after which no memory was found may leave that one out.
+pub record LeavesWithin (conf : ConfigParts) (Next : Event → Type 0) (Stand : Shards → Type 0) (Reach : (List ℕ → ℕ) → Type 0) (now : Disks)
+    (last : State) : Type 0 where
   pub after : Machine
   pub ends : List ℕ → ℕ
-  pub reaches : (after ≡ last.machine) ⊎ ((event : Event) × DoesMore conf last now ends event after)
+  pub reaches : (after ≡ last.machine) ⊎ ((event : Event) × Next event × DoesMore conf last now ends event after)
   pub later : (name : List ℕ) → IsTaken conf name → faults_of last name ≤ (now name).faults
   pub ends_later : (name : List ℕ) → IsTaken conf name → last.ends name ≤ ends name
   pub stands : Stand after.shards
-  pub reach : Reach ends
+  pub reach : Reach (λ name. ends name - 1)
 
 -- ---- one run
 

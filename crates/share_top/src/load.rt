@@ -1,6 +1,7 @@
 // The loading of a segment into the log of one partition.
 ghost use Rattle.std.specs.Prelude.{◌≡◌, ◌≢◌, ◌≤◌, ◌<◌, None, All, List, ℕ, MatchOption};
 ghost use Rattle.edge_io.specs.Armed.{RunsOn};
+ghost use Rattle.edge_io.specs.Bays.{SameSlot};
 ghost use Rattle.edge_io.specs.Causes.{Rose};
 ghost use Rattle.session_script.specs.Output.{malformed_line};
 ghost use Rattle.session_script.specs.Writing.{WritesText};
@@ -8,6 +9,7 @@ ghost use Rattle.edge_io.specs.Names.{most_partitions};
 ghost use Rattle.share_model.specs.Logs.{Batch};
 ghost use Rattle.part_log.specs.Logs.{Keeps};
 ghost use Rattle.topic_conf.specs.Topics.{IsTopic, partitions};
+ghost use Rattle.share_top.specs.Apart.{RunsDisk};
 ghost use Rattle.share_top.specs.Changes.{input_change, output_change};
 ghost use Rattle.share_top.specs.Loading.{IsLoad, IsLoaded, IsLogDisk, NoneIsOut, loaded_line};
 ghost use Rattle.share_top.specs.Segments.{HasOneReading};
@@ -199,6 +201,8 @@ where
         (input_change I.left I.ended I.faults input.old input.new) (output_change O.held O.faults output.old output.new) result }
     ensures counted { result ≢ Status.WriteFault → O.faults output.new ≡ O.faults output.old }
     ensures back { NoneIsOut B.out bay.new }
+    ensures others { (m : List ℕ) → m ≢ name.now → SameSlot B.disk B.out B.taken m bay.old bay.new }
+    ensures runs { RunsDisk B.disk B.D.content B.D.losses B.D.arms B.D.armed B.D.starved B.D.faults name.now bay.old bay.new }
 {
     let Ok(disk) = bay.take(name) else {
         return if bay.starved() {
@@ -254,6 +258,9 @@ where
         (input_change I.left I.ended I.faults input.old input.new) (output_change O.held O.faults output.old output.new) result }
     ensures counted { result ≢ Status.WriteFault → O.faults output.new ≡ O.faults output.old }
     ensures back { NoneIsOut B.out bay.new }
+    ensures others { (m : List ℕ) → (IsLogDisk conf.now.topics shard m → ⊥) → SameSlot B.disk B.out B.taken m bay.old bay.new }
+    ensures runs { (name : List ℕ) → IsLogDisk conf.now.topics shard name
+        → RunsDisk B.disk B.D.content B.D.losses B.D.arms B.D.armed B.D.starved B.D.faults name bay.old bay.new }
 {
     let Some(name) = log_disk(conf.topics(), shard) else {
         unreachable!()

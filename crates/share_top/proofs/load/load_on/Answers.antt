@@ -1,8 +1,11 @@
-use Rattle.std.proofs.Common.{inl, inr, refl, ap, ◌∙◌, is_some}
+use Rattle.std.proofs.Common.{inl, inr, refl, sym, ap, ◌∙◌, subst, is_some}
+use Rattle.edge_io.specs.Armed.{RunsOn}
 use Rattle.edge_io.specs.Causes.{Rose}
 use Rattle.share_top.specs.Changes.{input_change, output_change}
 use Rattle.share_top.specs.Loading.{StoresIn, DamagesIn, DiskCountRose}
 use Rattle.share_top.specs.Loads.{IsGrown}
+use Rattle.edge_io.proofs.Runs.{runs_then}
+use Rattle.share_top.proofs.Apart.{runs_back, slot_then}
 use Rattle.share_top.proofs.LoadBays.{weakens, stores, stays, damages, rises, rose_on, not_loaded}
 use Rattle.share_top.proofs.load.load_on.Goals as goal
 
@@ -46,3 +49,29 @@ returns-in-Err-clause-loads g c =
           c.put_back-in-Err.ensures.counts (c.in-Err.ensures.device is).0)
           c.refuse_log.result c.refuse_log.ensures.refusal,
     )
+
+-- ---- other disks, and arms of this one
+
+pub returns-in-Ok-open-clause-others : goal.returns-in-Ok-open-clause-others
+returns-in-Ok-open-clause-others g c = λ m not.
+    slot_then g.B.Bay.disk g.B.Bay.out g.B.Bay.taken m c.args.bay.now c.take.new.self c.put_back.new.self (c.take.ensures.others m not) (c.put_back.ensures.others m not)
+
+pub returns-in-Err-clause-others : goal.returns-in-Err-clause-others
+returns-in-Err-clause-others g c = λ m not.
+    slot_then g.B.Bay.disk g.B.Bay.out g.B.Bay.taken m c.args.bay.now c.take.new.self c.put_back-in-Err.new.self (c.take.ensures.others m not)
+    (c.put_back-in-Err.ensures.others m not)
+
+pub returns-in-Ok-open-clause-runs : goal.returns-in-Ok-open-clause-runs
+returns-in-Ok-open-clause-runs g c =
+    runs_back g.B.Bay.disk g.B.D.Disk.content g.B.D.Disk.losses g.B.D.Disk.arms g.B.D.Disk.armed g.B.D.Disk.starved g.B.D.Disk.faults c.args.name.now
+    c.args.bay.now c.put_back.new.self c.take.new.self c.in-Ok.disk c.into_disk.result c.in-Ok.ensures.given c.take.ensures.told c.put_back.ensures.there
+    (subst (λ (d : g.row.B-D.Denot). RunsOn g.B.D.Disk.content g.B.D.Disk.losses g.B.D.Disk.arms g.B.D.Disk.armed g.B.D.Disk.starved g.B.D.Disk.faults c.in-Ok.disk d)
+    (sym c.into_disk.ensures)
+    (runs_then g.B.D.Disk.content g.B.D.Disk.losses g.B.D.Disk.arms g.B.D.Disk.armed g.B.D.Disk.starved g.B.D.Disk.faults c.in-Ok.disk
+    c.in-Ok-open.log.journal.disk c.load_into-status.new.log.journal.disk c.in-Ok-open.ensures.runs c.load_into-status.ensures.runs))
+
+pub returns-in-Err-clause-runs : goal.returns-in-Err-clause-runs
+returns-in-Err-clause-runs g c =
+    runs_back g.B.Bay.disk g.B.D.Disk.content g.B.D.Disk.losses g.B.D.Disk.arms g.B.D.Disk.armed g.B.D.Disk.starved g.B.D.Disk.faults c.args.name.now
+    c.args.bay.now c.put_back-in-Err.new.self c.take.new.self c.in-Ok.disk c.in-Err.disk c.in-Ok.ensures.given c.take.ensures.told
+    c.put_back-in-Err.ensures.there c.in-Err.ensures.runs

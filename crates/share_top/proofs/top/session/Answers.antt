@@ -1,9 +1,11 @@
 use Rattle.std.proofs.Common.{inl, inr, ⊎_elim, refl, ap, ◌∙◌, Err, sym, subst, ℕ, List, [], ◌∷◌, ◌++◌}
 use Rattle.broker_core.specs.declared.fault.CoreOpen.{CoreOpen}
-use Rattle.broker_model.specs.Hosted.{state_a, state_b}
+use Rattle.topic_conf.specs.Configs.{ConfigParts}
+use Rattle.broker_model.specs.Hosted.{IsTaken, state_a, state_b}
 use Rattle.broker_core.specs.Hosts.{OneRose, disks_in}
 use Rattle.broker_core.specs.Bays.{AreOut}
 use Rattle.share_top.specs.Sessions.{CountRose}
+use Rattle.share_top.proofs.Apart.{slot_then}
 use Rattle.share_top.proofs.Counts.{count_rose}
 use Rattle.share_top.specs.Changes.{input_change, output_change}
 use Rattle.share_top.proofs.Ends.{names_stay, played_over, not_opened, sound_tells, never_stopped, refusal_damaged}
@@ -45,6 +47,7 @@ returns-in-Ok-clause-sound g c = λ sound is.
 pub returns-in-Err-clause-replay : goal.returns-in-Err-clause-replay
 returns-in-Err-clause-replay g c = inr (
   refl,
+  (c.start.ensures.told, c.in-Err.ensures.stays),
   not_opened g.B.Bay.disk g.B.D.Disk.content g.B.D.Disk.image g.B.D.Disk.starved g.B.D.Disk.faults g.B.D.Disk.losses g.B.D.Disk.arms g.B.D.Disk.armed
       c.args.bay.now c.start.new.bay g.B.Bay.faults c.args.conf (output_change g.O.Sink.held g.O.Sink.faults c.args.output.now c.refuse.new.output) c.in-Err.fault
       (λ name place e. c.start.ensures.damaged name place (c.in-Err.is ∙ ap (λ (f : CoreOpen). Err f) e))
@@ -57,3 +60,10 @@ pub returns-in-Err-clause-recovers : goal.returns-in-Err-clause-recovers
 returns-in-Err-clause-recovers g c = λ told is.
     let r = refusal_damaged c.in-Err.fault (output_change g.O.Sink.held g.O.Sink.faults c.args.output.now c.refuse.new.output) c.refuse.result c.refuse.ensures.refusal is in
     c.start.ensures.recovers told.0 told.1 told.2 told.3 r.0 r.1 (c.in-Err.is ∙ ap (λ (f : CoreOpen). Err f) r.2)
+
+-- ---- disks that aren't the broker's
+
+pub returns-in-Ok-clause-others : goal.returns-in-Ok-clause-others
+returns-in-Ok-clause-others g c = λ name none.
+    slot_then g.B.Bay.disk g.B.Bay.out g.B.Bay.taken name c.args.bay.now c.start.new.bay c.finish.new.bay (c.start.ensures.others name none)
+    (c.finish.ensures.others name (λ taken. none (subst (λ (k : ConfigParts). IsTaken k name) (c.replay-status.ensures.conf ∙ c.in-Ok.ensures.open.1) taken)))
