@@ -1,5 +1,7 @@
 -- How a request in hand goes on (this project's own): past the entries whose rows are known to the next question, and in the end to
 -- the body of its reply.
+-- For example the entries row, question, row, question go on to the first question; with its answer they go on to the second one, and with
+-- the answer to that to the body of four rows.
 use Rattle.std.specs.Prelude.{List, [], ◌∷◌, ◌++◌}
 use Rattle.call_fold.specs.declared.part.PartAnswer.{PartAnswer}
 use Rattle.call_fold.specs.declared.call.Entry.{Entry}

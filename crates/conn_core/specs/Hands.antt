@@ -1,4 +1,5 @@
--- The calls in hand, each under its own name.
+-- The calls in hand, each under its own name. This project's own.
+-- For example a Read of two partitions that is in hand asks the part of its first one, and with the answer to that it asks the second one's.
 use Rattle.call_fold.specs.declared.part.Part.{Part}
 use Rattle.call_fold.specs.declared.part.PartAnswer.{PartAnswer}
 use Rattle.call_fold.specs.declared.call.Stage.{Stage}

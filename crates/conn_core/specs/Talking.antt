@@ -1,4 +1,4 @@
--- What the calls in hand mean: the talk of each, under its name.
+-- What the calls in hand mean: the talk of each, under its name. This project's own.
 -- For example a Read in hand asks the part of its question and goes on by the answer (conn_rows, `a state is initialized
 -- and read`), and so does a Produce (`a batch is stored`).
 use Rattle.std.specs.Prelude.{◌≡◌, List}

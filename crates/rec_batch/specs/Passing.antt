@@ -1,6 +1,7 @@
 -- Going past the parts of a record (Apache Kafka documentation, "Record"), from left to right: what is left behind a part,
--- or nothing where no such part stands in front. The relations of `Grammar.antt` say what the parts are. The clauses of
--- private functions cite what stands here, and no public one does.
+-- or nothing where no such part stands in front. The relations of `Grammar.antt` say what the parts are. Of
+-- what stands here a log reads the offset delta of a record (`record_in`), which the law `a_frame_is_one_batch` of `part_log` ties to the
+-- grammar; the clauses of private functions cite the rest.
 --
 -- Worked example: 0e 00 00 04 01 02 63 00 is passed whole, with the offset delta 2.
 use Rattle.std.specs.Prelude.{ℕ, ℤ, pos, negsuc, zero, suc, List, [], ◌∷◌, length, take, drop, Option, Some, None, Result, Ok, Err, nat_lt, ◌==◌, if◌then◌else◌}

@@ -4,8 +4,8 @@
 -- or to the log's end where there is none, and what is stored below it goes.
 -- Worked example: a log has one batch from 0 to 2, the start is 0, nothing is stored, and `a` holds all three with count 1. It accepts 0,
 -- releases 1 and rejects 2, with delivery limit 5: then 1 is available with count 1, and 2 is archived. The start is 1, since 1 isn't
--- closed, and the rows of 1 and 2 are written; that of 0 lies below the start. With limit 1 the release archives 1, the start is 3, and no
--- row is written.
+-- closed, and the rows of 1 and 2 are written; that of 0 lies below the start. Were 1 held with count 5, its release would archive
+-- it, the start would be 3, and no row would be written.
 use Rattle.std.specs.Prelude.{◌≡◌, ◌≢◌, ◌⊎◌, ◌^◌, ◌≤◌, ◌<◌, ◌+◌, ℕ, pos, List, [], ◌∷◌, Option, Some, None, Bool, true, false}
 use Rattle.std.specs.Prelude.{IsSome, is_none, filter, unwrap_or, nat_eq, nat_le, nat_lt, if◌then◌else◌}
 use Rattle.std.specs.Option.{option_or}

@@ -1,6 +1,6 @@
 -- What a command leaves alone (this project's own).
--- For example `load --dir F orders 0 orders=1` uses the disk `orders/0/log`, and every other disk is as it was; and what it does to that disk arms
--- no fault and loses no power.
+-- For example a `load` of partition 0 of `orders` uses the disk `orders/0/log`, and each other disk is as it was; and what it does to that disk
+-- arms no fault and loses no power.
 use Rattle.std.specs.Prelude.{◌≡◌, ℕ, List, Bool, Some, String}
 use Rattle.std.specs.declared.option.Option.{Option}
 use Rattle.std.specs.declared.alloc.Global.{Global}
