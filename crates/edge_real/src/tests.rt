@@ -1,29 +1,16 @@
-// What only real files show, and which calls the adapters make, which only fakes of these calls show.
+// Which calls the adapters make, which only fakes of these calls show. What they make of real files is shown by the built program.
 ghost use Rattle.std.specs.Prelude.{◌≡◌, ℕ, List, false, IfOk};
 ghost use Rattle.edge_real.specs.Folders.{out_at};
 
-use crate::{
-    FileDisk, FolderBay, Folders, OpenedFile, ReaderSource, SystemCall, SystemFolders, WriterSink,
-};
+use crate::{FileDisk, FolderBay, Folders, OpenedFile, ReaderSource, SystemCall, WriterSink};
 use edge_io::{Bay, Disk, DiskName, DiskPlace, Failed, Sink, Source};
 use std::alloc::Global;
-use std::fs::OpenOptions;
+use std::io;
 use std::io::{ErrorKind, Read, Write};
-use std::{env, fs, io, process};
 
 // ---- disks of a folder
 
-// What is done with a disk between its taking and its putting back.
-#[derive(Clone, Copy)]
-enum Act {
-    // One call of a kind, at the front.
-    Call(SystemCall),
-    // Writes `queue, logs` to an empty disk in odd pieces, and syncs.
-    Fill,
-    // Reads `queue` and ` logs` from a disk of 11 bytes.
-    Check,
-}
-
+// One call of a kind, at the front.
 fn call<F: OpenedFile>(disk: &mut FileDisk<F>, call: SystemCall) -> Result<(), Failed> {
     match call {
         SystemCall::Read => disk.read_at(0, &mut []),
@@ -33,174 +20,39 @@ fn call<F: OpenedFile>(disk: &mut FileDisk<F>, call: SystemCall) -> Result<(), F
     }
 }
 
-fn fill<F: OpenedFile>(disk: &mut FileDisk<F>) -> Result<(), Failed> {
-    disk.write_at(0, b"q-e")?;
-    disk.write_at(3, b"ue, l")?;
-    disk.write_at(8, b"ogs")?;
-    disk.write_at(1, b"u")?;
-    disk.sync()
-}
-
-fn check<F: OpenedFile>(disk: &mut FileDisk<F>) -> Result<(), Failed> {
-    if disk.len() != 11 {
-        return Err(Failed);
-    }
-    let mut front = [0; 5];
-    let mut end = [0; 5];
-    disk.read_at(0, &mut front)?;
-    disk.read_at(6, &mut end)?;
-    if &front == b"queue" && &end == b" logs" {
-        Ok(())
-    } else {
-        Err(Failed)
-    }
-}
-
-// Takes a disk, does this, and puts it back.
-fn visit<S: Folders>(bay: &mut FolderBay<S>, name: &DiskName, act: Act) -> Result<(), Failed>
+// Takes a disk, makes this call, and puts it back.
+fn visit<S: Folders>(
+    bay: &mut FolderBay<S>,
+    name: &DiskName,
+    kind: SystemCall,
+) -> Result<(), Failed>
     requires { (m : List ℕ) → out_at bay.old m ≡ false }
     ensures { (m : List ℕ) → out_at bay.new m ≡ false }
 {
     let mut disk = bay.take(name)?;
-    let done = match act {
-        Act::Call(kind) => call(&mut disk, kind),
-        Act::Fill => fill(&mut disk),
-        Act::Check => check(&mut disk),
-    };
+    let done = call(&mut disk, kind);
     bay.put_back(name, disk);
     done
 }
 
-// Visits a disk. Whether the answer is wanted, and these are the words of the bay's last fault.
+// Makes a call of a disk. Whether the answer is wanted, and these are the words of the bay's last fault.
 fn shows<S: Folders>(
     alloc: Global,
     bay: &mut FolderBay<S>,
-    visited: (&DiskName, Act),
+    visited: (&DiskName, SystemCall),
     wanted: Result<(), Failed>,
     last: &str,
 ) -> io::Result<bool>
     requires { (m : List ℕ) → out_at bay.old m ≡ false }
     ensures { (m : List ℕ) → out_at bay.new m ≡ false }
 {
-    let (name, act) = visited;
-    let answer = visit(bay, name, act);
+    let (name, kind) = visited;
+    let answer = visit(bay, name, kind);
     let words = match bay.last_fault() {
         None => String::new(alloc),
         Some(fault) => format!(in alloc; "{fault}")?,
     };
     Ok(answer == wanted && words.as_str() == last)
-}
-
-// A folder of these tests' own.
-fn own_folder(rt: &HostRuntime) -> io::Result<String> {
-    let temporary = env::temp_dir(rt)?;
-    let id = process::id(rt.process());
-    let folder = format!(in rt.alloc(); "{}/edge_real_{id}", temporary.as_path().display())?;
-    Ok(folder)
-}
-
-// A bay over a folder.
-fn bay_over<'a>(
-    rt: &'a HostRuntime,
-    folder: &str,
-) -> io::Result<FolderBay<SystemFolders<'a, HostRuntime>>>
-    ensures { IfOk result (λ b. (m : List ℕ) → out_at b m ≡ false) }
-{
-    let folder = format!(in rt.alloc(); "{folder}")?;
-    Ok(FolderBay::over(rt.alloc(), SystemFolders { rt }, folder))
-}
-
-// What follows a folder or a file.
-fn behind(alloc: Global, path: &str, more: &str) -> io::Result<String> {
-    let text = format!(in alloc; "{path}{more}")?;
-    Ok(text)
-}
-
-fn orders_7() -> Option<DiskName> {
-    DiskName::hosted(b"orders", 7, DiskPlace::Log)
-}
-
-// Fills a disk of a bay while a second bay finds the folder held; the second one has it once the first is gone.
-fn is_open_once(rt: &HostRuntime, data: &str) -> io::Result<bool> {
-    let Some(name) = orders_7() else {
-        return Ok(false);
-    };
-    let held = behind(
-        rt.alloc(),
-        data,
-        "/lock~: lock: operation would block (another program has this folder open)",
-    )?;
-    let mut second = bay_over(rt, data)?;
-    let filled = {
-        let mut first = bay_over(rt, data)?;
-        shows(rt.alloc(), &mut first, (&name, Act::Fill), Ok(()), "")?
-            && shows(
-                rt.alloc(),
-                &mut second,
-                (&name, Act::Check),
-                Err(Failed),
-                &held,
-            )?
-    };
-    Ok(filled && shows(rt.alloc(), &mut second, (&name, Act::Check), Ok(()), &held)?)
-}
-
-fn cut_to_7(rt: &HostRuntime, file: &str) -> io::Result<()> {
-    OpenOptions::new().write(true).open(rt, file)?.set_len(7)
-}
-
-// Whether a file that is cut to 7 bytes while its disk is kept is a fault that names it.
-fn tells_a_short_file(rt: &HostRuntime, data: &str, log: &str) -> io::Result<bool> {
-    let Some(name) = orders_7() else {
-        return Ok(false);
-    };
-    let short = behind(rt.alloc(), log, ": read: failed to fill whole buffer")?;
-    let mut bay = bay_over(rt, data)?;
-    let whole = shows(rt.alloc(), &mut bay, (&name, Act::Check), Ok(()), "")?;
-    cut_to_7(rt, log)?;
-    Ok(
-        whole
-            && shows(
-                rt.alloc(),
-                &mut bay,
-                (&name, Act::Check),
-                Err(Failed),
-                &short,
-            )?,
-    )
-}
-
-// Whether a folder below a file is a fault that names it.
-fn tells_a_file_above(rt: &HostRuntime, log: &str) -> io::Result<bool> {
-    let Some(name) = orders_7() else {
-        return Ok(false);
-    };
-    let below = behind(rt.alloc(), log, "/below")?;
-    let none = behind(
-        rt.alloc(),
-        below.as_str(),
-        ": make folder: Not a directory (os error 20)",
-    )?;
-    let mut bay = bay_over(rt, below.as_str())?;
-    shows(
-        rt.alloc(),
-        &mut bay,
-        (&name, Act::Check),
-        Err(Failed),
-        &none,
-    )
-}
-
-#[test]
-fn a_folder_has_what_was_synced_and_is_open_once(rt: HostRuntime) -> io::Result<()> {
-    let own = own_folder(&rt)?;
-    let data = behind(rt.alloc(), own.as_str(), "/new/data")?;
-    let log = behind(rt.alloc(), data.as_str(), "/orders/7/log")?;
-    assert!(rt; is_open_once(&rt, data.as_str())?);
-    assert!(rt; fs::read(&rt, log.as_str())?.as_slice() == b"queue, logs".as_slice());
-    assert!(rt; tells_a_short_file(&rt, data.as_str(), log.as_str())?);
-    assert!(rt; tells_a_file_above(&rt, log.as_str())?);
-    fs::remove_dir_all(&rt, own.as_str())
 }
 
 // Calls that are all done, but for the first of one kind. They are noted with their paths; those of a file are not.
@@ -310,15 +162,9 @@ fn each_name_has_a_file_of_its_own_and_lasts(rt: HostRuntime) -> io::Result<()> 
     let state = DiskName::hosted(b"orders", 0, DiskPlace::StateA).expect(&rt, "it is a name");
     let log = DiskName::hosted(b"orders", 1, DiskPlace::Log).expect(&rt, "it is a name");
     let mut bay = fake_bay(rt.alloc(), None, true)?;
-    assert_eq!(rt;
-        visit(&mut bay, &state, Act::Call(SystemCall::Sync)),
-        Ok(())
-    );
-    assert_eq!(rt; visit(&mut bay, &log, Act::Call(SystemCall::Sync)), Ok(()));
-    assert_eq!(rt;
-        visit(&mut bay, &state, Act::Call(SystemCall::Sync)),
-        Ok(())
-    );
+    assert_eq!(rt; visit(&mut bay, &state, SystemCall::Sync), Ok(()));
+    assert_eq!(rt; visit(&mut bay, &log, SystemCall::Sync), Ok(()));
+    assert_eq!(rt; visit(&mut bay, &state, SystemCall::Sync), Ok(()));
     assert_eq!(rt;
         bay.system().notes.as_str(),
         " make new/data make new sync . make new/data sync new open new/data/lock~ \
@@ -346,24 +192,8 @@ fn a_call_that_the_system_refuses_is_a_fault_of_its_file(rt: HostRuntime) -> io:
     ] {
         let words = format!(in rt.alloc(); "{file}: {kind}: no storage space")?;
         let mut bay = fake_bay(rt.alloc(), Some(kind), false)?;
-        assert!(rt;
-            shows(
-                rt.alloc(),
-                &mut bay,
-                (&name, Act::Call(kind)),
-                Err(Failed),
-                &words
-            )?
-        );
-        assert!(rt;
-            shows(
-                rt.alloc(),
-                &mut bay,
-                (&name, Act::Call(kind)),
-                again,
-                &words
-            )?
-        );
+        assert!(rt; shows(rt.alloc(), &mut bay, (&name, kind), Err(Failed), &words)?);
+        assert!(rt; shows(rt.alloc(), &mut bay, (&name, kind), again, &words)?);
     }
     Ok(())
 }

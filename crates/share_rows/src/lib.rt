@@ -17,10 +17,4 @@ mod sessions;
 mod windows;
 mod words;
 
-use case::Case;
-use row_text::run_files;
-use std::io;
-
-fn main(rt: HostRuntime) -> io::Result<()> {
-    run_files(&rt, Case::new(rt.alloc()))
-}
+pub use case::Case;

@@ -24,10 +24,4 @@ mod records;
 mod share;
 mod values;
 
-use case::Case;
-use row_text::run_files;
-use std::io;
-
-fn main(rt: HostRuntime) -> io::Result<()> {
-    run_files(&rt, Case::new(rt.alloc()))
-}
+pub use case::Case;

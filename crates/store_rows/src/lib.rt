@@ -16,10 +16,4 @@ mod states;
 mod streams;
 mod sweep;
 
-use case::Case;
-use row_text::run_files;
-use std::io;
-
-fn main(rt: HostRuntime) -> io::Result<()> {
-    run_files(&rt, Case::new(rt.alloc()))
-}
+pub use case::Case;
