@@ -4,6 +4,7 @@ ghost use Rattle.share_calls.specs.Changes.{Fits, changed};
 ghost use Rattle.conn_core.specs.Stream.{front_of, behind_frame, frame_at};
 ghost use Rattle.conn_core.specs.Judging.{HasRoomFor};
 ghost use Rattle.conn_core.specs.Conns.{new_conn, conn_after_bytes, conn_after_end, conn_after_reply, without_replies, taken_up, has_no_release, is_gone};
+ghost use Rattle.conn_core.specs.Hands.{hand_part};
 ghost use Rattle.conn_core.specs.Turning.{Tells, Waits, Awaits, FitsIn, awaited_part, turn, closing_turn, reply_turn, request_turn, verdict_turn, front_turn};
 ghost use Rattle.conn_core.specs.Turning.{next_release, conn_with_reply, conn_at_stage, conn_after_answer};
 
@@ -128,7 +129,7 @@ impl Conn {
             Work::Closing => {}
             _ => {
                 self.stream.clear();
-                self.work = Work::Closing;
+                self.work.set(Work::Closing);
             }
         }
     }
@@ -187,6 +188,26 @@ impl Conn {
         }
     }
 
+    // The first part of a request that a frame of so many bytes begins, and that does this to the sessions.
+    fn first_part(
+        &mut self,
+        size: u32,
+        change: Option<SessionChange>,
+        hand: &Hand,
+    ) -> Result<Part, NoMemory>
+        requires whole { 4 + size ≤ length self.old.unread }
+        requires idle { self.old.work ≡ Work.Free }
+        requires fits { Fits change self.old.sessions }
+        ensures part { IfOk result (λ part. part ≡ hand_part hand.now) }
+        ensures taken { OnOk result (self.new ≡ taken_up (behind_frame size self.old.unread) change self.old) }
+        ensures kept { OnErr result (self.new ≡ self.old) }
+    {
+        let first = hand.part(self.alloc)?;
+        apply(&mut self.sessions, change)?;
+        self.stream.take(4 + size as usize);
+        Ok(first)
+    }
+
     // A frame of so many bytes begins this request, which does this to the sessions.
     fn begin(
         &mut self,
@@ -201,11 +222,16 @@ impl Conn {
         ensures next { IfOk result (λ next. Tells (request_turn (taken_up (behind_frame size self.old.unread) change self.old) correlation hand) next self.new) }
         ensures kept { OnErr result (self.new ≡ self.old) }
     {
-        let first = hand.part(self.alloc)?;
-        apply(&mut self.sessions, change)?;
-        self.stream.take(4 + size as usize);
-        self.work = Work::Busy { correlation, hand };
-        Ok(Next::Ask(first))
+        match self.first_part(size, change, &hand) {
+            Ok(first) => {
+                self.work.set(Work::Busy { correlation, hand });
+                Ok(Next::Ask(first))
+            }
+            Err(NoMemory) => {
+                drop(hand);
+                Err(NoMemory)
+            }
+        }
     }
 
     // A frame of so many bytes was judged.
@@ -289,7 +315,7 @@ impl Conn {
         match reply {
             ReplyFrame::Nothing => {}
             ReplyFrame::Frame(frame) => self.replies.push_back(frame)?,
-            ReplyFrame::TooLong => self.work = Work::Overlong,
+            ReplyFrame::TooLong => self.work.set(Work::Overlong),
         }
         Ok(())
     }
@@ -302,7 +328,7 @@ impl Conn {
     {
         match stage {
             Stage::Asks(hand) => {
-                self.work = Work::Busy { correlation, hand };
+                self.work.set(Work::Busy { correlation, hand });
                 Ok(())
             }
             Stage::Says(body) => {
@@ -322,16 +348,14 @@ impl Conn {
                 let stage = hand.answer(self.alloc, answer)?;
                 self.settle(correlation, stage)
             }
-            Work::Closing => {
-                self.sessions.release_done();
-                self.work = Work::Closing;
+            other => {
+                drop(answer);
+                if let Work::Closing = &other {
+                    self.sessions.release_done();
+                }
+                self.work.set(other);
                 Ok(())
             }
-            Work::Overlong => {
-                self.work = Work::Overlong;
-                Ok(())
-            }
-            Work::Free => Ok(()),
         }
     }
 

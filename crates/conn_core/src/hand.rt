@@ -1,7 +1,7 @@
 //! The calls that ask parts, each under its own name: what has to know all of them.
 ghost use Rattle.std.specs.Prelude.{◌≡◌, IfOk};
 ghost use Rattle.call_fold.specs.Parts.{IsAnswerTo};
-ghost use Rattle.conn_core.specs.Hands.{hand_part, hand_stage_after};
+ghost use Rattle.conn_core.specs.Hands.{hand_part, hand_stage, hand_stage_after};
 
 use call_fold::{Asking, Part, PartAnswer, Stage, part_of, take};
 use log_calls::{Offer, ProduceHand};
@@ -29,14 +29,106 @@ pub enum Hand {
     Delete(Asking<StateHand<Delete>, Question<Deleting>, PartitionResult>),
 }
 
-// A call's stage, under its name in hand.
-macro_rules! under_name {
-    ($name:ident, $stage:expr) => {
-        match $stage {
-            Stage::Asks(asking) => Ok(Stage::Asks(Hand::$name(asking))),
-            Stage::Says(body) => Ok(Stage::Says(body)),
-        }
-    };
+/// A call that asks parts and has a name in hand.
+pub trait Named: Sized + Drop {
+    ghost use Rattle.conn_core.specs.declared.hand.Hand.{Hand};
+
+    /// It, under its name.
+    ghost name: { Self → Hand };
+
+    /// It, under its name.
+    fn named(self) -> Hand
+        ensures { result ≡ name self };
+}
+
+impl Named for Asking<ProduceHand, Offer, ProducePartitionReply> {
+    ghost use Rattle.conn_core.specs.declared.hand.Hand.TheVariants.{Produce};
+
+    ghost name = { λ asking. Produce asking };
+
+    fn named(self) -> Hand {
+        Hand::Produce(self)
+    }
+}
+
+impl Named for Asking<FetchHand, Visiting, Option<FetchRow>> {
+    ghost use Rattle.conn_core.specs.declared.hand.Hand.TheVariants.{Fetch};
+
+    ghost name = { λ asking. Fetch asking };
+
+    fn named(self) -> Hand {
+        Hand::Fetch(self)
+    }
+}
+
+impl Named for Asking<AckHand, Visiting, Option<AcknowledgedPartition>> {
+    ghost use Rattle.conn_core.specs.declared.hand.Hand.TheVariants.{Acknowledge};
+
+    ghost name = { λ asking. Acknowledge asking };
+
+    fn named(self) -> Hand {
+        Hand::Acknowledge(self)
+    }
+}
+
+impl Named for Asking<HeartbeatHand, HeartbeatRequest, HeartbeatReply> {
+    ghost use Rattle.conn_core.specs.declared.hand.Hand.TheVariants.{Heartbeat};
+
+    ghost name = { λ asking. Heartbeat asking };
+
+    fn named(self) -> Hand {
+        Hand::Heartbeat(self)
+    }
+}
+
+impl Named for Asking<StateHand<Initialize>, Question<Beginning>, PartitionResult> {
+    ghost use Rattle.conn_core.specs.declared.hand.Hand.TheVariants.{Initialize};
+
+    ghost name = { λ asking. Initialize asking };
+
+    fn named(self) -> Hand {
+        Hand::Initialize(self)
+    }
+}
+
+impl Named for Asking<StateHand<Read>, Question<Reading>, ReadPartitionResult> {
+    ghost use Rattle.conn_core.specs.declared.hand.Hand.TheVariants.{Read};
+
+    ghost name = { λ asking. Read asking };
+
+    fn named(self) -> Hand {
+        Hand::Read(self)
+    }
+}
+
+impl Named for Asking<StateHand<Write>, Question<Writing>, PartitionResult> {
+    ghost use Rattle.conn_core.specs.declared.hand.Hand.TheVariants.{Write};
+
+    ghost name = { λ asking. Write asking };
+
+    fn named(self) -> Hand {
+        Hand::Write(self)
+    }
+}
+
+impl Named for Asking<StateHand<Delete>, Question<Deleting>, PartitionResult> {
+    ghost use Rattle.conn_core.specs.declared.hand.Hand.TheVariants.{Delete};
+
+    ghost name = { λ asking. Delete asking };
+
+    fn named(self) -> Hand {
+        Hand::Delete(self)
+    }
+}
+
+/// A call's stage, under its name in hand.
+pub fn under_name<A: Named>(stage: Stage<A>) -> Stage<Hand>
+    ensures { result ≡ hand_stage A.name stage }
+{
+    match stage {
+        Stage::Asks(asking) => Stage::Asks(asking.named()),
+        Stage::Says(body) => Stage::Says(body),
+    }
 }
 
 impl Hand {
@@ -62,14 +154,14 @@ impl Hand {
         ensures { IfOk result (λ stage. stage ≡ hand_stage_after self answer) }
     {
         match self {
-            Hand::Produce(asking) => under_name!(Produce, take(alloc, asking, answer)?),
-            Hand::Fetch(asking) => under_name!(Fetch, take(alloc, asking, answer)?),
-            Hand::Acknowledge(asking) => under_name!(Acknowledge, take(alloc, asking, answer)?),
-            Hand::Heartbeat(asking) => under_name!(Heartbeat, take(alloc, asking, answer)?),
-            Hand::Initialize(asking) => under_name!(Initialize, take(alloc, asking, answer)?),
-            Hand::Read(asking) => under_name!(Read, take(alloc, asking, answer)?),
-            Hand::Write(asking) => under_name!(Write, take(alloc, asking, answer)?),
-            Hand::Delete(asking) => under_name!(Delete, take(alloc, asking, answer)?),
+            Hand::Produce(asking) => Ok(under_name(take(alloc, asking, answer)?)),
+            Hand::Fetch(asking) => Ok(under_name(take(alloc, asking, answer)?)),
+            Hand::Acknowledge(asking) => Ok(under_name(take(alloc, asking, answer)?)),
+            Hand::Heartbeat(asking) => Ok(under_name(take(alloc, asking, answer)?)),
+            Hand::Initialize(asking) => Ok(under_name(take(alloc, asking, answer)?)),
+            Hand::Read(asking) => Ok(under_name(take(alloc, asking, answer)?)),
+            Hand::Write(asking) => Ok(under_name(take(alloc, asking, answer)?)),
+            Hand::Delete(asking) => Ok(under_name(take(alloc, asking, answer)?)),
         }
     }
 }

@@ -6,7 +6,7 @@ ghost use Rattle.conn_core.specs.Beginning.{heartbeat_begins, initialize_begins,
 
 use crate::begun::Begun;
 use crate::coordinators::coordinator_reply;
-use crate::hand::Hand;
+use crate::hand::{Hand, under_name};
 use crate::metadata::metadata_reply;
 use crate::versions::versions_reply;
 use call_fold::Stage;
@@ -41,17 +41,11 @@ pub trait Request: Sized + Drop {
 
 // What a call begins with, under its name in hand.
 macro_rules! begun {
-    ($name:ident, $stage:expr, $change:expr) => {
-        match $stage {
-            Stage::Asks(asking) => Ok(Begun {
-                stage: Stage::Asks(Hand::$name(asking)),
-                change: $change,
-            }),
-            Stage::Says(body) => Ok(Begun {
-                stage: Stage::Says(body),
-                change: $change,
-            }),
-        }
+    ($stage:expr, $change:expr) => {
+        Ok(Begun {
+            stage: under_name($stage),
+            change: $change,
+        })
     };
 }
 
@@ -99,7 +93,7 @@ impl Request for ProduceRequest {
     ghost begins = { produce_begins };
 
     fn begin(self, alloc: Global, conf: &Config, _: &Sessions) -> Result<Begun, NoMemory> {
-        begun!(Produce, produce_call(alloc, conf, self)?, None)
+        begun!(produce_call(alloc, conf, self)?, None)
     }
 }
 
@@ -107,8 +101,10 @@ impl Request for ShareFetchRequest {
     ghost begins = { fetch_begins };
 
     fn begin(self, alloc: Global, conf: &Config, sessions: &Sessions) -> Result<Begun, NoMemory> {
-        let (stage, change) = fetch_call(alloc, conf, sessions, &self)?;
-        begun!(Fetch, stage, change)
+        let begun = fetch_call(alloc, conf, sessions, &self);
+        drop(self);
+        let (stage, change) = begun?;
+        begun!(stage, change)
     }
 }
 
@@ -116,8 +112,10 @@ impl Request for ShareAckRequest {
     ghost begins = { acknowledge_begins };
 
     fn begin(self, alloc: Global, conf: &Config, sessions: &Sessions) -> Result<Begun, NoMemory> {
-        let (stage, change) = ack_call(alloc, conf, sessions, &self)?;
-        begun!(Acknowledge, stage, change)
+        let begun = ack_call(alloc, conf, sessions, &self);
+        drop(self);
+        let (stage, change) = begun?;
+        begun!(stage, change)
     }
 }
 
@@ -125,7 +123,7 @@ impl Request for HeartbeatRequest {
     ghost begins = { heartbeat_begins };
 
     fn begin(self, alloc: Global, _: &Config, _: &Sessions) -> Result<Begun, NoMemory> {
-        begun!(Heartbeat, heartbeat_call(alloc, self)?, None)
+        begun!(heartbeat_call(alloc, self)?, None)
     }
 }
 
@@ -133,7 +131,7 @@ impl Request for InitializeShareGroupStateRequest {
     ghost begins = { initialize_begins };
 
     fn begin(self, alloc: Global, conf: &Config, _: &Sessions) -> Result<Begun, NoMemory> {
-        begun!(Initialize, state_call(alloc, conf, Initialize, self)?, None)
+        begun!(state_call(alloc, conf, Initialize, self)?, None)
     }
 }
 
@@ -141,7 +139,7 @@ impl Request for ReadShareGroupStateRequest {
     ghost begins = { read_begins };
 
     fn begin(self, alloc: Global, conf: &Config, _: &Sessions) -> Result<Begun, NoMemory> {
-        begun!(Read, state_call(alloc, conf, Read, self)?, None)
+        begun!(state_call(alloc, conf, Read, self)?, None)
     }
 }
 
@@ -149,7 +147,7 @@ impl Request for WriteShareGroupStateRequest {
     ghost begins = { write_begins };
 
     fn begin(self, alloc: Global, conf: &Config, _: &Sessions) -> Result<Begun, NoMemory> {
-        begun!(Write, state_call(alloc, conf, Write, self)?, None)
+        begun!(state_call(alloc, conf, Write, self)?, None)
     }
 }
 
@@ -157,6 +155,6 @@ impl Request for DeleteShareGroupStateRequest {
     ghost begins = { delete_begins };
 
     fn begin(self, alloc: Global, conf: &Config, _: &Sessions) -> Result<Begun, NoMemory> {
-        begun!(Delete, state_call(alloc, conf, Delete, self)?, None)
+        begun!(state_call(alloc, conf, Delete, self)?, None)
     }
 }
