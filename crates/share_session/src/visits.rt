@@ -27,13 +27,10 @@ pub fn visits_of(
 }
 
 /// More visits behind those of the list.
-pub fn append(list: &mut VisitPlan, more: VisitPlan) -> Result<(), NoMemory>
+pub fn append(list: &mut VisitPlan, mut more: VisitPlan) -> Result<(), NoMemory>
     ensures { OnOk result (list.new.items ≡ list.old.items ++ more.items) }
 {
-    list.reserve(more.len())?;
-    for step in more {
-        list.push(step)?;
-    }
+    list.append(&mut more)?;
     Ok(())
 }
 
