@@ -154,7 +154,10 @@ impl Conn {
         ensures next { IfOk result (λ next. Tells (reply_turn (taken_up (behind_frame size self.old.unread) change self.old) (ReplyFrame.Frame frame)) next self.new) }
         ensures kept { OnErr result (self.new ≡ self.old) }
     {
-        self.replies.reserve(1)?;
+        if self.replies.reserve(1).is_err() {
+            drop(change);
+            return Err(NoMemory);
+        }
         apply(&mut self.sessions, change)?;
         self.replies.push_back(frame)?;
         self.stream.take(4 + size as usize);
@@ -202,10 +205,22 @@ impl Conn {
         ensures taken { OnOk result (self.new ≡ taken_up (behind_frame size self.old.unread) change self.old) }
         ensures kept { OnErr result (self.new ≡ self.old) }
     {
-        let first = hand.part(self.alloc)?;
-        apply(&mut self.sessions, change)?;
-        self.stream.take(4 + size as usize);
-        Ok(first)
+        match hand.part(self.alloc) {
+            Ok(first) => match apply(&mut self.sessions, change) {
+                Ok(()) => {
+                    self.stream.take(4 + size as usize);
+                    Ok(first)
+                }
+                Err(NoMemory) => {
+                    drop(first);
+                    Err(NoMemory)
+                }
+            },
+            Err(NoMemory) => {
+                drop(change);
+                Err(NoMemory)
+            }
+        }
     }
 
     // A frame of so many bytes begins this request, which does this to the sessions.
@@ -251,10 +266,13 @@ impl Conn {
             } => {
                 let Begun { stage, change } = begun;
                 match stage {
-                    Stage::Says(body) => {
-                        let reply = frame_reply(self.alloc, tags, correlation, body)?;
-                        self.send(size, change, reply)
-                    }
+                    Stage::Says(body) => match frame_reply(self.alloc, tags, correlation, body) {
+                        Ok(reply) => self.send(size, change, reply),
+                        Err(NoMemory) => {
+                            drop(change);
+                            Err(NoMemory)
+                        }
+                    },
                     Stage::Asks(hand) => self.begin(size, change, correlation, hand),
                 }
             }

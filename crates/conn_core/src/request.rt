@@ -63,9 +63,12 @@ impl Request for MetadataRequest {
     ghost begins = { metadata_begins };
 
     fn begin(self, alloc: Global, conf: &Config, _: &Sessions) -> Result<Begun, NoMemory> {
-        let reply = metadata_reply(alloc, conf, &self)?;
-        let body = write_metadata_reply(alloc, &reply)?;
-        replied!(body)
+        let reply = metadata_reply(alloc, conf, &self);
+        drop(self);
+        let reply = reply?;
+        let body = write_metadata_reply(alloc, &reply);
+        drop(reply);
+        replied!(body?)
     }
 }
 
