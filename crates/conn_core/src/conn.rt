@@ -1,3 +1,4 @@
+// Large values are dropped by a call before an early return: at a `?` their drop would be proved where it stands, each time anew.
 ghost use Rattle.std.specs.Prelude.{◌≡◌, ◌≤◌, ◌+◌, ◌∷◌, ◌↔◌, [], length, OnOk, OnErr, IfOk, IfSome, IfNone};
 ghost use Rattle.share_session.specs.Plans.{releases_of};
 ghost use Rattle.share_calls.specs.Changes.{Fits, changed};
