@@ -12,16 +12,16 @@
 //!
 //! A text is the value, and `written HEX` behind it where the value is written as other bytes; or a fault and its place. Each
 //! proper front of bytes that are read has to be refused. In values `null` is Kafka's null. The kinds are in `kinds.rt`,
-//! `share.rt`, `batches.rt`, `records.rt`, `acks.rt` and `values.rt`.
+//! `messages.rt`, `batches.rt`, `records.rt`, `acks.rt` and `values.rt`.
 #![tactic(auto)]
 
 mod acks;
 mod batches;
 mod case;
 mod kinds;
+mod messages;
 mod plain;
 mod records;
-mod share;
 mod values;
 
 pub use case::Case;

@@ -1,18 +1,8 @@
 // Records of the state journal.
-use crate::plain::plain;
-use state_records::{RecordFault, StateRecord, read_record, write_record};
+use crate::plain::{fault_text, plain};
+use state_records::{StateRecord, read_record, write_record};
 use std::alloc::Global;
 use std::io;
-
-fn record_text(alloc: Global, record: &StateRecord) -> io::Result<String> {
-    let (kind, debug) = match record {
-        StateRecord::Snapshot(state) => ("snapshot", format!(in alloc; "{state:?}")?),
-        StateRecord::Update(state) => ("update", format!(in alloc; "{state:?}")?),
-        StateRecord::Removal { key } => ("removal", format!(in alloc; "{key:?}")?),
-    };
-    let text = plain(alloc, debug.as_str())?;
-    Ok(format!(in alloc; "{kind} {text}")?)
-}
 
 /// Whether some proper front of the bytes is read.
 fn is_front_read(alloc: Global, bytes: &[u8]) -> bool {
@@ -25,19 +15,30 @@ fn is_front_read(alloc: Global, bytes: &[u8]) -> bool {
     false
 }
 
-/// What bytes are read as, and written.
-fn told(alloc: Global, bytes: &[u8]) -> io::Result<String> {
-    let record = match read_record(alloc, bytes) {
-        Ok(record) => record,
-        Err(RecordFault::BadState { place }) => return Ok(format!(in alloc;
-            "BadState at {place}"
-        )?),
-        Err(RecordFault::NoMemory) => return Ok(String::from_str(alloc, "NoMemory")?),
+/// What a record is.
+fn record_text(alloc: Global, record: &StateRecord) -> io::Result<String> {
+    let (kind, text) = match record {
+        StateRecord::Snapshot(state) => ("snapshot", plain(alloc, state)),
+        StateRecord::Update(state) => ("update", plain(alloc, state)),
+        StateRecord::Removal { key } => ("removal", plain(alloc, key)),
     };
-    let mut text = record_text(alloc, &record)?;
-    match write_record(alloc, &record) {
-        Ok(written) if written.as_slice() == bytes => {}
-        _ => text.push_str(", and it is written otherwise")?,
+    let text = text?;
+    Ok(format!(in alloc; "{kind} {text}")?)
+}
+
+/// Whether a record is written as these bytes.
+fn is_written(alloc: Global, record: &StateRecord, bytes: &[u8]) -> bool {
+    match write_record(alloc, record) {
+        Ok(written) => written.as_slice() == bytes,
+        Err(_) => false,
+    }
+}
+
+/// What a record is that was read of these bytes, and what doesn't hold of it.
+fn told(alloc: Global, record: &StateRecord, bytes: &[u8]) -> io::Result<String> {
+    let mut text = record_text(alloc, record)?;
+    if !is_written(alloc, record, bytes) {
+        text.push_str(", and it is written otherwise")?;
     }
     if is_front_read(alloc, bytes) {
         text.push_str(", and a front of it is read")?;
@@ -45,10 +46,10 @@ fn told(alloc: Global, bytes: &[u8]) -> io::Result<String> {
     Ok(text)
 }
 
-/// What bytes are as a kind of this file. `None` where it has no such kind.
-pub fn record_told(alloc: Global, kind: &str, bytes: &[u8]) -> io::Result<Option<String>> {
-    match kind {
-        "state-record" => Ok(Some(told(alloc, bytes)?)),
-        _ => Ok(None),
+/// What bytes are read as, and written.
+pub fn record_told(alloc: Global, bytes: &[u8]) -> io::Result<String> {
+    match read_record(alloc, bytes) {
+        Ok(record) => told(alloc, &record, bytes),
+        Err(fault) => fault_text(alloc, &fault),
     }
 }

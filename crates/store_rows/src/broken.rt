@@ -9,18 +9,17 @@
 // | `broken-write N MODE` | a write on a key that is there |
 // | `broken-append N MODE` | a batch of three records behind another one: the base, and the end of the log |
 use crate::calls::{field, key_of, op_of};
-use crate::disks::{mode_of, new_disk};
-use crate::logs::{append_text, is_opened, three};
-use crate::states::{act, view_text};
+use crate::disks::{mode_of, new_disk, word_number};
+use crate::logs::{append_text, three};
+use crate::states::{act, lose_power, view_text};
 use edge_io::{Disk, DiskPlace, FaultMode};
 use edge_mem::MemDisk;
 use foreign_coord::ForeignShard;
 use part_log::PartLog;
-use share_model::ForeignOp;
 use std::alloc::Global;
 use std::io;
 
-fn failed() -> io::Error {
+pub fn failed() -> io::Error {
     io::Error::from(io::ErrorKind::InvalidData)
 }
 
@@ -42,95 +41,114 @@ fn opened(alloc: Global, first: MemDisk, second: MemDisk) -> io::Result<ForeignS
     }
 }
 
-fn line_op(alloc: Global, kind: &str, text: &str) -> io::Result<ForeignOp> {
+/// A shard on two empty disks.
+fn new_shard(alloc: Global) -> io::Result<ForeignShard<MemDisk>> {
+    let first = new_disk(alloc, Vec::new(alloc))?;
+    opened(alloc, first, new_disk(alloc, Vec::new(alloc))?)
+}
+
+/// Does the call of a line.
+fn call(
+    alloc: Global,
+    shard: &mut ForeignShard<MemDisk>,
+    kind: &str,
+    text: &str,
+) -> io::Result<String> {
     match op_of(alloc, kind, text)? {
-        Some(op) => Ok(op),
+        Some(op) => act(alloc, shard, &op),
         None => Err(failed()),
     }
 }
 
-/// A shard for the call, and the call.
-fn prepared(alloc: Global, kind: &str) -> io::Result<(ForeignShard<MemDisk>, ForeignOp)> {
-    let first = new_disk(alloc, Vec::new(alloc))?;
-    let second = new_disk(alloc, Vec::new(alloc))?;
-    let mut shard = opened(alloc, first, second)?;
-    if kind == "broken-init" {
-        return Ok((shard, line_op(alloc, "init", "g1/17/0 3 7")?));
+/// Does the call that is broken.
+fn broken_call(alloc: Global, shard: &mut ForeignShard<MemDisk>, kind: &str) -> io::Result<String> {
+    match kind {
+        "broken-init" => call(alloc, shard, "init", "g1/17/0 3 7"),
+        _ => call(alloc, shard, "write", "g1/17/0 3 1 -1 0 2 2 1"),
     }
-    let _ = act(alloc, &mut shard, &line_op(alloc, "init", "g1/17/0 3 0")?)?;
-    Ok((shard, line_op(alloc, "write", "g1/17/0 3 1 -1 0 2 2 1")?))
 }
 
-/// The code of the last call, and the key after a power loss.
-fn call_run(alloc: Global, kind: &str, run: Break) -> io::Result<(String, String)> {
-    let (mut shard, op) = prepared(alloc, kind)?;
-    shard.arm(DiskPlace::StateA, run.after, run.mode);
-    let mut code = act(alloc, &mut shard, &op)?;
-    if run.is_again {
-        code = act(alloc, &mut shard, &op)?;
-    }
+/// The key after a power loss.
+fn key_left(alloc: Global, shard: ForeignShard<MemDisk>, choice: u64) -> io::Result<String> {
     let (mut first, mut second) = shard.into_disks();
-    if first.power_loss(run.choice).is_err() || second.power_loss(run.choice).is_err() {
+    if !lose_power(&mut first, &mut second, choice) {
         return Err(failed());
     }
     let shard = opened(alloc, first, second)?;
-    let Some(key) = key_of(KEY) else {
+    match key_of(KEY) {
+        Some(key) => view_text(alloc, shard.look(&key)),
+        None => Err(failed()),
+    }
+}
+
+/// The last answer, and what stands after a power loss. Only the first choice gives the answer.
+fn run_text(alloc: Global, choice: u64, answer: &str, left: &str) -> io::Result<String> {
+    match choice {
+        0 => Ok(format!(in alloc; "{answer}: {left}")?),
+        _ => Ok(format!(in alloc; ", {left}")?),
+    }
+}
+
+/// The code of the last call, and the key after a power loss.
+fn call_run(alloc: Global, kind: &str, run: Break) -> io::Result<String> {
+    let mut shard = new_shard(alloc)?;
+    if kind == "broken-write" {
+        call(alloc, &mut shard, "init", "g1/17/0 3 0")?;
+    }
+    shard.arm(DiskPlace::StateA, run.after, run.mode);
+    let mut code = broken_call(alloc, &mut shard, kind)?;
+    if run.is_again {
+        code = broken_call(alloc, &mut shard, kind)?;
+    }
+    let left = key_left(alloc, shard, run.choice)?;
+    run_text(alloc, run.choice, code.as_str(), left.as_str())
+}
+
+fn opened_log(alloc: Global, disk: MemDisk) -> io::Result<PartLog<MemDisk>> {
+    match PartLog::open(alloc, disk) {
+        Ok(log) => Ok(log),
+        Err(_) => Err(failed()),
+    }
+}
+
+/// The end of a log after a power loss.
+fn end_left(alloc: Global, log: PartLog<MemDisk>, choice: u64) -> io::Result<String> {
+    let mut disk = log.into_disk();
+    if disk.power_loss(choice).is_err() {
         return Err(failed());
-    };
-    let view = view_text(alloc, shard.look(&key))?;
-    Ok((code, view))
+    }
+    let log = opened_log(alloc, disk)?;
+    word_number(alloc, "end", log.end())
 }
 
 /// The answer to the last append, and the end of the log after a power loss.
-fn append_run(alloc: Global, run: Break) -> io::Result<(String, String)> {
-    let Some(mut log) = is_opened(alloc, new_disk(alloc, Vec::new(alloc))?) else {
-        return Err(failed());
-    };
-    let _ = append_text(alloc, &mut log, three())?;
+fn append_run(alloc: Global, run: Break) -> io::Result<String> {
+    let mut log = opened_log(alloc, new_disk(alloc, Vec::new(alloc))?)?;
+    append_text(alloc, &mut log, three())?;
     log.arm(run.after, run.mode);
     let mut answer = append_text(alloc, &mut log, three())?;
     if run.is_again {
         answer = append_text(alloc, &mut log, three())?;
     }
-    let mut disk = log.into_disk();
-    if disk.power_loss(run.choice).is_err() {
-        return Err(failed());
-    }
-    let Some(log) = is_opened(alloc, disk) else {
-        return Err(failed());
-    };
-    let end = log.end();
-    Ok((answer, format!(in alloc; "end {end}")?))
+    let left = end_left(alloc, log, run.choice)?;
+    run_text(alloc, run.choice, answer.as_str(), left.as_str())
 }
 
-fn one_run(alloc: Global, kind: &str, run: Break) -> io::Result<(String, String)> {
-    match kind {
-        "broken-append" => append_run(alloc, run),
-        _ => call_run(alloc, kind, run),
-    }
-}
-
-/// The last answer, and what stands after each power loss.
-fn runs_text(alloc: Global, kind: &str, first: Break) -> io::Result<String> {
-    let mut text = String::new(alloc);
+/// Adds the last answer, and what stands after each power loss.
+fn push_runs(alloc: Global, text: &mut String, kind: &str, first: Break) -> io::Result<()> {
     for choice in 0..3 {
-        let (answer, left) = one_run(alloc, kind, Break { choice, ..first })?;
-        let mark = if choice == 0 { ":" } else { "," };
-        if choice == 0 {
-            text.push_str(answer.as_str())?;
-        }
-        text.push_str(mark)?;
-        text.push_str(" ")?;
-        text.push_str(left.as_str())?;
+        let run = Break { choice, ..first };
+        let told = match kind {
+            "broken-append" => append_run(alloc, run),
+            _ => call_run(alloc, kind, run),
+        };
+        text.push_str(told?.as_str())?;
     }
-    Ok(text)
+    Ok(())
 }
 
-/// What a line gives. `None` where it isn't one of these.
-pub fn broken_told(alloc: Global, kind: &str, text: &str) -> io::Result<Option<String>> {
-    if !matches!(kind, "broken-init" | "broken-write" | "broken-append") {
-        return Ok(None);
-    }
+/// What a line gives.
+pub fn broken_told(alloc: Global, kind: &str, text: &str) -> io::Result<String> {
     let (after, mode) = field(text);
     let once = Break {
         after: after.parse().unwrap_or(0),
@@ -138,15 +156,13 @@ pub fn broken_told(alloc: Global, kind: &str, text: &str) -> io::Result<Option<S
         is_again: false,
         choice: 0,
     };
-    let first = runs_text(alloc, kind, once)?;
-    let again = runs_text(
-        alloc,
-        kind,
-        Break {
-            is_again: true,
-            ..once
-        },
-    )?;
-    let (first, again) = (first.as_str(), again.as_str());
-    Ok(Some(format!(in alloc; "{first}; {again}")?))
+    let again = Break {
+        is_again: true,
+        ..once
+    };
+    let mut told = String::new(alloc);
+    push_runs(alloc, &mut told, kind, once)?;
+    told.push_str("; ")?;
+    push_runs(alloc, &mut told, kind, again)?;
+    Ok(told)
 }

@@ -28,33 +28,39 @@ impl Case {
         }
     }
 
+    /// What a line on a store gives. `None` where it isn't one.
+    fn on_stores(&mut self, alloc: Global, kind: &str, text: &str) -> io::Result<Option<String>> {
+        match self.store.on_log(alloc, kind, text) {
+            Ok(None) => match self.store.told(alloc, kind, text) {
+                Ok(None) => self.states.told(alloc, kind, text),
+                told => told,
+            },
+            told => told,
+        }
+    }
+
+    /// What a line on streams or stored rows gives, or else on a store. `None` where there is no such line.
+    fn on_others(&mut self, alloc: Global, kind: &str, text: &str) -> io::Result<Option<String>> {
+        match self.streams.told(alloc, kind, text) {
+            Ok(None) => match self.rows.told(alloc, kind, text) {
+                Ok(None) => self.on_stores(alloc, kind, text),
+                told => told,
+            },
+            told => told,
+        }
+    }
+
     /// What a line gives. `None` where there is no such line.
     fn told(&mut self, alloc: Global, kind: &str, text: &str) -> io::Result<Option<String>> {
-        if let Some(told) = self.store.on_log(alloc, kind, text)? {
-            return Ok(Some(told));
-        }
-        if let Some(told) = self.store.told(alloc, kind, text)? {
-            return Ok(Some(told));
-        }
-        if let Some(told) = self.states.told(alloc, kind, text)? {
-            return Ok(Some(told));
-        }
-        if let Some(told) = broken_told(alloc, kind, text)? {
-            return Ok(Some(told));
-        }
-        if let Some(told) = self.streams.told(alloc, kind, text)? {
-            return Ok(Some(told));
-        }
-        if let Some(told) = self.rows.told(alloc, kind, text)? {
-            return Ok(Some(told));
-        }
-        match kind {
+        let told = match kind {
             "disk-name" => name_told(alloc, text),
             "disk-read" => name_read(alloc, text),
             "bay" => bay_told(alloc),
             "broken-appends" => sweep_told(alloc),
-            _ => Ok(None),
-        }
+            "broken-init" | "broken-write" | "broken-append" => broken_told(alloc, kind, text),
+            _ => return self.on_others(alloc, kind, text),
+        };
+        Ok(Some(told?))
     }
 }
 

@@ -18,7 +18,7 @@ use edge_mem::MemDisk;
 use gate_journal::{Journal, StartFault, start};
 use part_log::PartLog;
 use row_text::bytes_of;
-use share_model::StoreFault;
+use share_model::{Blob, StoreFault};
 use std::alloc::Global;
 use std::{io, mem};
 
@@ -58,24 +58,52 @@ pub fn mode_of(name: &str) -> FaultMode {
     }
 }
 
+/// What a room holds into which nothing was read.
+pub const UNREAD: u8 = 0xee;
+
+/// Whether nothing was read into a room.
+pub fn is_unread(room: &[u8]) -> bool {
+    for byte in room {
+        if *byte != UNREAD {
+            return false;
+        }
+    }
+    true
+}
+
+/// How a read was answered that failed.
+pub fn failed_read(alloc: Global, room: &[u8]) -> io::Result<String> {
+    word(
+        alloc,
+        if is_unread(room) {
+            "fails"
+        } else {
+            "fails and writes"
+        },
+    )
+}
+
 /// Reads some bytes at a place.
 fn read(alloc: Global, disk: &mut MemDisk, place: u64, count: u64) -> io::Result<String> {
     if count > 1 << 20 || place > disk.len() || count > disk.len() - place {
         return word(alloc, "behind the end");
     }
-    let mut into = vec![in alloc; 0xeeu8; count as usize]?;
+    let mut into = vec![in alloc; UNREAD; count as usize]?;
     match disk.read_at(place, &mut into) {
         Ok(()) => bytes_text(alloc, &into),
-        Err(_) if into.iter().all(|byte| *byte == 0xee) => word(alloc, "fails"),
-        Err(_) => word(alloc, "fails and writes"),
+        Err(_) => failed_read(alloc, &into),
     }
 }
 
-fn write(alloc: Global, disk: &mut MemDisk, place: u64, bytes: &[u8]) -> io::Result<String> {
+/// Writes the bytes of a text at a place. `None` where it has none.
+fn write(alloc: Global, disk: &mut MemDisk, place: u64, text: &str) -> io::Result<Option<String>> {
+    let Some(bytes) = bytes_of(alloc, text)? else {
+        return Ok(None);
+    };
     if place > disk.len() || place > 1 << 40 || bytes.len() > 1 << 40 {
-        return word(alloc, "behind the end");
+        return Ok(Some(word(alloc, "behind the end")?));
     }
-    done(alloc, disk.write_at(place, bytes).is_ok())
+    Ok(Some(done(alloc, disk.write_at(place, &bytes).is_ok())?))
 }
 
 fn cut(alloc: Global, disk: &mut MemDisk, length: u64) -> io::Result<String> {
@@ -83,6 +111,16 @@ fn cut(alloc: Global, disk: &mut MemDisk, length: u64) -> io::Result<String> {
         return word(alloc, "behind the end");
     }
     done(alloc, disk.cut(length).is_ok())
+}
+
+/// A number as text.
+pub fn number_text(alloc: Global, number: u64) -> io::Result<String> {
+    Ok(format!(in alloc; "{number}")?)
+}
+
+/// A word and a number as text.
+pub fn word_number(alloc: Global, word: &str, number: u64) -> io::Result<String> {
+    Ok(format!(in alloc; "{word} {number}")?)
 }
 
 /// What a line does with a disk. `None` where it isn't about one.
@@ -95,50 +133,41 @@ fn disk_told(
     let (first, rest) = text.split_once(' ').unwrap_or((text, ""));
     let number = first.parse().unwrap_or(0);
     let told = match kind {
-        "read" => read(alloc, disk, number, rest.parse().unwrap_or(0))?,
-        "write" => match bytes_of(alloc, rest)? {
-            Some(bytes) => write(alloc, disk, number, &bytes)?,
-            None => return Ok(None),
-        },
-        "cut" => cut(alloc, disk, number)?,
-        "sync" => done(alloc, disk.sync().is_ok())?,
-        "power" => done(alloc, disk.power_loss(number).is_ok())?,
-        "content" => bytes_text(alloc, disk.bytes())?,
-        "faults" => {
-            let faults = disk.faults();
-            format!(in alloc; "{faults}")?
-        }
-        "starved" => word(alloc, if disk.starved() { "yes" } else { "no" })?,
+        "read" => read(alloc, disk, number, rest.parse().unwrap_or(0)),
+        "write" => return write(alloc, disk, number, rest),
+        "cut" => cut(alloc, disk, number),
+        "sync" => done(alloc, disk.sync().is_ok()),
+        "power" => done(alloc, disk.power_loss(number).is_ok()),
+        "content" => bytes_text(alloc, disk.bytes()),
+        "faults" => number_text(alloc, disk.faults()),
+        "starved" => word(alloc, if disk.starved() { "yes" } else { "no" }),
         _ => return Ok(None),
     };
-    Ok(Some(told))
+    Ok(Some(told?))
+}
+
+/// Adds a frame.
+fn push_frame(alloc: Global, text: &mut String, frame: &Blob) -> io::Result<()> {
+    let digits = hex::encode(alloc, frame.as_slice())?;
+    text.push_str(" ")?;
+    Ok(text.push_str(digits.as_str())?)
 }
 
 /// The frames, with blanks between them.
-fn frames_text(alloc: Global, frames: &[share_model::Blob]) -> io::Result<String> {
+fn frames_text(alloc: Global, frames: &[Blob]) -> io::Result<String> {
     let mut text = word(alloc, "frames")?;
     for frame in frames {
-        text.push_str(" ")?;
-        text.push_str(hex::encode(alloc, frame.as_slice())?.as_str())?;
+        push_frame(alloc, &mut text, frame)?;
     }
     Ok(text)
 }
 
-/// Starts a journal on a disk.
-fn started(alloc: Global, disk: MemDisk) -> io::Result<(Store, String)> {
-    match start(alloc, disk) {
-        Ok((journal, frames)) => {
-            let text = frames_text(alloc, &frames)?;
-            Ok((Store::Journal(journal), text))
-        }
-        Err((disk, fault)) => {
-            let text = match fault {
-                StartFault::Damaged { place } => format!(in alloc; "damaged {place}")?,
-                StartFault::Device => word(alloc, "fails")?,
-                StartFault::NoMemory => word(alloc, "no memory")?,
-            };
-            Ok((Store::Disk(disk), text))
-        }
+/// Why no journal was started.
+fn refusal(alloc: Global, fault: StartFault) -> io::Result<String> {
+    match fault {
+        StartFault::Damaged { place } => word_number(alloc, "damaged", place),
+        StartFault::Device => word(alloc, "fails"),
+        StartFault::NoMemory => word(alloc, "no memory"),
     }
 }
 
@@ -178,9 +207,9 @@ fn append_once(alloc: Global, journal: &mut Journal<MemDisk>, frame: &[u8]) -> i
         return word(alloc, "its five bytes aren't set");
     }
     match answer {
-        Some(Ok(number)) => Ok(format!(in alloc; "{number}")?),
+        Some(Ok(number)) => number_text(alloc, number),
         Some(Err(StoreFault::Device)) => word(alloc, "fails"),
-        Some(Err(StoreFault::Full { end })) => Ok(format!(in alloc; "full {end}")?),
+        Some(Err(StoreFault::Full { end })) => word_number(alloc, "full", end),
         None => word(alloc, "no frame"),
     }
 }
@@ -210,15 +239,28 @@ pub fn new_disk(alloc: Global, content: Vec<u8>) -> io::Result<MemDisk> {
     }
 }
 
+/// A new disk with the content of a text. `None` where it has no bytes.
+pub fn disk_of(alloc: Global, text: &str) -> io::Result<Option<MemDisk>> {
+    match bytes_of(alloc, text)? {
+        Some(content) => Ok(Some(new_disk(alloc, content)?)),
+        None => Ok(None),
+    }
+}
+
 impl Store {
     /// The disk, without its journal or log.
-    pub fn into_disk(self) -> Option<MemDisk> {
+    fn into_disk(self) -> Option<MemDisk> {
         match self {
             Store::None => None,
             Store::Disk(disk) => Some(disk),
             Store::Journal(journal) => Some(journal.into_disk()),
             Store::Log(log) => Some(log.into_disk()),
         }
+    }
+
+    /// Takes the disk out, where there is one.
+    pub fn take_disk(&mut self) -> Option<MemDisk> {
+        mem::replace(self, Store::None).into_disk()
     }
 
     fn arm(&mut self, after: u64, mode: FaultMode) {
@@ -230,49 +272,65 @@ impl Store {
         }
     }
 
-    /// Does a line on the disk itself.
-    fn on_disk(&mut self, alloc: Global, kind: &str, text: &str) -> io::Result<Option<String>> {
-        let Some(mut disk) = mem::replace(self, Store::None).into_disk() else {
+    /// Puts a new disk here.
+    fn put(&mut self, alloc: Global, text: &str) -> io::Result<Option<String>> {
+        let Some(disk) = disk_of(alloc, text)? else {
             return Ok(None);
         };
-        if kind == "start" {
-            let (store, told) = started(alloc, disk)?;
-            *self = store;
-            return Ok(Some(told));
-        }
-        let told = disk_told(alloc, &mut disk, kind, text)?;
         *self = Store::Disk(disk);
-        Ok(told)
+        Ok(Some(word(alloc, "ok")?))
+    }
+
+    /// Starts a journal on the disk.
+    fn start(&mut self, alloc: Global) -> io::Result<Option<String>> {
+        let Some(disk) = self.take_disk() else {
+            return Ok(None);
+        };
+        let told = match start(alloc, disk) {
+            Ok((journal, frames)) => {
+                *self = Store::Journal(journal);
+                frames_text(alloc, &frames)
+            }
+            Err((disk, fault)) => {
+                *self = Store::Disk(disk);
+                refusal(alloc, fault)
+            }
+        };
+        Ok(Some(told?))
+    }
+
+    /// Appends a frame some times. `None` where there is no journal.
+    fn append(&mut self, alloc: Global, count: u64, text: &str) -> io::Result<Option<String>> {
+        match self {
+            Store::Journal(journal) => append_each(alloc, journal, count, text),
+            _ => Ok(None),
+        }
+    }
+
+    /// Does a line on the disk itself.
+    fn on_disk(&mut self, alloc: Global, kind: &str, text: &str) -> io::Result<Option<String>> {
+        if let Some(disk) = self.take_disk() {
+            *self = Store::Disk(disk);
+        }
+        match self {
+            Store::Disk(disk) => disk_told(alloc, disk, kind, text),
+            _ => Ok(None),
+        }
     }
 
     /// What a line gives. `None` where it isn't about a disk or a journal.
     pub fn told(&mut self, alloc: Global, kind: &str, text: &str) -> io::Result<Option<String>> {
+        let (first, rest) = text.split_once(' ').unwrap_or((text, ""));
+        let count = first.parse().unwrap_or(0);
         match kind {
-            "disk" => {
-                let Some(content) = bytes_of(alloc, text)? else {
-                    return Ok(None);
-                };
-                *self = Store::Disk(new_disk(alloc, content)?);
-                Ok(Some(word(alloc, "ok")?))
-            }
+            "disk" => self.put(alloc, text),
+            "start" => self.start(alloc),
             "arm" => {
-                let (after, mode) = text.split_once(' ').unwrap_or((text, ""));
-                self.arm(after.parse().unwrap_or(0), mode_of(mode));
+                self.arm(count, mode_of(rest));
                 Ok(Some(word(alloc, "ok")?))
             }
-            "append" => match self {
-                Store::Journal(journal) => append_each(alloc, journal, 1, text),
-                _ => Ok(None),
-            },
-            "append-each" => {
-                let (count, frame) = text.split_once(' ').unwrap_or((text, ""));
-                match self {
-                    Store::Journal(journal) => {
-                        append_each(alloc, journal, count.parse().unwrap_or(0), frame)
-                    }
-                    _ => Ok(None),
-                }
-            }
+            "append" => self.append(alloc, 1, text),
+            "append-each" => self.append(alloc, count, rest),
             _ => self.on_disk(alloc, kind, text),
         }
     }

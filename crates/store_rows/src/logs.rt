@@ -10,13 +10,13 @@
 // | `batch-of OFFSET` | the number, the first and the last offset and the size of the batch that covers it, or `none` |
 // | `batch-bytes OFFSET` | the bytes of that batch |
 use crate::calls::field;
-use crate::disks::{Store, bytes_text, word};
+use crate::disks::{Store, bytes_text, number_text, word, word_number};
 use edge_mem::MemDisk;
 use part_log::{OpenFault, PartLog};
 use row_text::bytes_of;
 use share_model::{LogFault, Room, StoreFault};
 use std::alloc::Global;
-use std::{io, mem};
+use std::io;
 
 /// The records a, b and c, as a producer sends them: base 0, leader epoch 7.
 #[rattlefmt::skip]
@@ -33,21 +33,13 @@ pub fn three() -> &'static [u8] {
     &THREE
 }
 
-/// The log of a disk that is no other than a log's.
-pub fn is_opened(alloc: Global, disk: MemDisk) -> Option<PartLog<MemDisk>> {
-    match PartLog::open(alloc, disk) {
-        Ok(log) => Some(log),
-        Err(_) => None,
-    }
-}
-
 fn answer_text(alloc: Global, answer: Result<u64, LogFault>) -> io::Result<String> {
     match answer {
-        Ok(base) => Ok(format!(in alloc; "{base}")?),
+        Ok(base) => number_text(alloc, base),
         Err(LogFault::Batch(fault)) => Ok(format!(in alloc; "{fault:?}")?),
-        Err(LogFault::Behind { end }) => Ok(format!(in alloc; "behind {end}")?),
+        Err(LogFault::Behind { end }) => word_number(alloc, "behind", end),
         Err(LogFault::Store(StoreFault::Device)) => word(alloc, "fails"),
-        Err(LogFault::Store(StoreFault::Full { end })) => Ok(format!(in alloc; "full {end}")?),
+        Err(LogFault::Store(StoreFault::Full { end })) => word_number(alloc, "full", end),
         Err(LogFault::NoMemory) => word(alloc, "no memory"),
     }
 }
@@ -101,6 +93,18 @@ fn add(
     Ok(Some(answer_text(alloc, answer)?))
 }
 
+/// The batch that covers an offset, or `none`.
+fn place_text(alloc: Global, log: &PartLog<MemDisk>, offset: u64) -> io::Result<String> {
+    match log.batch_of(offset) {
+        Some(place) => {
+            let (number, base) = (place.number, place.base);
+            let (last, size) = (place.last, place.size);
+            Ok(format!(in alloc; "{number} {base} {last} {size}")?)
+        }
+        None => word(alloc, "none"),
+    }
+}
+
 /// What a line on a log gives. `None` where it isn't one.
 fn log_told(
     alloc: Global,
@@ -112,50 +116,50 @@ fn log_told(
     let told = match kind {
         "append-batch" | "load-batch" => return add(alloc, log, kind, text),
         "appends" => return appends(alloc, log, text),
-        "log-end" => {
-            let end = log.end();
-            format!(in alloc; "{end}")?
-        }
+        "log-end" => number_text(alloc, log.end()),
         "next-slot" => match log.next_slot(number) {
-            Some(slot) => format!(in alloc; "{slot}")?,
-            None => word(alloc, "none")?,
+            Some(slot) => number_text(alloc, slot),
+            None => word(alloc, "none"),
         },
-        "batch-of" => match log.batch_of(number) {
-            Some(place) => {
-                let (number, base) = (place.number, place.base);
-                let (last, size) = (place.last, place.size);
-                format!(in alloc; "{number} {base} {last} {size}")?
-            }
-            None => word(alloc, "none")?,
-        },
-        "batch-bytes" => batch_bytes(alloc, log, number)?,
+        "batch-of" => place_text(alloc, log, number),
+        "batch-bytes" => batch_bytes(alloc, log, number),
         _ => return Ok(None),
     };
-    Ok(Some(told))
+    Ok(Some(told?))
+}
+
+/// How many batches a log has, and its end.
+fn opened_text(alloc: Global, log: &PartLog<MemDisk>) -> io::Result<String> {
+    let (count, end) = (log.len(), log.end());
+    Ok(format!(in alloc; "{count} batches, end {end}")?)
+}
+
+/// Why no log was opened.
+fn refusal(alloc: Global, fault: OpenFault) -> io::Result<String> {
+    match fault {
+        OpenFault::Damaged { place } => word_number(alloc, "damaged", place),
+        OpenFault::Device => word(alloc, "fails"),
+        OpenFault::NoMemory => word(alloc, "no memory"),
+    }
 }
 
 impl Store {
     fn open_log(&mut self, alloc: Global) -> io::Result<Option<String>> {
-        let Some(disk) = mem::replace(self, Store::None).into_disk() else {
+        let Some(disk) = self.take_disk() else {
             return Ok(None);
         };
-        match PartLog::open(alloc, disk) {
+        let told = match PartLog::open(alloc, disk) {
             Ok(log) => {
-                let (count, end) = (log.len(), log.end());
+                let told = opened_text(alloc, &log);
                 *self = Store::Log(log);
-                Ok(Some(format!(in alloc; "{count} batches, end {end}")?))
+                told
             }
             Err((disk, fault)) => {
                 *self = Store::Disk(disk);
-                match fault {
-                    OpenFault::Damaged { place } => {
-                        Ok(Some(format!(in alloc; "damaged {place}")?))
-                    }
-                    OpenFault::Device => Ok(Some(word(alloc, "fails")?)),
-                    OpenFault::NoMemory => Ok(Some(word(alloc, "no memory")?)),
-                }
+                refusal(alloc, fault)
             }
-        }
+        };
+        Ok(Some(told?))
     }
 
     /// What a line about a log gives. `None` where it isn't about one.

@@ -12,11 +12,12 @@
 // | `number-of-runs` | how many there are |
 // | `rebuilt` | the list is handed out, and rows are made of it |
 // | `as-record` | how many bytes a snapshot with these runs has, which is read and written again |
+use crate::disks::{number_text, word, word_number};
 use flex_fields::Items;
 use offset_runs::Runs;
 use row_text::bytes_of;
 use share_model::{Row, RowState, Run};
-use state_records::{read_record, write_record};
+use state_records::{StateRecord, read_record, write_record};
 use std::alloc::Global;
 use std::{io, mem};
 
@@ -83,31 +84,28 @@ fn put_each(runs: &mut Runs, text: &str) -> bool {
     true
 }
 
-fn run_text(alloc: Global, run: &Run) -> io::Result<String> {
+/// Adds a run, behind a comma where one stands before it.
+fn push_run_text(alloc: Global, text: &mut String, run: &Run) -> io::Result<()> {
+    let mark = if text.is_empty() { "" } else { ", " };
     let (first, last) = (run.first, run.last);
     let (state, count) = (state_name(run.state), run.count);
-    Ok(format!(in alloc; "{first}..{last} {state} {count}")?)
+    let run = format!(in alloc; "{mark}{first}..{last} {state} {count}")?;
+    Ok(text.push_str(run.as_str())?)
 }
 
 /// The runs, with a comma between them.
 pub fn runs_text(alloc: Global, runs: &[Run]) -> io::Result<String> {
     let mut text = String::new(alloc);
     for run in runs {
-        if !text.is_empty() {
-            text.push_str(", ")?;
-        }
-        text.push_str(run_text(alloc, run)?.as_str())?;
+        push_run_text(alloc, &mut text, run)?;
     }
     Ok(text)
 }
 
 fn row_text(alloc: Global, row: Option<Row>) -> io::Result<String> {
     match row {
-        None => Ok(String::from_str(alloc, "none")?),
-        Some(row) => {
-            let (state, count) = (state_name(row.state), row.count);
-            Ok(format!(in alloc; "{state} {count}")?)
-        }
+        Some(row) => word_number(alloc, state_name(row.state), u64::from(row.count)),
+        None => word(alloc, "none"),
     }
 }
 
@@ -133,18 +131,23 @@ fn snapshot(alloc: Global, runs: &[Run]) -> io::Result<Vec<u8>> {
     Ok(bytes)
 }
 
-/// Reads and writes a snapshot with these runs.
-fn recorded(alloc: Global, runs: &[Run]) -> io::Result<String> {
-    let bytes = snapshot(alloc, runs)?;
-    let Ok(record) = read_record(alloc, &bytes) else {
-        return Ok(String::from_str(alloc, "not read")?);
-    };
-    match write_record(alloc, &record) {
-        Ok(written) if written.as_slice() == bytes.as_slice() => {
+/// How many bytes a snapshot has that is written as it is read.
+fn written(alloc: Global, bytes: &[u8], record: &StateRecord) -> io::Result<String> {
+    match write_record(alloc, record) {
+        Ok(written) if written.as_slice() == bytes => {
             let size = bytes.len();
             Ok(format!(in alloc; "{size} bytes")?)
         }
-        _ => Ok(String::from_str(alloc, "written otherwise")?),
+        _ => word(alloc, "written otherwise"),
+    }
+}
+
+/// Reads and writes a snapshot with these runs.
+fn recorded(alloc: Global, runs: &[Run]) -> io::Result<String> {
+    let bytes = snapshot(alloc, runs)?;
+    match read_record(alloc, &bytes) {
+        Ok(record) => written(alloc, &bytes, &record),
+        Err(_) => word(alloc, "not read"),
     }
 }
 
@@ -188,20 +191,17 @@ impl Rows {
 
     /// What a line gives. `None` where it isn't about rows.
     pub fn told(&mut self, alloc: Global, kind: &str, text: &str) -> io::Result<Option<String>> {
-        if let Some(is_done) = self.change(alloc, kind, text) {
-            let word = if is_done { "ok" } else { "no memory" };
-            return Ok(Some(String::from_str(alloc, word)?));
-        }
         let told = match kind {
-            "look" => row_text(alloc, self.runs.look(number(text).0))?,
-            "runs" => runs_text(alloc, self.runs.list())?,
-            "number-of-runs" => {
-                let count = self.runs.list().len();
-                format!(in alloc; "{count}")?
-            }
-            "as-record" => recorded(alloc, self.runs.list())?,
-            _ => return Ok(None),
+            "look" => row_text(alloc, self.runs.look(number(text).0)),
+            "runs" => runs_text(alloc, self.runs.list()),
+            "number-of-runs" => number_text(alloc, self.runs.list().len() as u64),
+            "as-record" => recorded(alloc, self.runs.list()),
+            _ => match self.change(alloc, kind, text) {
+                Some(true) => word(alloc, "ok"),
+                Some(false) => word(alloc, "no memory"),
+                None => return Ok(None),
+            },
         };
-        Ok(Some(told))
+        Ok(Some(told?))
     }
 }

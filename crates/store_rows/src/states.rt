@@ -17,12 +17,11 @@
 // | `content-a`, `content-b`, `content-a-from PLACE` | what a disk holds |
 // | `faults-both` | how many faults each disk had |
 use crate::calls::{field, key_of, op_of, steps_of};
-use crate::disks::{bytes_text, done, mode_of, new_disk, word};
+use crate::disks::{bytes_text, disk_of, done, mode_of, new_disk, word, word_number};
 use crate::rows::runs_text;
-use edge_io::{Disk, DiskPlace, FaultMode};
+use edge_io::{Disk, DiskPlace};
 use edge_mem::MemDisk;
 use foreign_coord::ForeignShard;
-use row_text::bytes_of;
 use share_coord::{Coord, CoordFault, CoordOpen, StateView};
 use share_model::{ForeignAnswer, ForeignOp, Key, RowState, Run, StateBatch};
 use std::alloc::Global;
@@ -44,21 +43,19 @@ fn rows_text(alloc: Global, runs: &[Run]) -> io::Result<String> {
     runs_text(alloc, runs)
 }
 
-fn disk_name(second: bool) -> &'static str {
-    if second { "state-b" } else { "state-a" }
-}
-
 /// Why no store was opened.
 fn refusal(alloc: Global, fault: CoordOpen) -> io::Result<String> {
     match fault {
-        CoordOpen::Damaged { second, place } => {
-            let disk = disk_name(second);
-            Ok(format!(in alloc; "damaged {disk} {place}")?)
-        }
-        CoordOpen::Device { second } => {
-            let disk = disk_name(second);
-            Ok(format!(in alloc; "fails {disk}")?)
-        }
+        CoordOpen::Damaged {
+            second: false,
+            place,
+        } => word_number(alloc, "damaged state-a", place),
+        CoordOpen::Damaged {
+            second: true,
+            place,
+        } => word_number(alloc, "damaged state-b", place),
+        CoordOpen::Device { second: false } => word(alloc, "fails state-a"),
+        CoordOpen::Device { second: true } => word(alloc, "fails state-b"),
         CoordOpen::NoMemory => word(alloc, "no memory"),
     }
 }
@@ -99,19 +96,29 @@ fn key_text(alloc: Global, key: &Key) -> io::Result<String> {
     Ok(format!(in alloc; "{group}/{topic}/{part}")?)
 }
 
+/// Adds a key with its state.
+fn push_key(
+    alloc: Global,
+    text: &mut String,
+    shard: &ForeignShard<MemDisk>,
+    key: &Key,
+) -> io::Result<()> {
+    if !text.is_empty() {
+        text.push_str("; ")?;
+    }
+    text.push_str(key_text(alloc, key)?.as_str())?;
+    text.push_str(" ")?;
+    Ok(text.push_str(view_text(alloc, shard.look(key))?.as_str())?)
+}
+
 /// Each key with its state.
 fn keys_text(alloc: Global, shard: &ForeignShard<MemDisk>) -> io::Result<String> {
     let mut text = String::new(alloc);
     for place in 0..1000 {
-        let Some(key) = shard.key_at(place) else {
-            break;
-        };
-        if place > 0 {
-            text.push_str("; ")?;
+        match shard.key_at(place) {
+            Some(key) => push_key(alloc, &mut text, shard, key)?,
+            None => break,
         }
-        text.push_str(key_text(alloc, key)?.as_str())?;
-        text.push_str(" ")?;
-        text.push_str(view_text(alloc, shard.look(key))?.as_str())?;
     }
     Ok(text)
 }
@@ -197,9 +204,51 @@ fn nth_write(alloc: Global, text: &str, number: u64) -> io::Result<Option<Foreig
     op_of(alloc, "write", line.as_str())
 }
 
-fn lose_power(mut disk: MemDisk, choice: u64) -> (MemDisk, bool) {
-    let is_ok = disk.power_loss(choice).is_ok();
-    (disk, is_ok)
+/// A power loss of both disks, and whether both stood it.
+pub fn lose_power(first: &mut MemDisk, second: &mut MemDisk, choice: u64) -> bool {
+    let is_first = first.power_loss(choice).is_ok();
+    let is_second = second.power_loss(choice).is_ok();
+    is_first && is_second
+}
+
+/// The bytes from a place on.
+fn back<'a>(bytes: &'a [u8], text: &str) -> &'a [u8] {
+    let place = text.parse().unwrap_or(0);
+    let (_, back) = bytes.split_at_checked(place).unwrap_or((&[], &[]));
+    back
+}
+
+fn faults_text(alloc: Global, first: u64, second: u64) -> io::Result<String> {
+    Ok(format!(in alloc; "{first} {second}")?)
+}
+
+/// What a line on the disks gives.
+fn disks_told(
+    alloc: Global,
+    first: &mut MemDisk,
+    second: &mut MemDisk,
+    kind: &str,
+    text: &str,
+) -> io::Result<String> {
+    match kind {
+        "content-a" => bytes_text(alloc, first.bytes()),
+        "content-b" => bytes_text(alloc, second.bytes()),
+        "content-a-from" => bytes_text(alloc, back(first.bytes(), text)),
+        "faults-both" => faults_text(alloc, first.faults(), second.faults()),
+        _ => {
+            let choice = text.parse().unwrap_or(0);
+            done(alloc, lose_power(first, second, choice))
+        }
+    }
+}
+
+/// The call of a line on a store.
+fn call_of(alloc: Global, kind: &str, text: &str) -> io::Result<Option<ForeignOp>> {
+    match kind {
+        "write-steps" | "coord-write-steps" => steps_of(alloc, text),
+        "coord-init" => op_of(alloc, "init", text),
+        _ => op_of(alloc, kind, text),
+    }
 }
 
 impl States {
@@ -215,26 +264,37 @@ impl States {
         }
     }
 
-    /// The two disks, without their store.
-    fn disks(&mut self, alloc: Global) -> io::Result<(MemDisk, MemDisk)> {
+    /// Takes the two disks out, which are at first empty.
+    fn take_disks(&mut self, alloc: Global) -> io::Result<(MemDisk, MemDisk)> {
         mem::replace(self, States::None).into_disks(alloc)
     }
 
-    fn open(&mut self, alloc: Global, kind: &str) -> io::Result<String> {
-        let (first, second) = self.disks(alloc)?;
-        let opened = match kind {
-            "open-coord" => match Coord::open(alloc, first, second) {
-                Ok(coord) => Ok(States::Coord(coord)),
-                Err(refused) => Err(refused),
-            },
-            _ => match ForeignShard::open(alloc, first, second) {
-                Ok(shard) => Ok(States::Shard(shard)),
-                Err(refused) => Err(refused),
-            },
-        };
-        match opened {
-            Ok(states) => {
-                *self = states;
+    /// Leaves the two disks, without their store.
+    fn close(&mut self, alloc: Global) -> io::Result<()> {
+        let (first, second) = self.take_disks(alloc)?;
+        *self = States::Disks(first, second);
+        Ok(())
+    }
+
+    fn open_shard(&mut self, alloc: Global) -> io::Result<String> {
+        let (first, second) = self.take_disks(alloc)?;
+        match ForeignShard::open(alloc, first, second) {
+            Ok(shard) => {
+                *self = States::Shard(shard);
+                word(alloc, "ok")
+            }
+            Err((first, second, fault)) => {
+                *self = States::Disks(first, second);
+                refusal(alloc, fault)
+            }
+        }
+    }
+
+    fn open_coord(&mut self, alloc: Global) -> io::Result<String> {
+        let (first, second) = self.take_disks(alloc)?;
+        match Coord::open(alloc, first, second) {
+            Ok(coord) => {
+                *self = States::Coord(coord);
                 word(alloc, "ok")
             }
             Err((first, second, fault)) => {
@@ -245,110 +305,95 @@ impl States {
     }
 
     fn arm(&mut self, alloc: Global, place: DiskPlace, text: &str) -> io::Result<String> {
+        if matches!(self, States::None) {
+            self.close(alloc)?;
+        }
         let (after, mode) = field(text);
-        let (after, mode): (u64, FaultMode) = (after.parse().unwrap_or(0), mode_of(mode));
-        match self {
-            States::Shard(shard) => shard.arm(place, after, mode),
-            States::Coord(coord) => coord.arm(place, after, mode),
-            _ => {
-                let (mut first, mut second) = self.disks(alloc)?;
-                match place {
-                    DiskPlace::StateB => second.arm(after, mode),
-                    _ => first.arm(after, mode),
-                }
-                *self = States::Disks(first, second);
-            }
+        let (after, mode) = (after.parse().unwrap_or(0), mode_of(mode));
+        match (self, place) {
+            (States::Shard(shard), _) => shard.arm(place, after, mode),
+            (States::Coord(coord), _) => coord.arm(place, after, mode),
+            (States::Disks(_, second), DiskPlace::StateB) => second.arm(after, mode),
+            (States::Disks(first, _), _) => first.arm(after, mode),
+            (States::None, _) => {}
         }
         word(alloc, "ok")
     }
 
     /// Puts a disk in the place of one of the two.
     fn put(&mut self, alloc: Global, kind: &str, text: &str) -> io::Result<Option<String>> {
-        let Some(content) = bytes_of(alloc, text)? else {
+        self.close(alloc)?;
+        let Some(disk) = disk_of(alloc, text)? else {
             return Ok(None);
         };
-        let disk = new_disk(alloc, content)?;
-        let (first, second) = self.disks(alloc)?;
-        *self = match kind {
-            "state-b" => States::Disks(first, disk),
-            _ => States::Disks(disk, second),
-        };
+        if let States::Disks(first, second) = self {
+            match kind {
+                "state-b" => *second = disk,
+                _ => *first = disk,
+            }
+        }
         Ok(Some(word(alloc, "ok")?))
     }
 
     /// What a line on the disks gives.
     fn on_disks(&mut self, alloc: Global, kind: &str, text: &str) -> io::Result<Option<String>> {
-        let (first, second) = self.disks(alloc)?;
-        let told = match kind {
-            "content-a" => bytes_text(alloc, first.bytes())?,
-            "content-b" => bytes_text(alloc, second.bytes())?,
-            "content-a-from" => {
-                let place = text.parse().unwrap_or(0);
-                let (_, back) = first.bytes().split_at_checked(place).unwrap_or((&[], &[]));
-                bytes_text(alloc, back)?
+        self.close(alloc)?;
+        match self {
+            States::Disks(first, second) => {
+                Ok(Some(disks_told(alloc, first, second, kind, text)?))
             }
-            "faults-both" => {
-                let (one, other) = (first.faults(), second.faults());
-                format!(in alloc; "{one} {other}")?
-            }
-            _ => {
-                let choice = text.parse().unwrap_or(0);
-                let (first, is_first) = lose_power(first, choice);
-                let (second, is_second) = lose_power(second, choice);
-                *self = States::Disks(first, second);
-                return Ok(Some(done(alloc, is_first && is_second)?));
-            }
-        };
-        *self = States::Disks(first, second);
-        Ok(Some(told))
+            _ => Ok(None),
+        }
     }
 
     /// What a line on a store gives.
     fn on_store(&mut self, alloc: Global, kind: &str, text: &str) -> io::Result<Option<String>> {
-        let op = match kind {
-            "write-steps" | "coord-write-steps" => steps_of(alloc, text)?,
-            "coord-init" => op_of(alloc, "init", text)?,
-            _ => op_of(alloc, kind, text)?,
+        let Some(op) = call_of(alloc, kind, text)? else {
+            return Ok(None);
         };
-        match (self, op) {
-            (States::Shard(shard), Some(op)) => Ok(Some(act(alloc, shard, &op)?)),
-            (States::Coord(coord), Some(op)) => Ok(Some(coord_act(alloc, coord, &op)?)),
-            _ => Ok(None),
-        }
+        let told = match self {
+            States::Shard(shard) => act(alloc, shard, &op),
+            States::Coord(coord) => coord_act(alloc, coord, &op),
+            _ => return Ok(None),
+        };
+        Ok(Some(told?))
     }
 
     /// What a line gives that asks a store.
     fn asked(&mut self, alloc: Global, kind: &str, text: &str) -> io::Result<Option<String>> {
-        match (kind, self) {
-            ("keys", States::Shard(shard)) => Ok(Some(keys_text(alloc, shard)?)),
-            ("writes", States::Shard(shard)) => writes(alloc, shard, text),
+        let told = match (kind, self) {
+            ("keys", States::Shard(shard)) => keys_text(alloc, shard),
+            ("writes", States::Shard(shard)) => return writes(alloc, shard, text),
             ("coord-look", States::Coord(coord)) => match key_of(text) {
-                Some(key) => Ok(Some(view_text(alloc, coord.look(&key))?)),
-                None => Ok(None),
+                Some(key) => view_text(alloc, coord.look(&key)),
+                None => return Ok(None),
             },
-            _ => Ok(None),
-        }
+            _ => return Ok(None),
+        };
+        Ok(Some(told?))
     }
 
     /// What a line gives. `None` where it isn't about states.
     pub fn told(&mut self, alloc: Global, kind: &str, text: &str) -> io::Result<Option<String>> {
-        match kind {
-            "state-a" | "state-b" => self.put(alloc, kind, text),
-            "arm-a" => Ok(Some(self.arm(alloc, DiskPlace::StateA, text)?)),
-            "arm-b" => Ok(Some(self.arm(alloc, DiskPlace::StateB, text)?)),
-            "open-shard" | "open-coord" => Ok(Some(self.open(alloc, kind)?)),
+        let told = match kind {
+            "state-a" | "state-b" => return self.put(alloc, kind, text),
+            "arm-a" => self.arm(alloc, DiskPlace::StateA, text),
+            "arm-b" => self.arm(alloc, DiskPlace::StateB, text),
+            "open-shard" => self.open_shard(alloc),
+            "open-coord" => self.open_coord(alloc),
             "content-a" | "content-b" | "content-a-from" | "faults-both" | "power-both" => {
-                self.on_disks(alloc, kind, text)
+                return self.on_disks(alloc, kind, text);
             }
-            "keys" | "writes" | "coord-look" => self.asked(alloc, kind, text),
+            "keys" | "writes" | "coord-look" => return self.asked(alloc, kind, text),
             "init"
             | "read"
             | "write"
             | "delete"
             | "write-steps"
             | "coord-init"
-            | "coord-write-steps" => self.on_store(alloc, kind, text),
-            _ => Ok(None),
-        }
+            | "coord-write-steps" => return self.on_store(alloc, kind, text),
+            _ => return Ok(None),
+        };
+        Ok(Some(told?))
     }
 }

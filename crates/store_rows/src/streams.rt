@@ -11,6 +11,7 @@
 // | `wrote` | what the sink holds |
 // | `room N`, `room-append HEX ..` | sets room aside for N bytes; appends bytes: `ok` or `fails` |
 // | `room-holds` | the bytes, which it then hands out |
+use crate::disks::{UNREAD, bytes_text, done, failed_read};
 use edge_io::{Source, read_to_end, write_all};
 use edge_mem::{MemSink, MemSource};
 use row_text::bytes_of;
@@ -26,109 +27,87 @@ pub struct Streams {
     room: Room,
 }
 
-fn none(alloc: Global) -> Vec<u64> {
-    Vec::new(alloc)
-}
-
-fn one(alloc: Global, text: &str) -> io::Result<Vec<u64>> {
-    let mut calls = Vec::new(alloc);
-    calls.push(text.parse().unwrap_or(0))?;
-    Ok(calls)
-}
-
-fn done(alloc: Global, is_ok: bool) -> io::Result<Option<String>> {
-    Ok(Some(String::from_str(alloc, if is_ok { "ok" } else { "fails" })?))
-}
-
-fn bytes_text(alloc: Global, bytes: &[u8]) -> io::Result<Option<String>> {
-    if bytes.is_empty() {
-        return Ok(Some(String::from_str(alloc, "nothing")?));
-    }
-    Ok(Some(hex::encode(alloc, bytes)?))
-}
-
 /// One read of some bytes.
-fn read_piece(alloc: Global, source: &mut MemSource, count: usize) -> io::Result<Option<String>> {
-    let mut into = vec![in alloc; 0xeeu8; count.min(1 << 20)]?;
+fn read_piece(alloc: Global, source: &mut MemSource, count: usize) -> io::Result<String> {
+    let mut into = vec![in alloc; UNREAD; count.min(1 << 20)]?;
     match source.read(&mut into) {
         Ok(read) => {
             let (piece, _) = into.split_at(read.min(into.len()));
             bytes_text(alloc, piece)
         }
-        Err(_) if into.iter().all(|byte| *byte == 0xee) => done(alloc, false),
-        Err(_) => Ok(Some(String::from_str(alloc, "fails and writes")?)),
+        Err(_) => failed_read(alloc, &into),
+    }
+}
+
+/// What the room holds, which it then hands out.
+fn held(alloc: Global, room: Room) -> io::Result<String> {
+    let held = room.as_slice().to_vec(alloc)?;
+    let bytes = room.into_blob().into_vec();
+    match held.as_slice() == bytes.as_slice() {
+        true => bytes_text(alloc, &bytes),
+        false => done(alloc, false),
     }
 }
 
 impl Streams {
     pub fn new(alloc: Global) -> Streams {
         Streams {
-            source: MemSource::new(Vec::new(alloc), none(alloc)),
+            source: MemSource::new(Vec::new(alloc), Vec::new(alloc)),
             got: Vec::new(alloc),
-            sink: MemSink::new(alloc, none(alloc)),
+            sink: MemSink::new(alloc, Vec::new(alloc)),
             room: Room::new(alloc),
         }
     }
 
-    fn source(
-        &mut self,
-        alloc: Global,
-        text: &str,
-        failing: Vec<u64>,
-    ) -> io::Result<Option<String>> {
-        let Some(bytes) = bytes_of(alloc, text)? else {
-            return Ok(None);
-        };
-        self.source = MemSource::new(bytes, failing);
+    /// A new sink, of which a call fails.
+    fn fail_sink(&mut self, alloc: Global, call: &str) -> io::Result<String> {
+        let failing = vec![in alloc; call.parse().unwrap_or(0); 1]?;
+        self.sink = MemSink::new(alloc, failing);
         done(alloc, true)
     }
 
-    fn write(&mut self, alloc: Global, text: &str) -> io::Result<Option<String>> {
-        let Some(bytes) = bytes_of(alloc, text)? else {
-            return Ok(None);
+    /// Does a line with these bytes. `None` where it isn't about bytes.
+    fn take(&mut self, alloc: Global, kind: &str, bytes: Vec<u8>) -> io::Result<Option<String>> {
+        let is_ok = match kind {
+            "source" => {
+                self.source = MemSource::new(bytes, Vec::new(alloc));
+                true
+            }
+            "write-all" => write_all(&mut self.sink, &bytes).is_ok(),
+            "room-append" => self.room.append(&bytes).is_ok(),
+            _ => return Ok(None),
         };
-        done(alloc, write_all(&mut self.sink, &bytes).is_ok())
+        Ok(Some(done(alloc, is_ok)?))
     }
 
-    fn room(&mut self, alloc: Global, kind: &str, text: &str) -> io::Result<Option<String>> {
-        match kind {
-            "room" => done(alloc, self.room.reserve(text.parse().unwrap_or(0)).is_ok()),
-            "room-append" => match bytes_of(alloc, text)? {
-                Some(bytes) => done(alloc, self.room.append(&bytes).is_ok()),
-                None => Ok(None),
-            },
-            "room-holds" => {
-                let room = mem::replace(&mut self.room, Room::new(alloc));
-                let held = room.as_slice().to_vec(alloc)?;
-                let bytes = room.into_blob().into_vec();
-                match held.as_slice() == bytes.as_slice() {
-                    true => bytes_text(alloc, &bytes),
-                    false => done(alloc, false),
-                }
-            }
-            _ => Ok(None),
-        }
+    /// A new source, of which a call fails.
+    fn fail_source(&mut self, alloc: Global, text: &str) -> io::Result<Option<String>> {
+        let (call, digits) = text.split_once(' ').unwrap_or((text, ""));
+        let failing = vec![in alloc; call.parse().unwrap_or(0); 1]?;
+        let Some(bytes) = bytes_of(alloc, digits)? else {
+            return Ok(None);
+        };
+        self.source = MemSource::new(bytes, failing);
+        Ok(Some(done(alloc, true)?))
     }
 
     /// What a line gives. `None` where it isn't about these.
     pub fn told(&mut self, alloc: Global, kind: &str, text: &str) -> io::Result<Option<String>> {
-        match kind {
-            "source" => self.source(alloc, text, none(alloc)),
-            "source-fails" => {
-                let (call, digits) = text.split_once(' ').unwrap_or((text, ""));
-                let failing = one(alloc, call)?;
-                self.source(alloc, digits, failing)
-            }
-            "sink-fails" => {
-                self.sink = MemSink::new(alloc, one(alloc, text)?);
-                done(alloc, true)
-            }
+        let told = match kind {
+            "source" | "write-all" | "room-append" => match bytes_of(alloc, text)? {
+                Some(bytes) => return self.take(alloc, kind, bytes),
+                None => return Ok(None),
+            },
+            "source-fails" => return self.fail_source(alloc, text),
+            "sink-fails" => self.fail_sink(alloc, text),
             "read-piece" => read_piece(alloc, &mut self.source, text.parse().unwrap_or(0)),
             "read-all" => done(alloc, read_to_end(&mut self.source, &mut self.got).is_ok()),
             "got" => bytes_text(alloc, &self.got),
-            "write-all" => self.write(alloc, text),
             "wrote" => bytes_text(alloc, self.sink.bytes()),
-            _ => self.room(alloc, kind, text),
-        }
+            "room" => done(alloc, self.room.reserve(text.parse().unwrap_or(0)).is_ok()),
+            "room-holds" => held(alloc, mem::replace(&mut self.room, Room::new(alloc))),
+            _ => return Ok(None),
+        };
+        Ok(Some(told?))
     }
 }

@@ -1,35 +1,42 @@
 // Each device call of an append broken in each way, before each power loss.
+use crate::broken::failed;
 use crate::disks::{append, buffer_of, new_disk};
 use edge_io::{Disk, FaultMode};
 use edge_mem::MemDisk;
 use gate_journal::{Journal, start};
+use share_model::Blob;
 use std::alloc::Global;
 use std::io;
 
-/// How an append of b that is broken and then one of c were answered, and the first bytes of the frames after a power loss.
-#[derive(Drop)]
-struct Broken {
-    first: bool,
-    second: bool,
-    frames: Vec<u8>,
+/// A journal on an empty disk.
+fn new_journal(alloc: Global) -> io::Result<Journal<MemDisk>> {
+    match start(alloc, new_disk(alloc, Vec::new(alloc))?) {
+        Ok((journal, _)) => Ok(journal),
+        Err(_) => Err(failed()),
+    }
 }
 
-fn failed() -> io::Error {
-    io::Error::from(io::ErrorKind::InvalidData)
-}
-
-/// A journal and the first bytes of its frames.
-fn opened(alloc: Global, disk: MemDisk) -> io::Result<(Journal<MemDisk>, Vec<u8>)> {
-    let Ok((journal, frames)) = start(alloc, disk) else {
-        return Err(failed());
-    };
+/// The first bytes of frames.
+fn firsts(alloc: Global, frames: &[Blob]) -> io::Result<Vec<u8>> {
     let mut firsts = Vec::new(alloc);
-    for frame in &frames {
+    for frame in frames {
         if let Some(first) = frame.as_slice().first() {
             firsts.push(*first)?;
         }
     }
-    Ok((journal, firsts))
+    Ok(firsts)
+}
+
+/// The first bytes of the frames after a power loss.
+fn left(alloc: Global, journal: Journal<MemDisk>, choice: u64) -> io::Result<Vec<u8>> {
+    let mut disk = journal.into_disk();
+    if disk.power_loss(choice).is_err() {
+        return Err(failed());
+    }
+    match start(alloc, disk) {
+        Ok((_, frames)) => firsts(alloc, &frames),
+        Err(_) => Err(failed()),
+    }
 }
 
 /// Appends a frame of one byte, and tells whether that was answered with its number.
@@ -38,50 +45,39 @@ fn is_appended(alloc: Global, journal: &mut Journal<MemDisk>, byte: u8) -> io::R
     Ok(matches!(append(journal, &mut buffer), Some(Ok(_))))
 }
 
-fn broken_run(alloc: Global, after: u64, mode: FaultMode, choice: u64) -> io::Result<Broken> {
-    let disk = new_disk(alloc, Vec::new(alloc))?;
-    let (mut journal, _) = opened(alloc, disk)?;
-    let _ = is_appended(alloc, &mut journal, b'a')?;
-    journal.arm(after, mode);
-    let first = is_appended(alloc, &mut journal, b'b')?;
-    let second = is_appended(alloc, &mut journal, b'c')?;
-    let mut disk = journal.into_disk();
-    if disk.power_loss(choice).is_err() {
-        return Err(failed());
-    }
-    let (_, frames) = opened(alloc, disk)?;
-    Ok(Broken {
-        first,
-        second,
-        frames,
-    })
-}
-
-/// Whether the frames are those that were answered with a number, with or without one that wasn't.
-fn stand(run: &Broken) -> bool {
-    let frames = run.frames.as_slice();
-    match (run.first, run.second) {
-        (true, true) => frames == b"abc".as_slice(),
-        (true, false) => frames == b"ab".as_slice() || frames == b"abc".as_slice(),
-        (false, true) => frames == b"ac".as_slice(),
-        (false, false) => {
-            frames == b"a".as_slice() || frames == b"ab".as_slice() || frames == b"ac".as_slice()
-        }
+/// Whether the frames are those that were answered with a number, with or without one that wasn't: a, and then b and c.
+fn stand(first: bool, second: bool, frames: &[u8]) -> bool {
+    match (first, second) {
+        (true, true) => matches!(frames, b"abc"),
+        (true, false) => matches!(frames, b"ab" | b"abc"),
+        (false, true) => matches!(frames, b"ac"),
+        (false, false) => matches!(frames, b"a" | b"ab" | b"ac"),
     }
 }
 
 /// An append makes four calls, and the next one mends and goes on where the device does.
-fn answers(after: u64, mode: FaultMode, run: &Broken) -> bool {
+fn answers(after: u64, mode: FaultMode, first: bool, second: bool) -> bool {
     let goes_on = mode != FaultMode::Dead && after < 4;
-    run.first == (after >= 4) && (run.second || !goes_on)
+    first == (after >= 4) && (second || !goes_on)
+}
+
+/// Whether an append of b that is broken and then one of c are answered as they have to be, and the right frames stand after a power
+/// loss.
+fn is_right(alloc: Global, after: u64, mode: FaultMode, choice: u64) -> io::Result<bool> {
+    let mut journal = new_journal(alloc)?;
+    is_appended(alloc, &mut journal, b'a')?;
+    journal.arm(after, mode);
+    let first = is_appended(alloc, &mut journal, b'b')?;
+    let second = is_appended(alloc, &mut journal, b'c')?;
+    let frames = left(alloc, journal, choice)?;
+    Ok(answers(after, mode, first, second) && stand(first, second, &frames))
 }
 
 /// How many runs of these are wrong, one for each power loss.
 fn wrong(alloc: Global, after: u64, mode: FaultMode) -> io::Result<u64> {
     let mut wrong = 0u64;
     for choice in 0..6 {
-        let run = broken_run(alloc, after, mode, choice)?;
-        if !stand(&run) || !answers(after, mode, &run) {
+        if !is_right(alloc, after, mode, choice)? {
             wrong = wrong.saturating_add(1);
         }
     }
@@ -89,12 +85,12 @@ fn wrong(alloc: Global, after: u64, mode: FaultMode) -> io::Result<u64> {
 }
 
 /// How many runs are wrong, over each call that is broken.
-pub fn sweep_told(alloc: Global) -> io::Result<Option<String>> {
+pub fn sweep_told(alloc: Global) -> io::Result<String> {
     let mut wrongs = 0u64;
     for after in 0..12 {
         for mode in [FaultMode::Once, FaultMode::Torn, FaultMode::Dead] {
             wrongs = wrongs.saturating_add(wrong(alloc, after, mode)?);
         }
     }
-    Ok(Some(format!(in alloc; "{wrongs} wrong")?))
+    Ok(format!(in alloc; "{wrongs} wrong")?)
 }
