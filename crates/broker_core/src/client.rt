@@ -47,11 +47,11 @@ fn ask<D: Disk>(
     conf: &Config,
     id: u32,
     now: u64,
-    part: Part,
+    part: &Part,
     conn: &mut Conn,
     hosts: &mut Hosts<D>,
 ) -> Result<Vec<Outcome>, NoMemory>
-    requires asked { Awaits (Next.Ask part) conn.old }
+    requires asked { Awaits (Next.Ask part.now) conn.old }
     requires now { now ≤ 2 ^ 62 }
     requires open { AreOpen (parts_of hosts.old) }
     requires apart { AreApart (parts_of hosts.old) }
@@ -59,21 +59,21 @@ fn ask<D: Disk>(
     ensures ok { IfOk result (λ outcomes. (s : Shards) → AreCarried D.content D.image D.starved (parts_of hosts.old) s →
         Leads D.content D.image D.starved D.faults D.losses D.arms D.armed (parts_of hosts.old) s (parts_of hosts.new)
         (λ a call b. Does (counts_in D.faults D.losses D.arms D.armed (disks_in (parts_of hosts.old)) (disks_in (parts_of hosts.new)))
-        (ends_over (parts_of hosts.old) (parts_of hosts.new)) id now (Next.Ask part) conn.old a b call outcomes.items conn.new)) }
+        (ends_over (parts_of hosts.old) (parts_of hosts.new)) id now (Next.Ask part.now) conn.old a b call outcomes.items conn.new)) }
     ensures stopped { OnErr result ((s : Shards) → AreCarried D.content D.image D.starved (parts_of hosts.old) s →
         Halts D.content D.image (parts_of hosts.old) s (parts_of hosts.new)
         (λ a call b. (outcomes : List Outcome) × (after : ConnParts)
         × Does (counts_in D.faults D.losses D.arms D.armed (disks_in (parts_of hosts.old)) (disks_in (parts_of hosts.new)))
-        (ends_over (parts_of hosts.old) (parts_of hosts.new)) id now (Next.Ask part) conn.old a b call outcomes after)
+        (ends_over (parts_of hosts.old) (parts_of hosts.new)) id now (Next.Ask part.now) conn.old a b call outcomes after)
         (HalvesNext (counts_in D.faults D.losses D.arms D.armed (disks_in (parts_of hosts.old)) (disks_in (parts_of hosts.new)))
-        (ends_over (parts_of hosts.old) (parts_of hosts.new)) (Next.Ask part))) }
+        (ends_over (parts_of hosts.old) (parts_of hosts.new)) (Next.Ask part.now))) }
     ensures told { IfOk result (λ outcomes. All (IsTold conf.now.topics) outcomes.items) }
     ensures disks { GoOn D.content D.faults (disks_in (parts_of hosts.old)) (disks_in (parts_of hosts.new)) }
     ensures open { AreOpen (parts_of hosts.new) }
     ensures stays { StaysHosted (parts_of hosts.old) (parts_of hosts.new) }
 {
-    let answer = act(alloc, now, &part, hosts)?;
-    let mut outcomes = told(alloc, fault_in(&part, &answer))?;
+    let answer = act(alloc, now, part, hosts)?;
+    let mut outcomes = told(alloc, fault_in(part, &answer))?;
     conn.give(conf, answer)?;
     replies(id, conn, &mut outcomes)?;
     Ok(outcomes)
@@ -111,7 +111,7 @@ fn done<D: Disk>(
     ensures stays { StaysHosted (parts_of hosts.old) (parts_of hosts.new) }
 {
     match next {
-        Next::Ask(part) => ask(alloc, conf, id, now, part, conn, hosts),
+        Next::Ask(part) => ask(alloc, conf, id, now, &part, conn, hosts),
         Next::Ready => {
             let mut outcomes = Vec::new(alloc);
             replies(id, conn, &mut outcomes)?;
@@ -163,7 +163,7 @@ fn let_go(gone: bool, id: u32, clients: &mut BTreeMap<u32, Conn>)
     ensures { clients.new.entries ≡ (if gone then remove_entry (named id) clients.old.entries else clients.old.entries) }
 {
     if gone {
-        let _ = clients.remove(&id);
+        drop(clients.remove(&id));
     }
 }
 
@@ -214,7 +214,10 @@ pub fn connect(alloc: Global, id: u32, clients: &mut BTreeMap<u32, Conn>) -> Res
         return Ok(());
     }
     match clients.insert(id, Conn::open(alloc)) {
-        Ok(_) => Ok(()),
+        Ok(before) => {
+            drop(before);
+            Ok(())
+        }
         Err(_) => Err(NoMemory),
     }
 }

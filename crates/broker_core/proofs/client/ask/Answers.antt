@@ -14,12 +14,12 @@ returns-in_err-answer-clause-stopped g c = on_err c.from_residual.result
     (parts_of c.act.new.hosts) s _ _ _ _
     (λ a call b h.
     let conn = conn_after_answer h.0 c.args.conn.now in (
-      faults_in c.args.part h.0 ++ replies_to c.args.id conn,
+      faults_in c.args.part.now h.0 ++ replies_to c.args.id conn,
       without_replies conn,
       part_done (counts_in g.D.Disk.faults g.D.Disk.losses g.D.Disk.arms g.D.Disk.armed (disks_in (parts_of c.args.hosts.now)) (disks_in (parts_of c.act.new.hosts))) (ends_over (parts_of c.args.hosts.now) (parts_of c.act.new.hosts))
-          c.args.id c.args.now c.args.part h.0 c.args.conn.now _ _ refl refl a call b h.1,
+          c.args.id c.args.now c.args.part.now h.0 c.args.conn.now _ _ refl refl a call b h.1,
     ))
-    (λ a b h. (c.args.part, refl, h))
+    (λ a b h. (c.args.part.now, refl, h))
     (c.in_err-answer.ensures.stopped s k))
 
 pub returns-in_err-outcomes-clause-stopped : goal.returns-in_err-outcomes-clause-stopped
@@ -29,10 +29,10 @@ returns-in_err-outcomes-clause-stopped g c = on_err c.from_residual-in_err-outco
     leads_halts g.D.Disk.content g.D.Disk.image g.D.Disk.starved g.D.Disk.faults g.D.Disk.losses g.D.Disk.arms g.D.Disk.armed
     (parts_of c.args.hosts.now) (parts_of c.act.new.hosts) s _ _ _
     (λ a call b h. (
-      faults_in c.args.part c.in_ok-answer.answer ++ replies_to c.args.id conn,
+      faults_in c.args.part.now c.in_ok-answer.answer ++ replies_to c.args.id conn,
       without_replies conn,
       part_done (counts_in g.D.Disk.faults g.D.Disk.losses g.D.Disk.arms g.D.Disk.armed (disks_in (parts_of c.args.hosts.now)) (disks_in (parts_of c.act.new.hosts))) (ends_over (parts_of c.args.hosts.now) (parts_of c.act.new.hosts))
-          c.args.id c.args.now c.args.part c.in_ok-answer.answer c.args.conn.now _ _ refl refl a call b h,
+          c.args.id c.args.now c.args.part.now c.in_ok-answer.answer c.args.conn.now _ _ refl refl a call b h,
     )) (c.in_ok-answer.ensures.ok s k))
 
 pub returns-in_err-give-clause-stopped : goal.returns-in_err-give-clause-stopped
@@ -42,10 +42,10 @@ returns-in_err-give-clause-stopped g c = on_err c.from_residual-in_err-give.resu
     leads_halts g.D.Disk.content g.D.Disk.image g.D.Disk.starved g.D.Disk.faults g.D.Disk.losses g.D.Disk.arms g.D.Disk.armed
     (parts_of c.args.hosts.now) (parts_of c.act.new.hosts) s _ _ _
     (λ a call b h. (
-      faults_in c.args.part c.in_ok-answer.answer ++ replies_to c.args.id conn,
+      faults_in c.args.part.now c.in_ok-answer.answer ++ replies_to c.args.id conn,
       without_replies conn,
       part_done (counts_in g.D.Disk.faults g.D.Disk.losses g.D.Disk.arms g.D.Disk.armed (disks_in (parts_of c.args.hosts.now)) (disks_in (parts_of c.act.new.hosts))) (ends_over (parts_of c.args.hosts.now) (parts_of c.act.new.hosts))
-          c.args.id c.args.now c.args.part c.in_ok-answer.answer c.args.conn.now _ _ refl refl a call b h,
+          c.args.id c.args.now c.args.part.now c.in_ok-answer.answer c.args.conn.now _ _ refl refl a call b h,
     )) (c.in_ok-answer.ensures.ok s k))
 
 pub returns-in_err-replies-clause-stopped : goal.returns-in_err-replies-clause-stopped
@@ -55,22 +55,22 @@ returns-in_err-replies-clause-stopped g c = on_err c.from_residual-in_err-replie
     leads_halts g.D.Disk.content g.D.Disk.image g.D.Disk.starved g.D.Disk.faults g.D.Disk.losses g.D.Disk.arms g.D.Disk.armed
     (parts_of c.args.hosts.now) (parts_of c.act.new.hosts) s _ _ _
     (λ a call b h. (
-      faults_in c.args.part c.in_ok-answer.answer ++ replies_to c.args.id conn,
+      faults_in c.args.part.now c.in_ok-answer.answer ++ replies_to c.args.id conn,
       without_replies conn,
       part_done (counts_in g.D.Disk.faults g.D.Disk.losses g.D.Disk.arms g.D.Disk.armed (disks_in (parts_of c.args.hosts.now)) (disks_in (parts_of c.act.new.hosts))) (ends_over (parts_of c.args.hosts.now) (parts_of c.act.new.hosts))
-          c.args.id c.args.now c.args.part c.in_ok-answer.answer c.args.conn.now _ _ refl refl a call b h,
+          c.args.id c.args.now c.args.part.now c.in_ok-answer.answer c.args.conn.now _ _ refl refl a call b h,
     )) (c.in_ok-answer.ensures.ok s k))
 
 pub returns-clause-ok : goal.returns-clause-ok
 returns-clause-ok g c = λ s k. leads_to g.D.Disk.content g.D.Disk.image g.D.Disk.starved g.D.Disk.faults g.D.Disk.losses g.D.Disk.arms g.D.Disk.armed
     (parts_of c.args.hosts.now) (parts_of c.act.new.hosts) s _ _
     (λ a call b h. part_done (counts_in g.D.Disk.faults g.D.Disk.losses g.D.Disk.arms g.D.Disk.armed (disks_in (parts_of c.args.hosts.now)) (disks_in (parts_of c.act.new.hosts))) (ends_over (parts_of c.args.hosts.now) (parts_of c.act.new.hosts))
-    c.args.id c.args.now c.args.part c.in_ok-answer.answer c.args.conn.now _ _
+    c.args.id c.args.now c.args.part.now c.in_ok-answer.answer c.args.conn.now _ _
     (c.in_ok-replies.ensures.told ∙ ap (λ l. l ++ replies_to c.args.id c.give.new.self) (c.in_ok-outcomes.ensures ∙ c.fault_in.ensures)
-    ∙ ap (λ conn. faults_in c.args.part c.in_ok-answer.answer ++ replies_to c.args.id conn) c.in_ok-give.ensures.answer)
+    ∙ ap (λ conn. faults_in c.args.part.now c.in_ok-answer.answer ++ replies_to c.args.id conn) c.in_ok-give.ensures.answer)
     (c.in_ok-replies.ensures.conn ∙ ap without_replies c.in_ok-give.ensures.answer)
     a call b h) (c.in_ok-answer.ensures.ok s k)
 
 pub returns-clause-told : goal.returns-clause-told
-returns-clause-told g c = step_told c.args.conf.now.topics c.args.id _ c.args.part c.in_ok-answer.answer c.give.new.self _ c.requires.hosted c.in_ok-answer.ensures.there
+returns-clause-told g c = step_told c.args.conf.now.topics c.args.id _ c.args.part.now c.in_ok-answer.answer c.give.new.self _ c.requires.hosted c.in_ok-answer.ensures.there
     (c.in_ok-replies.ensures.told ∙ ap (λ l. l ++ replies_to c.args.id c.give.new.self) (c.in_ok-outcomes.ensures ∙ c.fault_in.ensures))
