@@ -8,5 +8,5 @@
 mod run;
 mod text;
 
-pub use run::{Rows, Taken, Tally, run_file, run_files};
+pub use run::{Rows, Taken, run_files};
 pub use text::{bytes_of, compared, expanded, shortened, without_blanks};

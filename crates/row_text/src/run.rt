@@ -27,7 +27,7 @@ pub trait Rows: Drop {
 
 /// The case that is read, and how many passed and failed before it.
 #[derive(Drop)]
-pub struct Tally {
+struct Tally {
     name: String,
     checks: u64,
     failures: u64,
@@ -36,8 +36,7 @@ pub struct Tally {
 }
 
 impl Tally {
-    /// No case yet.
-    pub fn new(alloc: Global) -> Tally {
+    fn new(alloc: Global) -> Tally {
         Tally {
             name: String::new(alloc),
             checks: 0,
@@ -45,11 +44,6 @@ impl Tally {
             passed: 0,
             failed: 0,
         }
-    }
-
-    /// Prints how many cases passed and failed.
-    pub fn tell(&self, rt: &HostRuntime) -> io::Result<()> {
-        println!(rt; "{} passed, {} failed", self.passed, self.failed)
     }
 
     /// Counts the case that ends here, where there is one.
@@ -131,8 +125,8 @@ fn take_line<R: Rows>(
     }
 }
 
-/// Runs the cases of a file. Prints a line for each check that fails.
-pub fn run_file<R: Rows>(
+/// Takes each line of a file.
+fn run_file<R: Rows>(
     rt: &HostRuntime,
     rows: &mut R,
     tally: &mut Tally,
@@ -152,5 +146,5 @@ pub fn run_files<R: Rows>(rt: &HostRuntime, mut rows: R) -> io::Result<()> {
     for file in env::args(rt)?.skip(1) {
         run_file(rt, &mut rows, &mut tally, file.as_str())?;
     }
-    tally.tell(rt)
+    println!(rt; "{} passed, {} failed", tally.passed, tally.failed)
 }

@@ -16,4 +16,10 @@ mod states;
 mod streams;
 mod sweep;
 
-pub use case::Case;
+use case::Case;
+use row_text::run_files;
+use std::io;
+
+fn main(rt: HostRuntime) -> io::Result<()> {
+    run_files(&rt, Case::new(rt.alloc()))
+}

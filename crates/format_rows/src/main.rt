@@ -24,4 +24,10 @@ mod plain;
 mod records;
 mod values;
 
-pub use case::Case;
+use case::Case;
+use row_text::run_files;
+use std::io;
+
+fn main(rt: HostRuntime) -> io::Result<()> {
+    run_files(&rt, Case::new(rt.alloc()))
+}

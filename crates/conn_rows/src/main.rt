@@ -37,11 +37,11 @@ mod shard;
 mod telling;
 mod visited;
 
-pub use session::Session;
-use std::alloc::Global;
+use row_text::run_files;
+use session::Session;
 use std::io;
 
-/// A case of the broker that hosts `orders`.
-pub fn of_orders(alloc: Global) -> io::Result<Session> {
-    Ok(Session::new(alloc, broker::orders(alloc)?))
+fn main(rt: HostRuntime) -> io::Result<()> {
+    let alloc = rt.alloc();
+    run_files(&rt, Session::new(alloc, broker::orders(alloc)?))
 }

@@ -17,4 +17,10 @@ mod sessions;
 mod windows;
 mod words;
 
-pub use case::Case;
+use case::Case;
+use row_text::run_files;
+use std::io;
+
+fn main(rt: HostRuntime) -> io::Result<()> {
+    run_files(&rt, Case::new(rt.alloc()))
+}
