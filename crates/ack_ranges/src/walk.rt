@@ -10,7 +10,7 @@ use share_model::{AckBatch, AckKind};
 use std::marker::Model;
 
 // Spans of one kind, one for a batch with one type and else one for each type. A contract sees those that are left.
-#[derive(Debug, Drop)]
+#[derive(Drop)]
 struct Spans<'a> {
     // How many types of the first batch were read.
     place: usize,
@@ -124,7 +124,7 @@ fn join_spans(first: Piece, spans: &mut Spans<'_>) -> (Piece, Option<Piece>)
 }
 
 /// The pieces of well-formed batches, one after another in order. A contract sees those that are left.
-#[derive(Debug, Drop)]
+#[derive(Drop)]
 pub struct Pieces<'a> {
     // The span that was read ahead.
     ahead: Option<Piece>,

@@ -9,7 +9,7 @@ use edge_io::{Disk, DiskName};
 use share_model::NoMemory;
 
 /// Why a broker was not opened.
-#[derive(Debug, Drop)]
+#[derive(Drop)]
 pub enum CoreOpen {
     /// The content of this disk isn't store text: this byte, counted from 0, is the first that the format doesn't allow.
     Damaged { disk: DiskName, place: u64 },
@@ -22,7 +22,7 @@ pub enum CoreOpen {
 }
 
 /// Why an event was not done. No event may follow it.
-#[derive(Debug, Drop)]
+#[derive(Drop)]
 pub enum CoreFault {
     /// After a power loss the broker was not opened again. It is never `Bay` or `NoMemory`.
     Reopen(CoreOpen),

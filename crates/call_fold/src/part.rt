@@ -4,7 +4,7 @@ use share_model::{
 };
 
 /// One event on one shard.
-#[derive(Debug, Drop)]
+#[derive(Drop)]
 pub enum Part {
     /// A call on the state of a partition that isn't hosted.
     Foreign(ForeignOp),
@@ -19,7 +19,7 @@ pub enum Part {
 }
 
 /// What a log says to a batch.
-#[derive(Clone, Copy, Debug, PartialEq, Eq)]
+#[derive(Clone, Copy)]
 pub enum Produced {
     /// It is stored, and begins at this offset.
     Base(u64),
@@ -30,7 +30,7 @@ pub enum Produced {
 }
 
 /// What is stored of a group on a hosted partition.
-#[derive(Debug, Drop)]
+#[derive(Drop)]
 pub enum Looked {
     /// The group has no table.
     Absent,
@@ -44,7 +44,7 @@ pub enum Looked {
 }
 
 /// What a shard answers to a part.
-#[derive(Debug, Drop)]
+#[derive(Drop)]
 pub enum PartAnswer {
     Foreign(ForeignAnswer),
     Produce(Produced),

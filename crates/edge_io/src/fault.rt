@@ -1,5 +1,5 @@
 /// How an armed fault breaks a call.
-#[derive(Clone, Copy, Debug, PartialEq, Eq)]
+#[derive(Clone, Copy)]
 pub enum FaultMode {
     /// The call does nothing, and the disk is disarmed.
     Once,
@@ -10,7 +10,7 @@ pub enum FaultMode {
 }
 
 /// The fault that a disk is armed with. It counts reads, writes, cuts and syncs.
-#[derive(Clone, Copy, Debug, PartialEq, Eq)]
+#[derive(Clone, Copy)]
 pub enum Armed {
     /// No call is broken.
     Nothing,

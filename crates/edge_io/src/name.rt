@@ -8,7 +8,7 @@ use std::fmt;
 use std::marker::Model;
 
 /// Which disk of a partition: that of its log, or one of the two of its state.
-#[derive(Clone, Copy, Debug, PartialEq, Eq)]
+#[derive(Clone, Copy, Debug)]
 pub enum DiskPlace {
     Log,
     StateA,

@@ -18,7 +18,7 @@ use std::alloc::Global;
 use thiserror::Error;
 
 /// Why a journal was not opened.
-#[derive(Clone, Copy, Debug, PartialEq, Eq, Error)]
+#[derive(Clone, Copy, Debug, Error)]
 pub enum StartFault {
     /// The content is no journal text: at this place stands an open gate that no frame and gate follow.
     #[error("the journal is damaged at byte {place}")]

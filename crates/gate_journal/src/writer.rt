@@ -11,7 +11,7 @@ use crate::device::{cut_and_sync, write_and_sync};
 use edge_io::{Disk, Failed};
 
 /// What a write that failed has left to mend.
-#[derive(Clone, Copy, Debug, PartialEq, Eq)]
+#[derive(Clone, Copy)]
 pub enum Mending {
     Nothing,
     /// Bytes behind the closed gate.

@@ -8,7 +8,7 @@ use flex_fields::{
 use std::alloc::Global;
 
 /// A call and the versions of it that are served.
-#[derive(Clone, Copy, Debug, PartialEq, Eq)]
+#[derive(Clone, Copy, Debug)]
 pub struct ApiVersion {
     pub api_key: i16,
     pub min_version: i16,

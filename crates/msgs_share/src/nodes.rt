@@ -4,7 +4,7 @@ use flex_fields::{Cursor, NoMemory, Out, Text, Wire, WireFault};
 use std::alloc::Global;
 
 /// The leader of a partition, and its epoch.
-#[derive(Clone, Copy, Debug, PartialEq, Eq)]
+#[derive(Clone, Copy, Debug)]
 pub struct CurrentLeader {
     pub leader_id: i32,
     pub leader_epoch: i32,

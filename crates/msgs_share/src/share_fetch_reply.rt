@@ -11,7 +11,7 @@ use flex_fields::{
 use std::alloc::Global;
 
 /// Offsets that were acquired, `first_offset` and `last_offset` with them, and how often their records were delivered.
-#[derive(Clone, Copy, Debug, PartialEq, Eq)]
+#[derive(Clone, Copy, Debug)]
 pub struct AcquiredRecords {
     pub first_offset: i64,
     pub last_offset: i64,

@@ -7,7 +7,7 @@ use flex_fields::{Bytes, Cursor, NoMemory, Out, Wire, WireFault, read_whole, wri
 use std::alloc::Global;
 
 /// A partition whose state goes.
-#[derive(Clone, Copy, Debug, PartialEq, Eq)]
+#[derive(Clone, Copy, Debug)]
 pub struct DeletePartition {
     pub partition: i32,
 }

@@ -7,7 +7,7 @@ use flex_fields::{Bytes, Cursor, NoMemory, Out, Wire, WireFault, read_whole, wri
 use std::alloc::Global;
 
 /// What the state of one partition begins with.
-#[derive(Clone, Copy, Debug, PartialEq, Eq)]
+#[derive(Clone, Copy, Debug)]
 pub struct InitializePartition {
     pub partition: i32,
     pub state_epoch: i32,

@@ -7,7 +7,7 @@ use flex_fields::{Bytes, Cursor, NoMemory, Out, Wire, WireFault, read_whole, wri
 use std::alloc::Global;
 
 /// A partition whose state is asked for.
-#[derive(Clone, Copy, Debug, PartialEq, Eq)]
+#[derive(Clone, Copy, Debug)]
 pub struct ReadPartition {
     pub partition: i32,
     pub leader_epoch: i32,

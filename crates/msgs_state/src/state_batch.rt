@@ -4,7 +4,7 @@ use flex_fields::{Cursor, NoMemory, Out, Wire, WireFault};
 use std::alloc::Global;
 
 /// Records in one delivery state: 0 available, 2 acknowledged, 4 archived.
-#[derive(Clone, Copy, Debug, PartialEq, Eq)]
+#[derive(Clone, Copy, Debug)]
 pub struct StateBatch {
     pub first_offset: i64,
     pub last_offset: i64,

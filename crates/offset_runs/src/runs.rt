@@ -10,7 +10,7 @@ use std::marker::Model;
 /// Rows by offset, kept as the canonical list of their runs.
 ///
 /// A contract sees that list; `row_at` of it is the row at an offset. Offsets are those of a `u64`.
-#[derive(Debug, Drop)]
+#[derive(Drop)]
 pub struct Runs {
     list: Vec<Run>,
 }

@@ -11,7 +11,7 @@ use share_model::Blob;
 use std::alloc::{AllocError, Global};
 
 /// The bytes of a batch, as they came.
-#[derive(Debug, Drop)]
+#[derive(Drop)]
 pub enum Kept {
     /// As they were read from the journal.
     Read(Blob),
@@ -20,7 +20,7 @@ pub enum Kept {
 }
 
 /// A batch, with its first and its last offset.
-#[derive(Debug, Drop)]
+#[derive(Drop)]
 pub struct Entry {
     pub base: u64,
     pub last: u64,

@@ -1,7 +1,7 @@
 use thiserror::Error;
 
 /// Why a log was not opened.
-#[derive(Clone, Copy, Debug, PartialEq, Eq, Error)]
+#[derive(Clone, Copy, Debug, Error)]
 pub enum OpenFault {
     /// The content is no log text: at this place stands an open gate that no frame and gate follow, or whose frame is no stored
     /// batch or begins below the end of the log before it.
@@ -16,7 +16,7 @@ pub enum OpenFault {
 }
 
 /// Why the bytes of a batch were not given.
-#[derive(Clone, Copy, Debug, PartialEq, Eq, Error)]
+#[derive(Clone, Copy, Debug, Error)]
 pub enum BatchRead {
     /// The disk failed.
     #[error("the disk of the log failed")]

@@ -1,5 +1,5 @@
 /// Where a batch stands in a log.
-#[derive(Clone, Copy, Debug, PartialEq, Eq)]
+#[derive(Clone, Copy)]
 pub struct BatchPlace {
     /// The number of batches before it.
     pub number: u64,

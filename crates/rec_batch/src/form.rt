@@ -1,5 +1,5 @@
 /// Which of a batch's rules apply.
-#[derive(Clone, Copy, Debug, PartialEq, Eq)]
+#[derive(Clone, Copy)]
 pub enum Form {
     /// As a producer sends it: its offsets count up from 0, and its base offset says nothing yet.
     Produced,
@@ -8,7 +8,7 @@ pub enum Form {
 }
 
 /// The numbers of a batch's header.
-#[derive(Clone, Copy, Debug, PartialEq, Eq)]
+#[derive(Clone, Copy)]
 pub struct BatchView {
     /// The offset of the first slot; 0 where a produced batch has a number below 0 there.
     pub base: u64,

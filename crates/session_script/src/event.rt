@@ -2,7 +2,7 @@ use edge_io::{DiskName, FaultMode};
 use share_model::{Blob, CloseCause, Name, ShardId};
 
 /// One line of a recorded session: what happens to the broker.
-#[derive(Debug, Drop)]
+#[derive(Drop)]
 pub enum Event {
     /// A client has connected. Connections are numbered by the script.
     Open {
@@ -45,7 +45,7 @@ pub enum Event {
 }
 
 /// What an event makes the broker do, as a client sees it.
-#[derive(Debug, Drop)]
+#[derive(Drop)]
 pub enum Outcome {
     /// An expiry on this shard, or a release in a visit to it, couldn't be stored.
     Fault { shard: ShardId },

@@ -26,7 +26,7 @@ const LONGEST_LINE: usize = 6 + 11 + 131072 + 1;
 const LONGEST_SCRIPT: u64 = 1 << 62;
 
 /// What was taken from a script.
-#[derive(Debug, Drop)]
+#[derive(Drop)]
 pub enum Taken {
     Event(Event),
     /// The line `end`, behind which the input ended.
@@ -34,7 +34,7 @@ pub enum Taken {
 }
 
 /// Why nothing was taken.
-#[derive(Clone, Copy, Debug, PartialEq, Eq, Error)]
+#[derive(Clone, Copy, Debug, Error)]
 pub enum ScriptFault {
     /// No line of a script stands here. `place` is the line's first byte, counted from 0, or the first byte
     /// behind the line `end`.

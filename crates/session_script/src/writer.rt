@@ -14,7 +14,7 @@ use thiserror::Error;
 use topic_conf::Config;
 
 /// Why a line was not written.
-#[derive(Clone, Copy, Debug, PartialEq, Eq, Error)]
+#[derive(Clone, Copy, Debug, Error)]
 pub enum LineFault {
     /// The sink failed, and has taken a front of the line.
     #[error("the line could not be written")]

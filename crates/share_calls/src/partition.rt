@@ -6,7 +6,7 @@ use topic_conf::Topic;
 use uuid::Uuid;
 
 /// A partition, as messages name it.
-#[derive(Clone, Copy, Debug, PartialEq, Eq)]
+#[derive(Clone, Copy)]
 pub struct PartitionId {
     pub topic_id: Uuid,
     pub index: i32,

@@ -16,7 +16,7 @@ use std::collections::BTreeMap;
 const MAX_RUNS: usize = 1000000;
 
 // Why frames stand for no states: the frame behind the gate at this place; or there was no memory.
-#[derive(Clone, Copy, Debug, PartialEq, Eq)]
+#[derive(Clone, Copy)]
 pub(crate) enum ReplayFault {
     Refused { place: u64 },
     NoMemory,

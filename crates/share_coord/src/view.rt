@@ -7,7 +7,7 @@ use std::marker::Model;
 ///
 /// The epochs are at least 0, `start` is an offset or -1, and the rows are at most 1000000 runs, with offsets below 2^63 and counts
 /// below 2^15. A contract sees the record of the fields.
-#[derive(Debug, Drop)]
+#[derive(Drop)]
 pub struct StateView {
     pub state_epoch: i32,
     pub leader_epoch: i32,
@@ -39,7 +39,7 @@ impl StateView {
 
 /// What a store keeps of a key: its state, how many snapshots it had before the last one, and how many updates since, counted up to
 /// 500.
-#[derive(Debug, Drop)]
+#[derive(Drop)]
 pub struct Kept {
     pub view: StateView,
     pub snapshot: u64,

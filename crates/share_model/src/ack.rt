@@ -6,7 +6,7 @@ use std::alloc::Global;
 use std::marker::Model;
 
 /// What a consumer says of an acquired record: KIP-932's types of acknowledgement, but for the renewal of a lock.
-#[derive(Clone, Copy, Debug, PartialEq, Eq)]
+#[derive(Clone, Copy, Debug)]
 pub enum AckKind {
     /// There is no record at the offset.
     Gap,
@@ -37,7 +37,7 @@ impl AckKind {
 
 /// An acknowledgement batch as it came, not yet judged: its first and its last offset, and the numbers of the types, one
 /// for each offset or one for all.
-#[derive(Debug, Drop)]
+#[derive(Drop)]
 pub struct AckBatch {
     pub first: i64,
     pub last: i64,
@@ -62,7 +62,7 @@ impl AckBatch {
 
 /// Why acknowledgement batches aren't well formed: the first batch that isn't, counted from 0, and its first fault in the
 /// order of these variants.
-#[derive(Clone, Copy, Debug, PartialEq, Eq)]
+#[derive(Clone, Copy, Debug)]
 pub enum AckFault {
     /// Its offsets are negative, or the last one is below the first.
     BadRange { batch: u32 },
@@ -76,7 +76,7 @@ pub enum AckFault {
 
 /// The acknowledgement batches of one partition in one request, not yet judged. A contract sees them as a list. There are
 /// fewer than 2^32 - 1 of them, with fewer than 2^32 types in all.
-#[derive(Debug, Drop)]
+#[derive(Drop)]
 pub struct AckList {
     batches: Items<AckBatch>,
 }

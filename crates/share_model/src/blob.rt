@@ -3,7 +3,7 @@ ghost use Rattle.std.specs.Prelude.{◌≡◌, List, length, ℕ};
 use std::marker::Model;
 
 /// Bytes that are owned. A contract sees them as a list.
-#[derive(Debug, Drop)]
+#[derive(Drop)]
 pub struct Blob {
     bytes: Vec<u8>,
 }

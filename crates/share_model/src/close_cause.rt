@@ -1,5 +1,5 @@
 /// Why the broker closed a connection.
-#[derive(Clone, Copy, Debug, PartialEq, Eq)]
+#[derive(Clone, Copy)]
 pub enum CloseCause {
     /// The size of a frame, as an unsigned number, is above 16777216.
     TooLong { size: u32 },

@@ -1,5 +1,5 @@
 /// An error code of the Kafka protocol. The constants have the names of Kafka's own list.
-#[derive(Clone, Copy, Debug, PartialEq, Eq)]
+#[derive(Clone, Copy)]
 pub struct Code(pub i16);
 
 impl Code {
@@ -47,7 +47,7 @@ impl Code {
 }
 
 /// Why a write to a store was refused.
-#[derive(Clone, Copy, Debug, PartialEq, Eq)]
+#[derive(Clone, Copy, Debug)]
 pub enum StoreFault {
     /// A device call failed. The write is then pending, or the one that was pending still is.
     Device,
@@ -56,7 +56,7 @@ pub enum StoreFault {
 }
 
 /// Why bytes aren't a record batch of version 2 in the form that was asked for.
-#[derive(Clone, Copy, Debug, PartialEq, Eq)]
+#[derive(Clone, Copy, Debug)]
 pub enum BatchFault {
     /// It is longer than 1048588 bytes.
     TooLarge,
@@ -82,7 +82,7 @@ pub enum BatchFault {
 }
 
 /// Why a log took no batch. The log is unchanged.
-#[derive(Clone, Copy, Debug, PartialEq, Eq)]
+#[derive(Clone, Copy)]
 pub enum LogFault {
     /// The bytes aren't a record batch in the form that was asked for.
     Batch(BatchFault),

@@ -3,7 +3,7 @@ use crate::key::Key;
 use crate::lists::{RunList, StateBatchList};
 
 /// A batch of a state call as it came: offsets, a state's number and a delivery count, not yet judged.
-#[derive(Clone, Copy, Debug, PartialEq, Eq)]
+#[derive(Clone, Copy)]
 pub struct StateBatch {
     pub first: i64,
     pub last: i64,
@@ -14,7 +14,7 @@ pub struct StateBatch {
 /// A call on the state of a partition that this broker doesn't host. Its numbers are not yet judged.
 ///
 /// `start` is an offset, or -1: no start is given in an `Init`, and the start stays in a `Write`.
-#[derive(Debug, Drop)]
+#[derive(Drop)]
 pub enum ForeignOp {
     /// InitializeShareGroupState.
     Init {
@@ -45,7 +45,7 @@ pub enum ForeignOp {
 ///
 /// The last three fields are those of the key after a `Read` that is granted, and 0, -1 and no runs
 /// in each other answer.
-#[derive(Debug, Drop)]
+#[derive(Drop)]
 pub struct ForeignAnswer {
     pub code: Code,
     pub state_epoch: i32,

@@ -1,5 +1,5 @@
 /// Where a group begins on a partition that it has not read before.
-#[derive(Clone, Copy, Debug, PartialEq, Eq)]
+#[derive(Clone, Copy)]
 pub enum Reset {
     /// At the end of the log.
     Latest,

@@ -9,7 +9,7 @@ use std::marker::Model;
 ///
 /// A contract sees its bytes, and beside them the spare number: how many bytes may be appended with
 /// no memory.
-#[derive(Debug, Drop)]
+#[derive(Drop)]
 pub struct Room {
     bytes: Vec<u8>,
 }

@@ -1,7 +1,7 @@
 ghost use Rattle.std.specs.Prelude.{◌≡◌};
 
 /// What is stored of a record: KIP-932's states of a record that nobody holds.
-#[derive(Clone, Copy, Debug, PartialEq, Eq)]
+#[derive(Clone, Copy, Debug)]
 pub enum RowState {
     /// It may be acquired.
     Available,
@@ -12,7 +12,7 @@ pub enum RowState {
 }
 
 /// What is stored at an offset: the state, and how often the record was delivered.
-#[derive(Clone, Copy, Debug, PartialEq, Eq)]
+#[derive(Clone, Copy)]
 pub struct Row {
     pub state: RowState,
     pub count: u16,

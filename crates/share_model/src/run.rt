@@ -5,7 +5,7 @@ ghost use Rattle.share_model.specs.declared.run.Run.{Run};
 use crate::row::{Row, RowState};
 
 /// Consecutive offsets, `first` and `last` with them, that have one row.
-#[derive(Clone, Copy, Debug, PartialEq, Eq)]
+#[derive(Clone, Copy, Debug)]
 pub struct Run {
     pub first: u64,
     pub last: u64,

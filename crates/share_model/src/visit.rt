@@ -5,7 +5,7 @@ use crate::lists::Grants;
 use crate::name::Name;
 
 /// What one lock guards: the state of a hosted partition, of all group memberships, or of the partitions that aren't hosted.
-#[derive(Clone, Copy, Debug, PartialEq, Eq)]
+#[derive(Clone, Copy)]
 pub enum ShardId {
     /// The hosted partition with this number.
     Part(u32),
@@ -16,7 +16,7 @@ pub enum ShardId {
 }
 
 /// What a share request asks of one hosted partition for a member of a group: its acknowledgements, and what follows them.
-#[derive(Debug, Drop)]
+#[derive(Drop)]
 pub struct Visit {
     pub group: Name,
     pub member: Name,
@@ -25,7 +25,7 @@ pub struct Visit {
 }
 
 /// What follows the acknowledgements, whether they are taken or refused.
-#[derive(Clone, Copy, Debug, PartialEq, Eq)]
+#[derive(Clone, Copy)]
 pub enum Then {
     /// Nothing.
     Nothing,
@@ -42,7 +42,7 @@ pub enum Then {
 
 /// What became of a visit: of the acknowledgements, and of what followed them; the runs of offsets that were acquired; and
 /// the batches that cover these, each once, whole and in order.
-#[derive(Debug, Drop)]
+#[derive(Drop)]
 pub struct VisitAnswer {
     pub ack: AckOutcome,
     pub then: ThenOutcome,
@@ -51,7 +51,7 @@ pub struct VisitAnswer {
 }
 
 /// What became of the acknowledgements of one partition. They are all taken, or none is.
-#[derive(Clone, Copy, Debug, PartialEq, Eq)]
+#[derive(Clone, Copy)]
 pub enum AckOutcome {
     /// They are stored, or there were none.
     Done,
@@ -64,7 +64,7 @@ pub enum AckOutcome {
 }
 
 /// What became of that which follows the acknowledgements.
-#[derive(Clone, Copy, Debug, PartialEq, Eq)]
+#[derive(Clone, Copy)]
 pub enum ThenOutcome {
     /// It is done.
     Done,
@@ -73,7 +73,7 @@ pub enum ThenOutcome {
 }
 
 /// What became of an expiry. `freed` counts the records that were given back, over all groups.
-#[derive(Clone, Copy, Debug, PartialEq, Eq)]
+#[derive(Clone, Copy)]
 pub enum ExpireAnswer {
     /// Each record whose lock had ended is given back.
     Done {

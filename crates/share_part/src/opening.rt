@@ -7,7 +7,7 @@ use share_coord::CoordOpen;
 use thiserror::Error;
 
 /// Why the shard of a partition was not opened. The log's disk is opened first, then the two of the states.
-#[derive(Clone, Copy, Debug, PartialEq, Eq, Error)]
+#[derive(Clone, Copy, Debug, Error)]
 pub enum PartFault {
     /// The content of a disk stands for no log, or for no states. States that break the rules on a hosted partition are told of the
     /// first state disk and place 0.

@@ -5,7 +5,7 @@ ghost use Rattle.share_session.specs.declared.fault.SessionFault.TheVariants.{No
 use share_model::{Code, NoMemory};
 
 /// Why a share request is refused as a whole. Each fault but want of memory has its error code.
-#[derive(Clone, Copy, Debug, PartialEq, Eq)]
+#[derive(Clone, Copy)]
 pub enum SessionFault {
     /// The group is null, empty or longer than 255 bytes: 24.
     BadGroup,

@@ -12,7 +12,7 @@ pub struct Caller {
 }
 
 /// What a visit does at a partition behind its acknowledgements.
-#[derive(Clone, Copy, Debug, PartialEq, Eq)]
+#[derive(Clone, Copy)]
 pub enum Purpose {
     /// Nothing.
     Nothing,
@@ -23,7 +23,7 @@ pub enum Purpose {
 }
 
 /// A visit to a hosted partition, by the number of its shard.
-#[derive(Debug, Drop)]
+#[derive(Drop)]
 pub struct PlanStep {
     pub shard: u32,
     pub group: Name,

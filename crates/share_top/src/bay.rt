@@ -4,7 +4,7 @@ ghost use Rattle.share_top.specs.Words.{IsBayChoice, WantsFolder, texts};
 ghost use Rattle.share_top.specs.WordReading.{IsBehindDir, HasNoDir};
 
 /// The bay over which words are to be run.
-#[derive(Clone, Copy, Debug, PartialEq, Eq)]
+#[derive(Clone, Copy)]
 pub enum BayChoice {
     /// A fresh bay in memory.
     Memory,

@@ -25,7 +25,7 @@ use std::alloc::Global;
 use topic_conf::{Config, Topic};
 
 /// Why a segment was not loaded to its end.
-#[derive(Clone, Copy, Debug, PartialEq, Eq)]
+#[derive(Clone, Copy)]
 pub enum Stop {
     /// No batch that may stand behind the log begins at this place.
     Refused { place: u64 },

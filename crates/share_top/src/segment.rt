@@ -29,7 +29,7 @@ const MOST: i64 = 1_048_588;
 const LONGEST_SEGMENT: u64 = 1 << 62;
 
 /// What stands at the front of what is still to come.
-#[derive(Clone, Copy, Debug, PartialEq, Eq)]
+#[derive(Clone, Copy)]
 pub enum Front {
     /// As many bytes as a batch's header says, and all of them are there.
     Batch { size: usize },
@@ -38,7 +38,7 @@ pub enum Front {
 }
 
 /// Why nothing was found.
-#[derive(Clone, Copy, Debug, PartialEq, Eq)]
+#[derive(Clone, Copy)]
 pub enum SegmentFault {
     /// Something stands there that is no whole batch.
     Refused,

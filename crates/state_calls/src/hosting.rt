@@ -1,7 +1,7 @@
 use share_model::Code;
 
 /// What a state call does at a partition of a hosted topic.
-#[derive(Clone, Copy, Debug, PartialEq, Eq)]
+#[derive(Clone, Copy)]
 pub enum Hosting {
     /// It is refused with this code.
     Refuses(Code),

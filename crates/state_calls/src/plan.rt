@@ -33,7 +33,7 @@ pub enum Question<W> {
 }
 
 /// What becomes of a partition of a request.
-#[derive(Clone, Copy, Debug, PartialEq, Eq)]
+#[derive(Clone, Copy)]
 pub enum Fate {
     /// It is refused at once.
     Refused(Code),

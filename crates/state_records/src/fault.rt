@@ -5,7 +5,7 @@ use std::alloc::{AllocError, AllocFailed};
 use thiserror::Error;
 
 /// Why bytes couldn't be read as a state record.
-#[derive(Clone, Copy, Debug, PartialEq, Eq, Error)]
+#[derive(Clone, Copy, Debug, Error)]
 pub enum RecordFault {
     /// They aren't one. The place is that of the first byte of the field that can't be read or is out
     /// of range, or of bytes that follow the record.

@@ -34,7 +34,7 @@ impl Model for KeyState {
 }
 
 /// A record of the state journal.
-#[derive(Debug, Drop)]
+#[derive(Drop)]
 pub enum StateRecord {
     /// The key has this state, whatever it had before.
     Snapshot(KeyState),

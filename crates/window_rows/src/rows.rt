@@ -11,7 +11,7 @@ use std::alloc::{AllocError, Global};
 use std::marker::Model;
 
 /// A window as one row for each offset, in order. A row is found in the logarithm of their number.
-#[derive(Debug, Drop)]
+#[derive(Drop)]
 pub struct WindowRows {
     rows: Vec<(u64, Hold)>,
     // No lock ends before this moment. It may lie before the first end, where a hold was replaced.
