@@ -9,7 +9,7 @@ use std::error::Error;
 use std::fmt;
 
 /// A call that the outside did not do. The count of faults of what was called has risen.
-#[derive(Clone, Copy, Debug)]
+#[derive(Clone, Copy, Debug, PartialEq, Eq)]
 pub struct Failed;
 
 impl fmt::Display for Failed {

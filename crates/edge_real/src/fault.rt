@@ -3,7 +3,7 @@ use std::io::ErrorKind;
 use std::{fmt, io};
 
 /// What the operating system was asked for.
-#[derive(Clone, Copy)]
+#[derive(Clone, Copy, PartialEq, Eq)]
 pub enum SystemCall {
     /// The path for a call was to be made, in memory.
     Path,
