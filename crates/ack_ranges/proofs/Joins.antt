@@ -2,8 +2,6 @@
 use Rattle.std.proofs.Common.{◌≡◌, ℕ, suc, ◌+◌, ◌<◌, ◌≤◌, Bool, true, false, cond, List, [], ◌∷◌, length, refl, ap, ◌∙◌, sym, arith, inl, inr}
 use Rattle.std.proofs.Common.{Option, Some}
 use Rattle.std.proofs.Common.{◌-◌}
-use denote.Enum.Bare.{sameb}
-use Rattle.share_model.specs.contracts.ack.AckKind.{the_type}
 use Rattle.std.specs.Prelude.{nat_eq, nat_le, nat_lt, ◌&&◌}
 use Rattle.std.proofs.lemmas.Bool.{cases_lt}
 use Rattle.std.proofs.lemmas.Bool.Decides.{nat_tests}
@@ -166,24 +164,6 @@ joined_length [] = omega arith
 joined_length (x ∷ xs) = omega (arith, join_length x (joined xs), joined_length xs)
 
 -- ---- the tests of the code
-
-pub kinds_same : (a b : AckKind) → sameb the_type a b ≡ nat_eq (kind_number a) (kind_number b)
-kinds_same Gap Gap = refl
-kinds_same Gap Accept = refl
-kinds_same Gap Release = refl
-kinds_same Gap Reject = refl
-kinds_same Accept Gap = refl
-kinds_same Accept Accept = refl
-kinds_same Accept Release = refl
-kinds_same Accept Reject = refl
-kinds_same Release Gap = refl
-kinds_same Release Accept = refl
-kinds_same Release Release = refl
-kinds_same Release Reject = refl
-kinds_same Reject Gap = refl
-kinds_same Reject Accept = refl
-kinds_same Reject Release = refl
-kinds_same Reject Reject = refl
 
 pub touches_next : (x y : Piece) → y.first ≡ x.last + 1 → touches x y ≡ nat_eq (kind_number x.kind) (kind_number y.kind)
 unfolding touches

@@ -3,7 +3,7 @@ ghost use Rattle.std.specs.Option.{ForSome, option_to_list};
 ghost use Rattle.share_model.specs.Acks.{kind_of, types_in};
 ghost use Rattle.ack_ranges.specs.Batches.{IsSound, IsWellFormed};
 ghost use Rattle.ack_ranges.specs.Pieces.{ArePieces};
-ghost use Rattle.ack_ranges.specs.Walking.{joined, spans_in, touches};
+ghost use Rattle.ack_ranges.specs.Walking.{joined, kind_number, spans_in, touches};
 
 use crate::piece::Piece;
 use share_model::{AckBatch, AckKind};
@@ -85,11 +85,25 @@ impl<'a> Spans<'a> {
     }
 }
 
+// The number of a kind in messages.
+fn number_of(kind: AckKind) -> u8
+    ensures { result ≡ kind_number kind }
+{
+    match kind {
+        AckKind::Gap => 0,
+        AckKind::Accept => 1,
+        AckKind::Release => 2,
+        AckKind::Reject => 3,
+    }
+}
+
 // Whether a span begins right behind a piece, with its kind.
 fn touches(piece: &Piece, span: &Piece) -> bool
     ensures { result ≡ touches piece.now span.now }
 {
-    piece.last < span.first && span.first - piece.last == 1 && piece.kind == span.kind
+    piece.last < span.first
+        && span.first - piece.last == 1
+        && number_of(piece.kind) == number_of(span.kind)
 }
 
 // The span that is read next.

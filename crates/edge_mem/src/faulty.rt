@@ -11,7 +11,7 @@ use crate::history::History;
 use edge_io::{Armed, FaultMode};
 
 /// Why a call was not done.
-#[derive(Clone, Copy)]
+#[derive(Clone, Copy, PartialEq, Eq)]
 pub enum Refusal {
     /// The armed fault broke it.
     Broken,

@@ -1,5 +1,7 @@
-use Rattle.std.proofs.Common.{◌≡◌, ◌∙◌, ◌+◌, sym, arith}
-use Rattle.ack_ranges.proofs.Joins.{kinds_same, touches_next, false_touches, is_next, not_next, not_less}
+use Rattle.std.proofs.Common.{◌≡◌, ◌∙◌, ◌+◌, ℕ, ap, sym, arith}
+use Rattle.std.specs.Prelude.{nat_eq}
+use Rattle.ack_ranges.specs.Walking.{kind_number}
+use Rattle.ack_ranges.proofs.Joins.{touches_next, false_touches, is_next, not_next, not_less}
 use Rattle.ack_ranges.proofs.walk.touches.Goals as goal
 use Rattle.ack_ranges.proofs.walk.touches.Goals.{then-piece-span, else-piece-span}
 
@@ -12,7 +14,9 @@ returns-then-span-piece-eq1 c =
       | else-piece-span w ↦ absurd (not_less piece.last span.first _ c.if-span-piece-eq1.true w.if-piece-span.false w.value-is)
     ]
     in
-    c.eq.ensures ∙ kinds_same piece.kind span.kind ∙ sym (touches_next piece span next)
+    ap (λ (n : ℕ). nat_eq n c.number_of-then-span-piece-eq1.result) c.number_of.ensures
+    ∙ ap (λ (n : ℕ). nat_eq (kind_number piece.kind) n) c.number_of-then-span-piece-eq1.ensures
+    ∙ sym (touches_next piece span next)
 
 pub returns-else-span-piece-eq1 : goal.returns-else-span-piece-eq1
 returns-else-span-piece-eq1 c =
