@@ -1,34 +1,20 @@
-// The answer to a part, as a line gives it.
-ghost use Rattle.std.specs.Prelude.{All, IsTrue};
-ghost use Rattle.call_fold.specs.Parts.{IsTellable, HasTellableBase};
+// The answer to a state call, as a line gives it.
+ghost use Rattle.std.specs.Prelude.{All, IfSome, IsTrue};
+ghost use Rattle.call_fold.specs.Parts.{IsTellable, IsAnswerTo};
 
-use crate::visited::Visited;
-use call_fold::Produced;
-use msgs_group::HeartbeatReply;
-use share_model::{BatchFault, RowState, Run, StoreFault};
+use call_fold::{Part, PartAnswer};
+use flex_fields::Items;
+use share_model::{Code, ForeignAnswer, RowState, Run};
 use std::alloc::Global;
 use std::io;
-
-/// What a shard answers: to a call on a state, a batch, a visit, a look, or a heartbeat.
-#[derive(Drop)]
-pub enum Answer {
-    State(StateAnswer),
-    Log(Produced),
-    Visit(Visited),
-    Stored(Stored),
-    Members(HeartbeatReply),
-}
-
-/// What is stored of a group, `None` where it has no table.
-pub type Stored = Option<StateAnswer>;
 
 /// A code, and what a granted read tells.
 #[derive(Drop)]
 pub struct StateAnswer {
-    pub code: i16,
-    pub state_epoch: i32,
-    pub start: i64,
-    pub runs: Vec<Run>,
+    code: i16,
+    state_epoch: i32,
+    start: i64,
+    runs: Vec<Run>,
 }
 
 fn state_of(name: &str) -> RowState {
@@ -81,61 +67,34 @@ pub fn read_answer(alloc: Global, text: &str) -> io::Result<StateAnswer> {
     })
 }
 
-/// Reads what is stored of a group: `absent`, or its leader epoch, its state epoch, its start offset and its runs.
-pub fn read_stored(alloc: Global, text: &str) -> io::Result<Stored> {
-    match text {
-        "absent" => Ok(None),
-        _ => {
-            let state = read_answer(alloc, text)?;
-            Ok(Some(state))
-        }
-    }
-}
-
-/// The fault of this name, by which a batch is refused.
-fn fault_of(name: &str) -> Option<BatchFault> {
-    match name {
-        "TooLarge" => Some(BatchFault::TooLarge),
-        "Short" => Some(BatchFault::Short),
-        "BadMagic" => Some(BatchFault::BadMagic),
-        "BadCrc" => Some(BatchFault::BadCrc),
-        "Compressed" => Some(BatchFault::Compressed),
-        "Transactional" => Some(BatchFault::Transactional),
-        "Control" => Some(BatchFault::Control),
-        "HasProducer" => Some(BatchFault::HasProducer),
-        "BadRecord" => Some(BatchFault::BadRecord { index: 0 }),
-        "BadDeltas" => Some(BatchFault::BadDeltas),
-        _ => None,
-    }
-}
-
-/// Reads what a log says: an offset, the name of a fault of a batch, `Full`, or any other word for a device's fault.
-pub fn read_log(text: &str) -> Produced {
-    match text.parse() {
-        Ok(base) => Produced::Base(base),
-        Err(_) => match fault_of(text) {
-            Some(fault) => Produced::Batch(fault),
-            None => match text {
-                "Full" => Produced::Store(StoreFault::Full { end: 0 }),
-                _ => Produced::Store(StoreFault::Device),
-            },
-        },
-    }
-}
-
 /// Whether a batch of a reply can tell each run.
-pub fn are_tellable(runs: &[Run]) -> bool
+fn are_tellable(runs: &[Run]) -> bool
     ensures { IsTrue result → All IsTellable runs.now }
 {
     runs.iter().all(|run| run.first < 1 << 63 && run.last < 1 << 63 && run.count < 1 << 15)
 }
 
-/// Whether a reply can tell its offset.
-pub fn has_tellable_base(produced: Produced) -> bool
-    ensures { IsTrue result → HasTellableBase produced }
+/// What the foreign shard answers. `None` where a reply can't tell it.
+fn state_answer(answer: StateAnswer) -> Option<ForeignAnswer>
+    ensures { IfSome result (λ told. All IsTellable told.runs) }
 {
-    match produced {
-        Produced::Base(base) => base < 1 << 63,
-        Produced::Batch(_) | Produced::Store(_) => true,
+    if answer.runs.len() >= 1000 || !are_tellable(answer.runs.as_slice()) {
+        return None;
+    }
+    Some(ForeignAnswer {
+        code: Code(answer.code),
+        state_epoch: answer.state_epoch,
+        start: answer.start,
+        runs: Items::new(answer.runs),
+    })
+}
+
+/// What the shard of a state call answers. `None` where the part is none, or a reply can't tell the answer.
+pub fn shard_answer(part: &Part, answer: StateAnswer) -> Option<PartAnswer>
+    ensures { IfSome result (IsAnswerTo part.now) }
+{
+    match part {
+        Part::Foreign(_) => state_answer(answer).map(PartAnswer::Foreign),
+        _ => None,
     }
 }

@@ -6,10 +6,6 @@
 //! | Line | Means |
 //! |---|---|
 //! | `answer CODE EPOCH START RUN ..` | the next part that is asked, a call on a state, is answered so; a RUN is `FIRST LAST STATE COUNT` |
-//! | `log BASE`, `log FAULT` | the next part that is asked, a batch for a log, is answered so: by its offset, or by the name of a fault |
-//! | `visited ACKNOWLEDGED THEN GRANTS HEX` | the same of a visit; `src/visited.rt` has its words |
-//! | `stored absent`, `stored LEADER EPOCH START RUN ..` | the same of a look at what is stored of a group |
-//! | `members HEX ..` | the same of a heartbeat, by the body of its reply |
 //! | `send HEX ..` | these bytes come from the client, and the connection goes on until it waits or is gone |
 //! | `pieces N HEX ..` | these bytes come in pieces of N bytes, and it goes on after each |
 //! | `turn` | it is called once more |
@@ -24,18 +20,13 @@
 //! | PART | Means |
 //! |---|---|
 //! | `initialize KEY ..`, `read KEY ..`, `write KEY ..`, `delete KEY` | a state call; the batches of a write are `FIRST LAST STATE COUNT` |
-//! | `produce SHARD HEX` | a batch for a log |
-//! | `visit SHARD GROUP MEMBER THEN` | a visit, with each acknowledgement batch behind it as `, FIRST LAST TYPES` |
-//! | `look SHARD GROUP` | a look at what is stored of a group |
-//! | `heartbeat GROUP MEMBER EPOCH rack RACK topics NAMES` | a heartbeat |
+//! | `another` | a part of another kind, which is never answered here |
 #![tactic(auto)]
 
 mod answer;
 mod broker;
 mod session;
-mod shard;
 mod telling;
-mod visited;
 
 use row_text::run_files;
 use session::Session;

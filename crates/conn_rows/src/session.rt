@@ -2,12 +2,9 @@
 ghost use Rattle.std.specs.Prelude.{◌≡◌, Some};
 ghost use Rattle.conn_core.specs.Turning.{awaited_part};
 
-use crate::answer::{Answer, read_answer, read_log, read_stored};
-use crate::shard::shard_answer;
+use crate::answer::{StateAnswer, read_answer, shard_answer};
 use crate::telling::part_text;
-use crate::visited::read_visited;
 use conn_core::{Conn, Next, Part};
-use msgs_group::read_heartbeat_reply;
 use row_text::{Rows, Taken, bytes_of, compared, without_blanks};
 use share_model::CloseCause;
 use std::alloc::Global;
@@ -22,7 +19,7 @@ const MOST_TURNS: u32 = 100000;
 pub struct Session {
     conf: Config,
     conn: Conn,
-    answers: VecDeque<Answer>,
+    answers: VecDeque<StateAnswer>,
     told: String,
     wanted: String,
 }
@@ -59,16 +56,19 @@ fn no_memory(told: &mut String) -> io::Result<Turn> {
     Ok(Turn::Stops)
 }
 
-/// Answers the part that is asked, where an answer is there.
-fn give_next(
+/// Tells the part that is asked, and answers it where an answer is there.
+fn ask(
+    alloc: Global,
     conf: &Config,
     conn: &mut Conn,
     part: &Part,
-    answers: &mut VecDeque<Answer>,
+    answers: &mut VecDeque<StateAnswer>,
     told: &mut String,
 ) -> io::Result<Turn>
     requires { awaited_part conn.old ≡ Some part.now }
 {
+    let text = part_text(alloc, part)?;
+    push_line(told, "asks", text.as_str())?;
     let Some(answer) = answers.pop_front() else {
         return Ok(Turn::Stops);
     };
@@ -86,15 +86,11 @@ fn take_turn(
     alloc: Global,
     conf: &Config,
     conn: &mut Conn,
-    answers: &mut VecDeque<Answer>,
+    answers: &mut VecDeque<StateAnswer>,
     told: &mut String,
 ) -> io::Result<Turn> {
     match conn.next_part(conf) {
-        Ok(Next::Ask(part)) => {
-            let text = part_text(alloc, &part)?;
-            push_line(told, "asks", text.as_str())?;
-            give_next(conf, conn, &part, answers, told)
-        }
+        Ok(Next::Ask(part)) => ask(alloc, conf, conn, &part, answers, told),
         Ok(Next::Ready) => {
             told.push_str("ready\n")?;
             Ok(Turn::GoesOn)
@@ -215,34 +211,10 @@ impl Session {
         }
     }
 
-    /// The members of the groups answer with the heartbeat's reply of this body.
-    fn members(&mut self, alloc: Global, text: &str) -> io::Result<Taken> {
-        let Some(bytes) = bytes_of(alloc, text)? else {
-            return Ok(Taken::Unknown);
-        };
-        match read_heartbeat_reply(alloc, &bytes) {
-            Ok(reply) => {
-                self.answers.push_back(Answer::Members(reply))?;
-                Ok(Taken::Noted)
-            }
-            Err(_) => Ok(Taken::Unknown),
-        }
-    }
-
     /// Takes what the client or a shard does.
     fn act(&mut self, alloc: Global, kind: &str, text: &str) -> io::Result<Taken> {
         match kind {
-            "answer" => self
-                .answers
-                .push_back(Answer::State(read_answer(alloc, text)?))?,
-            "log" => self.answers.push_back(Answer::Log(read_log(text)))?,
-            "visited" => self
-                .answers
-                .push_back(Answer::Visit(read_visited(alloc, text)?))?,
-            "stored" => self
-                .answers
-                .push_back(Answer::Stored(read_stored(alloc, text)?))?,
-            "members" => return self.members(alloc, text),
+            "answer" => self.answers.push_back(read_answer(alloc, text)?)?,
             "send" => return self.send(alloc, usize::MAX, text),
             "pieces" => {
                 let (length, digits) = text.split_once(' ').unwrap_or((text, ""));

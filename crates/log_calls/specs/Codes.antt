@@ -1,6 +1,6 @@
 -- The error codes of Produce (Kafka's protocol guide, "Error codes"; ProduceResponse.json). Which fault has which code, where the guide
 -- leaves it open, is this project's own.
--- For example a batch whose checksum doesn't agree has code 2, and a compressed one 76 (conn_rows, `each fault of a batch has its
+-- For example a batch whose checksum doesn't agree has code 2, and a compressed one 76 (row_tests, `each fault of a batch has its
 -- code`).
 use Rattle.std.specs.Prelude.{ℤ, pos, negsuc, ℕ, Bool, List, Option, Some, None, is_some, int_le, ◌&&◌, not, if◌then◌else◌}
 use Rattle.std.specs.Ordering.{int_eq}

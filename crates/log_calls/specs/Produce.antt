@@ -1,6 +1,6 @@
 -- Produce in hand (ProduceRequest.json and ProduceResponse.json of version 9): a batch for the log of each hosted partition, and a reply
 -- with the topics and partitions of the request.
--- For example null records for a hosted partition have code 87 at once, and other bytes are asked of the partition's log (conn_rows,
+-- For example null records for a hosted partition have code 87 at once, and other bytes are asked of the partition's log (row_tests,
 -- `five partitions, each of which fails for another reason`).
 use Rattle.std.specs.Prelude.{ℕ, ℤ, pos, negsuc, Bool, Option, Some, None, List, [], ◌∷◌, map, flat_map, length, take, drop, slice_get, if◌then◌else◌}
 use Rattle.share_model.specs.declared.fault.Code.{Code}

@@ -2,7 +2,7 @@
 -- request, and a reply with its topics and partitions, in which each partition has what its own log says, or the code that is known at
 -- once. Answers belong to partitions by their place. Where no acknowledgement is wanted there is no reply.
 -- For example a batch for partition 0, null records and a batch for partition 1 ask 0 and 1, and have the first answer, 87 and the second
--- (conn_rows, `each answer stands at its own partition, with known codes between them`).
+-- (row_tests, `each answer stands at its own partition, with known codes between them`).
 use Rattle.std.specs.Prelude.{◌≡◌, ℕ, ℤ, suc, Option, Some, List, [], ◌∷◌, map, flat_map, take, length}
 use Rattle.share_model.specs.declared.fault.Code.{Code}
 use Rattle.topic_conf.specs.declared.topic.Topic.{Topic}

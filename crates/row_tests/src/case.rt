@@ -60,6 +60,29 @@ fn push_bytewise(alloc: Global, out: &mut String, text: &str) -> io::Result<()> 
     Ok(())
 }
 
+/// A word, and the text behind it.
+fn field(text: &str) -> (&str, &str) {
+    text.split_once(' ').unwrap_or((text, ""))
+}
+
+/// Adds a `bytes` line for each of some state batches of one offset.
+fn push_batches(alloc: Global, out: &mut String, text: &str) -> io::Result<()> {
+    let (conn, rest) = field(text);
+    let (count, rest) = field(rest);
+    let (first, rest) = field(rest);
+    let (step, digits) = field(rest);
+    let step = step.parse().unwrap_or(0);
+    let digits = without_blanks(alloc, digits)?;
+    let mut offset: u64 = first.parse().unwrap_or(0);
+    for _ in 0..count.parse().unwrap_or(0u64) {
+        let place = hex::encode(alloc, &offset.to_be_bytes())?;
+        let line = format!(in alloc; "bytes {conn} {place}{place}{digits}")?;
+        push_line(out, line.as_str())?;
+        offset = offset.saturating_add(step);
+    }
+    Ok(())
+}
+
 /// A disk by its name; the first one of foreign state where no disk has that name.
 fn named(name: &str) -> DiskName {
     DiskName::parse(name).unwrap_or(DiskName::foreign_state_a())
@@ -134,6 +157,7 @@ impl Case {
             ">" => push_line(&mut self.script, text)?,
             "send" => push_bytes(alloc, &mut self.script, "bytes", text)?,
             "bytewise" => push_bytewise(alloc, &mut self.script, text)?,
+            "batches" => push_batches(alloc, &mut self.script, text)?,
             "cut" => self.script.push_str(text)?,
             "segment" => push_segment(alloc, &mut self.segment, text)?,
             "<" => push_line(&mut self.wanted, text)?,

@@ -1,11 +1,7 @@
 // What a case's lines are about.
 use crate::bay::{bay_told, name_read, name_told};
-use crate::broken::broken_told;
 use crate::disks::Store;
-use crate::rows::Rows as StoredRows;
-use crate::states::States;
 use crate::streams::Streams;
-use crate::sweep::sweep_told;
 use row_text::{Rows, Taken, compared, shortened};
 use std::alloc::Global;
 use std::io;
@@ -13,37 +9,22 @@ use std::io;
 #[derive(Drop)]
 pub struct Case {
     store: Store,
-    states: States,
     streams: Streams,
-    rows: StoredRows,
 }
 
 impl Case {
     pub fn new(alloc: Global) -> Case {
         Case {
             store: Store::None,
-            states: States::None,
             streams: Streams::new(alloc),
-            rows: StoredRows::new(alloc),
         }
     }
 
-    /// What a line on a store gives. `None` where it isn't one.
+    /// What a line on streams or a store gives. `None` where there is no such line.
     fn on_stores(&mut self, alloc: Global, kind: &str, text: &str) -> io::Result<Option<String>> {
-        match self.store.on_log(alloc, kind, text) {
-            Ok(None) => match self.store.told(alloc, kind, text) {
-                Ok(None) => self.states.told(alloc, kind, text),
-                told => told,
-            },
-            told => told,
-        }
-    }
-
-    /// What a line on streams or stored rows gives, or else on a store. `None` where there is no such line.
-    fn on_others(&mut self, alloc: Global, kind: &str, text: &str) -> io::Result<Option<String>> {
         match self.streams.told(alloc, kind, text) {
-            Ok(None) => match self.rows.told(alloc, kind, text) {
-                Ok(None) => self.on_stores(alloc, kind, text),
+            Ok(None) => match self.store.on_log(alloc, kind, text) {
+                Ok(None) => self.store.told(alloc, kind, text),
                 told => told,
             },
             told => told,
@@ -56,9 +37,7 @@ impl Case {
             "disk-name" => name_told(alloc, text),
             "disk-read" => name_read(alloc, text),
             "bay" => bay_told(alloc),
-            "broken-appends" => sweep_told(alloc),
-            "broken-init" | "broken-write" | "broken-append" => broken_told(alloc, kind, text),
-            _ => return self.on_others(alloc, kind, text),
+            _ => return self.on_stores(alloc, kind, text),
         };
         Ok(Some(told?))
     }
@@ -67,9 +46,7 @@ impl Case {
 impl Rows for Case {
     fn begin(&mut self, alloc: Global) -> io::Result<()> {
         self.store = Store::None;
-        self.states = States::None;
         self.streams = Streams::new(alloc);
-        self.rows = StoredRows::new(alloc);
         Ok(())
     }
 

@@ -50,7 +50,7 @@ pub fn bytes_text(alloc: Global, bytes: &[u8]) -> io::Result<String> {
 }
 
 /// The mode of a fault that is armed.
-pub fn mode_of(name: &str) -> FaultMode {
+fn mode_of(name: &str) -> FaultMode {
     match name {
         "torn" => FaultMode::Torn,
         "dead" => FaultMode::Dead,
@@ -172,10 +172,7 @@ fn refusal(alloc: Global, fault: StartFault) -> io::Result<String> {
 }
 
 /// Appends a frame, whose bytes stand behind four others and before one.
-pub fn append(
-    journal: &mut Journal<MemDisk>,
-    buffer: &mut [u8],
-) -> Option<Result<u64, StoreFault>> {
+fn append(journal: &mut Journal<MemDisk>, buffer: &mut [u8]) -> Option<Result<u64, StoreFault>> {
     if buffer.len() < 6 || buffer.len() > 33554437 {
         return None;
     }
@@ -183,7 +180,7 @@ pub fn append(
 }
 
 /// The buffer of a frame.
-pub fn buffer_of(alloc: Global, frame: &[u8]) -> io::Result<Vec<u8>> {
+fn buffer_of(alloc: Global, frame: &[u8]) -> io::Result<Vec<u8>> {
     let mut buffer = vec![in alloc; 9u8; 4]?;
     buffer.extend_from_slice(frame)?;
     buffer.push(9)?;
@@ -232,7 +229,7 @@ fn append_each(
 }
 
 /// A new disk with a content.
-pub fn new_disk(alloc: Global, content: Vec<u8>) -> io::Result<MemDisk> {
+fn new_disk(alloc: Global, content: Vec<u8>) -> io::Result<MemDisk> {
     match MemDisk::new(alloc, content) {
         Ok(disk) => Ok(disk),
         Err(_) => Err(io::Error::from(io::ErrorKind::OutOfMemory)),
@@ -240,7 +237,7 @@ pub fn new_disk(alloc: Global, content: Vec<u8>) -> io::Result<MemDisk> {
 }
 
 /// A new disk with the content of a text. `None` where it has no bytes.
-pub fn disk_of(alloc: Global, text: &str) -> io::Result<Option<MemDisk>> {
+fn disk_of(alloc: Global, text: &str) -> io::Result<Option<MemDisk>> {
     match bytes_of(alloc, text)? {
         Some(content) => Ok(Some(new_disk(alloc, content)?)),
         None => Ok(None),

@@ -9,7 +9,6 @@
 // | `next-slot OFFSET` | the least slot from an offset on, or `none` |
 // | `batch-of OFFSET` | the number, the first and the last offset and the size of the batch that covers it, or `none` |
 // | `batch-bytes OFFSET` | the bytes of that batch |
-use crate::calls::field;
 use crate::disks::{Store, bytes_text, number_text, word, word_number};
 use edge_mem::MemDisk;
 use part_log::{OpenFault, PartLog};
@@ -17,21 +16,6 @@ use row_text::bytes_of;
 use share_model::{LogFault, Room, StoreFault};
 use std::alloc::Global;
 use std::io;
-
-/// The records a, b and c, as a producer sends them: base 0, leader epoch 7.
-#[rattlefmt::skip]
-const THREE: [u8; 85] = [
-    0x00, 0x00, 0x00, 0x00, 0x00, 0x00, 0x00, 0x00, 0x00, 0x00, 0x00, 0x49, 0x00, 0x00, 0x00, 0x07, 0x02,
-    0xa7, 0xfe, 0x9a, 0xc9, 0x00, 0x00, 0x00, 0x00, 0x00, 0x02, 0x00, 0x00, 0x00, 0x00, 0x00, 0x00, 0x00,
-    0x00, 0x00, 0x00, 0x00, 0x00, 0x00, 0x00, 0x00, 0x00, 0xff, 0xff, 0xff, 0xff, 0xff, 0xff, 0xff, 0xff,
-    0xff, 0xff, 0xff, 0xff, 0xff, 0xff, 0x00, 0x00, 0x00, 0x03, 0x0e, 0x00, 0x00, 0x00, 0x01, 0x02, 0x61,
-    0x00, 0x0e, 0x00, 0x00, 0x02, 0x01, 0x02, 0x62, 0x00, 0x0e, 0x00, 0x00, 0x04, 0x01, 0x02, 0x63, 0x00,
-];
-
-/// A batch of three records.
-pub fn three() -> &'static [u8] {
-    &THREE
-}
 
 fn answer_text(alloc: Global, answer: Result<u64, LogFault>) -> io::Result<String> {
     match answer {
@@ -45,7 +29,7 @@ fn answer_text(alloc: Global, answer: Result<u64, LogFault>) -> io::Result<Strin
 }
 
 /// Appends a batch, and tells the answer.
-pub fn append_text(alloc: Global, log: &mut PartLog<MemDisk>, batch: &[u8]) -> io::Result<String> {
+fn append_text(alloc: Global, log: &mut PartLog<MemDisk>, batch: &[u8]) -> io::Result<String> {
     let answer = log.append(batch);
     answer_text(alloc, answer)
 }
@@ -65,7 +49,7 @@ fn batch_bytes(alloc: Global, log: &mut PartLog<MemDisk>, offset: u64) -> io::Re
 }
 
 fn appends(alloc: Global, log: &mut PartLog<MemDisk>, text: &str) -> io::Result<Option<String>> {
-    let (count, digits) = field(text);
+    let (count, digits) = text.split_once(' ').unwrap_or((text, ""));
     let Some(batch) = bytes_of(alloc, digits)? else {
         return Ok(None);
     };
