@@ -65,7 +65,10 @@ fn field(text: &str) -> (&str, &str) {
     text.split_once(' ').unwrap_or((text, ""))
 }
 
-/// Adds a `bytes` line for each of some state batches of one offset.
+/// How many state batches stand on a line.
+const BATCHES_ON_A_LINE: u64 = 2500;
+
+/// Adds `bytes` lines of some state batches of one offset each.
 fn push_batches(alloc: Global, out: &mut String, text: &str) -> io::Result<()> {
     let (conn, rest) = field(text);
     let (count, rest) = field(rest);
@@ -74,13 +77,20 @@ fn push_batches(alloc: Global, out: &mut String, text: &str) -> io::Result<()> {
     let step = step.parse().unwrap_or(0);
     let digits = without_blanks(alloc, digits)?;
     let mut offset: u64 = first.parse().unwrap_or(0);
-    for _ in 0..count.parse().unwrap_or(0u64) {
+    let word = format!(in alloc; "bytes {conn} ")?;
+    out.push_str(word.as_str())?;
+    for number in 0..count.parse().unwrap_or(0u64) {
+        if number > 0 && number % BATCHES_ON_A_LINE == 0 {
+            out.push_str("\n")?;
+            out.push_str(word.as_str())?;
+        }
         let place = hex::encode(alloc, &offset.to_be_bytes())?;
-        let line = format!(in alloc; "bytes {conn} {place}{place}{digits}")?;
-        push_line(out, line.as_str())?;
+        out.push_str(place.as_str())?;
+        out.push_str(place.as_str())?;
+        out.push_str(digits.as_str())?;
         offset = offset.saturating_add(step);
     }
-    Ok(())
+    Ok(out.push_str("\n")?)
 }
 
 /// A disk by its name; the first one of foreign state where no disk has that name.

@@ -8,7 +8,7 @@
 //! | `> LINE` | a line of the script |
 //! | `send C HEX ..` | the line `bytes C HEX`; blanks in the hex are for reading |
 //! | `bytewise C HEX ..` | such a line for each byte |
-//! | `batches C N FIRST STEP HEX ..` | such a line for each of N state batches of one offset, FIRST and then each STEP further: the offset twice, in eight bytes each, and the hex |
+//! | `batches C N FIRST STEP HEX ..` | lines `bytes C` of N state batches of one offset, FIRST and then each STEP further: the offset twice, in eight bytes each, and the hex; 2500 of them stand on a line |
 //! | `cut TEXT` | text without a line feed |
 //! | `segment HEX ..` | bytes of the input, behind the script; blanks in the hex are for reading |
 //! | `read-fault N`, `write-fault N` | the call of the input or output that fails, counted from 0 |
