@@ -1,6 +1,6 @@
 -- Which answers a part can have (this project's own): those of its kind, whose numbers a reply can say.
--- For example an answer with the run 7 to 9, acknowledged and counted once, can be told (conn_rows,
--- `a read tells the batches of its answer`).
+-- For example an answer with the run 7 to 9, acknowledged and counted once, can be told (row_tests,
+-- `a read tells the batches that were written`).
 use Rattle.std.specs.Prelude.{◌+◌, ◌<◌, ◌^◌, pos, [], None, length, All}
 use Rattle.msgs_group.specs.declared.heartbeat_reply.HeartbeatReply.{HeartbeatReply}
 use Rattle.share_model.specs.ForeignRules.{code_alone}

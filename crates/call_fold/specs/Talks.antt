@@ -1,6 +1,6 @@
 -- What a request means: the parts that it asks, each by the answers before it, and the body of its reply once all are answered
 -- (this project's own). Answers belong to parts by their place. No call is named here.
--- For example a Read of partitions 5 and 6 asks 5, then by any answer 6, and then says what the two answers told (conn_rows,
+-- For example a Read of partitions 5 and 6 asks 5, then by any answer 6, and then says what the two answers told (row_tests,
 -- `parts are asked and told in the order of the request`).
 use Rattle.std.specs.Prelude.{◌≡◌, ℕ, List, [], ◌∷◌, ◌++◌, Option, Some, None, length, suc}
 use Rattle.call_fold.specs.declared.part.Part.{Part}

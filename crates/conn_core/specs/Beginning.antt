@@ -1,7 +1,7 @@
 -- With what a request begins: its first part, or its reply, and what it does to the share sessions of its connection (KIP-932 and the
 -- Kafka protocol guide; see each call's own definition).
--- For example ApiVersions has its reply at once, a Read of a partition that isn't hosted a part (conn_rows, `a state is initialized
--- and read`), and so has a Produce of a batch for one that is (row_tests, `a batch is stored`).
+-- For example ApiVersions has its reply at once, a Read of a partition that isn't hosted a part (row_tests, `a share group's state
+-- is initialized and read`), and so has a Produce of a batch for one that is (`a batch is stored`).
 use Rattle.std.specs.Prelude.{List, Some, None}
 use Rattle.topic_conf.specs.Configs.{ConfigParts}
 use Rattle.msgs_base.specs.declared.metadata_request.MetadataRequest.{MetadataRequest}

@@ -1,6 +1,6 @@
 -- What the calls in hand mean: the talk of each, under its name. This project's own.
--- For example a Read in hand asks the part of its question and goes on by the answer (conn_rows, `a state is initialized
--- and read`), and so does a Produce (row_tests, `a batch is stored`).
+-- For example a Read in hand asks the part of its question and goes on by the answer (row_tests, `a share group's state is
+-- initialized and read`), and so does a Produce (`a batch is stored`).
 use Rattle.std.specs.Prelude.{◌≡◌, List}
 use Rattle.topic_conf.specs.Configs.{ConfigParts}
 use Rattle.msgs_base.specs.declared.produce_request.ProduceRequest.{ProduceRequest}

@@ -1,6 +1,6 @@
 -- InitializeShareGroupState (KIP-932). A hosted partition is refused with 42, which is this project's own.
--- For example partition 0 with state epoch 3 and start 7 asks an Init of its key with 3 and 7 (conn_rows,
--- `a state is initialized and read`).
+-- For example partition 0 with state epoch 3 and start 7 asks an Init of its key with 3 and 7 (row_tests,
+-- `a share group's state is initialized and read`).
 use Rattle.share_model.specs.declared.foreign.ForeignOp.TheVariants.{Init}
 use Rattle.share_model.specs.declared.fault.TheConstants.Code.{INVALID_REQUEST}
 use Rattle.msgs_state.specs.declared.initialize_request.InitializePartition.{InitializePartition}

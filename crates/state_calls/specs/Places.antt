@@ -1,5 +1,5 @@
 -- A partition of a topic (this project's own).
--- For example partition 4 of a topic has, for the group `g1`, the key of `g1`, that topic and 4 (conn_rows,
+-- For example partition 1 of a topic has, for the group `g1`, the key of `g1`, that topic and 1 (row_tests,
 -- `answers stand at their places, with known ones between them`).
 use Rattle.std.specs.Prelude.{ℕ, List}
 use Rattle.share_model.specs.Keys.{KeyParts}

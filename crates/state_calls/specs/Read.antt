@@ -1,6 +1,6 @@
 -- ReadShareGroupState (KIP-932). Of a hosted partition the stored part of the group's table is told.
--- For example an answer with state epoch 3, start 7 and two runs is told by both numbers and two batches (conn_rows,
--- `a read tells the batches of its answer`).
+-- For example an answer with state epoch 3, start 7 and two runs is told by both numbers and two batches (row_tests,
+-- `a read tells the batches that were written`).
 use Rattle.std.specs.Prelude.{None, map}
 use Rattle.share_model.specs.declared.foreign.ForeignOp.TheVariants.{Read as ForeignRead}
 use Rattle.msgs_state.specs.declared.read_request.ReadPartition.{ReadPartition}

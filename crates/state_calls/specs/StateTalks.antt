@@ -2,7 +2,7 @@
 -- foreign shard, or a look at the partition's own shard where it is hosted and read; in the order of the request. And a reply with the
 -- topics and partitions of the request, in which each partition has the row of its own answer, or of the code that is known at once.
 -- Answers belong to partitions by their place.
--- For example partitions -7, 0, -1 and 1 of a topic ask 0 and 1, and have 42, the first answer, 42 and the second (conn_rows,
+-- For example partitions -2, 0, -1 and 1 of a topic ask 0 and 1, and have 42, the first answer, 42 and the second (row_tests,
 -- `answers stand at their places, with known ones between them`).
 use Rattle.std.specs.Prelude.{◌≡◌, ℕ, ℤ, nat_abs, true, false, suc, Some, List, [], ◌∷◌, map, flat_map, take, length}
 use Rattle.flex_fields.specs.Formats.{Format}

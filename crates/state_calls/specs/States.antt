@@ -1,6 +1,6 @@
 -- What a state call is, and its entries (KIP-932, the share-group state calls; the codes of entries that are answered at once are
 -- this project's own).
--- For example partitions -7, 0, -1 and 1 of a topic that isn't hosted are the code 42, a question, 42 and a question (conn_rows,
+-- For example partitions -2, 0, -1 and 1 of a topic that isn't hosted are the code 42, a question, 42 and a question (row_tests,
 -- `answers stand at their places, with known ones between them`).
 use Rattle.std.specs.Prelude.{ℕ, ℤ, pos, nat_abs, int_lt, nat_le, Bool, ◌&&◌, if◌then◌else◌, Option, Some, None, is_some}
 use Rattle.std.specs.Prelude.{List, map, length}

@@ -1,7 +1,7 @@
 -- How a message tells the rows of a partition's state (KIP-932, ReadShareGroupStateResponse.json and
 -- WriteShareGroupStateRequest.json).
--- For example the run of 7 to 9, acknowledged and counted once, is the batch 7, 9, 2, 1 (conn_rows,
--- `a read tells the batches of its answer`).
+-- For example the run of 7 to 9, acknowledged and counted once, is the batch 7, 9, 2, 1 (row_tests,
+-- `a read tells the batches that were written`).
 use Rattle.std.specs.Prelude.{ℤ, pos, None}
 use Rattle.share_model.specs.Rows.{state_number}
 use Rattle.share_model.specs.declared.fault.Code.{Code}
