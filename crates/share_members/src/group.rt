@@ -7,7 +7,7 @@ ghost use Rattle.share_members.specs.Expiry.{later_epoch, due, group_expired};
 
 use crate::member::Member;
 use crate::places::Places;
-use crate::plan::{Plan, next_epoch, planned};
+use crate::plan::{next_epoch, planned};
 use crate::refusal::member_refusal;
 use flex_fields::NoMemory;
 use msgs_group::{HeartbeatReply, HeartbeatRequest};
@@ -118,11 +118,7 @@ impl Group {
         ensures after { OnOk result (self.new ≡ (stays topics.now moment request.now self.old).group) }
         ensures err { OnErr result (self.new ≡ self.old) }
     {
-        let Plan {
-            epoch,
-            change,
-            reply,
-        } = planned(
+        let plan = planned(
             alloc,
             topics,
             self.epoch,
@@ -131,16 +127,16 @@ impl Group {
             moment,
             request,
         )?;
-        match renew(alloc, &mut self.members, id, epoch, change, moment) {
-            Ok(()) => {
-                self.epoch = epoch;
-                Ok(reply)
-            }
-            Err(fault) => {
-                drop(reply);
-                Err(fault)
-            }
-        }
+        renew(
+            alloc,
+            &mut self.members,
+            id,
+            plan.epoch,
+            plan.change,
+            moment,
+        )?;
+        self.epoch = plan.epoch;
+        Ok(plan.reply)
     }
 
     /// Removes the members whose session has ended, each of which is a change. It takes no memory.

@@ -78,10 +78,7 @@ fn create(
     let reply = created.stay(alloc, topics, id, moment, request)?;
     match groups.insert(*group, created) {
         Ok(_) => Ok(reply),
-        Err(_) => {
-            drop(reply);
-            Err(NoMemory)
-        }
+        Err(_) => Err(NoMemory),
     }
 }
 

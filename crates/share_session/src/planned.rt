@@ -1,4 +1,4 @@
-ghost use Rattle.std.specs.Prelude.{◌≡◌, ◌++◌, IfOk};
+ghost use Rattle.std.specs.Prelude.{◌≡◌, IfOk};
 
 use crate::change::SessionChange;
 use crate::step::VisitPlan;
@@ -17,16 +17,6 @@ pub struct Planned {
     pub change: SessionChange,
 }
 
-// Three lists of steps in one.
-fn joined(first: VisitPlan, second: VisitPlan, third: VisitPlan) -> Result<VisitPlan, NoMemory>
-    ensures { IfOk result (λ steps. steps.items ≡ first.items ++ second.items ++ third.items) }
-{
-    let mut steps = first;
-    append(&mut steps, second)?;
-    append(&mut steps, third)?;
-    Ok(steps)
-}
-
 impl Planned {
     ghost use Rattle.share_session.specs.Plans.{plan_of, steps_of};
 
@@ -41,7 +31,9 @@ impl Planned {
             closed,
             change,
         } = self;
-        let steps = joined(released, told, closed)?;
+        let mut steps = released;
+        append(&mut steps, told)?;
+        append(&mut steps, closed)?;
         Ok((steps, change))
     }
 }
