@@ -7,7 +7,7 @@ use std::alloc::Global;
 use std::collections::VecDeque;
 
 /// The first rows, so many of them, or all where there are fewer; the others are left. After want of memory some may be gone.
-#[tactic(auto, using(crate::proofs::Steps::took, crate::proofs::Steps::dropped, crate::proofs::Steps::take_none, crate::proofs::Steps::drop_none))]
+#[tactic(auto, using(crate::proofs::Steps::take_none, crate::proofs::Steps::drop_none))]
 pub fn next_rows<R: Drop>(
     alloc: Global,
     count: u32,

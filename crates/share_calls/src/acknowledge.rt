@@ -1,9 +1,10 @@
 // ShareAcknowledge.
-ghost use Rattle.std.specs.Prelude.{◌≡◌, pos, Some, IfOk, OnOk, OnErr};
-ghost use Rattle.share_session.specs.Plans.{plan_of};
-ghost use Rattle.share_calls.specs.Visits.{told_rows};
+ghost use Rattle.std.specs.Prelude.{◌≡◌, ◌++◌, [], map, pos, Some, IfOk, OnOk, OnErr};
+ghost use Rattle.call_fold.specs.Going.{stage_of};
+ghost use Rattle.share_session.specs.Requests.{entries};
+ghost use Rattle.share_calls.specs.Visits.{told_rows, untold};
 ghost use Rattle.share_calls.specs.Changes.{Fits};
-ghost use Rattle.share_calls.specs.Acknowledge.{ack_then, ack_acts, ack_body, ack_stage, ack_begins, rows_by_topic};
+ghost use Rattle.share_calls.specs.Acknowledge.{ack_then, ack_acts, ack_body, ack_begins, ack_hand, placed, rows_by_topic};
 
 use crate::ack_entries::place_all;
 use crate::ack_rows::{TopicShape, acknowledged, group_rows, shapes_of};
@@ -15,7 +16,7 @@ use msgs_share::{
     AcknowledgedPartition, ShareAckReply, ShareAckRequest, ShareTopic, write_share_ack_reply,
 };
 use share_model::{Code, NoMemory, Then};
-use share_session::{Planned, Purpose, SessionChange, Sessions};
+use share_session::{Planned, Purpose, SessionChange, Sessions, VisitPlan};
 use std::alloc::Global;
 use std::collections::VecDeque;
 use topic_conf::Config;
@@ -107,22 +108,17 @@ fn reply_with(
     )
 }
 
-// An acknowledgement that isn't refused begins.
+// An acknowledgement that isn't refused begins, with the told steps and the others of its plan.
 fn ack_stage(
     alloc: Global,
     conf: &Config,
     request: &ShareAckRequest,
-    plan: Planned,
-) -> Result<(AckStage, SessionChange), NoMemory>
-    ensures stage { IfOk result (λ r. r.0 ≡ ack_stage conf.now.topics request.now (plan_of plan)) }
-    ensures change { IfOk result (λ r. r.1 ≡ plan.change) }
+    told: VisitPlan,
+    closed: VisitPlan,
+) -> Result<AckStage, NoMemory>
+    ensures { IfOk result (λ stage. stage ≡ stage_of ack_acts (ack_hand request.now)
+        (placed conf.now.topics told.items (entries request.now.topics) ++ map untold closed.items) []) }
 {
-    let Planned {
-        told,
-        closed,
-        change,
-        ..
-    } = plan;
     let mut left = VecDeque::new(alloc);
     place_all(
         conf,
@@ -134,8 +130,7 @@ fn ack_stage(
     let hand = AckHand {
         shape: shapes_of(alloc, &request.topics)?,
     };
-    let stage = go_on(alloc, hand, left, VecDeque::new(alloc))?;
-    Ok((stage, change))
+    go_on(alloc, hand, left, VecDeque::new(alloc))
 }
 
 /// A ShareAcknowledge begins: with its first visit, or its reply. Behind it stands what it does to the session of its member, `None` where
@@ -152,7 +147,13 @@ pub fn ack_call(
 {
     match sessions.plan_ack(request, conf) {
         Ok(plan) => {
-            let (stage, change) = ack_stage(alloc, conf, request, plan)?;
+            let Planned {
+                told,
+                closed,
+                change,
+                ..
+            } = plan;
+            let stage = ack_stage(alloc, conf, request, told, closed)?;
             Ok((stage, Some(change)))
         }
         Err(fault) => {

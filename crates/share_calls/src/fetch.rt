@@ -1,9 +1,9 @@
 // ShareFetch.
 ghost use Rattle.std.specs.Prelude.{◌≡◌, ◌++◌, ◌-◌, length, map, pos, Some, [], IfOk, OnOk, OnErr};
-ghost use Rattle.share_session.specs.Plans.{plan_of};
 ghost use Rattle.share_calls.specs.Fetch.{at_least_0, offsets, granted, hand_after, then_of, told};
-ghost use Rattle.share_calls.specs.Fetch.{fetch_acts, fetch_reply, fetch_body, fetch_stage, fetch_begins};
-ghost use Rattle.share_calls.specs.Visits.{told_rows};
+ghost use Rattle.call_fold.specs.Going.{stage_of};
+ghost use Rattle.share_calls.specs.Fetch.{fetch_acts, fetch_reply, fetch_body, fetch_hand, fetch_begins, known, unhosted};
+ghost use Rattle.share_calls.specs.Visits.{told_rows, untold};
 ghost use Rattle.share_calls.specs.Changes.{Fits};
 
 use crate::fetch_rows::{FetchRow, fetch_row, push_all_unhosted};
@@ -205,25 +205,21 @@ fn at_least_0(limit: i32) -> u32
     if limit < 0 { 0 } else { limit as u32 }
 }
 
-// A fetch that isn't refused begins.
+// A fetch that isn't refused begins, with the three lists of its plan.
 fn fetch_stage(
     alloc: Global,
     conf: &Config,
     request: &ShareFetchRequest,
-    plan: Planned,
-) -> Result<(FetchStage, SessionChange), NoMemory>
-    ensures stage { IfOk result (λ r. r.0 ≡ fetch_stage conf.now request.now (plan_of plan)) }
-    ensures change { IfOk result (λ r. r.1 ≡ plan.change) }
+    released: VisitPlan,
+    steps: VisitPlan,
+    closed: VisitPlan,
+) -> Result<FetchStage, NoMemory>
+    ensures { IfOk result (λ stage. stage ≡ stage_of fetch_acts (fetch_hand conf.now request.now) (map untold released.items
+        ++ (map (told conf.now.topics) steps.items ++ (map untold closed.items ++ map known (unhosted conf.now.topics request.now)))) []) }
 {
-    let Planned {
-        released,
-        told,
-        closed,
-        change,
-    } = plan;
     let mut left = VecDeque::new(alloc);
     push_untold(released, &mut left)?;
-    push_told(conf, told, &mut left)?;
+    push_told(conf, steps, &mut left)?;
     push_untold(closed, &mut left)?;
     push_all_unhosted(alloc, conf, request.topics.as_slice(), &mut left)?;
     let hand = FetchHand {
@@ -232,8 +228,7 @@ fn fetch_stage(
         bytes: at_least_0(request.max_bytes).min(MOST_BYTES),
         first: true,
     };
-    let stage = go_on(alloc, hand, left, VecDeque::new(alloc))?;
-    Ok((stage, change))
+    go_on(alloc, hand, left, VecDeque::new(alloc))
 }
 
 /// A ShareFetch begins: with its first visit, or its reply. Behind it stands what it does to the session of its member, `None` where it is
@@ -250,7 +245,13 @@ pub fn fetch_call(
 {
     match sessions.plan_fetch(request, conf) {
         Ok(plan) => {
-            let (stage, change) = fetch_stage(alloc, conf, request, plan)?;
+            let Planned {
+                released,
+                told,
+                closed,
+                change,
+            } = plan;
+            let stage = fetch_stage(alloc, conf, request, released, told, closed)?;
             Ok((stage, Some(change)))
         }
         Err(fault) => {

@@ -1,13 +1,13 @@
-ghost use Rattle.std.specs.Prelude.{◌≡◌, ◌≤◌, IfOk, OnOk, OnErr, Some, None, not, length};
+ghost use Rattle.std.specs.Prelude.{◌≡◌, ◌≤◌, IfOk, IfErr, OnOk, OnErr, Some, None, not, length};
 ghost use Rattle.std.specs.Option.{option_copied, unwrap_or};
 ghost use Rattle.share_members.specs.Topics.{AreHosted};
 ghost use Rattle.share_members.specs.Groups.{no_group, group_at, member_at, with_group};
-ghost use Rattle.share_members.specs.Heartbeats.{member_refusal, left, leaves, stays, heartbeat_in};
+ghost use Rattle.share_members.specs.Heartbeats.{refusal as request_refusal, member_refusal, left, leaves, stays, heartbeat_in};
 
 use crate::group::Group;
 use crate::refusal::{has_invalid_epoch, id_of, member_refusal};
 use crate::reply::{accepted, refused};
-use flex_fields::NoMemory;
+use flex_fields::{NoMemory, Text};
 use msgs_group::{HeartbeatReply, HeartbeatRequest};
 use share_model::{Code, Name};
 use std::alloc::Global;
@@ -52,9 +52,9 @@ fn leave(
         with_group group.now (leaves request.now (group_at group.now groups.old.entries)).group groups.old.entries) }
     ensures err { OnErr result (groups.new.entries ≡ groups.old.entries) }
 {
-    let reply = accepted(alloc, &request.member_id, -1, 0, None)?;
+    let name = Text::new(alloc, request.member_id.as_str())?;
     take_out(groups, group, id);
-    Ok(reply)
+    Ok(accepted(name, -1, 0, None))
 }
 
 // The first member of a group joins.
@@ -106,6 +106,27 @@ fn stay(
     }
 }
 
+// The ids of a heartbeat that is accepted, or why it is refused.
+fn admit(groups: &BTreeMap<Name, Group>, request: &HeartbeatRequest) -> Result<(Name, Name), Code>
+    ensures ids { IfOk result (λ ids. (ids.0 ≡ request.now.group_id) × (ids.1 ≡ request.now.member_id)) }
+    ensures granted { IfOk result (λ _. request_refusal request.now (group_at request.now.group_id groups.now.entries) ≡ None) }
+    ensures refused { IfErr result (λ code. request_refusal request.now (group_at request.now.group_id groups.now.entries) ≡ Some code) }
+{
+    let Some(group) = id_of(&request.group_id) else {
+        return Err(Code::INVALID_REQUEST);
+    };
+    let Some(id) = id_of(&request.member_id) else {
+        return Err(Code::INVALID_REQUEST);
+    };
+    if has_invalid_epoch(request) {
+        return Err(Code::INVALID_REQUEST);
+    }
+    match refusal(groups.get(&group), &id, request.member_epoch) {
+        Some(code) => Err(code),
+        None => Ok((group, id)),
+    }
+}
+
 /// Does a heartbeat at this moment, in milliseconds. Where memory runs out nothing has changed.
 pub fn heartbeat(
     alloc: Global,
@@ -119,18 +140,10 @@ pub fn heartbeat(
     ensures after { OnOk result (groups.new.entries ≡ (heartbeat_in topics.now moment request.now groups.old.entries).groups) }
     ensures err { OnErr result (groups.new.entries ≡ groups.old.entries) }
 {
-    let Some(group) = id_of(&request.group_id) else {
-        return Ok(refused(Code::INVALID_REQUEST));
+    let (group, id) = match admit(groups, request) {
+        Ok(ids) => ids,
+        Err(code) => return Ok(refused(code)),
     };
-    let Some(id) = id_of(&request.member_id) else {
-        return Ok(refused(Code::INVALID_REQUEST));
-    };
-    if has_invalid_epoch(request) {
-        return Ok(refused(Code::INVALID_REQUEST));
-    }
-    if let Some(code) = refusal(groups.get(&group), &id, request.member_epoch) {
-        return Ok(refused(code));
-    }
     if request.member_epoch == -1 {
         return leave(alloc, groups, &group, &id, request);
     }

@@ -13,7 +13,7 @@ use crate::member::Member;
 use crate::places::Places;
 use crate::reply::accepted;
 use crate::subscription::new_subscription;
-use flex_fields::NoMemory;
+use flex_fields::{NoMemory, Text};
 use msgs_group::{Assignment, HeartbeatReply, HeartbeatRequest};
 use share_model::Name;
 use std::alloc::Global;
@@ -129,22 +129,16 @@ pub fn planned(
     ensures reply { IfOk result (λ plan.
         plan.reply ≡ (stays topics.now moment request.now (record { epoch = epoch; members = members.now.entries })).reply) }
 {
+    let name = Text::new(alloc, request.member_id.as_str())?;
     let member = members.get(id);
     let change = new_subscription(alloc, topics, &request.subscribed_topic_names, member)?;
     let epoch = epoch_after(&change, epoch);
     let told = tells_assignment(request.member_epoch, epoch_of(member), epoch);
     let subscription = subscription(&change, member);
     let assigned = told_assignment(alloc, topics, members, id, subscription, told)?;
-    let reply = accepted(
-        alloc,
-        &request.member_id,
-        epoch,
-        HEARTBEAT_INTERVAL,
-        assigned,
-    )?;
     Ok(Plan {
         epoch,
         change,
-        reply,
+        reply: accepted(name, epoch, HEARTBEAT_INTERVAL, assigned),
     })
 }

@@ -1,10 +1,9 @@
-ghost use Rattle.std.specs.Prelude.{◌≡◌, Ok, IfOk};
+ghost use Rattle.std.specs.Prelude.{◌≡◌};
 ghost use Rattle.share_members.specs.Heartbeats.{refused, accepted};
 
-use flex_fields::{NoMemory, Text};
+use flex_fields::Text;
 use msgs_group::{Assignment, HeartbeatReply};
 use share_model::Code;
-use std::alloc::Global;
 
 /// The reply to a heartbeat that is refused.
 pub fn refused(code: Code) -> HeartbeatReply
@@ -22,22 +21,16 @@ pub fn refused(code: Code) -> HeartbeatReply
 }
 
 /// The reply to a heartbeat that is accepted.
-pub fn accepted(
-    alloc: Global,
-    id: &Text,
-    epoch: i32,
-    interval: i32,
-    assigned: Option<Assignment>,
-) -> Result<HeartbeatReply, NoMemory>
-    ensures { IfOk result (λ reply. reply ≡ accepted id.now epoch interval assigned) }
+pub fn accepted(id: Text, epoch: i32, interval: i32, assigned: Option<Assignment>) -> HeartbeatReply
+    ensures { result ≡ accepted id epoch interval assigned }
 {
-    Ok(HeartbeatReply {
+    HeartbeatReply {
         throttle_time_ms: 0,
         error_code: 0,
         error_message: None,
-        member_id: Some(Text::new(alloc, id.as_str())?),
+        member_id: Some(id),
         member_epoch: epoch,
         heartbeat_interval_ms: interval,
         assignment: assigned,
-    })
+    }
 }

@@ -137,13 +137,13 @@ fn acknowledging(
 ) -> Result<Planned, NoMemory>
     ensures { IfOk result (λ plan. plan_of plan ≡ acknowledging caller.now (option_copied session.entry) epoch wanted.entries) }
 {
+    let told = visits_of(alloc, caller, Purpose::Nothing, wanted)?;
     let list = copied_partitions(alloc, session)?;
-    let after = session_after(caller, epoch, list);
     Ok(Planned {
         released: Vec::new(alloc),
-        told: visits_of(alloc, caller, Purpose::Nothing, wanted)?,
+        told,
         closed: Vec::new(alloc),
-        change: SessionChange::Put(after),
+        change: SessionChange::Put(session_after(caller, epoch, list)),
     })
 }
 
@@ -157,9 +157,10 @@ fn closing(
     ensures { IfOk result (λ plan. plan_of plan ≡ closing caller.now (option_copied session.entry) wanted.entries) }
 {
     let closed = other_releases(alloc, caller, partitions_of(session), &wanted)?;
+    let told = visits_of(alloc, caller, Purpose::Release, wanted)?;
     Ok(Planned {
         released: Vec::new(alloc),
-        told: visits_of(alloc, caller, Purpose::Release, wanted)?,
+        told,
         closed,
         change: SessionChange::Leave {
             group: caller.group,

@@ -56,5 +56,5 @@ fn has_batches_in(topic: &ShareTopic<SharePartition>) -> bool
 pub fn has_batches(topics: &[ShareTopic<SharePartition>]) -> bool
     ensures { result ≡ has_batches topics.now }
 {
-    topics.iter().any(|topic| has_batches_in(topic))
+    topics.iter().any(has_batches_in)
 }

@@ -72,7 +72,7 @@ fn first_release(alloc: Global, sessions: &[Session]) -> Option<PlanStep>
 fn drop_done(sessions: &mut Vec<Session>)
     ensures { sessions.new.items ≡ filter has_partition sessions.old.items }
 {
-    sessions.retain(|session| session.has_partition());
+    sessions.retain(Session::has_partition);
 }
 
 // The first release is done.
@@ -107,8 +107,8 @@ fn planned_fetch(
         epoch,
         topics,
     )?;
-    let wanted = wanted_once(alloc, conf, topics)?;
     let forgotten = forgotten_in(alloc, conf, request.forgotten_topics_data.as_slice())?;
+    let wanted = wanted_once(alloc, conf, topics)?;
     let session = session_of(sessions, &caller);
     Ok(fetch_by_epoch(alloc, &caller, session, epoch, wanted, &forgotten)?)
 }

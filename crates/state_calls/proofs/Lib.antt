@@ -1,2 +1,3 @@
--- StateTalked: each partition of a state call is told by its own part.
+-- StateTalked: each partition of a state call is told by its own part. Steps: loops that map what they take.
 pub mod StateTalked
+pub mod Steps
