@@ -1,6 +1,7 @@
 //! The calls that ask parts, each under its own name: what has to know all of them.
 ghost use Rattle.std.specs.Prelude.{◌≡◌, IfOk};
 ghost use Rattle.call_fold.specs.Parts.{IsAnswerTo};
+ghost use Rattle.call_fold.specs.declared.call.Stage.{Stage};
 ghost use Rattle.conn_core.specs.Hands.{hand_part, hand_stage, hand_stage_after};
 
 use call_fold::{Asking, Part, PartAnswer, Stage, part_of, take};
@@ -131,6 +132,14 @@ pub fn under_name<A: Named>(stage: Stage<A>) -> Stage<Hand>
     }
 }
 
+// The stage to which an answer leads, under the call's name in hand.
+fn next_under_name<A: Named>(stage: Result<Stage<A>, NoMemory>) -> Result<Stage<Hand>, NoMemory>
+    ensures { (next : Stage A) → IfOk stage (λ told. told ≡ next) → IfOk result (λ told. told ≡ hand_stage A.name next) }
+{
+    let stage = stage?;
+    Ok(under_name(stage))
+}
+
 impl Hand {
     /// The part that is asked.
     pub fn part(&self, alloc: Global) -> Result<Part, NoMemory>
@@ -154,14 +163,14 @@ impl Hand {
         ensures { IfOk result (λ stage. stage ≡ hand_stage_after self answer) }
     {
         match self {
-            Hand::Produce(asking) => Ok(under_name(take(alloc, asking, answer)?)),
-            Hand::Fetch(asking) => Ok(under_name(take(alloc, asking, answer)?)),
-            Hand::Acknowledge(asking) => Ok(under_name(take(alloc, asking, answer)?)),
-            Hand::Heartbeat(asking) => Ok(under_name(take(alloc, asking, answer)?)),
-            Hand::Initialize(asking) => Ok(under_name(take(alloc, asking, answer)?)),
-            Hand::Read(asking) => Ok(under_name(take(alloc, asking, answer)?)),
-            Hand::Write(asking) => Ok(under_name(take(alloc, asking, answer)?)),
-            Hand::Delete(asking) => Ok(under_name(take(alloc, asking, answer)?)),
+            Hand::Produce(asking) => next_under_name(take(alloc, asking, answer)),
+            Hand::Fetch(asking) => next_under_name(take(alloc, asking, answer)),
+            Hand::Acknowledge(asking) => next_under_name(take(alloc, asking, answer)),
+            Hand::Heartbeat(asking) => next_under_name(take(alloc, asking, answer)),
+            Hand::Initialize(asking) => next_under_name(take(alloc, asking, answer)),
+            Hand::Read(asking) => next_under_name(take(alloc, asking, answer)),
+            Hand::Write(asking) => next_under_name(take(alloc, asking, answer)),
+            Hand::Delete(asking) => next_under_name(take(alloc, asking, answer)),
         }
     }
 }

@@ -7,10 +7,6 @@ use Rattle.topic_conf.specs.declared.topic.Topic.{Topic}
 use Rattle.topic_conf.specs.Topics.{partition_at_shard}
 use Rattle.session_script.specs.Output.{partition_text, shard_text}
 
-pub joined : (word number rest : List ℕ) → ((((([] ++ word) ++ 32 ∷ []) ++ number) ++ 32 ∷ []) ++ rest) ++ 10 ∷ [] ≡ word ++ 32 ∷
-    (number ++ 32 ∷ (rest ++ 10 ∷ []))
-joined word number rest = simp append_assoc
-
 -- the line of a fault of a partition is that of its shard
 pub fault_is : (topics : List Topic) (shard : ShardId) (number : ℕ) (topic : Topic) (part : ℕ) → shard ≡ Part number
     → partition_at_shard topics number ≡ Some (topic, part)

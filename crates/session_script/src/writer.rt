@@ -1,5 +1,6 @@
-ghost use Rattle.std.specs.Prelude.{◌≡◌, ◌++◌, ◌∷◌, [], IfOk, codes, string_bytes};
+ghost use Rattle.std.specs.Prelude.{◌≡◌, ◌++◌, ◌∷◌, [], List, ℕ, IfOk, OnOk, codes, string_bytes};
 ghost use Rattle.std.specs.Fmt.{decimal};
+ghost use Rattle.hex.specs.Hex.{encode_lower};
 ghost use Rattle.session_script.specs.Script.{line_of, mode_word};
 ghost use Rattle.session_script.specs.Output.{IsHostedShard, IsTold, shard_text, outcome_line, cause_text, malformed_line, damaged_line};
 ghost use Rattle.session_script.specs.Writing.{WritesText};
@@ -32,29 +33,45 @@ impl From<AllocError> for LineFault {
     }
 }
 
-// A line of a word, a connection's number and a rest.
-#[tactic(auto, using(crate::proofs::Joined::joined))]
-fn line(alloc: Global, word: &str, conn: u32, rest: &str) -> Result<String, AllocError>
-    ensures { IfOk result (λ text. string_bytes text ≡ word.now ++ 32 ∷ (decimal conn ++ 32 ∷ (rest.now ++ 10 ∷ []))) }
-{
-    let number = conn.to_string(alloc)?;
-    let size = (word.len() + number.len()).saturating_add(rest.len());
-    let mut line = String::with_capacity(alloc, size.saturating_add(3))?;
-    line.push_str(word)?;
-    line.push_str(" ")?;
-    line.push_str(&number)?;
-    line.push_str(" ")?;
-    line.push_str(rest)?;
-    line.push_str("\n")?;
-    Ok(line)
-}
-
 impl From<NoMemory> for LineFault {
     ghost from_gives = { λ _ e. e ≡ no_memory };
 
     fn from(_: NoMemory) -> LineFault {
         LineFault::NoMemory
     }
+}
+
+// Puts a rest and a line feed behind the front of a line.
+fn push_rest(line: &mut String, rest: &str) -> Result<(), AllocError>
+    ensures { OnOk result (string_bytes line.new ≡ string_bytes line.old ++ (rest.now ++ 10 ∷ [])) }
+{
+    line.reserve(rest.len().saturating_add(1))?;
+    line.push_str(rest)?;
+    line.push_str("\n")
+}
+
+// A line of a word, a connection's number and a rest.
+fn line(alloc: Global, word: &str, conn: u32, rest: &str) -> Result<String, AllocError>
+    ensures { IfOk result (λ text. string_bytes text ≡ word.now ++ 32 ∷ (decimal conn ++ 32 ∷ (rest.now ++ 10 ∷ []))) }
+{
+    let mut line = format!(in alloc; "{word} {conn} ")?;
+    push_rest(&mut line, rest)?;
+    Ok(line)
+}
+
+// The same, of bytes in hexadecimal digits.
+fn hex_line(alloc: Global, word: &str, conn: u32, bytes: &[u8]) -> Result<String, AllocError>
+    ensures { IfOk result (λ text. string_bytes text ≡ word.now ++ 32 ∷ (decimal conn ++ 32 ∷ (encode_lower bytes.now ++ 10 ∷ []))) }
+{
+    let digits = hex::encode(alloc, bytes)?;
+    line(alloc, word, conn, &digits)
+}
+
+// A line of a word and a number.
+fn number_line(alloc: Global, word: &str, number: u64) -> Result<String, AllocError>
+    ensures { IfOk result (λ text. string_bytes text ≡ word.now ++ 32 ∷ (decimal number ++ 10 ∷ [])) }
+{
+    format!(in alloc; "{word} {number}\n")
 }
 
 fn mode_word(mode: FaultMode) -> &'static str
@@ -85,24 +102,24 @@ fn expire_line(alloc: Global, topic: &Name, part: u32, now: u64) -> Result<Strin
     format!(in alloc; "expire {topic} {part} {now}\n")
 }
 
+fn step_line(alloc: Global, conn: u32, now: u64) -> Result<String, AllocError>
+    ensures { IfOk result (λ text. string_bytes text ≡ codes "step" ++ 32 ∷ (decimal conn ++ 32 ∷ (decimal now ++ 10 ∷ []))) }
+{
+    format!(in alloc; "step {conn} {now}\n")
+}
+
 fn event_line(alloc: Global, event: &Event) -> Result<String, AllocError>
     ensures { IfOk result (λ text. string_bytes text ≡ line_of event.now) }
 {
     match event {
-        Event::Open { conn } => format!(in alloc; "open {conn}\n"),
-        Event::Bytes { conn, bytes } => {
-            let digits = hex::encode(alloc, bytes.as_slice())?;
-            line(alloc, "bytes", *conn, &digits)
-        }
-        Event::Close { conn } => format!(in alloc; "close {conn}\n"),
-        Event::Step { conn, now } => {
-            let now = now.to_string(alloc)?;
-            line(alloc, "step", *conn, &now)
-        }
+        Event::Open { conn } => number_line(alloc, "open", u64::from(*conn)),
+        Event::Bytes { conn, bytes } => hex_line(alloc, "bytes", *conn, bytes.as_slice()),
+        Event::Close { conn } => number_line(alloc, "close", u64::from(*conn)),
+        Event::Step { conn, now } => step_line(alloc, *conn, *now),
         Event::Expire { topic, part, now } => expire_line(alloc, topic, *part, *now),
-        Event::Tick { now } => format!(in alloc; "tick {now}\n"),
+        Event::Tick { now } => number_line(alloc, "tick", *now),
         Event::Arm { disk, after, mode } => arm_line(alloc, disk, *after, *mode),
-        Event::Power { choice } => format!(in alloc; "power {choice}\n"),
+        Event::Power { choice } => number_line(alloc, "power", *choice),
     }
 }
 
@@ -137,28 +154,34 @@ fn fault_line(alloc: Global, shard: ShardId, conf: &Config) -> Result<String, Al
     fault_of(alloc, &topic.name, part)
 }
 
+fn closed_line(alloc: Global, conn: u32, cause: CloseCause) -> Result<String, AllocError>
+    ensures { IfOk result (λ text. string_bytes text ≡ codes "closed" ++ 32 ∷ (decimal conn ++ 32 ∷ (cause_text cause ++ 10 ∷ []))) }
+{
+    let cause = cause_text(alloc, cause)?;
+    line(alloc, "closed", conn, &cause)
+}
+
 fn outcome_line(alloc: Global, outcome: &Outcome, conf: &Config) -> Result<String, AllocError>
     requires { IsTold conf.now.topics outcome.now }
     ensures { IfOk result (λ text. string_bytes text ≡ outcome_line conf.now.topics outcome.now) }
 {
     match outcome {
         Outcome::Fault { shard } => fault_line(alloc, *shard, conf),
-        Outcome::Reply { conn, frame } => {
-            let digits = hex::encode(alloc, frame.as_slice())?;
-            line(alloc, "reply", *conn, &digits)
-        }
-        Outcome::Closed { conn, cause } => {
-            let cause = cause_text(alloc, *cause)?;
-            line(alloc, "closed", *conn, &cause)
-        }
+        Outcome::Reply { conn, frame } => hex_line(alloc, "reply", *conn, frame.as_slice()),
+        Outcome::Closed { conn, cause } => closed_line(alloc, *conn, *cause),
         Outcome::Restarted => String::from_str(alloc, "restarted\n"),
     }
 }
 
-fn write_text<O: Sink>(text: &str, output: &mut O) -> Result<(), LineFault>
-    ensures { WritesText (O.held output.old) (O.held output.new) (O.faults output.old) (O.faults output.new) text.now result }
+// Writes a line, where it was made.
+fn write_line<O: Sink>(line: Result<String, AllocError>, output: &mut O) -> Result<(), LineFault>
+    ensures { (text : List ℕ) → IfOk line (λ made. string_bytes made ≡ text) →
+        WritesText (O.held output.old) (O.held output.new) (O.faults output.old) (O.faults output.new) text result }
 {
-    match write_all(output, text.as_bytes()) {
+    let Ok(line) = line else {
+        return Err(LineFault::NoMemory);
+    };
+    match write_all(output, line.as_bytes()) {
         Ok(()) => Ok(()),
         Err(_) => Err(LineFault::Write),
     }
@@ -168,8 +191,7 @@ fn write_text<O: Sink>(text: &str, output: &mut O) -> Result<(), LineFault>
 pub fn write_event<O: Sink>(alloc: Global, event: &Event, output: &mut O) -> Result<(), LineFault>
     ensures { WritesText (O.held output.old) (O.held output.new) (O.faults output.old) (O.faults output.new) (line_of event.now) result }
 {
-    let text = event_line(alloc, event)?;
-    write_text(text.as_str(), output)
+    write_line(event_line(alloc, event), output)
 }
 
 /// Writes an outcome's line. The configuration tells the name of the partition that a fault is of.
@@ -183,16 +205,20 @@ pub fn write_outcome<O: Sink>(
     ensures { WritesText (O.held output.old) (O.held output.new) (O.faults output.old) (O.faults output.new)
         (outcome_line conf.now.topics outcome.now) result }
 {
-    let text = outcome_line(alloc, outcome, conf)?;
-    write_text(text.as_str(), output)
+    write_line(outcome_line(alloc, outcome, conf), output)
 }
 
 /// Writes the line that names the place of a script's fault.
 pub fn write_malformed<O: Sink>(alloc: Global, place: u64, output: &mut O) -> Result<(), LineFault>
     ensures { WritesText (O.held output.old) (O.held output.new) (O.faults output.old) (O.faults output.new) (malformed_line place) result }
 {
-    let text = format!(in alloc; "malformed {place}\n")?;
-    write_text(text.as_str(), output)
+    write_line(number_line(alloc, "malformed", place), output)
+}
+
+fn damaged_line(alloc: Global, disk: &DiskName, place: u64) -> Result<String, AllocError>
+    ensures { IfOk result (λ text. string_bytes text ≡ damaged_line disk.now place) }
+{
+    format!(in alloc; "damaged {disk} {place}\n")
 }
 
 /// Writes the line that names a disk whose content isn't what a broker writes, and the place of the fault.
@@ -204,6 +230,5 @@ pub fn write_damaged<O: Sink>(
 ) -> Result<(), LineFault>
     ensures { WritesText (O.held output.old) (O.held output.new) (O.faults output.old) (O.faults output.new) (damaged_line disk.now place) result }
 {
-    let text = format!(in alloc; "damaged {disk} {place}\n")?;
-    write_text(text.as_str(), output)
+    write_line(damaged_line(alloc, disk, place), output)
 }
