@@ -1,5 +1,6 @@
 -- What is written of the parts is written of the whole.
 use Rattle.std.proofs.Common.{◌≡◌, ℕ, ◌+◌, ◌^◌, ◌<◌, List, [], ◌∷◌, ◌++◌, length, take, get_or, refl, ap, sym, ◌∙◌, append_assoc}
+use Rattle.std.specs.Prelude.{Result, Ok, Err, OnOk}
 use Rattle.std.specs.List.{flat_map}
 use Rattle.std.proofs.lemmas.List.{append-nil, take_more}
 use Rattle.std.proofs.lemmas.List.Concat.{flat_map-cons}
@@ -24,6 +25,11 @@ structure_writes shape {f} {a} {b} {c} {s} p q = record {
   appended = q.appended ∙ ap (λ (l : List ℕ). l ++ uvarint_bytes 0) p.appended ∙ append_assoc a (f.bytes (shape.parts s)) (uvarint_bytes 0);
   stands = (f.bytes (shape.parts s), uvarint_bytes 0, p.stands, q.stands, refl);
 }
+
+pub structure_put : {X E S T : Type 0} (shape : Shape S T) (f : Format T) (a c : List ℕ) (s : S) (result : Result X E)
+    → OnOk result ((b : List ℕ) × Writes f a b (shape.parts s) × WritesNoTags b c) → OnOk result (Writes (structure shape f) a c s)
+structure_put shape f a c s (Ok x) written = structure_writes shape written.1 written.2
+structure_put shape f a c s (Err e) written = tt
 
 -- ---- arrays
 

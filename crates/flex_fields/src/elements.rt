@@ -14,9 +14,9 @@ use uuid::Uuid;
 impl Wire for i8 {
     ghost format = { int8 };
 
+    #[tactic(auto, using(crate::proofs::Moved::reads_move))]
     fn take(_: Global, cursor: &mut Cursor<'_>) -> Result<Self, WireFault> {
-        let value = cursor.take_i8()?;
-        Ok(value)
+        cursor.take_i8()
     }
 
     fn put(&self, out: &mut Out) -> Result<(), NoMemory> {
@@ -27,9 +27,9 @@ impl Wire for i8 {
 impl Wire for i16 {
     ghost format = { int16 };
 
+    #[tactic(auto, using(crate::proofs::Moved::reads_move))]
     fn take(_: Global, cursor: &mut Cursor<'_>) -> Result<Self, WireFault> {
-        let value = cursor.take_i16()?;
-        Ok(value)
+        cursor.take_i16()
     }
 
     fn put(&self, out: &mut Out) -> Result<(), NoMemory> {
@@ -40,9 +40,9 @@ impl Wire for i16 {
 impl Wire for i32 {
     ghost format = { int32 };
 
+    #[tactic(auto, using(crate::proofs::Moved::reads_move))]
     fn take(_: Global, cursor: &mut Cursor<'_>) -> Result<Self, WireFault> {
-        let value = cursor.take_i32()?;
-        Ok(value)
+        cursor.take_i32()
     }
 
     fn put(&self, out: &mut Out) -> Result<(), NoMemory> {
@@ -53,9 +53,9 @@ impl Wire for i32 {
 impl Wire for i64 {
     ghost format = { int64 };
 
+    #[tactic(auto, using(crate::proofs::Moved::reads_move))]
     fn take(_: Global, cursor: &mut Cursor<'_>) -> Result<Self, WireFault> {
-        let value = cursor.take_i64()?;
-        Ok(value)
+        cursor.take_i64()
     }
 
     fn put(&self, out: &mut Out) -> Result<(), NoMemory> {
@@ -66,9 +66,9 @@ impl Wire for i64 {
 impl Wire for bool {
     ghost format = { boolean };
 
+    #[tactic(auto, using(crate::proofs::Moved::reads_move))]
     fn take(_: Global, cursor: &mut Cursor<'_>) -> Result<Self, WireFault> {
-        let value = cursor.take_bool()?;
-        Ok(value)
+        cursor.take_bool()
     }
 
     fn put(&self, out: &mut Out) -> Result<(), NoMemory> {
@@ -79,9 +79,9 @@ impl Wire for bool {
 impl Wire for Uuid {
     ghost format = { uuid_field };
 
+    #[tactic(auto, using(crate::proofs::Moved::reads_move))]
     fn take(_: Global, cursor: &mut Cursor<'_>) -> Result<Self, WireFault> {
-        let value = cursor.take_uuid()?;
-        Ok(value)
+        cursor.take_uuid()
     }
 
     fn put(&self, out: &mut Out) -> Result<(), NoMemory> {
@@ -92,9 +92,9 @@ impl Wire for Uuid {
 impl Wire for Text {
     ghost format = { string };
 
+    #[tactic(auto, using(crate::proofs::Moved::reads_move))]
     fn take(alloc: Global, cursor: &mut Cursor<'_>) -> Result<Self, WireFault> {
-        let text = cursor.take_str(alloc)?;
-        Ok(text)
+        cursor.take_str(alloc)
     }
 
     fn put(&self, out: &mut Out) -> Result<(), NoMemory> {
@@ -105,9 +105,9 @@ impl Wire for Text {
 impl Wire for Option<Text> {
     ghost format = { null_string };
 
+    #[tactic(auto, using(crate::proofs::Moved::reads_move))]
     fn take(alloc: Global, cursor: &mut Cursor<'_>) -> Result<Self, WireFault> {
-        let text = cursor.take_null_str(alloc)?;
-        Ok(text)
+        cursor.take_null_str(alloc)
     }
 
     fn put(&self, out: &mut Out) -> Result<(), NoMemory> {

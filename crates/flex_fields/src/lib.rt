@@ -10,6 +10,8 @@ mod laws;
 mod lengths;
 mod numbers;
 mod out;
+mod pair;
+mod put;
 mod spot;
 mod text;
 mod wire;
@@ -23,6 +25,8 @@ pub use laws::{
     numbers_are_written_shortest,
 };
 pub use out::Out;
+pub use pair::take_fields;
+pub use put::{Put, put_fields};
 pub use text::{Text, as_text};
 pub use wire::{
     Wire, put_array, put_many, put_null_array, read_front, read_whole, stand_for_one, take_array,

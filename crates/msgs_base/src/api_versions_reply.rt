@@ -3,7 +3,8 @@ ghost use Rattle.flex_fields.specs.Formats.{ReadsWhole, IsSpelling};
 ghost use Rattle.msgs_base.specs.ApiVersionsReply.{api_version, api_versions_reply};
 
 use flex_fields::{
-    Bytes, Cursor, Items, NoMemory, Out, Wire, WireFault, read_whole, take_array, write_whole,
+    Bytes, Cursor, Items, NoMemory, Out, Wire, WireFault, put_structure, read_whole,
+    take_structure, write_whole,
 };
 use std::alloc::Global;
 
@@ -27,24 +28,20 @@ impl Wire for ApiVersion {
     ghost format = { api_version };
 
     #[tactic(auto, unfolding(crate::specs::ApiVersionsReply::api_version))]
-    fn take(_: Global, cursor: &mut Cursor<'_>) -> Result<Self, WireFault> {
-        let api_key = cursor.take_i16()?;
-        let min_version = cursor.take_i16()?;
-        let max_version = cursor.take_i16()?;
-        cursor.skip_tags()?;
-        Ok(ApiVersion {
-            api_key,
-            min_version,
-            max_version,
-        })
+    fn take(alloc: Global, cursor: &mut Cursor<'_>) -> Result<Self, WireFault> {
+        take_structure!(
+            alloc,
+            cursor,
+            ApiVersion {
+                api_key,
+                min_version,
+                max_version
+            }
+        )
     }
 
     fn put(&self, out: &mut Out) -> Result<(), NoMemory> {
-        self.api_key.put(out)?;
-        self.min_version.put(out)?;
-        self.max_version.put(out)?;
-        out.put_tags()?;
-        Ok(())
+        put_structure!(out, self, [api_key, min_version, max_version])
     }
 }
 
@@ -53,23 +50,19 @@ impl Wire for ApiVersionsReply {
 
     #[tactic(auto, unfolding(crate::specs::ApiVersionsReply::api_versions_reply))]
     fn take(alloc: Global, cursor: &mut Cursor<'_>) -> Result<Self, WireFault> {
-        let error_code = cursor.take_i16()?;
-        let api_keys = take_array(alloc, cursor)?;
-        let throttle_time_ms = cursor.take_i32()?;
-        cursor.skip_tags()?;
-        Ok(ApiVersionsReply {
-            error_code,
-            api_keys,
-            throttle_time_ms,
-        })
+        take_structure!(
+            alloc,
+            cursor,
+            ApiVersionsReply {
+                error_code,
+                api_keys,
+                throttle_time_ms
+            }
+        )
     }
 
     fn put(&self, out: &mut Out) -> Result<(), NoMemory> {
-        self.error_code.put(out)?;
-        self.api_keys.put(out)?;
-        self.throttle_time_ms.put(out)?;
-        out.put_tags()?;
-        Ok(())
+        put_structure!(out, self, [error_code, api_keys, throttle_time_ms])
     }
 }
 

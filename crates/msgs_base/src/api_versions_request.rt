@@ -2,7 +2,10 @@ ghost use Rattle.std.specs.Prelude.{IfOk};
 ghost use Rattle.flex_fields.specs.Formats.{ReadsWhole, IsSpelling};
 ghost use Rattle.msgs_base.specs.ApiVersionsRequest.{api_versions_request};
 
-use flex_fields::{Bytes, Cursor, NoMemory, Out, Text, Wire, WireFault, read_whole, write_whole};
+use flex_fields::{
+    Bytes, Cursor, NoMemory, Out, Text, Wire, WireFault, put_structure, read_whole, take_structure,
+    write_whole,
+};
 use std::alloc::Global;
 
 /// Asks which calls are served.
@@ -17,20 +20,18 @@ impl Wire for ApiVersionsRequest {
 
     #[tactic(auto, unfolding(crate::specs::ApiVersionsRequest::api_versions_request))]
     fn take(alloc: Global, cursor: &mut Cursor<'_>) -> Result<Self, WireFault> {
-        let client_software_name = cursor.take_str(alloc)?;
-        let client_software_version = cursor.take_str(alloc)?;
-        cursor.skip_tags()?;
-        Ok(ApiVersionsRequest {
-            client_software_name,
-            client_software_version,
-        })
+        take_structure!(
+            alloc,
+            cursor,
+            ApiVersionsRequest {
+                client_software_name,
+                client_software_version
+            }
+        )
     }
 
     fn put(&self, out: &mut Out) -> Result<(), NoMemory> {
-        self.client_software_name.put(out)?;
-        self.client_software_version.put(out)?;
-        out.put_tags()?;
-        Ok(())
+        put_structure!(out, self, [client_software_name, client_software_version])
     }
 }
 

@@ -3,7 +3,8 @@ ghost use Rattle.flex_fields.specs.Formats.{ReadsWhole, IsSpelling};
 ghost use Rattle.msgs_base.specs.FindCoordinatorReply.{coordinator, find_coordinator_reply};
 
 use flex_fields::{
-    Bytes, Cursor, Items, NoMemory, Out, Text, Wire, WireFault, read_whole, take_array, write_whole,
+    Bytes, Cursor, Items, NoMemory, Out, Text, Wire, WireFault, put_structure, read_whole,
+    take_structure, write_whole,
 };
 use std::alloc::Global;
 
@@ -30,32 +31,26 @@ impl Wire for Coordinator {
 
     #[tactic(auto, unfolding(crate::specs::FindCoordinatorReply::coordinator))]
     fn take(alloc: Global, cursor: &mut Cursor<'_>) -> Result<Self, WireFault> {
-        let key = cursor.take_str(alloc)?;
-        let node_id = cursor.take_i32()?;
-        let host = cursor.take_str(alloc)?;
-        let port = cursor.take_i32()?;
-        let error_code = cursor.take_i16()?;
-        let error_message = cursor.take_null_str(alloc)?;
-        cursor.skip_tags()?;
-        Ok(Coordinator {
-            key,
-            node_id,
-            host,
-            port,
-            error_code,
-            error_message,
-        })
+        take_structure!(
+            alloc,
+            cursor,
+            Coordinator {
+                key,
+                node_id,
+                host,
+                port,
+                error_code,
+                error_message
+            }
+        )
     }
 
     fn put(&self, out: &mut Out) -> Result<(), NoMemory> {
-        self.key.put(out)?;
-        self.node_id.put(out)?;
-        self.host.put(out)?;
-        self.port.put(out)?;
-        self.error_code.put(out)?;
-        self.error_message.put(out)?;
-        out.put_tags()?;
-        Ok(())
+        put_structure!(
+            out,
+            self,
+            [key, node_id, host, port, error_code, error_message]
+        )
     }
 }
 
@@ -64,20 +59,18 @@ impl Wire for FindCoordinatorReply {
 
     #[tactic(auto, unfolding(crate::specs::FindCoordinatorReply::find_coordinator_reply))]
     fn take(alloc: Global, cursor: &mut Cursor<'_>) -> Result<Self, WireFault> {
-        let throttle_time_ms = cursor.take_i32()?;
-        let coordinators = take_array(alloc, cursor)?;
-        cursor.skip_tags()?;
-        Ok(FindCoordinatorReply {
-            throttle_time_ms,
-            coordinators,
-        })
+        take_structure!(
+            alloc,
+            cursor,
+            FindCoordinatorReply {
+                throttle_time_ms,
+                coordinators
+            }
+        )
     }
 
     fn put(&self, out: &mut Out) -> Result<(), NoMemory> {
-        self.throttle_time_ms.put(out)?;
-        self.coordinators.put(out)?;
-        out.put_tags()?;
-        Ok(())
+        put_structure!(out, self, [throttle_time_ms, coordinators])
     }
 }
 

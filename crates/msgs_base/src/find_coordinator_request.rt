@@ -3,7 +3,8 @@ ghost use Rattle.flex_fields.specs.Formats.{ReadsWhole, IsSpelling};
 ghost use Rattle.msgs_base.specs.FindCoordinatorRequest.{find_coordinator_request};
 
 use flex_fields::{
-    Bytes, Cursor, Items, NoMemory, Out, Text, Wire, WireFault, read_whole, take_array, write_whole,
+    Bytes, Cursor, Items, NoMemory, Out, Text, Wire, WireFault, put_structure, read_whole,
+    take_structure, write_whole,
 };
 use std::alloc::Global;
 
@@ -19,20 +20,18 @@ impl Wire for FindCoordinatorRequest {
 
     #[tactic(auto, unfolding(crate::specs::FindCoordinatorRequest::find_coordinator_request))]
     fn take(alloc: Global, cursor: &mut Cursor<'_>) -> Result<Self, WireFault> {
-        let key_type = cursor.take_i8()?;
-        let coordinator_keys = take_array(alloc, cursor)?;
-        cursor.skip_tags()?;
-        Ok(FindCoordinatorRequest {
-            key_type,
-            coordinator_keys,
-        })
+        take_structure!(
+            alloc,
+            cursor,
+            FindCoordinatorRequest {
+                key_type,
+                coordinator_keys
+            }
+        )
     }
 
     fn put(&self, out: &mut Out) -> Result<(), NoMemory> {
-        self.key_type.put(out)?;
-        self.coordinator_keys.put(out)?;
-        out.put_tags()?;
-        Ok(())
+        put_structure!(out, self, [key_type, coordinator_keys])
     }
 }
 

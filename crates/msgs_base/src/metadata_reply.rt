@@ -3,7 +3,8 @@ ghost use Rattle.flex_fields.specs.Formats.{ReadsWhole, IsSpelling};
 ghost use Rattle.msgs_base.specs.MetadataReply.{metadata_broker, metadata_partition, metadata_topic, metadata_reply};
 
 use flex_fields::{
-    Bytes, Cursor, Items, NoMemory, Out, Text, Wire, WireFault, read_whole, take_array, write_whole,
+    Bytes, Cursor, Items, NoMemory, Out, Text, Wire, WireFault, put_structure, read_whole,
+    take_structure, write_whole,
 };
 use std::alloc::Global;
 use uuid::Uuid;
@@ -55,26 +56,20 @@ impl Wire for MetadataBroker {
 
     #[tactic(auto, unfolding(crate::specs::MetadataReply::metadata_broker))]
     fn take(alloc: Global, cursor: &mut Cursor<'_>) -> Result<Self, WireFault> {
-        let node_id = cursor.take_i32()?;
-        let host = cursor.take_str(alloc)?;
-        let port = cursor.take_i32()?;
-        let rack = cursor.take_null_str(alloc)?;
-        cursor.skip_tags()?;
-        Ok(MetadataBroker {
-            node_id,
-            host,
-            port,
-            rack,
-        })
+        take_structure!(
+            alloc,
+            cursor,
+            MetadataBroker {
+                node_id,
+                host,
+                port,
+                rack
+            }
+        )
     }
 
     fn put(&self, out: &mut Out) -> Result<(), NoMemory> {
-        self.node_id.put(out)?;
-        self.host.put(out)?;
-        self.port.put(out)?;
-        self.rack.put(out)?;
-        out.put_tags()?;
-        Ok(())
+        put_structure!(out, self, [node_id, host, port, rack])
     }
 }
 
@@ -83,35 +78,35 @@ impl Wire for MetadataPartition {
 
     #[tactic(auto, unfolding(crate::specs::MetadataReply::metadata_partition))]
     fn take(alloc: Global, cursor: &mut Cursor<'_>) -> Result<Self, WireFault> {
-        let error_code = cursor.take_i16()?;
-        let partition_index = cursor.take_i32()?;
-        let leader_id = cursor.take_i32()?;
-        let leader_epoch = cursor.take_i32()?;
-        let replica_nodes = take_array(alloc, cursor)?;
-        let isr_nodes = take_array(alloc, cursor)?;
-        let offline_replicas = take_array(alloc, cursor)?;
-        cursor.skip_tags()?;
-        Ok(MetadataPartition {
-            error_code,
-            partition_index,
-            leader_id,
-            leader_epoch,
-            replica_nodes,
-            isr_nodes,
-            offline_replicas,
-        })
+        take_structure!(
+            alloc,
+            cursor,
+            MetadataPartition {
+                error_code,
+                partition_index,
+                leader_id,
+                leader_epoch,
+                replica_nodes,
+                isr_nodes,
+                offline_replicas
+            }
+        )
     }
 
     fn put(&self, out: &mut Out) -> Result<(), NoMemory> {
-        self.error_code.put(out)?;
-        self.partition_index.put(out)?;
-        self.leader_id.put(out)?;
-        self.leader_epoch.put(out)?;
-        self.replica_nodes.put(out)?;
-        self.isr_nodes.put(out)?;
-        self.offline_replicas.put(out)?;
-        out.put_tags()?;
-        Ok(())
+        put_structure!(
+            out,
+            self,
+            [
+                error_code,
+                partition_index,
+                leader_id,
+                leader_epoch,
+                replica_nodes,
+                isr_nodes,
+                offline_replicas
+            ]
+        )
     }
 }
 
@@ -120,32 +115,33 @@ impl Wire for MetadataTopic {
 
     #[tactic(auto, unfolding(crate::specs::MetadataReply::metadata_topic))]
     fn take(alloc: Global, cursor: &mut Cursor<'_>) -> Result<Self, WireFault> {
-        let error_code = cursor.take_i16()?;
-        let name = cursor.take_null_str(alloc)?;
-        let topic_id = cursor.take_uuid()?;
-        let is_internal = cursor.take_bool()?;
-        let partitions = take_array(alloc, cursor)?;
-        let topic_authorized_operations = cursor.take_i32()?;
-        cursor.skip_tags()?;
-        Ok(MetadataTopic {
-            error_code,
-            name,
-            topic_id,
-            is_internal,
-            partitions,
-            topic_authorized_operations,
-        })
+        take_structure!(
+            alloc,
+            cursor,
+            MetadataTopic {
+                error_code,
+                name,
+                topic_id,
+                is_internal,
+                partitions,
+                topic_authorized_operations
+            }
+        )
     }
 
     fn put(&self, out: &mut Out) -> Result<(), NoMemory> {
-        self.error_code.put(out)?;
-        self.name.put(out)?;
-        self.topic_id.put(out)?;
-        self.is_internal.put(out)?;
-        self.partitions.put(out)?;
-        self.topic_authorized_operations.put(out)?;
-        out.put_tags()?;
-        Ok(())
+        put_structure!(
+            out,
+            self,
+            [
+                error_code,
+                name,
+                topic_id,
+                is_internal,
+                partitions,
+                topic_authorized_operations
+            ]
+        )
     }
 }
 
@@ -154,29 +150,25 @@ impl Wire for MetadataReply {
 
     #[tactic(auto, unfolding(crate::specs::MetadataReply::metadata_reply))]
     fn take(alloc: Global, cursor: &mut Cursor<'_>) -> Result<Self, WireFault> {
-        let throttle_time_ms = cursor.take_i32()?;
-        let brokers = take_array(alloc, cursor)?;
-        let cluster_id = cursor.take_null_str(alloc)?;
-        let controller_id = cursor.take_i32()?;
-        let topics = take_array(alloc, cursor)?;
-        cursor.skip_tags()?;
-        Ok(MetadataReply {
-            throttle_time_ms,
-            brokers,
-            cluster_id,
-            controller_id,
-            topics,
-        })
+        take_structure!(
+            alloc,
+            cursor,
+            MetadataReply {
+                throttle_time_ms,
+                brokers,
+                cluster_id,
+                controller_id,
+                topics
+            }
+        )
     }
 
     fn put(&self, out: &mut Out) -> Result<(), NoMemory> {
-        self.throttle_time_ms.put(out)?;
-        self.brokers.put(out)?;
-        self.cluster_id.put(out)?;
-        self.controller_id.put(out)?;
-        self.topics.put(out)?;
-        out.put_tags()?;
-        Ok(())
+        put_structure!(
+            out,
+            self,
+            [throttle_time_ms, brokers, cluster_id, controller_id, topics]
+        )
     }
 }
 

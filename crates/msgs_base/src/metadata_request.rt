@@ -3,8 +3,8 @@ ghost use Rattle.flex_fields.specs.Formats.{ReadsWhole, IsSpelling};
 ghost use Rattle.msgs_base.specs.MetadataRequest.{metadata_request_topic, metadata_request};
 
 use flex_fields::{
-    Bytes, Cursor, Items, NoMemory, Out, Text, Wire, WireFault, read_whole, take_null_array,
-    write_whole,
+    Bytes, Cursor, Items, NoMemory, Out, Text, Wire, WireFault, put_structure, read_whole,
+    take_structure, write_whole,
 };
 use std::alloc::Global;
 use uuid::Uuid;
@@ -29,17 +29,11 @@ impl Wire for MetadataRequestTopic {
 
     #[tactic(auto, unfolding(crate::specs::MetadataRequest::metadata_request_topic))]
     fn take(alloc: Global, cursor: &mut Cursor<'_>) -> Result<Self, WireFault> {
-        let topic_id = cursor.take_uuid()?;
-        let name = cursor.take_null_str(alloc)?;
-        cursor.skip_tags()?;
-        Ok(MetadataRequestTopic { topic_id, name })
+        take_structure!(alloc, cursor, MetadataRequestTopic { topic_id, name })
     }
 
     fn put(&self, out: &mut Out) -> Result<(), NoMemory> {
-        self.topic_id.put(out)?;
-        self.name.put(out)?;
-        out.put_tags()?;
-        Ok(())
+        put_structure!(out, self, [topic_id, name])
     }
 }
 
@@ -48,23 +42,27 @@ impl Wire for MetadataRequest {
 
     #[tactic(auto, unfolding(crate::specs::MetadataRequest::metadata_request))]
     fn take(alloc: Global, cursor: &mut Cursor<'_>) -> Result<Self, WireFault> {
-        let topics = take_null_array(alloc, cursor)?;
-        let allow_auto_topic_creation = cursor.take_bool()?;
-        let include_topic_authorized_operations = cursor.take_bool()?;
-        cursor.skip_tags()?;
-        Ok(MetadataRequest {
-            topics,
-            allow_auto_topic_creation,
-            include_topic_authorized_operations,
-        })
+        take_structure!(
+            alloc,
+            cursor,
+            MetadataRequest {
+                topics,
+                allow_auto_topic_creation,
+                include_topic_authorized_operations
+            }
+        )
     }
 
     fn put(&self, out: &mut Out) -> Result<(), NoMemory> {
-        self.topics.put(out)?;
-        self.allow_auto_topic_creation.put(out)?;
-        self.include_topic_authorized_operations.put(out)?;
-        out.put_tags()?;
-        Ok(())
+        put_structure!(
+            out,
+            self,
+            [
+                topics,
+                allow_auto_topic_creation,
+                include_topic_authorized_operations
+            ]
+        )
     }
 }
 

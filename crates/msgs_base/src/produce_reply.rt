@@ -3,7 +3,8 @@ ghost use Rattle.flex_fields.specs.Formats.{ReadsWhole, IsSpelling};
 ghost use Rattle.msgs_base.specs.ProduceReply.{produce_record_error, produce_partition_reply, produce_topic_reply, produce_reply};
 
 use flex_fields::{
-    Bytes, Cursor, Items, NoMemory, Out, Text, Wire, WireFault, read_whole, take_array, write_whole,
+    Bytes, Cursor, Items, NoMemory, Out, Text, Wire, WireFault, put_structure, read_whole,
+    take_structure, write_whole,
 };
 use std::alloc::Global;
 
@@ -45,20 +46,18 @@ impl Wire for ProduceRecordError {
 
     #[tactic(auto, unfolding(crate::specs::ProduceReply::produce_record_error))]
     fn take(alloc: Global, cursor: &mut Cursor<'_>) -> Result<Self, WireFault> {
-        let batch_index = cursor.take_i32()?;
-        let batch_index_error_message = cursor.take_null_str(alloc)?;
-        cursor.skip_tags()?;
-        Ok(ProduceRecordError {
-            batch_index,
-            batch_index_error_message,
-        })
+        take_structure!(
+            alloc,
+            cursor,
+            ProduceRecordError {
+                batch_index,
+                batch_index_error_message,
+            }
+        )
     }
 
     fn put(&self, out: &mut Out) -> Result<(), NoMemory> {
-        self.batch_index.put(out)?;
-        self.batch_index_error_message.put(out)?;
-        out.put_tags()?;
-        Ok(())
+        put_structure!(out, self, [batch_index, batch_index_error_message])
     }
 }
 
@@ -67,35 +66,35 @@ impl Wire for ProducePartitionReply {
 
     #[tactic(auto, unfolding(crate::specs::ProduceReply::produce_partition_reply))]
     fn take(alloc: Global, cursor: &mut Cursor<'_>) -> Result<Self, WireFault> {
-        let index = cursor.take_i32()?;
-        let error_code = cursor.take_i16()?;
-        let base_offset = cursor.take_i64()?;
-        let log_append_time_ms = cursor.take_i64()?;
-        let log_start_offset = cursor.take_i64()?;
-        let record_errors = take_array(alloc, cursor)?;
-        let error_message = cursor.take_null_str(alloc)?;
-        cursor.skip_tags()?;
-        Ok(ProducePartitionReply {
-            index,
-            error_code,
-            base_offset,
-            log_append_time_ms,
-            log_start_offset,
-            record_errors,
-            error_message,
-        })
+        take_structure!(
+            alloc,
+            cursor,
+            ProducePartitionReply {
+                index,
+                error_code,
+                base_offset,
+                log_append_time_ms,
+                log_start_offset,
+                record_errors,
+                error_message,
+            }
+        )
     }
 
     fn put(&self, out: &mut Out) -> Result<(), NoMemory> {
-        self.index.put(out)?;
-        self.error_code.put(out)?;
-        self.base_offset.put(out)?;
-        self.log_append_time_ms.put(out)?;
-        self.log_start_offset.put(out)?;
-        self.record_errors.put(out)?;
-        self.error_message.put(out)?;
-        out.put_tags()?;
-        Ok(())
+        put_structure!(
+            out,
+            self,
+            [
+                index,
+                error_code,
+                base_offset,
+                log_append_time_ms,
+                log_start_offset,
+                record_errors,
+                error_message,
+            ]
+        )
     }
 }
 
@@ -104,20 +103,18 @@ impl Wire for ProduceTopicReply {
 
     #[tactic(auto, unfolding(crate::specs::ProduceReply::produce_topic_reply))]
     fn take(alloc: Global, cursor: &mut Cursor<'_>) -> Result<Self, WireFault> {
-        let name = cursor.take_str(alloc)?;
-        let partition_responses = take_array(alloc, cursor)?;
-        cursor.skip_tags()?;
-        Ok(ProduceTopicReply {
-            name,
-            partition_responses,
-        })
+        take_structure!(
+            alloc,
+            cursor,
+            ProduceTopicReply {
+                name,
+                partition_responses
+            }
+        )
     }
 
     fn put(&self, out: &mut Out) -> Result<(), NoMemory> {
-        self.name.put(out)?;
-        self.partition_responses.put(out)?;
-        out.put_tags()?;
-        Ok(())
+        put_structure!(out, self, [name, partition_responses])
     }
 }
 
@@ -126,20 +123,18 @@ impl Wire for ProduceReply {
 
     #[tactic(auto, unfolding(crate::specs::ProduceReply::produce_reply))]
     fn take(alloc: Global, cursor: &mut Cursor<'_>) -> Result<Self, WireFault> {
-        let responses = take_array(alloc, cursor)?;
-        let throttle_time_ms = cursor.take_i32()?;
-        cursor.skip_tags()?;
-        Ok(ProduceReply {
-            responses,
-            throttle_time_ms,
-        })
+        take_structure!(
+            alloc,
+            cursor,
+            ProduceReply {
+                responses,
+                throttle_time_ms
+            }
+        )
     }
 
     fn put(&self, out: &mut Out) -> Result<(), NoMemory> {
-        self.responses.put(out)?;
-        self.throttle_time_ms.put(out)?;
-        out.put_tags()?;
-        Ok(())
+        put_structure!(out, self, [responses, throttle_time_ms])
     }
 }
 

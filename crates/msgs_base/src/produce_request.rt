@@ -3,7 +3,8 @@ ghost use Rattle.flex_fields.specs.Formats.{ReadsWhole, IsSpelling, Writes, Star
 ghost use Rattle.msgs_base.specs.ProduceRequest.{produce_partition, produce_topic, produce_request};
 
 use flex_fields::{
-    Bytes, Cursor, Items, NoMemory, Out, Text, Wire, WireFault, read_whole, take_array, write_whole,
+    Bytes, Cursor, Items, NoMemory, Out, Text, Wire, WireFault, put_structure, read_whole,
+    take_structure, write_whole,
 };
 use std::alloc::Global;
 
@@ -72,20 +73,18 @@ impl Wire for ProduceTopic {
 
     #[tactic(auto, unfolding(crate::specs::ProduceRequest::produce_topic))]
     fn take(alloc: Global, cursor: &mut Cursor<'_>) -> Result<Self, WireFault> {
-        let name = cursor.take_str(alloc)?;
-        let partition_data = take_array(alloc, cursor)?;
-        cursor.skip_tags()?;
-        Ok(ProduceTopic {
-            name,
-            partition_data,
-        })
+        take_structure!(
+            alloc,
+            cursor,
+            ProduceTopic {
+                name,
+                partition_data
+            }
+        )
     }
 
     fn put(&self, out: &mut Out) -> Result<(), NoMemory> {
-        self.name.put(out)?;
-        self.partition_data.put(out)?;
-        out.put_tags()?;
-        Ok(())
+        put_structure!(out, self, [name, partition_data])
     }
 }
 
@@ -94,26 +93,20 @@ impl Wire for ProduceRequest {
 
     #[tactic(auto, unfolding(crate::specs::ProduceRequest::produce_request))]
     fn take(alloc: Global, cursor: &mut Cursor<'_>) -> Result<Self, WireFault> {
-        let transactional_id = cursor.take_null_str(alloc)?;
-        let acks = cursor.take_i16()?;
-        let timeout_ms = cursor.take_i32()?;
-        let topic_data = take_array(alloc, cursor)?;
-        cursor.skip_tags()?;
-        Ok(ProduceRequest {
-            transactional_id,
-            acks,
-            timeout_ms,
-            topic_data,
-        })
+        take_structure!(
+            alloc,
+            cursor,
+            ProduceRequest {
+                transactional_id,
+                acks,
+                timeout_ms,
+                topic_data
+            }
+        )
     }
 
     fn put(&self, out: &mut Out) -> Result<(), NoMemory> {
-        self.transactional_id.put(out)?;
-        self.acks.put(out)?;
-        self.timeout_ms.put(out)?;
-        self.topic_data.put(out)?;
-        out.put_tags()?;
-        Ok(())
+        put_structure!(out, self, [transactional_id, acks, timeout_ms, topic_data])
     }
 }
 

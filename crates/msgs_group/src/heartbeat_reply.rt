@@ -4,7 +4,8 @@ ghost use Rattle.msgs_group.specs.HeartbeatReply.{assigned_topic, assignment, he
 
 use crate::optional::{put_optional, take_optional};
 use flex_fields::{
-    Bytes, Cursor, Items, NoMemory, Out, Text, Wire, WireFault, read_whole, take_array, write_whole,
+    Bytes, Cursor, Items, NoMemory, Out, Text, Wire, WireFault, put_structure, read_whole,
+    take_structure, write_whole,
 };
 use std::alloc::Global;
 use uuid::Uuid;
@@ -40,20 +41,18 @@ impl Wire for AssignedTopic {
 
     #[tactic(auto, unfolding(crate::specs::HeartbeatReply::assigned_topic))]
     fn take(alloc: Global, cursor: &mut Cursor<'_>) -> Result<Self, WireFault> {
-        let topic_id = cursor.take_uuid()?;
-        let partitions = take_array(alloc, cursor)?;
-        cursor.skip_tags()?;
-        Ok(AssignedTopic {
-            topic_id,
-            partitions,
-        })
+        take_structure!(
+            alloc,
+            cursor,
+            AssignedTopic {
+                topic_id,
+                partitions
+            }
+        )
     }
 
     fn put(&self, out: &mut Out) -> Result<(), NoMemory> {
-        self.topic_id.put(out)?;
-        self.partitions.put(out)?;
-        out.put_tags()?;
-        Ok(())
+        put_structure!(out, self, [topic_id, partitions])
     }
 }
 
@@ -62,15 +61,11 @@ impl Wire for Assignment {
 
     #[tactic(auto, unfolding(crate::specs::HeartbeatReply::assignment))]
     fn take(alloc: Global, cursor: &mut Cursor<'_>) -> Result<Self, WireFault> {
-        let topic_partitions = take_array(alloc, cursor)?;
-        cursor.skip_tags()?;
-        Ok(Assignment { topic_partitions })
+        take_structure!(alloc, cursor, Assignment { topic_partitions })
     }
 
     fn put(&self, out: &mut Out) -> Result<(), NoMemory> {
-        self.topic_partitions.put(out)?;
-        out.put_tags()?;
-        Ok(())
+        put_structure!(out, self, [topic_partitions])
     }
 }
 

@@ -3,8 +3,8 @@ ghost use Rattle.flex_fields.specs.Formats.{ReadsWhole, IsSpelling};
 ghost use Rattle.msgs_group.specs.HeartbeatRequest.{heartbeat_request};
 
 use flex_fields::{
-    Bytes, Cursor, Items, NoMemory, Out, Text, Wire, WireFault, read_whole, take_null_array,
-    write_whole,
+    Bytes, Cursor, Items, NoMemory, Out, Text, Wire, WireFault, put_structure, read_whole,
+    take_structure, write_whole,
 };
 use std::alloc::Global;
 
@@ -24,29 +24,31 @@ impl Wire for HeartbeatRequest {
 
     #[tactic(auto, unfolding(crate::specs::HeartbeatRequest::heartbeat_request))]
     fn take(alloc: Global, cursor: &mut Cursor<'_>) -> Result<Self, WireFault> {
-        let group_id = cursor.take_str(alloc)?;
-        let member_id = cursor.take_str(alloc)?;
-        let member_epoch = cursor.take_i32()?;
-        let rack_id = cursor.take_null_str(alloc)?;
-        let subscribed_topic_names = take_null_array(alloc, cursor)?;
-        cursor.skip_tags()?;
-        Ok(HeartbeatRequest {
-            group_id,
-            member_id,
-            member_epoch,
-            rack_id,
-            subscribed_topic_names,
-        })
+        take_structure!(
+            alloc,
+            cursor,
+            HeartbeatRequest {
+                group_id,
+                member_id,
+                member_epoch,
+                rack_id,
+                subscribed_topic_names
+            }
+        )
     }
 
     fn put(&self, out: &mut Out) -> Result<(), NoMemory> {
-        self.group_id.put(out)?;
-        self.member_id.put(out)?;
-        self.member_epoch.put(out)?;
-        self.rack_id.put(out)?;
-        self.subscribed_topic_names.put(out)?;
-        out.put_tags()?;
-        Ok(())
+        put_structure!(
+            out,
+            self,
+            [
+                group_id,
+                member_id,
+                member_epoch,
+                rack_id,
+                subscribed_topic_names
+            ]
+        )
     }
 }
 

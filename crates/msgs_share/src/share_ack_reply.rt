@@ -5,7 +5,8 @@ ghost use Rattle.msgs_share.specs.ShareAckReply.{acknowledged_partition, share_a
 use crate::nodes::{CurrentLeader, NodeEndpoint};
 use crate::share_topic::ShareTopic;
 use flex_fields::{
-    Bytes, Cursor, Items, NoMemory, Out, Text, Wire, WireFault, read_whole, take_array, write_whole,
+    Bytes, Cursor, Items, NoMemory, Out, Text, Wire, WireFault, put_structure, read_whole,
+    take_structure, write_whole,
 };
 use std::alloc::Global;
 
@@ -33,26 +34,24 @@ impl Wire for AcknowledgedPartition {
 
     #[tactic(auto, unfolding(crate::specs::ShareAckReply::acknowledged_partition))]
     fn take(alloc: Global, cursor: &mut Cursor<'_>) -> Result<Self, WireFault> {
-        let partition_index = cursor.take_i32()?;
-        let error_code = cursor.take_i16()?;
-        let error_message = cursor.take_null_str(alloc)?;
-        let current_leader = CurrentLeader::take(alloc, cursor)?;
-        cursor.skip_tags()?;
-        Ok(AcknowledgedPartition {
-            partition_index,
-            error_code,
-            error_message,
-            current_leader,
-        })
+        take_structure!(
+            alloc,
+            cursor,
+            AcknowledgedPartition {
+                partition_index,
+                error_code,
+                error_message,
+                current_leader
+            }
+        )
     }
 
     fn put(&self, out: &mut Out) -> Result<(), NoMemory> {
-        self.partition_index.put(out)?;
-        self.error_code.put(out)?;
-        self.error_message.put(out)?;
-        self.current_leader.put(out)?;
-        out.put_tags()?;
-        Ok(())
+        put_structure!(
+            out,
+            self,
+            [partition_index, error_code, error_message, current_leader]
+        )
     }
 }
 
@@ -61,29 +60,31 @@ impl Wire for ShareAckReply {
 
     #[tactic(auto, unfolding(crate::specs::ShareAckReply::share_ack_reply))]
     fn take(alloc: Global, cursor: &mut Cursor<'_>) -> Result<Self, WireFault> {
-        let throttle_time_ms = cursor.take_i32()?;
-        let error_code = cursor.take_i16()?;
-        let error_message = cursor.take_null_str(alloc)?;
-        let responses = take_array(alloc, cursor)?;
-        let node_endpoints = take_array(alloc, cursor)?;
-        cursor.skip_tags()?;
-        Ok(ShareAckReply {
-            throttle_time_ms,
-            error_code,
-            error_message,
-            responses,
-            node_endpoints,
-        })
+        take_structure!(
+            alloc,
+            cursor,
+            ShareAckReply {
+                throttle_time_ms,
+                error_code,
+                error_message,
+                responses,
+                node_endpoints
+            }
+        )
     }
 
     fn put(&self, out: &mut Out) -> Result<(), NoMemory> {
-        self.throttle_time_ms.put(out)?;
-        self.error_code.put(out)?;
-        self.error_message.put(out)?;
-        self.responses.put(out)?;
-        self.node_endpoints.put(out)?;
-        out.put_tags()?;
-        Ok(())
+        put_structure!(
+            out,
+            self,
+            [
+                throttle_time_ms,
+                error_code,
+                error_message,
+                responses,
+                node_endpoints
+            ]
+        )
     }
 }
 

@@ -4,7 +4,8 @@ ghost use Rattle.msgs_share.specs.ShareAckRequest.{share_ack_request};
 
 use crate::share_topic::{SharePartition, ShareTopic};
 use flex_fields::{
-    Bytes, Cursor, Items, NoMemory, Out, Text, Wire, WireFault, read_whole, take_array, write_whole,
+    Bytes, Cursor, Items, NoMemory, Out, Text, Wire, WireFault, put_structure, read_whole,
+    take_structure, write_whole,
 };
 use std::alloc::Global;
 
@@ -22,26 +23,24 @@ impl Wire for ShareAckRequest {
 
     #[tactic(auto, unfolding(crate::specs::ShareAckRequest::share_ack_request))]
     fn take(alloc: Global, cursor: &mut Cursor<'_>) -> Result<Self, WireFault> {
-        let group_id = cursor.take_null_str(alloc)?;
-        let member_id = cursor.take_null_str(alloc)?;
-        let share_session_epoch = cursor.take_i32()?;
-        let topics = take_array(alloc, cursor)?;
-        cursor.skip_tags()?;
-        Ok(ShareAckRequest {
-            group_id,
-            member_id,
-            share_session_epoch,
-            topics,
-        })
+        take_structure!(
+            alloc,
+            cursor,
+            ShareAckRequest {
+                group_id,
+                member_id,
+                share_session_epoch,
+                topics
+            }
+        )
     }
 
     fn put(&self, out: &mut Out) -> Result<(), NoMemory> {
-        self.group_id.put(out)?;
-        self.member_id.put(out)?;
-        self.share_session_epoch.put(out)?;
-        self.topics.put(out)?;
-        out.put_tags()?;
-        Ok(())
+        put_structure!(
+            out,
+            self,
+            [group_id, member_id, share_session_epoch, topics]
+        )
     }
 }
 

@@ -6,7 +6,8 @@ use crate::nodes::{CurrentLeader, NodeEndpoint};
 use crate::records::{Records, put_records, take_records};
 use crate::share_topic::ShareTopic;
 use flex_fields::{
-    Bytes, Cursor, Items, NoMemory, Out, Text, Wire, WireFault, read_whole, take_array, write_whole,
+    Bytes, Cursor, Items, NoMemory, Out, Text, Wire, WireFault, put_structure, read_whole,
+    take_array, take_structure, write_whole,
 };
 use std::alloc::Global;
 
@@ -46,24 +47,20 @@ impl Wire for AcquiredRecords {
     ghost format = { acquired_records };
 
     #[tactic(auto, unfolding(crate::specs::ShareFetchReply::acquired_records))]
-    fn take(_: Global, cursor: &mut Cursor<'_>) -> Result<Self, WireFault> {
-        let first_offset = cursor.take_i64()?;
-        let last_offset = cursor.take_i64()?;
-        let delivery_count = cursor.take_i16()?;
-        cursor.skip_tags()?;
-        Ok(AcquiredRecords {
-            first_offset,
-            last_offset,
-            delivery_count,
-        })
+    fn take(alloc: Global, cursor: &mut Cursor<'_>) -> Result<Self, WireFault> {
+        take_structure!(
+            alloc,
+            cursor,
+            AcquiredRecords {
+                first_offset,
+                last_offset,
+                delivery_count
+            }
+        )
     }
 
     fn put(&self, out: &mut Out) -> Result<(), NoMemory> {
-        self.first_offset.put(out)?;
-        self.last_offset.put(out)?;
-        self.delivery_count.put(out)?;
-        out.put_tags()?;
-        Ok(())
+        put_structure!(out, self, [first_offset, last_offset, delivery_count])
     }
 }
 
@@ -112,32 +109,33 @@ impl Wire for ShareFetchReply {
 
     #[tactic(auto, unfolding(crate::specs::ShareFetchReply::share_fetch_reply))]
     fn take(alloc: Global, cursor: &mut Cursor<'_>) -> Result<Self, WireFault> {
-        let throttle_time_ms = cursor.take_i32()?;
-        let error_code = cursor.take_i16()?;
-        let error_message = cursor.take_null_str(alloc)?;
-        let acquisition_lock_timeout_ms = cursor.take_i32()?;
-        let responses = take_array(alloc, cursor)?;
-        let node_endpoints = take_array(alloc, cursor)?;
-        cursor.skip_tags()?;
-        Ok(ShareFetchReply {
-            throttle_time_ms,
-            error_code,
-            error_message,
-            acquisition_lock_timeout_ms,
-            responses,
-            node_endpoints,
-        })
+        take_structure!(
+            alloc,
+            cursor,
+            ShareFetchReply {
+                throttle_time_ms,
+                error_code,
+                error_message,
+                acquisition_lock_timeout_ms,
+                responses,
+                node_endpoints
+            }
+        )
     }
 
     fn put(&self, out: &mut Out) -> Result<(), NoMemory> {
-        self.throttle_time_ms.put(out)?;
-        self.error_code.put(out)?;
-        self.error_message.put(out)?;
-        self.acquisition_lock_timeout_ms.put(out)?;
-        self.responses.put(out)?;
-        self.node_endpoints.put(out)?;
-        out.put_tags()?;
-        Ok(())
+        put_structure!(
+            out,
+            self,
+            [
+                throttle_time_ms,
+                error_code,
+                error_message,
+                acquisition_lock_timeout_ms,
+                responses,
+                node_endpoints
+            ]
+        )
     }
 }
 

@@ -1,6 +1,6 @@
 ghost use Rattle.msgs_share.specs.ShareTopic.{acknowledgement_batch, share_partition, share_topic};
 
-use flex_fields::{Cursor, Items, NoMemory, Out, Wire, WireFault, take_array};
+use flex_fields::{Cursor, Items, NoMemory, Out, Wire, WireFault, put_structure, take_structure};
 use std::alloc::Global;
 use uuid::Uuid;
 
@@ -31,23 +31,19 @@ impl Wire for AcknowledgementBatch {
 
     #[tactic(auto, unfolding(crate::specs::ShareTopic::acknowledgement_batch))]
     fn take(alloc: Global, cursor: &mut Cursor<'_>) -> Result<Self, WireFault> {
-        let first_offset = cursor.take_i64()?;
-        let last_offset = cursor.take_i64()?;
-        let acknowledge_types = take_array(alloc, cursor)?;
-        cursor.skip_tags()?;
-        Ok(AcknowledgementBatch {
-            first_offset,
-            last_offset,
-            acknowledge_types,
-        })
+        take_structure!(
+            alloc,
+            cursor,
+            AcknowledgementBatch {
+                first_offset,
+                last_offset,
+                acknowledge_types
+            }
+        )
     }
 
     fn put(&self, out: &mut Out) -> Result<(), NoMemory> {
-        self.first_offset.put(out)?;
-        self.last_offset.put(out)?;
-        self.acknowledge_types.put(out)?;
-        out.put_tags()?;
-        Ok(())
+        put_structure!(out, self, [first_offset, last_offset, acknowledge_types])
     }
 }
 
@@ -56,20 +52,18 @@ impl Wire for SharePartition {
 
     #[tactic(auto, unfolding(crate::specs::ShareTopic::share_partition))]
     fn take(alloc: Global, cursor: &mut Cursor<'_>) -> Result<Self, WireFault> {
-        let partition_index = cursor.take_i32()?;
-        let acknowledgement_batches = take_array(alloc, cursor)?;
-        cursor.skip_tags()?;
-        Ok(SharePartition {
-            partition_index,
-            acknowledgement_batches,
-        })
+        take_structure!(
+            alloc,
+            cursor,
+            SharePartition {
+                partition_index,
+                acknowledgement_batches
+            }
+        )
     }
 
     fn put(&self, out: &mut Out) -> Result<(), NoMemory> {
-        self.partition_index.put(out)?;
-        self.acknowledgement_batches.put(out)?;
-        out.put_tags()?;
-        Ok(())
+        put_structure!(out, self, [partition_index, acknowledgement_batches])
     }
 }
 
@@ -78,19 +72,17 @@ impl<P: Wire> Wire for ShareTopic<P> {
 
     #[tactic(auto, unfolding(crate::specs::ShareTopic::share_topic))]
     fn take(alloc: Global, cursor: &mut Cursor<'_>) -> Result<Self, WireFault> {
-        let topic_id = cursor.take_uuid()?;
-        let partitions = take_array(alloc, cursor)?;
-        cursor.skip_tags()?;
-        Ok(ShareTopic {
-            topic_id,
-            partitions,
-        })
+        take_structure!(
+            alloc,
+            cursor,
+            ShareTopic {
+                topic_id,
+                partitions
+            }
+        )
     }
 
     fn put(&self, out: &mut Out) -> Result<(), NoMemory> {
-        self.topic_id.put(out)?;
-        self.partitions.put(out)?;
-        out.put_tags()?;
-        Ok(())
+        put_structure!(out, self, [topic_id, partitions])
     }
 }

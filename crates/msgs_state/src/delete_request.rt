@@ -3,7 +3,10 @@ ghost use Rattle.flex_fields.specs.Formats.{ReadsWhole, IsSpelling};
 ghost use Rattle.msgs_state.specs.DeleteRequest.{delete_partition, delete_share_group_state_request};
 
 use crate::state_message::StateRequest;
-use flex_fields::{Bytes, Cursor, NoMemory, Out, Wire, WireFault, read_whole, write_whole};
+use flex_fields::{
+    Bytes, Cursor, NoMemory, Out, Wire, WireFault, put_structure, read_whole, take_structure,
+    write_whole,
+};
 use std::alloc::Global;
 
 /// A partition whose state goes.
@@ -19,16 +22,12 @@ impl Wire for DeletePartition {
     ghost format = { delete_partition };
 
     #[tactic(auto, unfolding(crate::specs::DeleteRequest::delete_partition))]
-    fn take(_: Global, cursor: &mut Cursor<'_>) -> Result<Self, WireFault> {
-        let partition = cursor.take_i32()?;
-        cursor.skip_tags()?;
-        Ok(DeletePartition { partition })
+    fn take(alloc: Global, cursor: &mut Cursor<'_>) -> Result<Self, WireFault> {
+        take_structure!(alloc, cursor, DeletePartition { partition })
     }
 
     fn put(&self, out: &mut Out) -> Result<(), NoMemory> {
-        self.partition.put(out)?;
-        out.put_tags()?;
-        Ok(())
+        put_structure!(out, self, [partition])
     }
 }
 

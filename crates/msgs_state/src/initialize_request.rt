@@ -3,7 +3,10 @@ ghost use Rattle.flex_fields.specs.Formats.{ReadsWhole, IsSpelling};
 ghost use Rattle.msgs_state.specs.InitializeRequest.{initialize_partition, initialize_share_group_state_request};
 
 use crate::state_message::StateRequest;
-use flex_fields::{Bytes, Cursor, NoMemory, Out, Wire, WireFault, read_whole, write_whole};
+use flex_fields::{
+    Bytes, Cursor, NoMemory, Out, Wire, WireFault, put_structure, read_whole, take_structure,
+    write_whole,
+};
 use std::alloc::Global;
 
 /// What the state of one partition begins with.
@@ -21,24 +24,20 @@ impl Wire for InitializePartition {
     ghost format = { initialize_partition };
 
     #[tactic(auto, unfolding(crate::specs::InitializeRequest::initialize_partition))]
-    fn take(_: Global, cursor: &mut Cursor<'_>) -> Result<Self, WireFault> {
-        let partition = cursor.take_i32()?;
-        let state_epoch = cursor.take_i32()?;
-        let start_offset = cursor.take_i64()?;
-        cursor.skip_tags()?;
-        Ok(InitializePartition {
-            partition,
-            state_epoch,
-            start_offset,
-        })
+    fn take(alloc: Global, cursor: &mut Cursor<'_>) -> Result<Self, WireFault> {
+        take_structure!(
+            alloc,
+            cursor,
+            InitializePartition {
+                partition,
+                state_epoch,
+                start_offset
+            }
+        )
     }
 
     fn put(&self, out: &mut Out) -> Result<(), NoMemory> {
-        self.partition.put(out)?;
-        self.state_epoch.put(out)?;
-        self.start_offset.put(out)?;
-        out.put_tags()?;
-        Ok(())
+        put_structure!(out, self, [partition, state_epoch, start_offset])
     }
 }
 

@@ -5,7 +5,8 @@ ghost use Rattle.msgs_state.specs.ReadReply.{read_partition_result, read_share_g
 use crate::state_batch::StateBatch;
 use crate::state_message::StateReply;
 use flex_fields::{
-    Bytes, Cursor, Items, NoMemory, Out, Text, Wire, WireFault, read_whole, take_array, write_whole,
+    Bytes, Cursor, Items, NoMemory, Out, Text, Wire, WireFault, put_structure, read_whole,
+    take_structure, write_whole,
 };
 use std::alloc::Global;
 
@@ -28,32 +29,33 @@ impl Wire for ReadPartitionResult {
 
     #[tactic(auto, unfolding(crate::specs::ReadReply::read_partition_result))]
     fn take(alloc: Global, cursor: &mut Cursor<'_>) -> Result<Self, WireFault> {
-        let partition = cursor.take_i32()?;
-        let error_code = cursor.take_i16()?;
-        let error_message = cursor.take_null_str(alloc)?;
-        let state_epoch = cursor.take_i32()?;
-        let start_offset = cursor.take_i64()?;
-        let state_batches = take_array(alloc, cursor)?;
-        cursor.skip_tags()?;
-        Ok(ReadPartitionResult {
-            partition,
-            error_code,
-            error_message,
-            state_epoch,
-            start_offset,
-            state_batches,
-        })
+        take_structure!(
+            alloc,
+            cursor,
+            ReadPartitionResult {
+                partition,
+                error_code,
+                error_message,
+                state_epoch,
+                start_offset,
+                state_batches
+            }
+        )
     }
 
     fn put(&self, out: &mut Out) -> Result<(), NoMemory> {
-        self.partition.put(out)?;
-        self.error_code.put(out)?;
-        self.error_message.put(out)?;
-        self.state_epoch.put(out)?;
-        self.start_offset.put(out)?;
-        self.state_batches.put(out)?;
-        out.put_tags()?;
-        Ok(())
+        put_structure!(
+            out,
+            self,
+            [
+                partition,
+                error_code,
+                error_message,
+                state_epoch,
+                start_offset,
+                state_batches
+            ]
+        )
     }
 }
 

@@ -3,7 +3,10 @@ ghost use Rattle.flex_fields.specs.Formats.{ReadsWhole, IsSpelling};
 ghost use Rattle.msgs_state.specs.ReadRequest.{read_partition, read_share_group_state_request};
 
 use crate::state_message::StateRequest;
-use flex_fields::{Bytes, Cursor, NoMemory, Out, Wire, WireFault, read_whole, write_whole};
+use flex_fields::{
+    Bytes, Cursor, NoMemory, Out, Wire, WireFault, put_structure, read_whole, take_structure,
+    write_whole,
+};
 use std::alloc::Global;
 
 /// A partition whose state is asked for.
@@ -20,21 +23,19 @@ impl Wire for ReadPartition {
     ghost format = { read_partition };
 
     #[tactic(auto, unfolding(crate::specs::ReadRequest::read_partition))]
-    fn take(_: Global, cursor: &mut Cursor<'_>) -> Result<Self, WireFault> {
-        let partition = cursor.take_i32()?;
-        let leader_epoch = cursor.take_i32()?;
-        cursor.skip_tags()?;
-        Ok(ReadPartition {
-            partition,
-            leader_epoch,
-        })
+    fn take(alloc: Global, cursor: &mut Cursor<'_>) -> Result<Self, WireFault> {
+        take_structure!(
+            alloc,
+            cursor,
+            ReadPartition {
+                partition,
+                leader_epoch
+            }
+        )
     }
 
     fn put(&self, out: &mut Out) -> Result<(), NoMemory> {
-        self.partition.put(out)?;
-        self.leader_epoch.put(out)?;
-        out.put_tags()?;
-        Ok(())
+        put_structure!(out, self, [partition, leader_epoch])
     }
 }
 

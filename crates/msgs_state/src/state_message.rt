@@ -1,6 +1,8 @@
 ghost use Rattle.msgs_state.specs.StateMessage.{state_topic, state_request, state_reply};
 
-use flex_fields::{Cursor, Items, NoMemory, Out, Text, Wire, WireFault, take_array};
+use flex_fields::{
+    Cursor, Items, NoMemory, Out, Text, Wire, WireFault, put_structure, take_structure,
+};
 use std::alloc::Global;
 use uuid::Uuid;
 
@@ -29,20 +31,18 @@ impl<P: Wire> Wire for StateTopic<P> {
 
     #[tactic(auto, unfolding(crate::specs::StateMessage::state_topic))]
     fn take(alloc: Global, cursor: &mut Cursor<'_>) -> Result<Self, WireFault> {
-        let topic_id = cursor.take_uuid()?;
-        let partitions = take_array(alloc, cursor)?;
-        cursor.skip_tags()?;
-        Ok(StateTopic {
-            topic_id,
-            partitions,
-        })
+        take_structure!(
+            alloc,
+            cursor,
+            StateTopic {
+                topic_id,
+                partitions
+            }
+        )
     }
 
     fn put(&self, out: &mut Out) -> Result<(), NoMemory> {
-        self.topic_id.put(out)?;
-        self.partitions.put(out)?;
-        out.put_tags()?;
-        Ok(())
+        put_structure!(out, self, [topic_id, partitions])
     }
 }
 
@@ -51,17 +51,11 @@ impl<P: Wire> Wire for StateRequest<P> {
 
     #[tactic(auto, unfolding(crate::specs::StateMessage::state_request))]
     fn take(alloc: Global, cursor: &mut Cursor<'_>) -> Result<Self, WireFault> {
-        let group_id = cursor.take_str(alloc)?;
-        let topics = take_array(alloc, cursor)?;
-        cursor.skip_tags()?;
-        Ok(StateRequest { group_id, topics })
+        take_structure!(alloc, cursor, StateRequest { group_id, topics })
     }
 
     fn put(&self, out: &mut Out) -> Result<(), NoMemory> {
-        self.group_id.put(out)?;
-        self.topics.put(out)?;
-        out.put_tags()?;
-        Ok(())
+        put_structure!(out, self, [group_id, topics])
     }
 }
 
@@ -70,14 +64,10 @@ impl<P: Wire> Wire for StateReply<P> {
 
     #[tactic(auto, unfolding(crate::specs::StateMessage::state_reply))]
     fn take(alloc: Global, cursor: &mut Cursor<'_>) -> Result<Self, WireFault> {
-        let results = take_array(alloc, cursor)?;
-        cursor.skip_tags()?;
-        Ok(StateReply { results })
+        take_structure!(alloc, cursor, StateReply { results })
     }
 
     fn put(&self, out: &mut Out) -> Result<(), NoMemory> {
-        self.results.put(out)?;
-        out.put_tags()?;
-        Ok(())
+        put_structure!(out, self, [results])
     }
 }

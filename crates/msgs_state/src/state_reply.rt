@@ -3,7 +3,10 @@ ghost use Rattle.flex_fields.specs.Formats.{ReadsWhole, IsSpelling};
 ghost use Rattle.msgs_state.specs.StateReply.{partition_result, share_group_state_reply};
 
 use crate::state_message::StateReply;
-use flex_fields::{Bytes, Cursor, NoMemory, Out, Text, Wire, WireFault, read_whole, write_whole};
+use flex_fields::{
+    Bytes, Cursor, NoMemory, Out, Text, Wire, WireFault, put_structure, read_whole, take_structure,
+    write_whole,
+};
 use std::alloc::Global;
 
 /// What became of one partition: 0 and null, or an error.
@@ -22,23 +25,19 @@ impl Wire for PartitionResult {
 
     #[tactic(auto, unfolding(crate::specs::StateReply::partition_result))]
     fn take(alloc: Global, cursor: &mut Cursor<'_>) -> Result<Self, WireFault> {
-        let partition = cursor.take_i32()?;
-        let error_code = cursor.take_i16()?;
-        let error_message = cursor.take_null_str(alloc)?;
-        cursor.skip_tags()?;
-        Ok(PartitionResult {
-            partition,
-            error_code,
-            error_message,
-        })
+        take_structure!(
+            alloc,
+            cursor,
+            PartitionResult {
+                partition,
+                error_code,
+                error_message
+            }
+        )
     }
 
     fn put(&self, out: &mut Out) -> Result<(), NoMemory> {
-        self.partition.put(out)?;
-        self.error_code.put(out)?;
-        self.error_message.put(out)?;
-        out.put_tags()?;
-        Ok(())
+        put_structure!(out, self, [partition, error_code, error_message])
     }
 }
 

@@ -5,7 +5,8 @@ ghost use Rattle.msgs_state.specs.WriteRequest.{write_partition, write_share_gro
 use crate::state_batch::StateBatch;
 use crate::state_message::StateRequest;
 use flex_fields::{
-    Bytes, Cursor, Items, NoMemory, Out, Wire, WireFault, read_whole, take_array, write_whole,
+    Bytes, Cursor, Items, NoMemory, Out, Wire, WireFault, put_structure, read_whole,
+    take_structure, write_whole,
 };
 use std::alloc::Global;
 
@@ -27,29 +28,31 @@ impl Wire for WritePartition {
 
     #[tactic(auto, unfolding(crate::specs::WriteRequest::write_partition))]
     fn take(alloc: Global, cursor: &mut Cursor<'_>) -> Result<Self, WireFault> {
-        let partition = cursor.take_i32()?;
-        let state_epoch = cursor.take_i32()?;
-        let leader_epoch = cursor.take_i32()?;
-        let start_offset = cursor.take_i64()?;
-        let state_batches = take_array(alloc, cursor)?;
-        cursor.skip_tags()?;
-        Ok(WritePartition {
-            partition,
-            state_epoch,
-            leader_epoch,
-            start_offset,
-            state_batches,
-        })
+        take_structure!(
+            alloc,
+            cursor,
+            WritePartition {
+                partition,
+                state_epoch,
+                leader_epoch,
+                start_offset,
+                state_batches
+            }
+        )
     }
 
     fn put(&self, out: &mut Out) -> Result<(), NoMemory> {
-        self.partition.put(out)?;
-        self.state_epoch.put(out)?;
-        self.leader_epoch.put(out)?;
-        self.start_offset.put(out)?;
-        self.state_batches.put(out)?;
-        out.put_tags()?;
-        Ok(())
+        put_structure!(
+            out,
+            self,
+            [
+                partition,
+                state_epoch,
+                leader_epoch,
+                start_offset,
+                state_batches
+            ]
+        )
     }
 }
 

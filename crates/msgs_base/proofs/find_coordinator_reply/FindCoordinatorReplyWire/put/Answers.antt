@@ -1,7 +1,7 @@
-use Rattle.flex_fields.proofs.Puts.{◌▸◌, structure_writes}
+use Rattle.flex_fields.proofs.Puts.{structure_put}
 use Rattle.msgs_base.specs.FindCoordinatorReply.{find_coordinator_reply_shape, find_coordinator_reply}
 use Rattle.msgs_base.proofs.find_coordinator_reply.FindCoordinatorReplyWire.put.Goals as goal
 
 pub returns-clause-ok : goal.returns-clause-ok
 unfolding find_coordinator_reply
-returns-clause-ok c = structure_writes find_coordinator_reply_shape (c.in_ok-put.ensures.ok ▸ c.in_ok-put-2.ensures.ok) c.in_ok-put_tags.ensures.ok
+returns-clause-ok c = structure_put find_coordinator_reply_shape _ _ _ _ c.put_structure.result c.put_structure.ensures.ok

@@ -1,10 +1,7 @@
-use Rattle.flex_fields.proofs.Puts.{◌▸◌, structure_writes}
+use Rattle.flex_fields.proofs.Puts.{structure_put}
 use Rattle.msgs_base.specs.MetadataReply.{metadata_partition_shape, metadata_partition}
 use Rattle.msgs_base.proofs.metadata_reply.MetadataPartitionWire.put.Goals as goal
 
 pub returns-clause-ok : goal.returns-clause-ok
 unfolding metadata_partition
-returns-clause-ok c =
-    structure_writes metadata_partition_shape
-    (c.in_ok-put.ensures.ok ▸ c.in_ok-put-2.ensures.ok ▸ c.in_ok-put-3.ensures.ok ▸ c.in_ok-put-4.ensures.ok ▸ c.in_ok-put-5.ensures.ok
-    ▸ c.in_ok-put-6.ensures.ok ▸ c.in_ok-put-7.ensures.ok) c.in_ok-put_tags.ensures.ok
+returns-clause-ok c = structure_put metadata_partition_shape _ _ _ _ c.put_structure.result c.put_structure.ensures.ok

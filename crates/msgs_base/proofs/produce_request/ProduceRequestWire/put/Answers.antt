@@ -1,9 +1,7 @@
-use Rattle.flex_fields.proofs.Puts.{◌▸◌, structure_writes}
+use Rattle.flex_fields.proofs.Puts.{structure_put}
 use Rattle.msgs_base.specs.ProduceRequest.{produce_request_shape, produce_request}
 use Rattle.msgs_base.proofs.produce_request.ProduceRequestWire.put.Goals as goal
 
 pub returns-clause-ok : goal.returns-clause-ok
 unfolding produce_request
-returns-clause-ok c =
-    structure_writes produce_request_shape
-    (c.in_ok-put.ensures.ok ▸ c.in_ok-put-2.ensures.ok ▸ c.in_ok-put-3.ensures.ok ▸ c.in_ok-put-4.ensures.ok) c.in_ok-put_tags.ensures.ok
+returns-clause-ok c = structure_put produce_request_shape _ _ _ _ c.put_structure.result c.put_structure.ensures.ok
