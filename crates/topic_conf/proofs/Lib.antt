@@ -3,3 +3,4 @@
 pub mod Lists
 pub mod Shards
 pub mod Partitions
+pub mod Counting
