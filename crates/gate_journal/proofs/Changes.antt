@@ -17,14 +17,6 @@ pub on_ok : {T E : Type 0} (r : Result T E) (P : Type 0) → P → OnOk r P
 on_ok (Ok x) P p = p
 on_ok (Err e) P p = tt
 
-pub on_ok_then : {T E : Type 0} (r : Result T E) (P Q : Type 0) → OnOk r P → (P → Q) → OnOk r Q
-on_ok_then (Ok x) P Q p f = f p
-on_ok_then (Err e) P Q p f = tt
-
-pub on_err_then : {T E : Type 0} (r : Result T E) (P Q : Type 0) → OnErr r P → (P → Q) → OnErr r Q
-on_err_then (Ok x) P Q p f = tt
-on_err_then (Err e) P Q p f = f p
-
 pub on_err_both : {T E : Type 0} (r : Result T E) (P Q R : Type 0) → OnErr r P → OnErr r Q → (P → Q → R) → OnErr r R
 on_err_both (Ok x) P Q R p q f = tt
 on_err_both (Err e) P Q R p q f = f p q

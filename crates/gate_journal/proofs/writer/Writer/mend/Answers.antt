@@ -1,11 +1,12 @@
 use Rattle.std.proofs.Common.{sym, ap, subst, ◌∙◌, ℕ, OnOk, OnErr, arith}
+use Rattle.std.proofs.lemmas.Result.{on_ok_weaker, on_err_weaker}
 use Rattle.edge_io.specs.Counting.{DoesCalls, FailsInCalls}
 use Rattle.edge_io.proofs.Counting.{calls_none, does_then, does_then_fails, fails_in_more}
 use Rattle.edge_io.proofs.Moments.{joined, started, weakened}
 use Rattle.edge_io.proofs.Runs.{runs_none, runs_then}
 use Rattle.gate_journal.specs.Frames.{StandsFor, IsBeforeOrAfter, IsWithPending}
 use Rattle.gate_journal.specs.Journals.{calls_to_mend}
-use Rattle.gate_journal.proofs.Changes.{on_ok_then, on_err_then, cause_then, cause_of}
+use Rattle.gate_journal.proofs.Changes.{cause_then, cause_of}
 use Rattle.gate_journal.proofs.Shaped.{on_err, at_mending, at_gate, from_gate, from_behind, mends_images, with_pending, without}
 use Rattle.gate_journal.proofs.writer.Writer.mend.Goals as goal
 
@@ -25,12 +26,12 @@ pub returns-in-Nothing-clause-runs : goal.returns-in-Nothing-clause-runs
 returns-in-Nothing-clause-runs g c = runs_none g.D.Disk.content g.D.Disk.losses g.D.Disk.arms g.D.Disk.armed g.D.Disk.starved g.D.Disk.faults c.args.self.now.disk
 
 pub returns-in-Behind-clause-ok : goal.returns-in-Behind-clause-ok
-returns-in-Behind-clause-ok g c = on_ok_then c.cut_behind.result _ _ c.cut_behind.ensures.ok (λ cuts frames pending h.
-    cuts frames (at_mending g.D.Disk.image c.args.self.now _ _ frames pending c.in-Behind.is h))
+returns-in-Behind-clause-ok g c = on_ok_weaker c.cut_behind.result (λ cuts frames pending h.
+    cuts frames (at_mending g.D.Disk.image c.args.self.now _ _ frames pending c.in-Behind.is h)) c.cut_behind.ensures.ok
 
 pub returns-in-Behind-clause-kept : goal.returns-in-Behind-clause-kept
-returns-in-Behind-clause-kept g c = on_err_then c.cut_behind.result _ _ c.cut_behind.ensures.err (λ is frames pending h.
-    from_behind g.D.Disk.image c.cut_behind.new.self _ frames pending is (c.cut_behind.ensures.kept frames (at_mending g.D.Disk.image c.args.self.now _ _ frames pending c.in-Behind.is h)))
+returns-in-Behind-clause-kept g c = on_err_weaker c.cut_behind.result (λ is frames pending h.
+    from_behind g.D.Disk.image c.cut_behind.new.self _ frames pending is (c.cut_behind.ensures.kept frames (at_mending g.D.Disk.image c.args.self.now _ _ frames pending c.in-Behind.is h))) c.cut_behind.ensures.err
 
 pub returns-in-Behind-clause-any_moment : goal.returns-in-Behind-clause-any_moment
 returns-in-Behind-clause-any_moment g c = λ frames pending h.
@@ -78,13 +79,13 @@ pub returns-in_err-close_gate-in-Gate-clause-cause : goal.returns-in_err-close_g
 returns-in_err-close_gate-in-Gate-clause-cause g c = cause_of _ _ _ c.from_residual.result c.in_err-close_gate-in-Gate.ensures.cause
 
 pub returns-in_ok-close_gate-in-Gate-clause-ok : goal.returns-in_ok-close_gate-in-Gate-clause-ok
-returns-in_ok-close_gate-in-Gate-clause-ok g c = on_ok_then c.cut_behind-in-Gate.result _ _ c.cut_behind-in-Gate.ensures.ok (λ cuts frames pending h.
-    let s = at_gate g.D.Disk.image c.args.self.now _ frames pending c.in-Gate.is h in cuts frames (c.in_ok-close_gate-in-Gate.ensures.ok frames s.0 s.3))
+returns-in_ok-close_gate-in-Gate-clause-ok g c = on_ok_weaker c.cut_behind-in-Gate.result (λ cuts frames pending h.
+    let s = at_gate g.D.Disk.image c.args.self.now _ frames pending c.in-Gate.is h in cuts frames (c.in_ok-close_gate-in-Gate.ensures.ok frames s.0 s.3)) c.cut_behind-in-Gate.ensures.ok
 
 pub returns-in_ok-close_gate-in-Gate-clause-kept : goal.returns-in_ok-close_gate-in-Gate-clause-kept
-returns-in_ok-close_gate-in-Gate-clause-kept g c = on_err_then c.cut_behind-in-Gate.result _ _ c.cut_behind-in-Gate.ensures.err (λ is frames pending h.
+returns-in_ok-close_gate-in-Gate-clause-kept g c = on_err_weaker c.cut_behind-in-Gate.result (λ is frames pending h.
     let s = at_gate g.D.Disk.image c.args.self.now _ frames pending c.in-Gate.is h in
-    from_behind g.D.Disk.image c.cut_behind-in-Gate.new.self _ frames pending is (c.cut_behind-in-Gate.ensures.kept frames (c.in_ok-close_gate-in-Gate.ensures.ok frames s.0 s.3)))
+    from_behind g.D.Disk.image c.cut_behind-in-Gate.new.self _ frames pending is (c.cut_behind-in-Gate.ensures.kept frames (c.in_ok-close_gate-in-Gate.ensures.ok frames s.0 s.3))) c.cut_behind-in-Gate.ensures.err
 
 pub returns-in_ok-close_gate-in-Gate-clause-any_moment : goal.returns-in_ok-close_gate-in-Gate-clause-any_moment
 returns-in_ok-close_gate-in-Gate-clause-any_moment g c = λ frames pending h.
@@ -105,15 +106,15 @@ returns-in_ok-close_gate-in-Gate-clause-runs g c = runs_then g.D.Disk.content g.
 
 pub returns-in_ok-close_gate-in-Gate-clause-calls : goal.returns-in_ok-close_gate-in-Gate-clause-calls
 returns-in_ok-close_gate-in-Gate-clause-calls g c = subst (λ (n : ℕ). OnOk c.cut_behind-in-Gate.result (DoesCalls g.D.Disk.content g.D.Disk.armed g.D.Disk.starved g.D.Disk.faults n c.args.self.now.disk c.cut_behind-in-Gate.new.self.disk))
-    (sym (ap calls_to_mend c.in-Gate.is)) (on_ok_then c.cut_behind-in-Gate.result _ _ c.cut_behind-in-Gate.ensures.calls
+    (sym (ap calls_to_mend c.in-Gate.is)) (on_ok_weaker c.cut_behind-in-Gate.result
     (does_then g.D.Disk.content g.D.Disk.armed g.D.Disk.starved g.D.Disk.faults 2 2 c.args.self.now.disk c.close_gate.new.self.disk c.cut_behind-in-Gate.new.self.disk
-    (λ told. c.close_gate.ensures.runs.told ∙ told) c.in_ok-close_gate-in-Gate.ensures.calls))
+    (λ told. c.close_gate.ensures.runs.told ∙ told) c.in_ok-close_gate-in-Gate.ensures.calls) c.cut_behind-in-Gate.ensures.calls)
 
 pub returns-in_ok-close_gate-in-Gate-clause-fails : goal.returns-in_ok-close_gate-in-Gate-clause-fails
 returns-in_ok-close_gate-in-Gate-clause-fails g c = subst (λ (n : ℕ). OnErr c.cut_behind-in-Gate.result (FailsInCalls g.D.Disk.content g.D.Disk.armed g.D.Disk.starved n c.args.self.now.disk c.cut_behind-in-Gate.new.self.disk))
-    (sym (ap calls_to_mend c.in-Gate.is)) (on_err_then c.cut_behind-in-Gate.result _ _ c.cut_behind-in-Gate.ensures.fails
+    (sym (ap calls_to_mend c.in-Gate.is)) (on_err_weaker c.cut_behind-in-Gate.result
     (does_then_fails g.D.Disk.content g.D.Disk.armed g.D.Disk.starved g.D.Disk.faults 2 2 c.args.self.now.disk c.close_gate.new.self.disk c.cut_behind-in-Gate.new.self.disk
-    (λ told. c.close_gate.ensures.runs.told ∙ told) c.in_ok-close_gate-in-Gate.ensures.calls))
+    (λ told. c.close_gate.ensures.runs.told ∙ told) c.in_ok-close_gate-in-Gate.ensures.calls) c.cut_behind-in-Gate.ensures.fails)
 
 pub returns-in_ok-close_gate-in-Gate-clause-cause : goal.returns-in_ok-close_gate-in-Gate-clause-cause
 returns-in_ok-close_gate-in-Gate-clause-cause g c = cause_then _ _ _ _ c.cut_behind-in-Gate.result c.in_ok-close_gate-in-Gate.ensures.cause c.cut_behind-in-Gate.ensures.cause
