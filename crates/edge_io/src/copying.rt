@@ -10,7 +10,6 @@ use std::error::Error;
 use std::fmt;
 
 /// Writes all of `bytes`. At an `Err` the sink has taken a front of them.
-#[tactic(auto, using(crate::proofs::Streaming::front_then))]
 pub fn write_all<K: Sink>(sink: &mut K, bytes: &[u8]) -> Result<(), Failed>
     ensures ok { OnOk result (Appends (K.held sink.old) (K.held sink.new) bytes.now) }
     ensures front { (rest : List ℕ) × AppendsFront (K.held sink.old) (K.held sink.new) bytes.now rest }
@@ -58,7 +57,6 @@ impl From<AllocError> for ReadError {
 ///
 /// At `Failed` `out` has gained what was read before the fault. At `NoMemory` it has gained all that was read but the last
 /// piece, of at most 4096 bytes, which is lost.
-#[tactic(auto, using(crate::proofs::Streaming::gains_then))]
 pub fn read_to_end<S: Source>(source: &mut S, out: &mut Vec<u8>) -> Result<(), ReadError>
     ensures ok { OnOk result (IfSome (S.left source.old) (λ bytes. out.new.items ≡ out.old.items ++ bytes)) }
     ensures end { OnOk result (S.ended source.new ≡ true) }

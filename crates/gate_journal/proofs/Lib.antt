@@ -1,6 +1,7 @@
--- Once: a text is read in one way. Repairs: what the repair of a text's end leaves. Shaped: from the shape of the images before
+-- Changes: a change of a disk and the sync behind it. Once: a text is read in one way. Repairs: what the repair of a text's end leaves. Shaped: from the shape of the images before
 -- a call to that of those after it. Shapes: what writes and cuts make of each shape. Texts: a text that is read frame by frame.
 -- Total: each content is journal text, or is damaged at a place.
+pub mod Changes
 pub mod Once
 pub mod Repairs
 pub mod Shaped

@@ -1,12 +1,14 @@
 -- From the shape of the images before a call to that of those after it.
-use Rattle.std.proofs.Common.{◌≡◌, ◌∙◌, refl, sym, ap, inl, arith, ℕ, ◌-◌, List, [], ◌∷◌, ◌++◌, length}
+use Rattle.std.proofs.Common.{◌≡◌, ◌≤◌, ◌+◌, ◌^◌, ◌∙◌, refl, sym, ap, inl, arith, ℕ, ◌-◌, List, [], ◌∷◌, ◌++◌, length}
 use Rattle.std.proofs.Common.{take, drop, Option, Some, None, subst, Result, Ok, Err, OnErr, length-append, length-take, length-drop}
 use Rattle.std.proofs.lemmas.List.{take_at}
 use Rattle.edge_io.specs.Disk.{Follows, Stepped, Reaches}
 use Rattle.edge_io.specs.Moments.{LeavesOnly}
 use Rattle.edge_io.proofs.Moments.{weakened}
+use Rattle.share_model.specs.declared.fault.StoreFault.{StoreFault}
+use Rattle.share_model.specs.declared.fault.StoreFault.TheVariants.{Full}
 use Rattle.gate_journal.specs.Frames.{IsFrame, IsRest, IsShut, IsAjar, IsWithPending, StandsFor, IsBeforeOrAfter, frame_in, framed, text_of}
-use Rattle.gate_journal.specs.Journals.{IsShaped, Mends, Stands, IsAtRest}
+use Rattle.gate_journal.specs.Journals.{IsShaped, Mends, Stands, IsAtRest, RefusesFull}
 use Rattle.gate_journal.specs.declared.writer.Writer.{Writer}
 use Rattle.gate_journal.specs.declared.writer.Mending.{Mending}
 use Rattle.gate_journal.specs.declared.writer.Mending.TheVariants.{Nothing, Behind, Gate}
@@ -48,6 +50,11 @@ module _ {D : Type 0} (image : D → List ℕ → Type 0) (writer : Writer D) (m
   pub from_behind : m ≡ Behind → IsShaped image writer frames (IsShut frames) → Mends image writer m frames pending
   from_behind is h = subst (λ (k : Mending). Mends image writer k frames pending) (sym is) h
 
+-- what is left to mend is this
+pub at_mending : {D : Type 0} (image : D → List ℕ → Type 0) (writer : Writer D) (m k : Mending) (frames : List (List ℕ)) (pending : Option (List ℕ))
+    → m ≡ k → Mends image writer m frames pending → Mends image writer k frames pending
+at_mending image writer m k frames pending is h = subst (λ (k : Mending). Mends image writer k frames pending) is h
+
 -- what stands before and after is with the pending one or without
 pub with_pending : (frames : List (List ℕ)) (pending : Option (List ℕ)) (frame c : List ℕ) → pending ≡ Some frame
     → IsBeforeOrAfter frames frame c → IsWithPending frames pending c
@@ -75,6 +82,14 @@ pub frame_in_framed : (frame : List ℕ) → frame_in (framed frame) ≡ frame
 frame_in_framed frame =
     let len : length (framed frame) - 5 ≡ length frame = omega (arith, length-append frame (0 ∷ [])) in
     ap (λ (k : ℕ). take k (frame ++ 0 ∷ [])) len ∙ take_at frame (0 ∷ []) (length frame) refl
+
+-- a frame that has room isn't refused as full
+pub not_full : {D : Type 0} (old new : Writer D) (before after : List ℕ) (r : Result ℕ StoreFault) → ((end : ℕ) → r ≡ Err (Full end) → ⊥)
+    → old.end + length before ≤ 2 ^ 62 → RefusesFull old new before after r
+not_full old new before after r not room = record {
+  exact = λ end. (λ is. absurd (not end is), λ full. absurd (omega (arith, full.1, room)));
+  same = λ end is. absurd (not end is);
+}
 
 module _ {D : Type 0} (image : D → List ℕ → Type 0) (writer : Writer D) (frames : List (List ℕ)) where
   pub stands_by : (pending : Option (List ℕ)) → Mends image writer writer.mending frames pending → Stands image writer frames pending

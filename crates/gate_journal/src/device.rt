@@ -24,8 +24,7 @@ pub fn write_and_sync<D: Disk>(disk: &mut D, place: u64, bytes: &[u8]) -> Result
     ensures cause { HasCause (D.faults disk.old) (D.faults disk.new) result }
 {
     disk.write_at(place, bytes)?;
-    disk.sync()?; // now the write lasts
-    Ok(())
+    disk.sync() // now the write lasts
 }
 
 // Cuts, and syncs.
@@ -42,6 +41,5 @@ pub fn cut_and_sync<D: Disk>(disk: &mut D, to: u64) -> Result<(), Failed>
     ensures cause { HasCause (D.faults disk.old) (D.faults disk.new) result }
 {
     disk.cut(to)?;
-    disk.sync()?;
-    Ok(())
+    disk.sync()
 }

@@ -160,14 +160,10 @@ impl<D: Disk> Writer<D> {
     {
         match self.mending {
             Mending::Nothing => Ok(()),
-            Mending::Behind => {
-                self.cut_behind()?;
-                Ok(())
-            }
+            Mending::Behind => self.cut_behind(),
             Mending::Gate => {
                 self.close_gate()?;
-                self.cut_behind()?;
-                Ok(())
+                self.cut_behind()
             }
         }
     }
@@ -197,7 +193,6 @@ impl<D: Disk> Writer<D> {
         ensures cause { HasCause (D.faults self.old.disk) (D.faults self.new.disk) result }
     {
         self.stage(bytes)?;
-        self.open_gate(bytes.len() as u64)?;
-        Ok(())
+        self.open_gate(bytes.len() as u64)
     }
 }

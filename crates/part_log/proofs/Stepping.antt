@@ -1,5 +1,5 @@
 -- A batch that is added is a step of the log's shard.
-use Rattle.std.proofs.Common.{◌≡◌, ◌≢◌, ◌⊎◌, ◌↔◌, inl, inr, ℕ, List, refl, sym, ap, subst, Bool, Option, None, Some}
+use Rattle.std.proofs.Common.{◌≡◌, ◌≢◌, ◌⊎◌, ◌↔◌, inl, inr, ℕ, List, refl, sym, subst, Bool, Option, None, Some}
 use Rattle.std.specs.Prelude.{Result, Ok, Err, IfOk}
 use Rattle.edge_io.specs.Causes.{Rose}
 use Rattle.edge_io.specs.declared.fault.Armed.{Armed}
@@ -10,7 +10,7 @@ use Rattle.share_model.specs.declared.fault.LogFault.TheVariants.{Batch as BadBa
 use Rattle.share_model.specs.declared.fault.StoreFault.TheVariants.{Device, Full}
 use Rattle.rec_batch.specs.declared.form.Form.TheVariants.{Produced}
 use Rattle.rec_batch.specs.Batches.{IsFirstFault}
-use Rattle.part_log.specs.Logs.{AddsOnce, HasRoomFor, IsAdded, IsUnwritten, Keeps, LogParts}
+use Rattle.part_log.specs.Logs.{AddsOnce, HasRoomFor, IsUnwritten, Keeps, LogParts}
 use Rattle.part_log.specs.Shards.{LogShardState, CarriesLog, HasNoFault, IsFullAt, StepsLog, at_end}
 
 module _ {D : Type 0} (content : D → Option (List ℕ)) (image : D → List ℕ → Type 0) (moment : D → ℕ) (since : D → ℕ → List ℕ → Type 0)

@@ -1,18 +1,21 @@
 -- Numbers that a call takes, which are in range where they are not refused.
-use Rattle.std.proofs.Common.{◌≡◌, refl, sym, ap, ◌∙◌, subst, arith, ℕ, ℤ, pos, negsuc, List, [], Option, Some, None, Bool, true, false, int_lt, ◌||◌, not, if◌then◌else◌, to_z, of_z, w32, w64, FitsSigned}
+use Rattle.std.proofs.Common.{◌≡◌, refl, sym, ap, ◌∙◌, subst, arith, ℕ, ℤ, pos, negsuc, List, [], length, Option, Some, None, Bool, true, false, int_lt, ◌||◌, not, if◌then◌else◌, to_z, of_z, w32, w64, FitsSigned}
 use Rattle.std.proofs.lemmas.Int.{to_z-of_z}
 use Rattle.std.proofs.lemmas.Bool.Decides.{nat_tests}
 use Rattle.std.specs.List.{list_all}
 use Rattle.share_model.specs.Keys.{KeyParts}
 use Rattle.share_model.specs.declared.run.Run.{Run}
-use Rattle.state_records.specs.States.{IsEpoch, IsStart}
-use Rattle.share_coord.specs.Stored.{Entries, kept_at, with_kept, next_snapshot}
-use Rattle.share_model.specs.ShareStates.{is_writable}
+use Rattle.state_records.specs.States.{IsEpoch, IsStart, StateParts}
+use Rattle.state_records.specs.declared.record.StateRecord.{StateRecord}
+use Rattle.state_records.specs.declared.record.StateRecord.TheVariants.{Snapshot}
+use Rattle.share_coord.specs.Stored.{Entries, Follows, IsSnapshotted, kept_at, snapshot_of, with_kept, next_snapshot}
+use Rattle.share_model.specs.ShareStates.{AreLaid, is_writable}
 use Rattle.share_coord.specs.Calls.{fenced_write, init_refusal, write_refusal, initialised, IsInitialised, IsWritten}
 use Rattle.share_coord.specs.declared.fault.CoordFault.{CoordFault}
 use Rattle.share_coord.specs.declared.fault.CoordFault.TheVariants.{Invalid}
 use Rattle.share_coord.specs.declared.view.Kept.{Kept}
 use Rattle.share_coord.proofs.Keys.{clash, some_none}
+use Rattle.share_coord.proofs.Spans.{nothing_laid}
 
 pub epoch_fits : (z : ℤ) → FitsSigned w32 z → int_lt z (pos 0) ≡ false → IsEpoch (to_z w32 (of_z w32 z))
 epoch_fits z fits e = subst IsEpoch (sym (to_z-of_z w32 z fits)) (go z fits e)
@@ -107,3 +110,16 @@ initialised_as old key state start runs n kept es known f g seen granted none ne
   granted = ap (λ (o : Option Kept). init_refusal o state start) (sym seen) ∙ (init_refusal_as known state start f g ∙ granted);
   is = initialised_by old key state start runs n kept es f g none next is e;
 }
+
+-- the snapshot of an initialisation goes on from what is there
+pub initial_follows : (old : Entries) (state : StateParts) (kept : Kept) (written : StateRecord) → state.runs ≡ []
+    → state.snapshot ≡ next_snapshot (kept_at old state.key) → written ≡ Snapshot state → kept ≡ snapshot_of state state.runs
+    → Follows old written (with_kept old state.key kept)
+initial_follows old state kept written none next is_written is =
+    let snapshotted : IsSnapshotted old state (with_kept old state.key kept) = record {
+      runs = state.runs;
+      next = next;
+      laid = subst (λ (runs : List Run). AreLaid state.start [] runs runs) (sym none) (nothing_laid state.start);
+      few = omega (arith, ap (λ (runs : List Run). length runs) none);
+      is = ap (with_kept old state.key) is;
+    } in subst (λ (w : StateRecord). Follows old w (with_kept old state.key kept)) (sym is_written) snapshotted

@@ -1,5 +1,5 @@
 -- What the front topic adds to what is said of the others.
-use Rattle.std.proofs.Common.{◌≡◌, ◌≤◌, ◌<◌, ◌+◌, ◌-◌, inl, refl, ℕ, zero, suc, List, [], ◌∷◌, All, AllPairs, length, arith}
+use Rattle.std.proofs.Common.{◌≡◌, ◌⊎◌, ◌≤◌, ◌<◌, ◌+◌, ◌-◌, inl, inr, refl, ℕ, zero, suc, List, [], ◌∷◌, All, AllPairs, length, arith}
 use Rattle.std.proofs.lemmas.Grind.{common_steps}
 use Rattle.edge_io.specs.Names.{IsDiskName, hosted_name}
 use Rattle.edge_io.specs.declared.name.DiskPlace.{DiskPlace}
@@ -30,6 +30,11 @@ fit_down room topic topics fit = (
   omega (arith, fit.1, partitions_cons topic topics),
   (all_others (λ (topic : Topic). 1 ≤ topic.parts) topic topics fit.0, omega (arith, fit.1, partitions_cons topic topics)),
 )
+
+-- where the front topic doesn't fit, neither do all
+pub fit_not : (room : ℕ) (topic : Topic) (topics rest : List Topic) → rest ≡ topic ∷ topics → (topic.parts ≡ 0) ⊎ (room < topic.parts) → FitInto room rest → ⊥
+fit_not room topic topics rest split (inl none) fit = omega (arith, none, (fit_down room topic topics (rw split at fit)).0)
+fit_not room topic topics rest split (inr many) fit = omega (arith, many, (fit_down room topic topics (rw split at fit)).1)
 
 pub fit_up : (room : ℕ) (topic : Topic) (topics : List Topic) → 1 ≤ topic.parts → topic.parts ≤ room → FitInto (room - topic.parts) topics → FitInto room (topic ∷ topics)
 fit_up room topic topics some few fit =

@@ -47,7 +47,7 @@ fn are_few(topics: &[Topic]) -> bool
     let mut room = MAX_PARTITIONS;
     let mut rest = topics;
     while let Some((topic, others)) = rest.split_first() {
-        if !(1..=room).contains(&topic.parts) {
+        if topic.parts == 0 || topic.parts > room {
             return false;
         }
         room -= topic.parts;

@@ -1,12 +1,13 @@
-use Rattle.std.proofs.Common.{rules, ◌⊎◌, inl, inr, subst, sym, Some, ◌∙◌, ◌+◌}
-use Rattle.edge_io.specs.Counting.{FailsInCalls}
-use Rattle.edge_io.proofs.Counting.{does_then_fails}
+use Rattle.std.proofs.Common.{◌⊎◌, inl, inr, subst, sym, Some, Ok, Err, ◌+◌, ap, arith}
+use Rattle.edge_io.specs.Counting.{MakesCalls}
 use Rattle.edge_io.specs.Moments.{LeavesOnly}
-use Rattle.edge_io.proofs.Moments.{joined}
+use Rattle.edge_io.proofs.Moments.{joined, weakened}
 use Rattle.gate_journal.specs.Frames.{IsWithPending, IsBeforeOrAfter, frame_in}
 use Rattle.gate_journal.specs.Journals.{Stands, calls_to_mend}
 use Rattle.gate_journal.specs.declared.writer.Writer.{Writer}
-use Rattle.gate_journal.proofs.Shaped.{stands_by, rests_by_text}
+use Rattle.share_model.specs.declared.fault.StoreFault.TheVariants.{Device as device}
+use Rattle.gate_journal.proofs.Changes.{mend_failed, add_failed, both_made}
+use Rattle.gate_journal.proofs.Shaped.{not_full, stands_by, rests_by_text}
 use Rattle.gate_journal.proofs.journal.Journal.append.Goals as goal
 
 pub returns-in-Err-add-clause-failed : goal.returns-in-Err-add-clause-failed
@@ -51,16 +52,49 @@ returns-clause-any_moment g c = λ frames pending s.
     (c.mend.ensures.any_moment frames pending left.mends) (c.add.ensures.any_moment frames
     (frame_in c.args.buffer.now) clean c.requires c.set_frame.ensures) (λ x p. inl p) (λ x p. inr p))
 
+pub returns-in-Err-clause-disk : goal.returns-in-Err-clause-disk
+returns-in-Err-clause-disk g c =
+    subst (λ (w : Writer _). MakesCalls g.D.Disk.content g.D.Disk.losses g.D.Disk.arms g.D.Disk.armed g.D.Disk.starved g.D.Disk.faults (calls_to_mend w.mending + 4)
+    w.disk c.mend.new.self.disk device (Err device)) c.self.view_is
+    (mend_failed g.D.Disk.content g.D.Disk.losses g.D.Disk.arms g.D.Disk.armed g.D.Disk.starved g.D.Disk.faults (calls_to_mend c.self.inside.writer.mending)
+    c.self.inside.writer.disk c.mend.new.self.disk _ c.mend.ensures.runs c.in-Err.ensures.fails c.in-Err.ensures.cause)
+
 pub returns-in-Err-add-clause-disk : goal.returns-in-Err-add-clause-disk
-returns-in-Err-add-clause-disk g c = record {
-  runs = search rules;
-  done = tt;
-  fails = λ is.
-      subst (λ (w : Writer _). FailsInCalls g.D.Disk.content g.D.Disk.armed g.D.Disk.starved (calls_to_mend w.mending + 4) w.disk c.add.new.self.disk)
-      c.self.view_is
-      (does_then_fails g.D.Disk.content g.D.Disk.armed g.D.Disk.starved g.D.Disk.faults (calls_to_mend c.self.inside.writer.mending) 4
-      c.self.inside.writer.disk c.mend.new.self.disk c.add.new.self.disk (λ told. c.mend.ensures.runs.told ∙ told)
-      c.in_default.ensures.calls c.in-Err-add.ensures.fails);
-  rose = search rules;
-  memory = search rules;
-}
+returns-in-Err-add-clause-disk g c =
+    subst (λ (w : Writer _). MakesCalls g.D.Disk.content g.D.Disk.losses g.D.Disk.arms g.D.Disk.armed g.D.Disk.starved g.D.Disk.faults (calls_to_mend w.mending + 4)
+    w.disk c.add.new.self.disk device (Err device)) c.self.view_is
+    (add_failed g.D.Disk.content g.D.Disk.losses g.D.Disk.arms g.D.Disk.armed g.D.Disk.starved g.D.Disk.faults (calls_to_mend c.self.inside.writer.mending)
+    c.self.inside.writer.disk c.mend.new.self.disk c.add.new.self.disk _ c.mend.ensures.runs c.in_default.ensures.calls
+    c.add.ensures.runs c.in-Err-add.ensures.fails c.in-Err-add.ensures.cause)
+
+pub returns-clause-disk : goal.returns-clause-disk
+returns-clause-disk g c =
+    subst (λ (w : Writer _). MakesCalls g.D.Disk.content g.D.Disk.losses g.D.Disk.arms g.D.Disk.armed g.D.Disk.starved g.D.Disk.faults (calls_to_mend w.mending + 4)
+    w.disk c.add.new.self.disk device (Ok c.mend.new.self.count)) c.self.view_is
+    (both_made g.D.Disk.content g.D.Disk.losses g.D.Disk.arms g.D.Disk.armed g.D.Disk.starved g.D.Disk.faults (calls_to_mend c.self.inside.writer.mending)
+    c.self.inside.writer.disk c.mend.new.self.disk c.add.new.self.disk _ c.mend.ensures.runs c.in_default.ensures.calls
+    c.add.ensures.runs c.in_default-add.ensures.calls)
+
+pub returns-in-Err-clause-failed : goal.returns-in-Err-clause-failed
+returns-in-Err-clause-failed g c = λ frames pending s.
+    let left = subst (λ (w : Writer _). Stands g.D.Disk.image w frames pending) (sym c.self.view_is) s in
+    inl (stands_by g.D.Disk.image c.mend.new.self frames pending (c.in-Err.ensures.kept frames pending left.mends))
+
+pub returns-in-Err-clause-any_moment : goal.returns-in-Err-clause-any_moment
+returns-in-Err-clause-any_moment g c = λ frames pending s.
+    let left = subst (λ (w : Writer _). Stands g.D.Disk.image w frames pending) (sym c.self.view_is) s in
+    subst (λ (w : Writer _). LeavesOnly g.D.Disk.moment g.D.Disk.since w.disk c.mend.new.self.disk
+    (λ x. IsWithPending frames pending x ⊎ IsBeforeOrAfter frames (frame_in c.args.buffer.now) x)) c.self.view_is
+    (weakened g.D.Disk.moment g.D.Disk.since _ _ _ _ (c.mend.ensures.any_moment frames pending left.mends) (λ x p. inl p))
+
+pub returns-in-Err-clause-full : goal.returns-in-Err-clause-full
+returns-in-Err-clause-full g c = not_full _ _ _ _ _ (λ end is. cc)
+    (omega (arith, ap (λ (w : Writer _). w.end) c.self.view_is, c.if-end-gt-MAX_END.false, c.if-len-end.false))
+
+pub returns-in-Err-add-clause-full : goal.returns-in-Err-add-clause-full
+returns-in-Err-add-clause-full g c = not_full _ _ _ _ _ (λ end is. cc)
+    (omega (arith, ap (λ (w : Writer _). w.end) c.self.view_is, c.if-end-gt-MAX_END.false, c.if-len-end.false))
+
+pub returns-clause-full : goal.returns-clause-full
+returns-clause-full g c = not_full _ _ _ _ _ (λ end is. cc)
+    (omega (arith, ap (λ (w : Writer _). w.end) c.self.view_is, c.if-end-gt-MAX_END.false, c.if-len-end.false))

@@ -1,4 +1,5 @@
 use Rattle.std.proofs.Common.{◌≡◌, ◌≤◌, ◌^◌, arith, sym, ap, subst, ◌∙◌, ℕ, length}
+use Rattle.std.proofs.lemmas.Result.{IfOk-weaker}
 use Rattle.gate_journal.specs.Frames.{frame_in}
 use Rattle.rec_batch.specs.declared.form.Form.TheVariants.{Produced}
 use Rattle.rec_batch.specs.Placing.{placed}
@@ -8,6 +9,7 @@ use Rattle.part_log.specs.Logs.{AddsOnce, MayFollow}
 use Rattle.part_log.proofs.Adding.{adds, bad, hungry, past}
 use Rattle.part_log.proofs.Placing.{past_there, placed_there, same_size}
 use Rattle.part_log.proofs.Refusing.{not_refused, refused_so}
+use Rattle.edge_io.proofs.Runs.{runs_none}
 use Rattle.part_log.proofs.log.PartLog.add.Goals as goal
 
 pub returns-in-Err-clause-batch : goal.returns-in-Err-clause-batch
@@ -62,3 +64,33 @@ returns-clause-once g c =
     (adds g.D.Disk.content g.D.Disk.image g.D.Disk.moment g.D.Disk.since g.D.Disk.armed g.D.Disk.starved g.D.Disk.faults c.args.self.now c.store.new.self _ _ c.end-base.result c.store.result
     (omega (arith, last, c.in-Some.ensures.1)) (omega (arith, c.in-Ok-placed_copy.ensures.1, same_size c.args.batch.now c.in-Ok.view c.in-Ok.ensures.accepted c.end-base.result, ap length frame))
     base c.store.ensures.ok c.store.ensures.base c.store.ensures.device c.store.ensures.unchanged c.store.ensures.full c.store.ensures.room c.store.ensures.any_moment)
+
+pub returns-in-Err-clause-runs : goal.returns-in-Err-clause-runs
+returns-in-Err-clause-runs g c = runs_none g.D.Disk.content g.D.Disk.losses g.D.Disk.arms g.D.Disk.armed g.D.Disk.starved g.D.Disk.faults c.args.self.now.journal.disk
+
+pub returns-in_default-clause-runs : goal.returns-in_default-clause-runs
+returns-in_default-clause-runs g c = runs_none g.D.Disk.content g.D.Disk.losses g.D.Disk.arms g.D.Disk.armed g.D.Disk.starved g.D.Disk.faults c.args.self.now.journal.disk
+
+pub returns-in_default-placed_copy-clause-runs : goal.returns-in_default-placed_copy-clause-runs
+returns-in_default-placed_copy-clause-runs g c = runs_none g.D.Disk.content g.D.Disk.losses g.D.Disk.arms g.D.Disk.armed g.D.Disk.starved g.D.Disk.faults c.args.self.now.journal.disk
+
+pub returns-in-Err-clause-behind : goal.returns-in-Err-clause-behind
+returns-in-Err-clause-behind g c = λ end e. let never : ⊥ = cc in never
+
+pub returns-in_default-clause-behind : goal.returns-in_default-clause-behind
+returns-in_default-clause-behind g c = λ end e. let never : ⊥ = cc in never
+
+pub returns-in_default-placed_copy-clause-behind : goal.returns-in_default-placed_copy-clause-behind
+returns-in_default-placed_copy-clause-behind g c = λ end e. let never : ⊥ = cc in never
+
+pub returns-clause-behind : goal.returns-clause-behind
+returns-clause-behind g c = c.store.ensures.no_behind
+
+pub returns-clause-runs : goal.returns-clause-runs
+returns-clause-runs g c = c.store.ensures.runs
+
+pub returns-clause-base : goal.returns-clause-base
+returns-clause-base g c = IfOk-weaker c.store.result _ _ (λ n is. is ∙ c.end-base.ensures.end) c.store.ensures.base
+
+pub returns-clause-below : goal.returns-clause-below
+returns-clause-below g c = IfOk-weaker c.store.result _ _ (λ n is. omega (arith, is, c.end-base.ensures.below)) c.store.ensures.base

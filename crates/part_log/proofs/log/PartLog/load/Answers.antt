@@ -5,9 +5,10 @@ use Rattle.share_model.specs.declared.fault.LogFault.TheVariants.{Behind}
 use Rattle.part_log.specs.Batches.{batch_in}
 use Rattle.part_log.specs.Logs.{AddsOnce, MayFollow}
 use Rattle.part_log.proofs.Adding.{adds, bad, behind, hungry}
-use Rattle.part_log.proofs.Frames.{stored_by, view_bound, view_last}
+use Rattle.part_log.proofs.Frames.{faulty_none, stored_by, view_bound, view_last}
 use Rattle.part_log.proofs.Placing.{stored_there}
 use Rattle.part_log.proofs.Refusing.{behind_is, not_refused, refused_so}
+use Rattle.edge_io.proofs.Runs.{runs_none}
 use Rattle.part_log.proofs.log.PartLog.load.Goals as goal
 
 pub returns-in-Err-clause-batch : goal.returns-in-Err-clause-batch
@@ -74,3 +75,27 @@ returns-clause-once g c =
     (omega (arith, c.in-Ok-framed_copy.ensures.1, ap length frame))
     (subst (λ f. c.in-Ok.view.base ≡ (batch_in f).base) (sym frame) accepted.0.base)
     c.store.ensures.ok c.store.ensures.base c.store.ensures.device c.store.ensures.unchanged c.store.ensures.full c.store.ensures.room c.store.ensures.any_moment)
+
+pub returns-in-Err-clause-runs : goal.returns-in-Err-clause-runs
+returns-in-Err-clause-runs g c = runs_none g.D.Disk.content g.D.Disk.losses g.D.Disk.arms g.D.Disk.armed g.D.Disk.starved g.D.Disk.faults c.args.self.now.journal.disk
+
+pub returns-then-view-end-clause-runs : goal.returns-then-view-end-clause-runs
+returns-then-view-end-clause-runs g c = runs_none g.D.Disk.content g.D.Disk.losses g.D.Disk.arms g.D.Disk.armed g.D.Disk.starved g.D.Disk.faults c.args.self.now.journal.disk
+
+pub returns-in_default-clause-runs : goal.returns-in_default-clause-runs
+returns-in_default-clause-runs g c = runs_none g.D.Disk.content g.D.Disk.losses g.D.Disk.arms g.D.Disk.armed g.D.Disk.starved g.D.Disk.faults c.args.self.now.journal.disk
+
+pub returns-in_default-clause-behind : goal.returns-in_default-clause-behind
+returns-in_default-clause-behind g c = λ end. (
+  λ e. let never : ⊥ = cc in absurd never,
+  λ h. absurd (omega (arith, h.2, c.in-Ok.ensures.accepted.0.base, c.if-view-end.false, c.end-end.ensures.end)),
+)
+
+pub returns-clause-runs : goal.returns-clause-runs
+returns-clause-runs g c = c.store.ensures.runs
+
+pub returns-in-Err-clause-behind : goal.returns-in-Err-clause-behind
+returns-in-Err-clause-behind g c = λ end. (
+  λ e. let never : ⊥ = cc in absurd never,
+  λ h. absurd (faulty_none c.args.batch.now c.in-Err.fault c.in-Err.ensures.refused (batch_in c.args.batch.now) refl h.1),
+)

@@ -1,10 +1,10 @@
-use Rattle.std.proofs.Common.{◌≡◌, ◌<◌, ◌^◌, ◌∙◌, sym, ap, subst, Option, Some, to_z, of_z, w32, w64}
+use Rattle.std.proofs.Common.{◌≡◌, ◌<◌, ◌^◌, ◌∙◌, sym, ap, subst, Option, Some, None, to_z, of_z, w32, w64}
 use Rattle.std.specs.Option.{option_copied}
 use Rattle.edge_io.proofs.Runs.{runs_none}
 use Rattle.share_coord.specs.Stored.{next_snapshot, kept_at}
 use Rattle.share_coord.specs.Calls.{write_refusal}
 use Rattle.share_coord.specs.declared.view.Kept.{Kept}
-use Rattle.share_coord.proofs.Keys.{next_few}
+use Rattle.share_coord.proofs.Keys.{next_few, some_none}
 use Rattle.share_coord.proofs.Numeric.{write_apart, unknown_apart, plan_apart, causes_in}
 use Rattle.share_coord.proofs.Once.{untouched, rewritten}
 use Rattle.share_coord.proofs.Signed.{epoch_fits, start_fits, in_range, refusal_as, written_as}
@@ -58,3 +58,34 @@ returns-clause-once g c =
     (c.in-Ok.ensures.written c.args.self.now.map.entries known
     (ap (λ (o : Option Kept). write_refusal o (to_z w32 (of_z w32 c.args.state_epoch)) (to_z w32 (of_z w32 c.args.leader_epoch)) (to_z w64 (of_z w64 c.args.start)) c.args.runs.now) (sym c.get-known.ensures.value)
     ∙ (sym c.write_refusal.ensures ∙ c.in_default.is))) e) c.replace.ensures.once
+
+pub returns-clause-refused : goal.returns-clause-refused
+returns-clause-refused g c =
+    let none : write_refusal (kept_at c.args.self.now.map.entries c.args.key.now) c.args.state_epoch c.args.leader_epoch c.args.start c.args.runs.now ≡ None =
+    ap (λ (o : Option Kept). write_refusal o c.args.state_epoch c.args.leader_epoch c.args.start c.args.runs.now) (sym c.get-known.ensures.value)
+    ∙ (refusal_as (option_copied c.get-known.result) c.args.state_epoch c.args.leader_epoch c.args.start c.args.runs.now c.ranges.state_epoch c.ranges.leader_epoch c.ranges.start
+    ∙ (sym c.write_refusal.ensures ∙ c.in_default.is)) in
+    λ fault is. absurd (some_none fault (sym is ∙ none))
+
+pub returns-in-Err-clause-refused : goal.returns-in-Err-clause-refused
+returns-in-Err-clause-refused g c =
+    let none : write_refusal (kept_at c.args.self.now.map.entries c.args.key.now) c.args.state_epoch c.args.leader_epoch c.args.start c.args.runs.now ≡ None =
+    ap (λ (o : Option Kept). write_refusal o c.args.state_epoch c.args.leader_epoch c.args.start c.args.runs.now) (sym c.get-known.ensures.value)
+    ∙ (refusal_as (option_copied c.get-known.result) c.args.state_epoch c.args.leader_epoch c.args.start c.args.runs.now c.ranges.state_epoch c.ranges.leader_epoch c.ranges.start
+    ∙ (sym c.write_refusal.ensures ∙ c.in_default.is)) in
+    λ fault is. absurd (some_none fault (sym is ∙ none))
+
+pub returns-in-Some-clause-runs : goal.returns-in-Some-clause-runs
+returns-in-Some-clause-runs g c = runs_none g.D.Disk.content g.D.Disk.losses g.D.Disk.arms g.D.Disk.armed g.D.Disk.starved g.D.Disk.faults c.args.self.now.journal.live.disk
+
+pub returns-in_default-known-clause-runs : goal.returns-in_default-known-clause-runs
+returns-in_default-known-clause-runs g c = runs_none g.D.Disk.content g.D.Disk.losses g.D.Disk.arms g.D.Disk.armed g.D.Disk.starved g.D.Disk.faults c.args.self.now.journal.live.disk
+
+pub planned-requires-clause-runs : goal.planned-requires-clause-runs
+planned-requires-clause-runs g c =
+    let none = refusal_as (option_copied c.get-known.result) c.args.state_epoch c.args.leader_epoch c.args.start c.args.runs.now c.ranges.state_epoch c.ranges.leader_epoch c.ranges.start
+    ∙ (sym c.write_refusal.ensures ∙ c.in_default.is) in
+    (in_range (option_copied c.get-known.result) c.args.state_epoch c.args.leader_epoch c.args.start c.args.runs.now none).runs_are
+
+pub replace-requires-clause-frame : goal.replace-requires-clause-frame
+replace-requires-clause-frame g c = c.in-Ok.ensures.frame
