@@ -41,7 +41,7 @@ fn is_front_read<M: Wire>(alloc: Global, bytes: &[u8]) -> bool {
 }
 
 /// What a value that was read is, and how it is written, where that isn't how it was read.
-fn read_told<M: Wire + Debug>(
+pub fn read_told<M: Wire + Debug>(
     alloc: Global,
     bytes: &[u8],
     message: &M,
@@ -55,8 +55,8 @@ fn read_told<M: Wire + Debug>(
     Ok(text)
 }
 
-/// What a field or a message is read as, and written.
-pub fn told<M: Wire + Debug>(alloc: Global, bytes: &[u8]) -> io::Result<String> {
+/// What a field is read as, and written.
+fn told<M: Wire + Debug>(alloc: Global, bytes: &[u8]) -> io::Result<String> {
     let read: Result<M, WireFault> = read_whole(alloc, bytes);
     match read {
         Ok(value) => read_told(alloc, bytes, &value, &write_whole(alloc, &value)),

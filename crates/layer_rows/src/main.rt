@@ -8,6 +8,7 @@ mod acks;
 mod adapters;
 mod batches;
 mod bay;
+mod calls;
 mod case;
 mod disks;
 mod fakes;

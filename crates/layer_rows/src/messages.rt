@@ -1,5 +1,8 @@
-// Kafka's messages. Each is read and written as a field is, by `read_whole` and `write_whole`: its own two calls do just that.
-use crate::kinds::told;
+// Kafka's messages: what each is read as, and written, by its own two calls.
+use crate::calls::Message;
+use crate::kinds::read_told;
+use crate::plain::fault_text;
+use flex_fields::Wire;
 use msgs_base::{
     ApiVersionsOldReply, ApiVersionsReply, ApiVersionsRequest, FindCoordinatorReply,
     FindCoordinatorRequest, MetadataReply, MetadataRequest, ProduceReply, ProduceRequest,
@@ -11,7 +14,16 @@ use msgs_state::{
     ReadShareGroupStateRequest, ShareGroupStateReply, WriteShareGroupStateRequest,
 };
 use std::alloc::Global;
+use std::fmt::Debug;
 use std::io;
+
+/// What a message is read as, and written.
+fn told<M: Message + Wire + Debug>(alloc: Global, bytes: &[u8]) -> io::Result<String> {
+    match M::read(alloc, bytes) {
+        Ok(message) => read_told(alloc, bytes, &message, &message.write(alloc)),
+        Err(fault) => fault_text(alloc, &fault),
+    }
+}
 
 /// What bytes are as a message of a client's first calls, or of a producer, or as one of those below. `None` where there is no such kind.
 pub fn client_told(alloc: Global, kind: &str, bytes: &[u8]) -> io::Result<Option<String>> {
