@@ -12,8 +12,6 @@ mod opening;
 mod slots;
 mod streams;
 mod system;
-#[cfg(test)]
-mod tests;
 
 pub use bay::FolderBay;
 pub use fault::{FolderFault, FolderPart, SystemCall, SystemFault};

@@ -1,5 +1,5 @@
 -- The reply to Produce of version 9 (ProduceResponse.json): the offset of each batch, or an error.
--- For example one that tells offset 3 for partition 0 of topic `t` has 43 bytes (format_rows, `its reply with an offset`).
+-- For example one that tells offset 3 for partition 0 of topic `t` has 43 bytes (layer_rows, `its reply with an offset`).
 use Rattle.std.specs.Prelude.{ℕ, ℤ, List, Option, refl}
 use Rattle.flex_fields.specs.Formats.{Format, Shape, structure, array, ◌▹◌, string, null_string, int16, int32, int64}
 use Rattle.msgs_base.specs.declared.produce_reply.ProduceRecordError.{ProduceRecordError}

@@ -1,5 +1,5 @@
 -- The Produce request of version 9 (ProduceRequest.json): for each topic, by its name, the record batches that its partitions get.
--- For example that of topic `t` with three bytes for partition 0 has 22 bytes (format_rows, `Produce of one partition`).
+-- For example that of topic `t` with three bytes for partition 0 has 22 bytes (layer_rows, `Produce of one partition`).
 use Rattle.std.specs.Prelude.{ℕ, ℤ, List, Option, refl}
 use Rattle.flex_fields.specs.Formats.{Format, Shape, structure, array, ◌▹◌, string, null_string, null_byte_string, int16, int32}
 use Rattle.msgs_base.specs.declared.produce_request.ProducePartition.{ProducePartition}

@@ -1,0 +1,31 @@
+//! Worked examples of the lower layers: formats, stores on disks in memory, and what adapters ask of the system.
+//!
+//! A line `layer NAME` before the cases of a file says which they are about: `formats`, `stores` or `adapters`. The heads of
+//! `formats.rt`, `stores.rt` and `adapters.rt` say which lines there are.
+#![tactic(auto)]
+
+mod acks;
+mod adapters;
+mod batches;
+mod bay;
+mod calls;
+mod case;
+mod disks;
+mod fakes;
+mod formats;
+mod kinds;
+mod logs;
+mod messages;
+mod plain;
+mod records;
+mod stores;
+mod streams;
+mod values;
+
+use case::Case;
+use row_text::run_files;
+use std::io;
+
+fn main(rt: HostRuntime) -> io::Result<()> {
+    run_files(&rt, Case::new(rt.alloc()))
+}
