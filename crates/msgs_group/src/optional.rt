@@ -1,18 +1,16 @@
-ghost use Rattle.std.specs.Prelude.{OnOk, OnErr};
+ghost use Rattle.std.specs.Prelude.{◌≡◌, Option, OnOk, OnErr};
 ghost use Rattle.flex_fields.specs.Cursors.{Moves};
 ghost use Rattle.flex_fields.specs.Formats.{Writes, StartsWith};
 ghost use Rattle.msgs_group.specs.HeartbeatReply.{optional};
 
 use flex_fields::{Cursor, NoMemory, Out, Wire, WireFault};
 use std::alloc::Global;
+use std::marker::Model;
 
 /// Takes a structure or null: the byte -1 alone, or 1 and then the structure. Any other byte is refused as `BadLength`. After
 /// a refusal the cursor may stand anywhere.
 #[tactic(auto, unfolding(crate::specs::Optional::optional_at))]
-pub fn take_optional<T: Wire>(
-    alloc: Global,
-    cursor: &mut Cursor<'_>,
-) -> Result<Option<T>, WireFault>
+fn take_optional<T: Wire>(alloc: Global, cursor: &mut Cursor<'_>) -> Result<Option<T>, WireFault>
     ensures { Moves cursor.new result ((optional T.format).read cursor.old) }
 {
     let place = cursor.place();
@@ -37,5 +35,42 @@ pub fn put_optional<T: Wire>(out: &mut Out, value: &Option<T>) -> Result<(), NoM
             out.put_i8(1)?;
             value.put(out)
         }
+    }
+}
+
+/// A structure or null, as a field that is taken.
+#[derive(Drop)]
+pub struct Optional<T> {
+    value: Option<T>,
+}
+
+impl<T> Model for Optional<T> {
+    ghost use Rattle.std.specs.Prelude.{Option};
+
+    ghost Value = { Option T };
+
+    ghost view = { λ o. o.value };
+}
+
+impl<T> Optional<T> {
+    /// Hands out the structure.
+    pub fn into_option(self) -> Option<T>
+        ensures { result ≡ self }
+    {
+        let Optional { value } = self;
+        value
+    }
+}
+
+impl<T: Wire> Wire for Optional<T> {
+    ghost format = { optional T.format };
+
+    fn take(alloc: Global, cursor: &mut Cursor<'_>) -> Result<Self, WireFault> {
+        let value = take_optional(alloc, cursor)?;
+        Ok(Optional { value })
+    }
+
+    fn put(&self, out: &mut Out) -> Result<(), NoMemory> {
+        put_optional(out, &self.value)
     }
 }
