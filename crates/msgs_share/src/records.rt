@@ -42,12 +42,10 @@ impl Wire for NullRecords {
         if number == 0 {
             return Ok(NullRecords { records: None });
         }
-        let rest = cursor.rest();
         let count = number - 1;
-        if rest.len() < count as usize {
+        let Ok(bytes) = cursor.take_slice(count as usize) else {
             return Err(WireFault::Short { place });
-        }
-        let bytes = cursor.take_slice(count as usize)?;
+        };
         let records = Items::new(Vec::from_slice(alloc, bytes)?);
         Ok(NullRecords {
             records: Some(records),
