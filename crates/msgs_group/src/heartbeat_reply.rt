@@ -1,11 +1,12 @@
-ghost use Rattle.std.specs.Prelude.{IfOk};
+ghost use Rattle.std.specs.Prelude.{IfOk, Option};
 ghost use Rattle.flex_fields.specs.Formats.{ReadsWhole, IsSpelling};
-ghost use Rattle.msgs_group.specs.HeartbeatReply.{assigned_topic, assignment, heartbeat_reply};
+ghost use Rattle.msgs_group.specs.declared.heartbeat_reply.Assignment.{Assignment};
+ghost use Rattle.msgs_group.specs.HeartbeatReply.{assigned_topic, assignment, heartbeat_reply, optional};
 
-use crate::optional::{put_optional, take_optional};
+use crate::optional::{Optional, put_optional};
 use flex_fields::{
-    Bytes, Cursor, Items, NoMemory, Out, Text, Wire, WireFault, put_structure, read_whole,
-    take_structure, write_whole,
+    Bytes, Cursor, Items, NoMemory, Out, Put, Text, Wire, WireFault, put_fields, put_structure,
+    read_whole, take_fields, take_structure, write_whole,
 };
 use std::alloc::Global;
 use uuid::Uuid;
@@ -69,19 +70,34 @@ impl Wire for Assignment {
     }
 }
 
+// An assignment or null, as a field that is lent to be written.
+#[derive(Clone, Copy)]
+struct LentAssignment<'a> {
+    assignment: &'a Option<Assignment>,
+}
+
+impl Put for LentAssignment<'_> {
+    ghost Value = { Option Assignment };
+
+    ghost format = { optional assignment };
+
+    ghost value = { λ a. a.assignment.now };
+
+    fn put_behind(self, out: &mut Out) -> Result<(), NoMemory> {
+        put_optional(out, self.assignment)
+    }
+}
+
 impl Wire for HeartbeatReply {
     ghost format = { heartbeat_reply };
 
     #[tactic(auto, unfolding(crate::specs::HeartbeatReply::heartbeat_reply))]
     fn take(alloc: Global, cursor: &mut Cursor<'_>) -> Result<Self, WireFault> {
-        let throttle_time_ms = cursor.take_i32()?;
-        let error_code = cursor.take_i16()?;
-        let error_message = cursor.take_null_str(alloc)?;
-        let member_id = cursor.take_null_str(alloc)?;
-        let member_epoch = cursor.take_i32()?;
-        let heartbeat_interval_ms = cursor.take_i32()?;
-        let assignment = take_optional(alloc, cursor)?;
-        cursor.skip_tags()?;
+        let (throttle_time_ms, (error_code, (error_message, (member_id, member)))) = take_fields(
+            alloc, cursor,
+        )?;
+        let (member_epoch, (heartbeat_interval_ms, assignment)) = member;
+        let assignment = Optional::into_option(assignment);
         Ok(HeartbeatReply {
             throttle_time_ms,
             error_code,
@@ -94,15 +110,18 @@ impl Wire for HeartbeatReply {
     }
 
     fn put(&self, out: &mut Out) -> Result<(), NoMemory> {
-        self.throttle_time_ms.put(out)?;
-        self.error_code.put(out)?;
-        self.error_message.put(out)?;
-        self.member_id.put(out)?;
-        self.member_epoch.put(out)?;
-        self.heartbeat_interval_ms.put(out)?;
-        put_optional(out, &self.assignment)?;
-        out.put_tags()?;
-        Ok(())
+        let assignment = LentAssignment {
+            assignment: &self.assignment,
+        };
+        let member = (
+            &self.member_epoch,
+            (&self.heartbeat_interval_ms, assignment),
+        );
+        let answered = (
+            &self.error_code,
+            (&self.error_message, (&self.member_id, member)),
+        );
+        put_fields(out, (&self.throttle_time_ms, answered))
     }
 }
 

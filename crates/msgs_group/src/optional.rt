@@ -1,30 +1,10 @@
-ghost use Rattle.std.specs.Prelude.{OnOk, OnErr};
-ghost use Rattle.flex_fields.specs.Cursors.{Moves};
+ghost use Rattle.std.specs.Prelude.{◌≡◌, Option, OnOk, OnErr};
 ghost use Rattle.flex_fields.specs.Formats.{Writes, StartsWith};
 ghost use Rattle.msgs_group.specs.HeartbeatReply.{optional};
 
 use flex_fields::{Cursor, NoMemory, Out, Wire, WireFault};
 use std::alloc::Global;
-
-/// Takes a structure or null: the byte -1 alone, or 1 and then the structure. Any other byte is refused as `BadLength`. After
-/// a refusal the cursor may stand anywhere.
-#[tactic(auto, unfolding(crate::specs::Optional::optional_at))]
-pub fn take_optional<T: Wire>(
-    alloc: Global,
-    cursor: &mut Cursor<'_>,
-) -> Result<Option<T>, WireFault>
-    ensures { Moves cursor.new result ((optional T.format).read cursor.old) }
-{
-    let place = cursor.place();
-    let mark = cursor.take_i8()?;
-    if mark == -1 {
-        return Ok(None);
-    }
-    if mark != 1 {
-        return Err(WireFault::BadLength { place });
-    }
-    Ok(Some(T::take(alloc, cursor)?))
-}
+use std::marker::Model;
 
 /// Writes a structure or null. Where memory runs out, what was written before stands, and a part of this may follow it.
 pub fn put_optional<T: Wire>(out: &mut Out, value: &Option<T>) -> Result<(), NoMemory>
@@ -37,5 +17,52 @@ pub fn put_optional<T: Wire>(out: &mut Out, value: &Option<T>) -> Result<(), NoM
             out.put_i8(1)?;
             value.put(out)
         }
+    }
+}
+
+/// A structure or null, as a field that is taken: the byte -1 alone, or 1 and then the structure. Any other byte is refused as
+/// `BadLength`.
+#[derive(Drop)]
+pub struct Optional<T> {
+    value: Option<T>,
+}
+
+impl<T> Model for Optional<T> {
+    ghost use Rattle.std.specs.Prelude.{Option};
+
+    ghost Value = { Option T };
+
+    ghost view = { λ o. o.value };
+}
+
+impl<T> Optional<T> {
+    /// Hands out the structure.
+    pub fn into_option(self) -> Option<T>
+        ensures { result ≡ self }
+    {
+        let Optional { value } = self;
+        value
+    }
+}
+
+impl<T: Wire> Wire for Optional<T> {
+    ghost format = { optional T.format };
+
+    #[tactic(auto, unfolding(crate::specs::Optional::optional_at))]
+    fn take(alloc: Global, cursor: &mut Cursor<'_>) -> Result<Self, WireFault> {
+        let place = cursor.place();
+        let mark = cursor.take_i8()?;
+        if mark == -1 {
+            return Ok(Optional { value: None });
+        }
+        if mark != 1 {
+            return Err(WireFault::BadLength { place });
+        }
+        let value = Some(T::take(alloc, cursor)?);
+        Ok(Optional { value })
+    }
+
+    fn put(&self, out: &mut Out) -> Result<(), NoMemory> {
+        put_optional(out, &self.value)
     }
 }

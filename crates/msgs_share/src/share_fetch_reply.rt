@@ -3,11 +3,11 @@ ghost use Rattle.flex_fields.specs.Formats.{ReadsWhole, IsSpelling};
 ghost use Rattle.msgs_share.specs.ShareFetchReply.{acquired_records, fetched_partition, share_fetch_reply};
 
 use crate::nodes::{CurrentLeader, NodeEndpoint};
-use crate::records::{Records, put_records, take_records};
+use crate::records::{LentRecords, NullRecords, Records};
 use crate::share_topic::ShareTopic;
 use flex_fields::{
-    Bytes, Cursor, Items, NoMemory, Out, Text, Wire, WireFault, put_structure, read_whole,
-    take_array, take_structure, write_whole,
+    Bytes, Cursor, Items, NoMemory, Out, Text, Wire, WireFault, put_fields, put_structure,
+    read_whole, take_fields, take_structure, write_whole,
 };
 use std::alloc::Global;
 
@@ -69,15 +69,12 @@ impl Wire for FetchedPartition {
 
     #[tactic(auto, unfolding(crate::specs::ShareFetchReply::fetched_partition))]
     fn take(alloc: Global, cursor: &mut Cursor<'_>) -> Result<Self, WireFault> {
-        let partition_index = cursor.take_i32()?;
-        let error_code = cursor.take_i16()?;
-        let error_message = cursor.take_null_str(alloc)?;
-        let acknowledge_error_code = cursor.take_i16()?;
-        let acknowledge_error_message = cursor.take_null_str(alloc)?;
-        let current_leader = CurrentLeader::take(alloc, cursor)?;
-        let records = take_records(alloc, cursor)?;
-        let acquired_records = take_array(alloc, cursor)?;
-        cursor.skip_tags()?;
+        let (partition_index, (error_code, (error_message, acknowledged))) = take_fields(
+            alloc, cursor,
+        )?;
+        let (acknowledge_error_code, (acknowledge_error_message, fetched)) = acknowledged;
+        let (current_leader, (records, acquired_records)) = fetched;
+        let records = NullRecords::into_records(records);
         Ok(FetchedPartition {
             partition_index,
             error_code,
@@ -91,16 +88,16 @@ impl Wire for FetchedPartition {
     }
 
     fn put(&self, out: &mut Out) -> Result<(), NoMemory> {
-        self.partition_index.put(out)?;
-        self.error_code.put(out)?;
-        self.error_message.put(out)?;
-        self.acknowledge_error_code.put(out)?;
-        self.acknowledge_error_message.put(out)?;
-        self.current_leader.put(out)?;
-        put_records(out, &self.records)?;
-        self.acquired_records.put(out)?;
-        out.put_tags()?;
-        Ok(())
+        let records = LentRecords {
+            records: &self.records,
+        };
+        let fetched = (&self.current_leader, (records, &self.acquired_records));
+        let acknowledged = (
+            &self.acknowledge_error_code,
+            (&self.acknowledge_error_message, fetched),
+        );
+        let answered = (&self.error_code, (&self.error_message, acknowledged));
+        put_fields(out, (&self.partition_index, answered))
     }
 }
 
