@@ -1,10 +1,10 @@
-use Rattle.std.proofs.Common.{◌≡◌, false, rules}
+use Rattle.std.proofs.Common.{◌≡◌, false}
 use Rattle.broker_core.proofs.Reopens.{fed_three, opened_part}
 use Rattle.broker_core.proofs.part.open_part.Goals as goal
 
 pub returns-else-starved-clause-opens : goal.returns-else-starved-clause-opens
 returns-else-starved-clause-opens g c = λ l a b is is_first is_second.
-    (let not : c.starved.result ≡ false = search rules in
+    (let not : c.starved.result ≡ false = c.if-starved.false in
     let fed = fed_three c.starved.result _ _ _ not c.starved.ensures in
     opened_part g.D.Disk.content g.D.Disk.image g.D.Disk.starved g.D.Disk.faults g.D.Disk.losses g.D.Disk.arms g.D.Disk.armed
     c.args.conf c.args.disks.0 c.args.disks.1 c.args.disks.2 l a b c.in-Ok.part is is_first is_second c.in-Ok.ensures.opened
@@ -14,3 +14,8 @@ pub returns-else-one_starved-clause-recovers : goal.returns-else-one_starved-cla
 returns-else-one_starved-clause-recovers g c = λ l a b batches states is is_first is_second text name place damaged.
     (let why = c.fault_of_open-fault.ensures.damaged name place damaged in
     c.in-Err.ensures.refused.sound l a b batches states is is_first is_second text why.0 place why.1)
+
+pub returns-else-one_starved-clause-damaged : goal.returns-else-one_starved-clause-damaged
+returns-else-one_starved-clause-damaged g c = λ name place damaged l a b is is_first is_second.
+    (let why = c.fault_of_open-fault.ensures.damaged name place damaged in
+    (why.0, why.2, c.in-Err.ensures.refused.damaged why.0 place why.1 l a b is is_first is_second))

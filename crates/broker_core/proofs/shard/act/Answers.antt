@@ -1,4 +1,4 @@
-use Rattle.std.proofs.Common.{◌≡◌, false, rules}
+use Rattle.std.proofs.Common.{◌≡◌, false}
 use Rattle.broker_core.proofs.Stepping.{on_err}
 use Rattle.broker_core.proofs.Leading.{act_refused, act_halts, act_leads, fed_both, tellable}
 use Rattle.broker_core.proofs.shard.act.Goals as goal
@@ -14,7 +14,7 @@ returns-then-starved-clause-stopped g c = λ s k. act_halts g.D.Disk.content g.D
 
 pub returns-clause-ok : goal.returns-clause-ok
 returns-clause-ok g c = λ s k.
-    (let no : c.starved.result ≡ false = search rules in
+    (let no : c.starved.result ≡ false = c.if-starved.false in
     act_leads g.D.Disk.content g.D.Disk.image g.D.Disk.starved g.D.Disk.faults g.D.Disk.losses g.D.Disk.arms g.D.Disk.armed
     c.args.shard.now c.act.new.self c.args.op.now c.in_ok-answer.answer s k c.in_ok-answer.ensures.ok c.act.ensures.runs c.act.ensures.idle c.act.ensures.ends
     (fed_both c.starved.result _ _ no c.starved.ensures).0)

@@ -15,3 +15,8 @@ pub returns-else-starved-3-clause-recovers : goal.returns-else-starved-3-clause-
 returns-else-starved-3-clause-recovers g c = λ a b states is is_second stands name place damaged.
     (let why = c.fault_of_open.ensures.damaged name place damaged in
     c.in-Err.ensures.refused.sound a b stands.0 is is_second stands.1 why.0 place why.1)
+
+pub returns-else-starved-3-clause-damaged : goal.returns-else-starved-3-clause-damaged
+returns-else-starved-3-clause-damaged g c = λ name place damaged a b is is_second.
+    (let why = c.fault_of_open.ensures.damaged name place damaged in
+    (why.0, why.2, c.in-Err.ensures.refused.damaged why.0 place why.1 a b is is_second))
