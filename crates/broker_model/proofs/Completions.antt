@@ -9,7 +9,7 @@ use Rattle.share_model.specs.Pending.{WithPending}
 use Rattle.share_model.specs.ForeignRules.{ShareStates, Does, Initialises, WritesBatches, share_state_at, runs_of}
 use Rattle.share_model.specs.declared.fault.StoreFault.{StoreFault}
 use Rattle.share_model.specs.declared.fault.StoreFault.TheVariants.{Device, Full}
-use Rattle.share_model.specs.declared.fault.TheConstants.Code.{NONE}
+use Rattle.share_model.specs.ErrorCodes.{NONE}
 use Rattle.share_model.specs.declared.foreign.ForeignAnswer.{ForeignAnswer}
 use Rattle.share_model.specs.declared.foreign.ForeignOp.{ForeignOp}
 use Rattle.share_model.specs.declared.foreign.ForeignOp.TheVariants.{Init, Read, Write, Delete}

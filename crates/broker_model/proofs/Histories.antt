@@ -17,7 +17,7 @@ use Rattle.share_model.specs.Runs.{IsCanonical, row_at}
 use Rattle.share_model.specs.ShareStates.{ShareState, start_after, is_below}
 use Rattle.share_model.specs.ForeignRules.{ShareStates, Does, Initialises, Writes, WritesBatches, IsGranted, share_state_at, init_code, write_code, runs_of}
 use Rattle.share_model.specs.declared.fault.Code.{Code}
-use Rattle.share_model.specs.declared.fault.TheConstants.Code.{NONE}
+use Rattle.share_model.specs.ErrorCodes.{NONE}
 use Rattle.share_model.specs.declared.foreign.ForeignAnswer.{ForeignAnswer}
 use Rattle.share_model.specs.declared.foreign.ForeignOp.{ForeignOp}
 use Rattle.share_model.specs.declared.foreign.ForeignOp.TheVariants.{Init, Read, Write, Delete}

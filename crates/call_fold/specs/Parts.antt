@@ -4,7 +4,7 @@
 use Rattle.std.specs.Prelude.{◌+◌, ◌<◌, ◌^◌, pos, [], None, length, All}
 use Rattle.msgs_group.specs.declared.heartbeat_reply.HeartbeatReply.{HeartbeatReply}
 use Rattle.share_model.specs.ForeignRules.{code_alone}
-use Rattle.share_model.specs.declared.fault.TheConstants.Code.{NONE}
+use Rattle.share_model.specs.ErrorCodes.{NONE}
 use Rattle.share_model.specs.declared.fault.StoreFault.TheVariants.{Device}
 use Rattle.share_model.specs.declared.foreign.ForeignAnswer.{ForeignAnswer}
 use Rattle.share_model.specs.declared.hold.Grant.{Grant}
@@ -128,7 +128,7 @@ look_answer (Heartbeat reply) = Absent
 abbrev pub no_heartbeat : HeartbeatReply
 no_heartbeat = record {
   throttle_time_ms = pos 0;
-  error_code = pos 0;
+  error_code = NONE.0;
   error_message = None;
   member_id = None;
   member_epoch = pos 0;

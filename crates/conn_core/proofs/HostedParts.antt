@@ -5,7 +5,7 @@ use Rattle.std.specs.List.{cons_option, slice_index_or}
 use Rattle.std.proofs.lemmas.List.Elements.{All-nil, All-cons, All-head, All-tail, All-append, All-map, All-weaker}
 use Rattle.flex_fields.specs.Formats.{Format}
 use Rattle.share_model.specs.declared.fault.Code.{Code}
-use Rattle.share_model.specs.declared.fault.TheConstants.Code.{INVALID_REQUEST}
+use Rattle.share_model.specs.ErrorCodes.{INVALID_REQUEST}
 use Rattle.topic_conf.specs.Configs.{ConfigParts}
 use Rattle.topic_conf.specs.declared.topic.Topic.{Topic}
 use Rattle.topic_conf.specs.Topics.{shard_at, partitions}

@@ -11,7 +11,7 @@ use Rattle.flex_fields.specs.declared.fault.NoMemory.{NoMemory as want}
 use Rattle.share_model.specs.ForeignRules.{code_alone}
 use Rattle.share_model.specs.ForeignRules.{ShareStates, Does}
 use Rattle.share_model.specs.Pending.{WithPending}
-use Rattle.share_model.specs.declared.fault.TheConstants.Code.{NONE, KAFKA_STORAGE_ERROR}
+use Rattle.share_model.specs.ErrorCodes.{NONE, KAFKA_STORAGE_ERROR}
 use Rattle.share_model.specs.declared.fault.StoreFault.{StoreFault}
 use Rattle.share_model.specs.declared.fault.StoreFault.TheVariants.{Device, Full}
 use Rattle.share_model.specs.declared.foreign.ForeignAnswer.{ForeignAnswer}

@@ -10,7 +10,7 @@ use Rattle.share_model.specs.ForeignRules.{code_alone}
 use Rattle.share_model.specs.ForeignRules.{ShareStates, runs_of, read_share_state, Does, WritesBatches, share_state_at}
 use Rattle.share_model.specs.Keys.{KeyParts}
 use Rattle.share_model.specs.ShareStates.{ShareState}
-use Rattle.share_model.specs.declared.fault.TheConstants.Code.{NONE, INVALID_REQUEST, KAFKA_STORAGE_ERROR}
+use Rattle.share_model.specs.ErrorCodes.{NONE, INVALID_REQUEST, KAFKA_STORAGE_ERROR}
 use Rattle.share_model.specs.declared.foreign.ForeignAnswer.{ForeignAnswer}
 use Rattle.share_model.specs.declared.foreign.ForeignOp.TheVariants.{Init, Read, Write, Delete}
 use Rattle.share_model.specs.declared.foreign.StateBatch.{StateBatch}

@@ -4,7 +4,7 @@ use Rattle.std.specs.Option.{option_map}
 use Rattle.share_model.specs.ForeignRules.{code_alone}
 use Rattle.share_model.specs.ForeignRules.{Initialises, Writes, read_known, read_share_state}
 use Rattle.share_model.specs.Keys.{KeyParts}
-use Rattle.share_model.specs.declared.fault.TheConstants.Code.{NONE, INVALID_REQUEST, FENCED_LEADER_EPOCH, KAFKA_STORAGE_ERROR}
+use Rattle.share_model.specs.ErrorCodes.{NONE, INVALID_REQUEST, FENCED_LEADER_EPOCH, KAFKA_STORAGE_ERROR}
 use Rattle.share_model.specs.declared.fault.Code.{Code}
 use Rattle.share_model.specs.declared.foreign.ForeignAnswer.{ForeignAnswer}
 use Rattle.share_model.specs.declared.run.Run.{Run}

@@ -5,7 +5,7 @@ use Rattle.flex_fields.specs.declared.fault.NoMemory.{NoMemory as want}
 use Rattle.share_coord.specs.declared.fault.CoordFault.{CoordFault}
 use Rattle.share_coord.specs.declared.fault.CoordFault.TheVariants.{Invalid, Unknown, FencedLeader, FencedState, TooMany, Store, NoMemory}
 use Rattle.share_model.specs.ForeignRules.{code_alone}
-use Rattle.share_model.specs.declared.fault.TheConstants.Code.{NONE, INVALID_REQUEST, UNKNOWN_TOPIC_OR_PARTITION, FENCED_LEADER_EPOCH, FENCED_STATE_EPOCH, KAFKA_STORAGE_ERROR}
+use Rattle.share_model.specs.ErrorCodes.{NONE, INVALID_REQUEST, UNKNOWN_TOPIC_OR_PARTITION, FENCED_LEADER_EPOCH, FENCED_STATE_EPOCH, KAFKA_STORAGE_ERROR}
 use Rattle.share_model.specs.declared.fault.Code.{Code}
 use Rattle.share_model.specs.declared.foreign.ForeignAnswer.{ForeignAnswer}
 

@@ -7,7 +7,7 @@ use Rattle.edge_io.specs.Moments.{LeavesPairs}
 use Rattle.edge_io.specs.declared.fault.Armed.{Armed}
 use Rattle.flex_fields.specs.declared.fault.NoMemory.{NoMemory}
 use Rattle.share_model.specs.declared.fault.StoreFault.{StoreFault}
-use Rattle.share_model.specs.declared.fault.TheConstants.Code.{KAFKA_STORAGE_ERROR}
+use Rattle.share_model.specs.ErrorCodes.{KAFKA_STORAGE_ERROR}
 use Rattle.share_model.specs.declared.foreign.ForeignAnswer.{ForeignAnswer}
 use Rattle.share_model.specs.declared.foreign.ForeignOp.{ForeignOp}
 use Rattle.share_coord.specs.Parts.{StoreParts}

@@ -12,7 +12,7 @@ use Rattle.share_model.specs.ForeignRules.{ShareStates, Does, share_state_at}
 use Rattle.share_model.specs.Pending.{WithPending}
 use Rattle.share_model.specs.declared.fault.StoreFault.{StoreFault}
 use Rattle.share_model.specs.declared.fault.StoreFault.TheVariants.{Device, Full}
-use Rattle.share_model.specs.declared.fault.TheConstants.Code.{NONE, KAFKA_STORAGE_ERROR}
+use Rattle.share_model.specs.ErrorCodes.{NONE, KAFKA_STORAGE_ERROR}
 use Rattle.share_model.specs.declared.foreign.ForeignAnswer.{ForeignAnswer}
 use Rattle.share_model.specs.declared.foreign.ForeignOp.{ForeignOp}
 use Rattle.share_model.specs.declared.foreign.ForeignOp.TheVariants.{Init, Read, Write, Delete}
@@ -28,7 +28,7 @@ pub record ForeignShardState : Type 0 where
 
 -- code 0
 abbrev pub is_granted : ForeignAnswer → Bool
-is_granted answer = int_eq answer.code.0 (pos 0)
+is_granted answer = int_eq answer.code.0 NONE.0
 
 -- whether a call that is answered so writes a record: an initialisation and a write that are granted, and a delete of a key that is
 -- there

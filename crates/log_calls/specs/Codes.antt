@@ -5,8 +5,8 @@
 use Rattle.std.specs.Prelude.{ℤ, pos, negsuc, ℕ, Bool, List, Option, Some, None, is_some, int_le, ◌&&◌, not, if◌then◌else◌}
 use Rattle.std.specs.Ordering.{int_eq}
 use Rattle.share_model.specs.declared.fault.Code.{Code}
-use Rattle.share_model.specs.declared.fault.TheConstants.Code.{CORRUPT_MESSAGE, MESSAGE_TOO_LARGE, INVALID_REQUIRED_ACKS, INVALID_REQUEST}
-use Rattle.share_model.specs.declared.fault.TheConstants.Code.{UNSUPPORTED_COMPRESSION_TYPE, INVALID_RECORD}
+use Rattle.share_model.specs.ErrorCodes.{CORRUPT_MESSAGE, MESSAGE_TOO_LARGE, INVALID_REQUIRED_ACKS, INVALID_REQUEST}
+use Rattle.share_model.specs.ErrorCodes.{UNSUPPORTED_COMPRESSION_TYPE, INVALID_RECORD}
 use Rattle.share_model.specs.declared.fault.BatchFault.{BatchFault}
 use Rattle.share_model.specs.declared.fault.BatchFault.TheVariants.{TooLarge, Short, BadMagic, BadCrc, Compressed, Transactional, Control, HasProducer, BadRecord, BadDeltas}
 

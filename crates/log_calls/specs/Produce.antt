@@ -4,7 +4,7 @@
 -- `five partitions, each of which fails for another reason`).
 use Rattle.std.specs.Prelude.{ℕ, ℤ, pos, negsuc, Bool, Option, Some, None, List, [], ◌∷◌, map, flat_map, length, take, drop, slice_get, if◌then◌else◌}
 use Rattle.share_model.specs.declared.fault.Code.{Code}
-use Rattle.share_model.specs.declared.fault.TheConstants.Code.{UNKNOWN_TOPIC_OR_PARTITION, INVALID_RECORD, KAFKA_STORAGE_ERROR}
+use Rattle.share_model.specs.ErrorCodes.{NONE, UNKNOWN_TOPIC_OR_PARTITION, INVALID_RECORD, KAFKA_STORAGE_ERROR}
 use Rattle.topic_conf.specs.declared.topic.Topic.{Topic}
 use Rattle.topic_conf.specs.Topics.{place_by_name, shard_at}
 use Rattle.msgs_base.specs.declared.produce_request.ProducePartition.{ProducePartition}
@@ -78,7 +78,7 @@ code_row index code = record {
 abbrev pub base_row : ℤ → ℕ → ProducePartitionReply
 base_row index base = record {
   index = index;
-  error_code = pos 0;
+  error_code = NONE.0;
   base_offset = pos base;
   log_append_time_ms = negsuc 0;
   log_start_offset = pos 0;

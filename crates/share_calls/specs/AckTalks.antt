@@ -2,7 +2,8 @@
 -- topics and partitions of the request, each told by the answer to its own visit, or by its code where it isn't hosted.
 -- Worked example: a request for the partitions 1 and 9 of a topic that has three visits 1 alone; its reply tells 1 by the answer, and 9
 -- by code 3.
-use Rattle.std.specs.Prelude.{◌≡◌, ℕ, ℤ, pos, suc, Option, Some, None, List, [], ◌∷◌, ◌++◌, map, flat_map, take, length}
+use Rattle.std.specs.Prelude.{◌≡◌, ℕ, ℤ, suc, Option, Some, None, List, [], ◌∷◌, ◌++◌, map, flat_map, take, length}
+use Rattle.share_model.specs.ErrorCodes.{NONE}
 use Rattle.share_model.specs.declared.fault.Code.{Code}
 use Rattle.share_model.specs.declared.visit.VisitAnswer.{VisitAnswer}
 use Rattle.topic_conf.specs.declared.topic.Topic.{Topic}
@@ -77,4 +78,4 @@ pub record TellsByItsAck : Type 0 where
       (closed : List VisitAnswer) → ack_refusal sessions (ack_request group member epoch told) ≡ None →
       length closed ≡ length (ack_plan sessions topics (ack_request group member epoch told)).closed →
       talk_reply (ack_talk topics sessions (ack_request group member epoch told)) (flat_map (ack_answers topics) told ++ map (λ a. Visit a) closed)
-      ≡ Some (Some (ack_body (pos 0) (map (own_topic topics) told)))
+      ≡ Some (Some (ack_body NONE.0 (map (own_topic topics) told)))

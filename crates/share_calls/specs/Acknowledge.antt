@@ -6,6 +6,7 @@
 use Rattle.std.specs.Prelude.{ℕ, ℤ, pos, Option, Some, None, List, [], ◌∷◌, ◌++◌, map, length, take, drop}
 use Rattle.std.specs.List.{cons_option}
 use Rattle.std.specs.Option.{option_map}
+use Rattle.share_model.specs.ErrorCodes.{NONE}
 use Rattle.share_model.specs.declared.fault.Code.{Code}
 use Rattle.share_model.specs.declared.visit.Then.{Then}
 use Rattle.share_model.specs.declared.visit.Then.TheVariants.{Nothing as ThenNothing, Release as ThenRelease}
@@ -116,7 +117,7 @@ ack_acts = record {
   part = λ hand q. PartVisit q.step.shard (visit_of q.step (ack_then q.step.purpose));
   row = λ hand q answer. option_map (ack_row (visit_answer answer)) q.told;
   next = λ hand q answer. hand;
-  body = λ hand rows. Some (ack_body (pos 0) (rows_by_topic hand.shape (told_rows rows)));
+  body = λ hand rows. Some (ack_body NONE.0 (rows_by_topic hand.shape (told_rows rows)));
 }
 
 abbrev pub ack_entries : List Topic → ShareAckRequest → PlanParts → List AckEntry

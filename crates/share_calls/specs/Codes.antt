@@ -3,8 +3,8 @@
 use Rattle.std.specs.Prelude.{is_some, if◌then◌else◌}
 use Rattle.std.specs.Prelude.{ℕ, List}
 use Rattle.share_model.specs.declared.fault.Code.{Code}
-use Rattle.share_model.specs.declared.fault.TheConstants.Code.{NONE, UNKNOWN_TOPIC_OR_PARTITION, UNKNOWN_TOPIC_ID}
-use Rattle.share_model.specs.declared.fault.TheConstants.Code.{INVALID_REQUEST, KAFKA_STORAGE_ERROR, INVALID_RECORD_STATE}
+use Rattle.share_model.specs.ErrorCodes.{NONE, UNKNOWN_TOPIC_OR_PARTITION, UNKNOWN_TOPIC_ID}
+use Rattle.share_model.specs.ErrorCodes.{INVALID_REQUEST, KAFKA_STORAGE_ERROR, INVALID_RECORD_STATE}
 use Rattle.share_model.specs.declared.visit.AckOutcome.{AckOutcome}
 use Rattle.share_model.specs.declared.visit.AckOutcome.TheVariants.{Done, Malformed, NotHeld, Store}
 use Rattle.share_model.specs.declared.visit.ThenOutcome.{ThenOutcome}

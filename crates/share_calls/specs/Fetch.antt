@@ -8,7 +8,7 @@ use Rattle.std.specs.Prelude.{Option, Some, None, List, [], ◌++◌, map, lengt
 use Rattle.std.specs.List.{filter_map}
 use Rattle.std.specs.Option.{option_map}
 use Rattle.share_model.specs.declared.fault.Code.{Code}
-use Rattle.share_model.specs.declared.fault.TheConstants.Code.{NONE}
+use Rattle.share_model.specs.ErrorCodes.{NONE}
 use Rattle.share_model.specs.declared.hold.Grant.{Grant}
 use Rattle.share_model.specs.declared.visit.Then.{Then}
 use Rattle.share_model.specs.declared.visit.Then.TheVariants.{Nothing as ThenNothing, Release as ThenRelease, Fetch as ThenFetch}
@@ -154,7 +154,7 @@ fetch_acts = record {
   part = λ hand q. PartVisit q.step.shard (visit_of q.step (then_of hand q.step.purpose));
   row = λ hand q answer. row_for q.step.purpose q.told (visit_answer answer);
   next = λ hand q answer. hand_after hand (visit_answer answer);
-  body = λ hand rows. Some (fetch_body hand.lock_ms (pos 0) (told_rows rows));
+  body = λ hand rows. Some (fetch_body hand.lock_ms NONE.0 (told_rows rows));
 }
 
 abbrev pub told : List Topic → PlanStep → Entry Visiting (Option FetchRow)

@@ -5,6 +5,7 @@
 use Rattle.std.specs.Prelude.{◌≡◌, pos, ◌-◌, sum_by, nat_eq, ◌&&◌, Option, Some, None, List, [], ◌∷◌, ◌++◌, map, length, slice_get}
 use Rattle.std.specs.List.{filter_map, list_all}
 use Rattle.std.specs.Option.{option_map}
+use Rattle.share_model.specs.ErrorCodes.{NONE}
 use Rattle.share_model.specs.declared.visit.VisitAnswer.{VisitAnswer}
 use Rattle.topic_conf.specs.Configs.{ConfigParts}
 use Rattle.topic_conf.specs.declared.topic.Topic.{Topic}
@@ -86,4 +87,4 @@ pub record TellsByItsVisit : Type 0 where
   -- once all have come, the reply tells the partition of each told step by its own answer, and behind them those that aren't hosted
   pub tells : (conf : ConfigParts) (r : ShareFetchRequest) (beside : PlanBeside) (change : SessionChange) →
       talk_reply (fetch_talk conf r (plan_in beside change)) (answers_in beside.released ++ (answers_in beside.told ++ answers_in beside.closed))
-      ≡ Some (Some (fetch_body (pos conf.lock_ms) (pos 0) (filter_map (own_row conf.topics) beside.told ++ unhosted conf.topics r)))
+      ≡ Some (Some (fetch_body (pos conf.lock_ms) NONE.0 (filter_map (own_row conf.topics) beside.told ++ unhosted conf.topics r)))

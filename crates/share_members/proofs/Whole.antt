@@ -13,7 +13,7 @@ use Rattle.std.specs.Str.{bytes_eq}
 use Rattle.std.specs.declared.cmp.Ordering.TheVariants.{Less}
 use Rattle.std.proofs.lemmas.Map.Made.{keys_of-map_values}
 use Rattle.share_model.specs.declared.fault.Code.{Code}
-use Rattle.share_model.specs.declared.fault.TheConstants.Code.{UNKNOWN_MEMBER_ID, GROUP_MAX_SIZE_REACHED}
+use Rattle.share_model.specs.ErrorCodes.{UNKNOWN_MEMBER_ID, GROUP_MAX_SIZE_REACHED}
 use Rattle.topic_conf.specs.declared.topic.Topic.{Topic}
 use Rattle.msgs_group.specs.declared.heartbeat_request.HeartbeatRequest.{HeartbeatRequest}
 use Rattle.share_members.specs.declared.member.Member.{Member}

@@ -11,7 +11,7 @@ use Rattle.std.specs.Str.{bytes_eq}
 use Rattle.std.specs.List.{list_any}
 use Rattle.std.specs.Cmp.Lexicographic.{pointwise}
 use Rattle.share_model.specs.declared.fault.Code.{Code}
-use Rattle.share_model.specs.declared.fault.TheConstants.Code.{INVALID_REQUEST, UNKNOWN_MEMBER_ID, GROUP_MAX_SIZE_REACHED, FENCED_MEMBER_EPOCH}
+use Rattle.share_model.specs.ErrorCodes.{NONE, INVALID_REQUEST, UNKNOWN_MEMBER_ID, GROUP_MAX_SIZE_REACHED, FENCED_MEMBER_EPOCH}
 use Rattle.topic_conf.specs.declared.topic.Topic.{Topic}
 use Rattle.msgs_group.specs.declared.heartbeat_request.HeartbeatRequest.{HeartbeatRequest}
 use Rattle.msgs_group.specs.declared.heartbeat_reply.HeartbeatReply.{HeartbeatReply}
@@ -79,7 +79,7 @@ refused code = record {
 abbrev pub accepted : List ℕ → ℤ → ℤ → Option Assignment → HeartbeatReply
 accepted id epoch interval assigned = record {
   throttle_time_ms = pos 0;
-  error_code = pos 0;
+  error_code = NONE.0;
   error_message = None;
   member_id = Some id;
   member_epoch = epoch;

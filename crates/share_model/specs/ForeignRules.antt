@@ -9,7 +9,7 @@ use Rattle.std.specs.BTreeMap.{insert_entry, is_at}
 use Rattle.share_model.specs.Keys.{KeyParts, key_cmp}
 use Rattle.share_model.specs.Rows.{state_of}
 use Rattle.share_model.specs.ShareStates.{ShareState, AreWritten, AreLaid, start_after, is_writable}
-use Rattle.share_model.specs.declared.fault.TheConstants.Code.{NONE, INVALID_REQUEST, UNKNOWN_TOPIC_OR_PARTITION, FENCED_LEADER_EPOCH, FENCED_STATE_EPOCH}
+use Rattle.share_model.specs.ErrorCodes.{NONE, INVALID_REQUEST, UNKNOWN_TOPIC_OR_PARTITION, FENCED_LEADER_EPOCH, FENCED_STATE_EPOCH}
 use Rattle.share_model.specs.declared.fault.Code.{Code}
 use Rattle.share_model.specs.declared.foreign.ForeignAnswer.{ForeignAnswer}
 use Rattle.share_model.specs.declared.foreign.ForeignOp.{ForeignOp}

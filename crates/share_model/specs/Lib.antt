@@ -1,4 +1,5 @@
 pub mod Acks
+pub mod ErrorCodes
 pub mod ForeignRules
 pub mod Held
 pub mod Keys

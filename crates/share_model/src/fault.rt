@@ -1,3 +1,7 @@
+ghost use Rattle.std.specs.Prelude.{◌≡◌};
+ghost use Rattle.share_model.specs.ErrorCodes as kafka;
+ghost use Rattle.share_model.specs.declared.fault.TheConstants.Code as program;
+
 /// An error code of the Kafka protocol. The constants have the names of Kafka's own list.
 #[derive(Clone, Copy)]
 pub struct Code(pub i16);
@@ -45,6 +49,31 @@ impl Code {
 
     pub const SHARE_SESSION_LIMIT_REACHED: Code = Code(133);
 }
+
+/// The constants of `Code` have the numbers of Kafka's list.
+pub fn codes_have_their_numbers()
+    ensures none { program.NONE ≡ kafka.NONE }
+    ensures corrupt_message { program.CORRUPT_MESSAGE ≡ kafka.CORRUPT_MESSAGE }
+    ensures unknown_topic_or_partition { program.UNKNOWN_TOPIC_OR_PARTITION ≡ kafka.UNKNOWN_TOPIC_OR_PARTITION }
+    ensures message_too_large { program.MESSAGE_TOO_LARGE ≡ kafka.MESSAGE_TOO_LARGE }
+    ensures invalid_required_acks { program.INVALID_REQUIRED_ACKS ≡ kafka.INVALID_REQUIRED_ACKS }
+    ensures invalid_group_id { program.INVALID_GROUP_ID ≡ kafka.INVALID_GROUP_ID }
+    ensures unknown_member_id { program.UNKNOWN_MEMBER_ID ≡ kafka.UNKNOWN_MEMBER_ID }
+    ensures unsupported_version { program.UNSUPPORTED_VERSION ≡ kafka.UNSUPPORTED_VERSION }
+    ensures invalid_request { program.INVALID_REQUEST ≡ kafka.INVALID_REQUEST }
+    ensures kafka_storage_error { program.KAFKA_STORAGE_ERROR ≡ kafka.KAFKA_STORAGE_ERROR }
+    ensures fenced_leader_epoch { program.FENCED_LEADER_EPOCH ≡ kafka.FENCED_LEADER_EPOCH }
+    ensures unsupported_compression_type { program.UNSUPPORTED_COMPRESSION_TYPE ≡ kafka.UNSUPPORTED_COMPRESSION_TYPE }
+    ensures group_max_size_reached { program.GROUP_MAX_SIZE_REACHED ≡ kafka.GROUP_MAX_SIZE_REACHED }
+    ensures invalid_record { program.INVALID_RECORD ≡ kafka.INVALID_RECORD }
+    ensures unknown_topic_id { program.UNKNOWN_TOPIC_ID ≡ kafka.UNKNOWN_TOPIC_ID }
+    ensures fenced_member_epoch { program.FENCED_MEMBER_EPOCH ≡ kafka.FENCED_MEMBER_EPOCH }
+    ensures invalid_record_state { program.INVALID_RECORD_STATE ≡ kafka.INVALID_RECORD_STATE }
+    ensures share_session_not_found { program.SHARE_SESSION_NOT_FOUND ≡ kafka.SHARE_SESSION_NOT_FOUND }
+    ensures invalid_share_session_epoch { program.INVALID_SHARE_SESSION_EPOCH ≡ kafka.INVALID_SHARE_SESSION_EPOCH }
+    ensures fenced_state_epoch { program.FENCED_STATE_EPOCH ≡ kafka.FENCED_STATE_EPOCH }
+    ensures share_session_limit_reached { program.SHARE_SESSION_LIMIT_REACHED ≡ kafka.SHARE_SESSION_LIMIT_REACHED }
+{}
 
 /// Why a write to a store was refused.
 #[derive(Clone, Copy, Debug)]

@@ -7,8 +7,8 @@ use Rattle.std.specs.Prelude.{List, [], ◌∷◌, length, Option, is_none, Some
 use Rattle.std.specs.Option.{option_map_or}
 use Rattle.std.specs.Ordering.{int_eq}
 use Rattle.share_model.specs.declared.fault.Code.{Code}
-use Rattle.share_model.specs.declared.fault.TheConstants.Code.{INVALID_GROUP_ID, INVALID_REQUEST, INVALID_SHARE_SESSION_EPOCH}
-use Rattle.share_model.specs.declared.fault.TheConstants.Code.{SHARE_SESSION_LIMIT_REACHED, SHARE_SESSION_NOT_FOUND}
+use Rattle.share_model.specs.ErrorCodes.{INVALID_GROUP_ID, INVALID_REQUEST, INVALID_SHARE_SESSION_EPOCH}
+use Rattle.share_model.specs.ErrorCodes.{SHARE_SESSION_LIMIT_REACHED, SHARE_SESSION_NOT_FOUND}
 use Rattle.msgs_share.specs.declared.share_topic.SharePartition.{SharePartition}
 use Rattle.msgs_share.specs.declared.share_topic.ShareTopic.{ShareTopic}
 use Rattle.share_session.specs.declared.fault.SessionFault.{SessionFault}

@@ -3,7 +3,7 @@ use Rattle.std.proofs.Common.{◌≡◌, ◌∙◌, ℕ, ℤ, pos, negsuc, nat_a
 use Rattle.std.proofs.Common.{length, drop, map, refl, ap}
 use Rattle.std.specs.List.{flat_map}
 use Rattle.flex_fields.specs.Formats.{Format}
-use Rattle.share_model.specs.declared.fault.TheConstants.Code.{INVALID_GROUP_ID}
+use Rattle.share_model.specs.ErrorCodes.{INVALID_GROUP_ID}
 use Rattle.share_model.specs.ForeignRules.{code_alone}
 use Rattle.topic_conf.specs.declared.topic.Topic.{Topic}
 use Rattle.msgs_state.specs.declared.state_message.StateTopic.{StateTopic}

@@ -1,7 +1,7 @@
 -- DeleteShareGroupState (KIP-932). A hosted partition is refused with 42, which is this project's own.
 -- For example partition 0 asks a Delete of its key.
 use Rattle.share_model.specs.declared.foreign.ForeignOp.TheVariants.{Delete as ForeignDelete}
-use Rattle.share_model.specs.declared.fault.TheConstants.Code.{INVALID_REQUEST}
+use Rattle.share_model.specs.ErrorCodes.{INVALID_REQUEST}
 use Rattle.msgs_state.specs.declared.delete_request.DeletePartition.{DeletePartition}
 use Rattle.msgs_state.specs.declared.state_reply.PartitionResult.{PartitionResult}
 use Rattle.state_calls.specs.declared.delete.Deleting.{Deleting}

@@ -2,7 +2,7 @@
 -- For example partition 0 with state epoch 3 and start 7 asks an Init of its key with 3 and 7 (row_tests,
 -- `a share group's state is initialized and read`).
 use Rattle.share_model.specs.declared.foreign.ForeignOp.TheVariants.{Init}
-use Rattle.share_model.specs.declared.fault.TheConstants.Code.{INVALID_REQUEST}
+use Rattle.share_model.specs.ErrorCodes.{INVALID_REQUEST}
 use Rattle.msgs_state.specs.declared.initialize_request.InitializePartition.{InitializePartition}
 use Rattle.msgs_state.specs.declared.state_reply.PartitionResult.{PartitionResult}
 use Rattle.state_calls.specs.declared.initialize.Beginning.{Beginning}

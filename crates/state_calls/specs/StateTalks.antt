@@ -6,7 +6,7 @@
 -- `answers stand at their places, with known ones between them`).
 use Rattle.std.specs.Prelude.{◌≡◌, ℕ, ℤ, nat_abs, true, false, suc, Some, List, [], ◌∷◌, map, flat_map, take, length}
 use Rattle.flex_fields.specs.Formats.{Format}
-use Rattle.share_model.specs.declared.fault.TheConstants.Code.{INVALID_GROUP_ID}
+use Rattle.share_model.specs.ErrorCodes.{INVALID_GROUP_ID}
 use Rattle.share_model.specs.declared.foreign.ForeignAnswer.{ForeignAnswer}
 use Rattle.share_model.specs.ForeignRules.{code_alone}
 use Rattle.topic_conf.specs.declared.topic.Topic.{Topic}

@@ -8,7 +8,7 @@ use Rattle.share_model.specs.Keys.{KeyParts}
 use Rattle.share_model.specs.ForeignRules.{code_alone}
 use Rattle.share_model.specs.declared.foreign.ForeignOp.{ForeignOp}
 use Rattle.share_model.specs.declared.foreign.ForeignAnswer.{ForeignAnswer}
-use Rattle.share_model.specs.declared.fault.TheConstants.Code.{NONE, INVALID_GROUP_ID, INVALID_REQUEST, UNKNOWN_TOPIC_OR_PARTITION}
+use Rattle.share_model.specs.ErrorCodes.{NONE, INVALID_GROUP_ID, INVALID_REQUEST, UNKNOWN_TOPIC_OR_PARTITION}
 use Rattle.topic_conf.specs.declared.topic.Topic.{Topic}
 use Rattle.topic_conf.specs.Topics.{place_by_id, shard_at}
 use Rattle.msgs_state.specs.declared.state_message.StateTopic.{StateTopic}

@@ -2,7 +2,7 @@
 -- For example partition 0 with the batch 0, 4, 2, 1 asks a Write of its key with that batch.
 use Rattle.std.specs.Prelude.{map}
 use Rattle.share_model.specs.declared.foreign.ForeignOp.TheVariants.{Write as ForeignWrite}
-use Rattle.share_model.specs.declared.fault.TheConstants.Code.{INVALID_REQUEST}
+use Rattle.share_model.specs.ErrorCodes.{INVALID_REQUEST}
 use Rattle.msgs_state.specs.declared.write_request.WritePartition.{WritePartition}
 use Rattle.msgs_state.specs.declared.state_reply.PartitionResult.{PartitionResult}
 use Rattle.state_calls.specs.declared.write.Writing.{Writing}
