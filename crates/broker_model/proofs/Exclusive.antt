@@ -186,28 +186,33 @@ module _ (r : Record) (member : List ℕ) (until : ℕ) where
         (λ e. absurd (none_not fault (sym e.stored)))
         (stores_hold hosted.conf rose end a visit.group (kind_at visit.acks) b (Some fault) p.1 r.group r.offset)
 
-    -- so does what follows
+    -- a release frees it
+    record FreesIt (b : PartShardState) : Type 0 where
+      group : visit.group ≡ r.group
+      by_member : visit.member ≡ member
+      releases : visit.then ≡ Release
+      stored : answer.then ≡ followed
+      free : hold_in b r.group r.offset ≡ None
+
+    -- what follows leaves it, or frees it
     then_lock : (rose : Type 0) (end : ℕ) (a b : PartShardState) (t : Then) → visit.then ≡ t → Does hosted.conf rose end a visit answer b t
-        → Locked a → Locked b ⊎ IsReleasedBy r member s
+        → Locked a → Locked b ⊎ FreesIt b
     then_lock rose end a b Nothing asked p l = inl (locked_so a b (ap (λ (h : List ℕ → Held). hold_at (h r.group) r.offset) p.1.held) l)
     then_lock rose end a b Release asked p l = ⊎_elim
         (λ same. inl (locked_so a b same l))
         (λ e. inr (freed e))
         (stores_hold hosted.conf rose end a visit.group (releases_of visit.member (a.held visit.group)) b (fault_of answer.then) p.1 r.group r.offset)
       where
-        freed : EndsHold visit.group (releases_of visit.member (a.held visit.group)) (fault_of answer.then) b r.group r.offset → IsReleasedBy r member s
+        freed : EndsHold visit.group (releases_of visit.member (a.held visit.group)) (fault_of answer.then) b r.group r.offset → FreesIt b
         freed e =
             let at : hold_at (a.held visit.group) r.offset ≡ Some l.hold = ap (λ (g : List ℕ). hold_in a g r.offset) e.group_is ∙ l.at in
             let chosen = chosen_held (is_chosen (Member visit.member)) (a.held visit.group) r.offset l.hold e.kind at e.named in
             record {
-              hosted = hosted;
-              visit = visit;
-              answer = answer;
-              call = call;
               group = e.group_is;
               by_member = group_is visit.member l.hold.member chosen ∙ l.whose;
               releases = asked;
               stored = told_done answer.then e.stored;
+              free = e.free;
             }
     then_lock rose end a b (Fetch records bytes first) asked p l = inl (record {
       hold = l.hold;
@@ -286,12 +291,29 @@ module _ (r : Record) (member : List ℕ) (until : ℕ) where
       late = entry_holds r.shard (λ (p : HostedPart). until ≤ p.shard.clock) (parts_of s.after) y is f.late;
     }
 
+    released_in : (x y : HostedPart) → entry_at r.shard (parts_of s.before) ≡ Some x → entry_at r.shard (parts_of s.after) ≡ Some y → Locked x.shard
+        → (hosted : Hosted) (visit : Visit) (answer : VisitAnswer) (call : s.call ≡ Some (CallPart r.shard hosted (Visits visit answer)))
+        → FreesIt s hosted visit answer call y.shard → IsReleasedBy r member s
+    released_in x y was is l hosted visit answer call f = record {
+      hosted = hosted;
+      visit = visit;
+      answer = answer;
+      call = call;
+      group = f.group;
+      by_member = f.by_member;
+      releases = f.releases;
+      stored = f.stored;
+      held = entry_holds r.shard (λ (p : HostedPart). IsHeldBy member (hold_at (p.shard.held r.group) r.offset)) (parts_of s.before) x was
+          (subst (IsHeldBy member) (sym l.at) l.whose);
+      free = entry_holds r.shard (λ (p : HostedPart). hold_at (p.shard.held r.group) r.offset ≡ None) (parts_of s.after) y is f.free;
+    }
+
     part_lock : (now : ℕ) (hosted : Hosted) (x y : HostedPart) → entry_at r.shard (parts_of s.before) ≡ Some x → entry_at r.shard (parts_of s.after) ≡ Some y
         → (did : PartCall) → s.call ≡ Some (CallPart r.shard hosted did)
         → StepsPart (counts_of s.before s.after) (ends_of s.before s.after) now hosted x.shard did y.shard → Locked x.shard → Locked y.shard ⊎ Ends s
     part_lock now hosted x y was is (Visits visit answer) call p l = ⊎_elim
-        (λ l. ⊎_elim (λ l. inl l) (λ e. inr (inr (inl e)))
-        (then_lock s hosted visit answer call _ p.at p.between y.shard visit.then refl p.does l))
+        (λ locked. ⊎_elim (λ locked. inl locked) (λ f. inr (inr (inl (released_in x y was is l hosted visit answer call f))))
+        (then_lock s hosted visit answer call _ p.at p.between y.shard visit.then refl p.does locked))
         (λ e. inr (inl e))
         (acks_lock s hosted visit answer call _ _ x.shard p.between answer.ack refl p.acks.does l)
     part_lock now hosted x y was is (Produces batch produced) call p l =

@@ -13,6 +13,7 @@ use Rattle.share_model.specs.declared.visit.Then.TheVariants.{Release}
 use Rattle.share_model.specs.declared.visit.ThenOutcome.TheVariants.{Done as followed}
 use Rattle.share_model.specs.declared.visit.Visit.{Visit}
 use Rattle.share_model.specs.declared.visit.VisitAnswer.{VisitAnswer}
+use Rattle.share_part.specs.Settling.{IsHeldBy}
 use Rattle.session_script.specs.declared.event.Event.TheVariants.{Power}
 use Rattle.broker_model.specs.Hosted.{Hosted, HoldsAt}
 use Rattle.broker_model.specs.Shards.{HostedPart}
@@ -55,7 +56,7 @@ pub record IsActedOnBy (r : Record) (member : List ℕ) (s : Step) : Type 0 wher
   pub named : IsSome (kind_at visit.acks r.offset)
   pub stored : answer.ack ≡ acknowledged
 
--- a release of all that the member held was stored
+-- a release of all that the member held was stored, the record among it, and freed it
 pub record IsReleasedBy (r : Record) (member : List ℕ) (s : Step) : Type 0 where
   pub hosted : Hosted
   pub visit : Visit
@@ -65,6 +66,8 @@ pub record IsReleasedBy (r : Record) (member : List ℕ) (s : Step) : Type 0 whe
   pub by_member : visit.member ≡ member
   pub releases : visit.then ≡ Release
   pub stored : answer.then ≡ followed
+  pub held : HoldsAt r.shard (λ (p : HostedPart). IsHeldBy member (hold_at (p.shard.held r.group) r.offset)) s.before.machine.shards.parts
+  pub free : HoldsAt r.shard (λ (p : HostedPart). hold_at (p.shard.held r.group) r.offset ≡ None) s.after.machine.shards.parts
 
 -- an expiry freed the record, at a clock that isn't below the end of the lock
 pub record IsExpiredIn (r : Record) (end : ℕ) (s : Step) : Type 0 where
