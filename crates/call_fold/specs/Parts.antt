@@ -1,7 +1,7 @@
 -- Which answers a part can have (this project's own): those of its kind, whose numbers a reply can say.
 -- For example an answer with the run 7 to 9, acknowledged and counted once, can be told (row_tests,
 -- `a read tells the batches that were written`).
-use Rattle.std.specs.Prelude.{◌+◌, ◌<◌, ◌^◌, pos, [], None, length, All}
+use Rattle.std.specs.Prelude.{◌<◌, ◌^◌, pos, [], None, All}
 use Rattle.msgs_group.specs.declared.heartbeat_reply.HeartbeatReply.{HeartbeatReply}
 use Rattle.share_model.specs.ForeignRules.{code_alone}
 use Rattle.share_model.specs.ErrorCodes.{NONE}
@@ -45,10 +45,9 @@ pub record IsTellableGrant (grant : Grant) : Type 0 where
   pub last : grant.last < 2 ^ 63
   pub count : grant.count < 2 ^ 15
 
--- what a visit gave; its batches are one field of bytes
+-- what a visit gave
 pub record IsTellableVisit (answer : VisitAnswer) : Type 0 where
   pub grants : All IsTellableGrant answer.grants
-  pub batches : length answer.batches + 1 < 2 ^ 32
 
 -- an answer of each kind, whose numbers a reply can say; the reply to a heartbeat is a message already
 abbrev pub IsForeignAnswer : PartAnswer → Type 0

@@ -10,8 +10,10 @@ use crate::partition::PartitionId;
 use crate::visiting::Visiting;
 use call_fold::Entry;
 use flex_fields::Items;
-use msgs_share::{AcquiredRecords, CurrentLeader, FetchedPartition, SharePartition, ShareTopic};
-use share_model::{Code, Grant, NoMemory, VisitAnswer};
+use msgs_share::{
+    AcquiredRecords, CurrentLeader, FetchedPartition, Records, SharePartition, ShareTopic,
+};
+use share_model::{Blob, Code, Grant, NoMemory, VisitAnswer};
 use share_session::Purpose;
 use std::alloc::Global;
 use std::collections::VecDeque;
@@ -58,6 +60,20 @@ pub fn leader() -> CurrentLeader
     }
 }
 
+/// The most bytes whose number and one have 32 bits.
+const MOST_BYTES: usize = u32::MAX as usize - 1;
+
+// Batches as a field of the reply. More bytes than its length can say are as many as no memory holds.
+fn records_of(batches: Blob) -> Result<Records, NoMemory>
+    ensures { IfOk result (λ records. records ≡ batches) }
+{
+    let bytes = batches.into_vec();
+    if bytes.len() > MOST_BYTES {
+        return Err(NoMemory);
+    }
+    Ok(Items::new(bytes))
+}
+
 /// The row of a visited partition.
 pub fn fetch_row(
     alloc: Global,
@@ -84,7 +100,7 @@ pub fn fetch_row(
             acknowledge_error_code: ack_code(ack).0,
             acknowledge_error_message: None,
             current_leader: leader(),
-            records: Some(Items::new(batches.into_vec())),
+            records: Some(records_of(batches)?),
             acquired_records,
         },
     })
