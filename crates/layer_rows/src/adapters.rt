@@ -5,7 +5,7 @@
 // |---|---|
 // | `folder`, `folder fails CALL` | disks of a folder, over calls that are done, but for the first of this kind: `ok` |
 // | `folder below` | the same, where the folder's parent is missing |
-// | `visit CALL NAME` | takes the disk of that name, makes a call of it, and puts it back: `ok` or `fails` |
+// | `visit CALL of NAME` | takes the disk of that name, makes a call of it, and puts it back. A call is `size`, `read PLACE N`, `write PLACE HEX`, `cut LENGTH` or `sync`; it gives the size, the bytes, or `ok`, or `fails`. Each file holds `abcdef` at first |
 // | `calls` | the calls that made folders, opened files and synced folders |
 // | `source END ..`, `sink END ..` | a stream whose calls end so, one after the other, and then `done`: `ok` |
 // | `read`, `write` | how many bytes are read, or written: a number, or `fails` |
@@ -14,7 +14,7 @@ ghost use Rattle.std.specs.Prelude.{◌≡◌, ℕ, List, false};
 ghost use Rattle.edge_real.specs.Folders.{out_at};
 
 use crate::bay::named;
-use crate::disks::{done, number_text};
+use crate::disks::{cut, done, number_text, read, write};
 use crate::fakes::{FakeFile, FakeFolders, Flaky};
 use crate::plain::word;
 use edge_io::{Bay, Disk, DiskName, Failed, Sink, Source};
@@ -61,14 +61,20 @@ fn call_of(name: &str) -> Option<SystemCall> {
     None
 }
 
-/// One call of a kind, at the front.
-fn call(disk: &mut FileDisk<FakeFile>, kind: &str) -> Result<(), Failed> {
-    match kind {
-        "read" => disk.read_at(0, &mut []),
-        "write" => disk.write_at(0, b"x"),
-        "cut" => disk.cut(0),
-        _ => disk.sync(),
-    }
+/// One call. `None` where there is no such call.
+fn call(alloc: Global, disk: &mut FileDisk<FakeFile>, words: &str) -> io::Result<Option<String>> {
+    let (kind, text) = words.split_once(' ').unwrap_or((words, ""));
+    let (first, rest) = text.split_once(' ').unwrap_or((text, ""));
+    let number = first.parse().unwrap_or(0);
+    let told = match kind {
+        "size" => number_text(alloc, disk.len()),
+        "read" => read(alloc, disk, number, rest.parse().unwrap_or(0)),
+        "write" => return write(alloc, disk, number, rest),
+        "cut" => cut(alloc, disk, number),
+        "sync" => done(alloc, disk.sync().is_ok()),
+        _ => return Ok(None),
+    };
+    Ok(Some(told?))
 }
 
 /// The words of a fault, or `none`.
@@ -116,22 +122,24 @@ impl FakeBay {
     }
 
     /// Takes a disk, makes this call, and puts it back.
-    fn visit(&mut self, name: &DiskName, kind: &str) -> Result<(), Failed> {
-        let mut disk = self.bay.take(name)?;
-        let done = call(&mut disk, kind);
+    fn visit(&mut self, alloc: Global, name: &DiskName, words: &str) -> io::Result<Option<String>> {
+        let Ok(mut disk) = self.bay.take(name) else {
+            return Ok(Some(word(alloc, "fails")?));
+        };
+        let told = call(alloc, &mut disk, words);
         self.bay.put_back(name, disk);
-        done
+        told
     }
 
     /// What a line gives. `None` where it isn't about disks of a folder.
     fn told(&mut self, alloc: Global, kind: &str, text: &str) -> io::Result<Option<String>> {
         let told = match kind {
             "visit" => {
-                let (kind, name) = text.split_once(' ').unwrap_or((text, ""));
-                let Some(name) = named(name) else {
-                    return Ok(None);
+                let (words, name) = text.split_once(" of ").unwrap_or((text, ""));
+                return match named(name) {
+                    Some(name) => self.visit(alloc, &name, words),
+                    None => Ok(None),
                 };
-                done(alloc, self.visit(&name, kind).is_ok())
             }
             "calls" => word(alloc, self.bay.system().notes()),
             "fault" => fault_words(alloc, &self.bay.last_fault()),

@@ -80,7 +80,7 @@ pub fn failed_read(alloc: Global, room: &[u8]) -> io::Result<String> {
 }
 
 /// Reads some bytes at a place.
-fn read(alloc: Global, disk: &mut MemDisk, place: u64, count: u64) -> io::Result<String> {
+pub fn read<D: Disk>(alloc: Global, disk: &mut D, place: u64, count: u64) -> io::Result<String> {
     if count > 1 << 20 || place > disk.len() || count > disk.len() - place {
         return word(alloc, "behind the end");
     }
@@ -92,7 +92,12 @@ fn read(alloc: Global, disk: &mut MemDisk, place: u64, count: u64) -> io::Result
 }
 
 /// Writes the bytes of a text at a place. `None` where it has none.
-fn write(alloc: Global, disk: &mut MemDisk, place: u64, text: &str) -> io::Result<Option<String>> {
+pub fn write<D: Disk>(
+    alloc: Global,
+    disk: &mut D,
+    place: u64,
+    text: &str,
+) -> io::Result<Option<String>> {
     let Some(bytes) = bytes_of(alloc, text)? else {
         return Ok(None);
     };
@@ -102,7 +107,8 @@ fn write(alloc: Global, disk: &mut MemDisk, place: u64, text: &str) -> io::Resul
     Ok(Some(done(alloc, disk.write_at(place, &bytes).is_ok())?))
 }
 
-fn cut(alloc: Global, disk: &mut MemDisk, length: u64) -> io::Result<String> {
+/// Cuts it to a length.
+pub fn cut<D: Disk>(alloc: Global, disk: &mut D, length: u64) -> io::Result<String> {
     if length > disk.len() {
         return word(alloc, "behind the end");
     }

@@ -12,10 +12,11 @@ pub struct FakeFolders {
     notes: String,
 }
 
-/// A file whose calls are done, but for the first of one kind. They are not noted.
+/// A file that holds bytes, `abcdef` at its opening. Its calls are done, but for the first of one kind.
 #[derive(Drop)]
 pub struct FakeFile {
     failing: Option<SystemCall>,
+    bytes: Vec<u8>,
 }
 
 /// Fails where this kind of call is to fail, once.
@@ -27,22 +28,47 @@ fn done(failing: &mut Option<SystemCall>, call: SystemCall) -> io::Result<()> {
     Err(io::Error::from(ErrorKind::StorageFull))
 }
 
+/// The bytes before a place and those from there on. An error where there is no such place.
+fn parted(bytes: &[u8], place: u64) -> io::Result<(&[u8], &[u8])> {
+    match bytes.split_at_checked(usize::try_from(place).unwrap_or(usize::MAX)) {
+        Some(parts) => Ok(parts),
+        None => Err(io::Error::from(ErrorKind::UnexpectedEof)),
+    }
+}
+
 impl OpenedFile for FakeFile {
     fn size(&mut self) -> io::Result<u64> {
         done(&mut self.failing, SystemCall::Size)?;
-        Ok(3)
+        Ok(self.bytes.len() as u64)
     }
 
-    fn read_exact_at(&mut self, _into: &mut [u8], _place: u64) -> io::Result<()> {
-        done(&mut self.failing, SystemCall::Read)
+    fn read_exact_at(&mut self, into: &mut [u8], place: u64) -> io::Result<()> {
+        done(&mut self.failing, SystemCall::Read)?;
+        let (_, behind) = parted(&self.bytes, place)?;
+        let (found, _) = parted(behind, into.len() as u64)?;
+        if found.len() == into.len() {
+            into.copy_from_slice(found);
+        }
+        Ok(())
     }
 
-    fn write_all_at(&mut self, _bytes: &[u8], _place: u64) -> io::Result<()> {
-        done(&mut self.failing, SystemCall::Write)
+    fn write_all_at(&mut self, bytes: &[u8], place: u64) -> io::Result<()> {
+        done(&mut self.failing, SystemCall::Write)?;
+        let (front, behind) = parted(&self.bytes, place)?;
+        let mut all = front.to_vec(*self.bytes.allocator())?;
+        all.extend_from_slice(bytes)?;
+        if let Some((_, rest)) = behind.split_at_checked(bytes.len()) {
+            all.extend_from_slice(rest)?;
+        }
+        self.bytes = all;
+        Ok(())
     }
 
-    fn set_size(&mut self, _size: u64) -> io::Result<()> {
-        done(&mut self.failing, SystemCall::Cut)
+    fn set_size(&mut self, size: u64) -> io::Result<()> {
+        done(&mut self.failing, SystemCall::Cut)?;
+        let (front, _) = parted(&self.bytes, size)?;
+        self.bytes = front.to_vec(*self.bytes.allocator())?;
+        Ok(())
     }
 
     fn sync_data(&mut self) -> io::Result<()> {
@@ -96,7 +122,8 @@ impl Folders for FakeFolders {
         if path.ends_with("lock~") == (self.failing == Some(SystemCall::Lock)) {
             failing = self.failing.take();
         }
-        Ok(FakeFile { failing })
+        let bytes = b"abcdef".to_vec(*self.notes.allocator())?;
+        Ok(FakeFile { failing, bytes })
     }
 
     fn sync_folder(&mut self, path: &str) -> io::Result<()> {
