@@ -1,4 +1,4 @@
-ghost use Rattle.std.specs.Prelude.{◌≡◌, ◌≢◌, ◌+◌, ◌^◌, ◌<◌, [], length, MatchResult, IfOk, OnErr};
+ghost use Rattle.std.specs.Prelude.{◌≡◌, ◌≢◌, ◌+◌, ◌^◌, ◌<◌, [], MatchResult, IfOk, OnErr};
 ghost use Rattle.std.specs.Int.{w8, w16, w32, w64};
 ghost use Rattle.flex_fields.specs.Reading.{raw_at, int_at, bool_at, uvarint_at, varint_at, varlong_at, array_len_at, bytes_at, str_at};
 ghost use Rattle.flex_fields.specs.Reading.{null_at, nullable_at, tags_at};
@@ -48,17 +48,7 @@ impl<'a> Cursor<'a> {
         }
     }
 
-    /// A cursor whose first byte has this place.
-    pub fn starting_at(place: u64, bytes: &'a [u8]) -> Cursor<'a>
-        requires { place + length bytes.now < 2 ^ 64 }
-        ensures { result ≡ record { place = place; left = bytes.now } }
-    {
-        Cursor {
-            at: Spot { place, rest: bytes },
-        }
-    }
-
-    /// The place of the next byte; for a cursor made by `new`, how many bytes were taken.
+    /// The place of the next byte: how many bytes were taken.
     pub fn place(&self) -> u64
         ensures { result ≡ self.now.place }
     {

@@ -10,16 +10,18 @@
 //
 // A text is the value, and `written HEX` behind it where the value is written as other bytes; or a fault and its place. Each
 // proper front of bytes that are read has to be refused. In values `null` is Kafka's null. The kinds are in `kinds.rt`,
-// `messages.rt`, `batches.rt`, `records.rt`, `acks.rt` and `values.rt`.
+// `messages.rt`, `batches.rt`, `records.rt`, `acks.rt`, `values.rt` and `sessions.rt`.
 use crate::acks::ack_told;
 use crate::batches::{batch_told, made_told, placed_told, record_of, unchecked_told};
 use crate::kinds::wire_told;
 use crate::plain::is_text;
 use crate::records::record_told;
+use crate::sessions::session_told;
 use crate::values::{name_told, order_told, state_told, sum_told, topic_told};
 use crc_castagnoli::crc32c;
 use rec_batch::{Form, Rec};
 use row_text::bytes_of;
+use share_session::Sessions;
 use std::alloc::Global;
 use std::io;
 
@@ -28,6 +30,7 @@ pub struct Formats {
     given: Vec<u8>,
     bytes: Vec<u8>,
     records: Vec<Rec>,
+    sessions: Sessions,
 }
 
 /// Sets the bytes from a place on, as far as they reach.
@@ -65,6 +68,7 @@ impl Formats {
             given: Vec::new(alloc),
             bytes: Vec::new(alloc),
             records: Vec::new(alloc),
+            sessions: Sessions::new(alloc),
         }
     }
 
@@ -108,7 +112,7 @@ impl Formats {
     }
 
     /// What the case's bytes or a line's words are as a kind. `None` where there is no such kind.
-    pub fn told(&self, alloc: Global, kind: &str, text: &str) -> io::Result<Option<String>> {
+    pub fn told(&mut self, alloc: Global, kind: &str, text: &str) -> io::Result<Option<String>> {
         let bytes = self.bytes.as_slice();
         let told = match kind {
             "produced" => batch_told(alloc, bytes, Form::Produced),
@@ -119,6 +123,9 @@ impl Formats {
             "state-record" => record_told(alloc, bytes),
             "crc32c" => sum_told(alloc, bytes),
             "name" => name_told(alloc, bytes),
+            "begins-fetch" | "begins-ack" | "closes" => {
+                session_told(alloc, kind, bytes, &mut self.sessions)
+            }
             "acks" | "key" | "state-number" | "topic-named" | "topic-of-id" | "shard-of" => {
                 let (words, _) = text.split_once(" is ").unwrap_or((text, ""));
                 words_told(alloc, kind, words)
@@ -128,10 +135,11 @@ impl Formats {
         Ok(Some(told?))
     }
 
-    /// Makes ready for a case: its bytes are those given last, and there are no records.
+    /// Makes ready for a case: its bytes are those given last, and there are no records and no sessions.
     pub fn begin(&mut self, alloc: Global) -> io::Result<()> {
         self.bytes = self.given.as_slice().to_vec(alloc)?;
         self.records = Vec::new(alloc);
+        self.sessions = Sessions::new(alloc);
         Ok(())
     }
 }

@@ -114,20 +114,96 @@ fn tags_told(alloc: Global, bytes: &[u8]) -> io::Result<String> {
 }
 
 /// Reads bytes with their length before them, behind which nothing stands.
-fn take_bytes(alloc: Global, bytes: &[u8]) -> Result<Option<Bytes>, WireFault> {
+fn take_sized(alloc: Global, kind: &str, bytes: &[u8]) -> Result<Option<Bytes>, WireFault> {
     let mut cursor = Cursor::new(bytes);
-    let value = cursor.take_null_bytes(alloc)?;
+    let value = match kind {
+        "bytes-field" => Some(cursor.take_bytes(alloc)?),
+        _ => cursor.take_null_bytes(alloc)?,
+    };
     cursor.end()?;
     Ok(value)
 }
 
-/// What bytes with their length before them are read as.
-fn bytes_told(alloc: Global, bytes: &[u8]) -> io::Result<String> {
-    match take_bytes(alloc, bytes) {
-        Ok(None) => word(alloc, "null"),
-        Ok(Some(value)) => hex_text(alloc, value.as_slice()),
+/// Writes bytes with their length before them.
+fn put_sized(alloc: Global, kind: &str, value: &Option<Bytes>) -> Result<Bytes, NoMemory> {
+    let mut out = Out::new(alloc);
+    let Some(value) = value else {
+        out.put_null_bytes(None)?;
+        return Ok(out.into_bytes());
+    };
+    let bytes = value.as_slice();
+    if bytes.len() >= u32::MAX as usize {
+        return Err(NoMemory);
+    }
+    match kind {
+        "bytes-field" => out.put_bytes(bytes)?,
+        _ => out.put_null_bytes(Some(bytes))?,
+    }
+    Ok(out.into_bytes())
+}
+
+/// What bytes with their length before them are read as, and written.
+fn bytes_told(alloc: Global, kind: &str, bytes: &[u8]) -> io::Result<String> {
+    let value = match take_sized(alloc, kind, bytes) {
+        Ok(value) => value,
+        Err(fault) => return fault_text(alloc, &fault),
+    };
+    let mut text = match &value {
+        None => word(alloc, "null")?,
+        Some(value) => hex_text(alloc, value.as_slice())?,
+    };
+    push_written(alloc, &mut text, bytes, &put_sized(alloc, kind, &value))?;
+    Ok(text)
+}
+
+/// Writes a string or null.
+fn put_text(alloc: Global, value: &Option<Text>) -> Result<Bytes, NoMemory> {
+    let mut out = Out::new(alloc);
+    match value {
+        None => out.put_null_str(None)?,
+        Some(text) => out.put_null_str(Some(text.as_str()))?,
+    }
+    Ok(out.into_bytes())
+}
+
+/// What a string or null is read as, and written.
+fn text_told(alloc: Global, bytes: &[u8]) -> io::Result<String> {
+    match read_whole::<Option<Text>>(alloc, bytes) {
+        Ok(value) => read_told(alloc, bytes, &value, &put_text(alloc, &value)),
         Err(fault) => fault_text(alloc, &fault),
     }
+}
+
+/// Writes the number of elements of an array, or that it is null.
+fn put_count(alloc: Global, count: Option<u32>) -> Result<Bytes, NoMemory> {
+    let mut out = Out::new(alloc);
+    match count {
+        None => out.put_null_array_len(None)?,
+        Some(count) => {
+            if count == u32::MAX {
+                return Err(NoMemory);
+            }
+            out.put_null_array_len(Some(count))?;
+        }
+    }
+    Ok(out.into_bytes())
+}
+
+/// What the number of elements of an array, or null, is read as, and written. The elements may follow it.
+fn count_told(alloc: Global, bytes: &[u8]) -> io::Result<String> {
+    let mut cursor = Cursor::new(bytes);
+    let count = match cursor.take_null_array_len() {
+        Ok(count) => count,
+        Err(fault) => return fault_text(alloc, &fault),
+    };
+    let (front, _) = bytes.split_at(
+        bytes
+            .len()
+            .min(usize::try_from(cursor.place()).unwrap_or(0)),
+    );
+    let mut text = plain(alloc, &count)?;
+    push_written(alloc, &mut text, front, &put_count(alloc, count))?;
+    Ok(text)
 }
 
 /// What a request header that was read from a front of the bytes is, and how it is written.
@@ -181,7 +257,9 @@ pub fn wire_told(alloc: Global, kind: &str, bytes: &[u8]) -> io::Result<Option<S
         "uvarint" | "varint" | "varlong" => number_told(alloc, kind, bytes),
         "string" => told::<Text>(alloc, bytes),
         "nullable-string" => told::<Option<Text>>(alloc, bytes),
-        "nullable-bytes" => bytes_told(alloc, bytes),
+        "nullable-text" => text_told(alloc, bytes),
+        "bytes-field" | "nullable-bytes" => bytes_told(alloc, kind, bytes),
+        "nullable-array-length" => count_told(alloc, bytes),
         "int32-array" => told::<Items<i32>>(alloc, bytes),
         "nullable-int32-array" => told::<Option<Items<i32>>>(alloc, bytes),
         "tags" => tags_told(alloc, bytes),

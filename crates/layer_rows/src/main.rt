@@ -18,6 +18,7 @@ mod logs;
 mod messages;
 mod plain;
 mod records;
+mod sessions;
 mod stores;
 mod streams;
 mod values;
