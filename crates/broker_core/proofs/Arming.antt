@@ -31,6 +31,7 @@ use Rattle.broker_core.proofs.Flats.{among_changed}
 use Rattle.broker_core.proofs.Places.{Changed, changed, changes_not, changes_same, zip_same, among_past, among_zip, differs, holds_both, is_same, not_both, one_in_either, same_self}
 use Rattle.broker_core.proofs.Leading.{least_on, not_a_part, not_a_part_too, parts_apart, same_goes}
 use Rattle.broker_core.proofs.Slots.{disk_names, known_at, three}
+use Rattle.edge_io.specs.Views.{DiskView}
 
 -- ---- a look-up of a disk by its name
 
@@ -70,29 +71,28 @@ module _ {D : Type 0} (disk : List ℕ) (all : List (PartSlot D)) where
   pub looks_none : (number : ℕ) → LooksIn disk all number [] → NotIn (part_disks (hosted_slots all)) disk
   looks_none number l = l.past tt
 
-module _ {D : Type 0} (content : D → Option (List ℕ)) (image : D → List ℕ → Type 0) (starved : D → Bool) (faults : D → ℕ)
-    (losses : D → List (ℕ × List ℕ)) (arms : D → ℕ) (armed : D → Armed) where
+module _ {D : Type 0} (seen : D → DiskView) where
   abbrev facts : D → Facts
-  facts disk = facts_of faults losses arms armed disk
+  facts disk = facts_of seen disk
 
   abbrev F : HostsParts D → List ℕ → Facts
-  F hosts name = facts_in faults losses arms armed (disks_in hosts) name
+  F hosts name = facts_in seen (disks_in hosts) name
 
   abbrev entry_facts : List ℕ × Option D → Facts
-  entry_facts e = facts_at faults losses arms armed e.1
+  entry_facts e = facts_at seen e.1
 
   abbrev slot_facts : PartSlot D → DiskPlace → Facts
-  slot_facts slot place = facts_at faults losses arms armed (part_disk slot.state place)
+  slot_facts slot place = facts_at seen (part_disk slot.state place)
 
   abbrev Arms : ℕ → FaultMode → D → D → Type 0
-  Arms after mode old new = ArmsAlone content image losses arms armed starved faults after mode old new
+  Arms after mode old new = ArmsAlone seen after mode old new
 
-  armed_facts : (after : ℕ) (mode : FaultMode) (old new : D) → IsTold (content old) → Arms after mode old new → facts new ≡ with_arm after mode (facts old)
+  armed_facts : (after : ℕ) (mode : FaultMode) (old new : D) → IsTold (seen old).content → Arms after mode old new → facts new ≡ with_arm after mode (facts old)
   armed_facts after mode old new told a =
       λ i. record { faults = a.same_faults i; losses = a.same_losses i; arms = a.counted told i; armed = a.is_armed told i }
 
-  arms_go_on : (after : ℕ) (mode : FaultMode) (old new : D) → Arms after mode old new → GoesOn content faults old new
-  arms_go_on after mode old new a = record { later = subst (λ (n : ℕ). faults old ≤ n) (sym a.same_faults) (least (faults old)); told = ap is_some a.same_content }
+  arms_go_on : (after : ℕ) (mode : FaultMode) (old new : D) → Arms after mode old new → GoesOn seen old new
+  arms_go_on after mode old new a = record { later = subst (λ (n : ℕ). (seen old).faults ≤ n) (sym a.same_faults) (least (seen old).faults); told = ap is_some a.same_content }
     where
       least : (n : ℕ) → n ≤ n
       least n = omega arith
@@ -100,7 +100,7 @@ module _ {D : Type 0} (content : D → Option (List ℕ)) (image : D → List �
   -- ---- a disk of a partition
 
   abbrev ArmsP : ℕ → FaultMode → OpenPart D → OpenPart D → DiskPlace → Type 0
-  ArmsP after mode was is place = ArmsPlace content image losses arms armed starved faults after mode was is place
+  ArmsP after mode was is place = ArmsPlace seen after mode was is place
 
   pub place_of_arm : (after : ℕ) (mode : FaultMode) (was is : OpenPart D) (place : DiskPlace) → (place ≡ Log → ArmsP after mode was is Log)
       → (place ≡ StateA → ArmsP after mode was is StateA) → (place ≡ StateB → ArmsP after mode was is StateB) → ArmsP after mode was is place
@@ -109,14 +109,14 @@ module _ {D : Type 0} (content : D → Option (List ℕ)) (image : D → List �
   place_of_arm after mode was is StateB on_log on_first on_second = on_second refl
 
   abbrev Fed : D → Type 0
-  Fed d = IsFed content starved d
+  Fed d = IsFed seen d
 
   arms_fed : (after : ℕ) (mode : FaultMode) (old new : D) → Arms after mode old new → Fed old → Fed new
   arms_fed after mode old new a f = record { told = ap is_some a.same_content ∙ f.told; fed = a.same_starved ∙ f.fed }
 
   part_armed : (after : ℕ) (mode : FaultMode) (conf : PartConfParts) (was is : OpenPart D) (place : DiskPlace) (s : PartShardState)
-      → ArmsP after mode was is place → is.conf ≡ was.conf → (CarriesPart image holding was s → CarriesPart image holding is s)
-      → IsPartCarried content image starved conf was s → IsPartCarried content image starved conf is s
+      → ArmsP after mode was is place → is.conf ≡ was.conf → (CarriesPart seen holding was s → CarriesPart seen holding is s)
+      → IsPartCarried seen conf was s → IsPartCarried seen conf is s
   part_armed after mode conf was is Log s a same stays k = record {
     conf_is = same ∙ k.conf_is;
     carries = stays k.carries;
@@ -139,33 +139,33 @@ module _ {D : Type 0} (content : D → Option (List ℕ)) (image : D → List �
     second = arms_fed after mode was.states.journal.idle is.states.journal.idle a.0 k.second;
   }
 
-  part_goes : (after : ℕ) (mode : FaultMode) (was is : OpenPart D) (place : DiskPlace) → ArmsP after mode was is place → PartGoesOn content faults was is
+  part_goes : (after : ℕ) (mode : FaultMode) (was is : OpenPart D) (place : DiskPlace) → ArmsP after mode was is place → PartGoesOn seen was is
   part_goes after mode was is Log a = record {
     log = arms_go_on after mode was.log.journal.disk is.log.journal.disk a.0;
-    first = subst (λ (t : StoreParts D). GoesOn content faults was.states.journal.live.disk t.journal.live.disk) (sym a.1)
-        (least_on content image starved faults losses arms armed was.states.journal.live.disk);
-    second = subst (λ (t : StoreParts D). GoesOn content faults was.states.journal.idle t.journal.idle) (sym a.1)
-        (least_on content image starved faults losses arms armed was.states.journal.idle);
+    first = subst (λ (t : StoreParts D). GoesOn seen was.states.journal.live.disk t.journal.live.disk) (sym a.1)
+        (least_on seen was.states.journal.live.disk);
+    second = subst (λ (t : StoreParts D). GoesOn seen was.states.journal.idle t.journal.idle) (sym a.1)
+        (least_on seen was.states.journal.idle);
   }
   part_goes after mode was is StateA a = record {
-    log = subst (λ (t : LogParts D). GoesOn content faults was.log.journal.disk t.journal.disk) (sym a.2)
-        (least_on content image starved faults losses arms armed was.log.journal.disk);
+    log = subst (λ (t : LogParts D). GoesOn seen was.log.journal.disk t.journal.disk) (sym a.2)
+        (least_on seen was.log.journal.disk);
     first = arms_go_on after mode was.states.journal.live.disk is.states.journal.live.disk a.0;
-    second = subst (λ (d : D). GoesOn content faults was.states.journal.idle d) (sym a.1)
-        (least_on content image starved faults losses arms armed was.states.journal.idle);
+    second = subst (λ (d : D). GoesOn seen was.states.journal.idle d) (sym a.1)
+        (least_on seen was.states.journal.idle);
   }
   part_goes after mode was is StateB a = record {
-    log = subst (λ (t : LogParts D). GoesOn content faults was.log.journal.disk t.journal.disk) (sym a.2)
-        (least_on content image starved faults losses arms armed was.log.journal.disk);
-    first = subst (λ (w : Writer D). GoesOn content faults was.states.journal.live.disk w.disk) (sym a.1)
-        (least_on content image starved faults losses arms armed was.states.journal.live.disk);
+    log = subst (λ (t : LogParts D). GoesOn seen was.log.journal.disk t.journal.disk) (sym a.2)
+        (least_on seen was.log.journal.disk);
+    first = subst (λ (w : Writer D). GoesOn seen was.states.journal.live.disk w.disk) (sym a.1)
+        (least_on seen was.states.journal.live.disk);
     second = arms_go_on after mode was.states.journal.idle is.states.journal.idle a.0;
   }
 
   abbrev told_at : DiskPlace → OpenPart D → Type 0
-  told_at place p = IsTold (content (open_disk p place))
+  told_at place p = IsTold (seen (open_disk p place)).content
 
-  told_of_part : (conf : PartConfParts) (p : OpenPart D) (s : PartShardState) (place : DiskPlace) → IsPartCarried content image starved conf p s → told_at place p
+  told_of_part : (conf : PartConfParts) (p : OpenPart D) (s : PartShardState) (place : DiskPlace) → IsPartCarried seen conf p s → told_at place p
   told_of_part conf p s Log k = k.log.told
   told_of_part conf p s StateA k = k.first.told
   told_of_part conf p s StateB k = k.second.told
@@ -206,10 +206,10 @@ module _ {D : Type 0} (content : D → Option (List ℕ)) (image : D → List �
   -- ---- a slot of a partition
 
   abbrev ArmsS : DiskPlace → ℕ → FaultMode → PartSlot D → PartSlot D → Type 0
-  ArmsS place after mode x y = ArmsSlot content image losses arms armed starved faults place after mode x y
+  ArmsS place after mode x y = ArmsSlot seen place after mode x y
 
   pub turned_arms : (place : DiskPlace) (after : ℕ) (mode : FaultMode) (x y : PartSlot D) → ArmsS place after mode x y
-      → Turned content image starved faults losses arms armed x y
+      → Turned seen x y
   turned_arms place after mode x y p = record {
     was = p.was;
     is = p.is;
@@ -222,35 +222,35 @@ module _ {D : Type 0} (content : D → Option (List ℕ)) (image : D → List �
     armed_is : slot_facts y place ≡ with_arm after mode (slot_facts x place)
 
   slot_arms : (place : DiskPlace) (after : ℕ) (mode : FaultMode) (x y : PartSlot D) (e : HostedPart) → ArmsS place after mode x y
-      → IsPartSlot content image starved x e → (f : HostedPart) × IsPartSlot content image starved y f × ArmsPart place after mode x y e f
+      → IsPartSlot seen x e → (f : HostedPart) × IsPartSlot seen y f × ArmsPart place after mode x y e f
   slot_arms place after mode x y e p k =
-      let i = subst (λ (s : PartState D). IsPartState content image starved x.conf s e.shard) p.old_is k.state in (
+      let i = subst (λ (s : PartState D). IsPartState seen x.conf s e.shard) p.old_is k.state in (
         e,
         record {
           hosted = k.hosted ∙ (λ i. record { topic = sym p.topic i; conf = sym p.conf i });
           state =
-              subst (λ (c : PartConfParts). IsPartState content image starved c y.state e.shard) (sym p.conf)
-              (subst (λ (s : PartState D). IsPartState content image starved x.conf s e.shard) (sym p.new_is)
+              subst (λ (c : PartConfParts). IsPartState seen c y.state e.shard) (sym p.conf)
+              (subst (λ (s : PartState D). IsPartState seen x.conf s e.shard) (sym p.new_is)
               (part_armed after mode x.conf p.was p.is place e.shard p.arms_disk p.part_conf (p.stays e.shard) i));
         },
         record {
           same = refl;
           armed_is =
-              ap (λ (s : PartState D). facts_at faults losses arms armed (part_disk s place)) p.new_is
+              ap (λ (s : PartState D). facts_at seen (part_disk s place)) p.new_is
               ∙ place_armed after mode p.was p.is place (told_of_part x.conf p.was e.shard place i) p.arms_disk
-              ∙ sym (ap (λ (s : PartState D). with_arm after mode (facts_at faults losses arms armed (part_disk s place))) p.old_is);
+              ∙ sym (ap (λ (s : PartState D). with_arm after mode (facts_at seen (part_disk s place))) p.old_is);
         },
       )
 
-  keep_slot : (x : PartSlot D) (e : HostedPart) → IsPartSlot content image starved x e → IsPartSlot content image starved x e
+  keep_slot : (x : PartSlot D) (e : HostedPart) → IsPartSlot seen x e → IsPartSlot seen x e
   keep_slot x e k = k
 
   abbrev Found : PartSlot D → Facts → List ℕ → Facts
   Found x o name = among (λ (d : List ℕ × Option D). d.0) entry_facts (slot_disks x) o name
 
   abbrev Of : Hosted → PartState D → Facts → List ℕ → Facts
-  Of h state o name = three h (facts_at faults losses arms armed (part_disk state Log)) (facts_at faults losses arms armed (part_disk state StateA))
-      (facts_at faults losses arms armed (part_disk state StateB)) o name
+  Of h state o name = three h (facts_at seen (part_disk state Log)) (facts_at seen (part_disk state StateA))
+      (facts_at seen (part_disk state StateB)) o name
 
   slot_past : (place : DiskPlace) (after : ℕ) (mode : FaultMode) (x y : PartSlot D) (name : List ℕ) (o : Facts) → ArmsS place after mode x y
       → same_name name (hosted_name x.topic x.conf.part place) ≡ false → Found y o name ≡ Found x o name
@@ -273,20 +273,20 @@ module _ {D : Type 0} (content : D → Option (List ℕ)) (image : D → List �
 
   known_place : (hosts : HostsParts D) (n : ℕ) (x : PartSlot D) → HoldsAt n (λ z. z ≡ x) hosts.parts → AreDistinct (part_disks (hosted_slots hosts.parts))
       → (place : DiskPlace) → F hosts (hosted_name x.topic x.conf.part place) ≡ slot_facts x place
-  known_place hosts n x there apart Log = (known_at content image starved faults losses arms armed hosts n x there apart).0
-  known_place hosts n x there apart StateA = (known_at content image starved faults losses arms armed hosts n x there apart).1
-  known_place hosts n x there apart StateB = (known_at content image starved faults losses arms armed hosts n x there apart).2
+  known_place hosts n x there apart Log = (known_at seen hosts n x there apart).0
+  known_place hosts n x there apart StateA = (known_at seen hosts n x there apart).1
+  known_place hosts n x there apart StateB = (known_at seen hosts n x there apart).2
 
   module _ (old : HostsParts D) (ys : List (PartSlot D)) (n : ℕ) (place : DiskPlace) (disk : List ℕ) (after : ℕ) (mode : FaultMode)
       (at : HoldsAt n (λ (z : PartSlot D). hosted_name z.topic z.conf.part place ≡ disk) old.parts)
-      (changes : ChangesAt n (ArmsS place after mode) old.parts ys) (apart : AreApart old) (s : Shards) (k : AreCarried content image starved old s) where
-    abbrev c : Changed (IsPartSlot content image starved) (IsPartSlot content image starved) keep_slot (ArmsS place after mode) (ArmsPart place after mode)
+      (changes : ChangesAt n (ArmsS place after mode) old.parts ys) (apart : AreApart old) (s : Shards) (k : AreCarried seen old s) where
+    abbrev c : Changed (IsPartSlot seen) (IsPartSlot seen) keep_slot (ArmsS place after mode) (ArmsPart place after mode)
         (slot_arms place after mode) n old.parts ys s.parts
-    c = changed (IsPartSlot content image starved) (IsPartSlot content image starved) keep_slot (ArmsS place after mode) (ArmsPart place after mode)
+    c = changed (IsPartSlot seen) (IsPartSlot seen) keep_slot (ArmsS place after mode) (ArmsPart place after mode)
         (slot_arms place after mode) n old.parts ys s.parts changes k.parts
 
     abbrev new : HostsParts D
-    new = with_parts content image starved faults losses arms armed old ys
+    new = with_parts seen old ys
 
     hosted_is : hosted_slot c.y ≡ hosted_slot c.x
     hosted_is = λ i. record { topic = c.change.topic i; conf = c.change.conf i }
@@ -325,7 +325,7 @@ module _ {D : Type 0} (content : D → Option (List ℕ)) (image : D → List �
         ∙ slot_past place after mode c.x c.y name o c.change (differs name (hosted_name c.x.topic c.x.conf.part place)
         (λ e. let bad : true ≡ false = sym (self disk name (sym disk_is ∙ sym e)) ∙ away in cc))
         ∙ sym (ap (λ (x : PartSlot D). Found x o name) i.0)) old.parts ys c.exact)
-        (foreign_facts faults losses arms armed (foreign_disks old.foreign) name)
+        (foreign_facts seen (foreign_disks old.foreign) name)
 
     on_disk : (name : List ℕ) (b : Bool) → same_name disk name ≡ b → F new name ≡ cond b (with_arm after mode (F old name)) (F old name)
     on_disk name true is = subst (λ (m : List ℕ). F new m ≡ with_arm after mode (F old m)) (is_same disk name is) at_disk
@@ -342,10 +342,10 @@ module _ {D : Type 0} (content : D → Option (List ℕ)) (image : D → List �
         ended : PartSlot D → ℕ → ℕ
         ended x o = EndOf (hosted_slot x) x.state o name
 
-    pub part_is_armed : IsArmed content image starved faults losses arms armed disk after mode old s new
+    pub part_is_armed : IsArmed seen disk after mode old s new
     part_is_armed = record {
       carried = record {
-        parts = subst (λ (l : List HostedPart). AllZip (IsPartSlot content image starved) ys l)
+        parts = subst (λ (l : List HostedPart). AllZip (IsPartSlot seen) ys l)
             (changes_not n s.parts c.after (changes_so n (ArmsPart place after mode c.x c.y) (λ e f. f ≡ e) (λ e f g. g.same) s.parts c.after c.goes)) c.zip;
         members = k.members;
         foreign = k.foreign;
@@ -357,17 +357,17 @@ module _ {D : Type 0} (content : D → Option (List ℕ)) (image : D → List �
   -- ---- a disk of foreign state
 
   abbrev G : StoreParts D → List ℕ → Facts
-  G store name = foreign_facts faults losses arms armed (Some (store.journal.live.disk, store.journal.idle)) name
+  G store name = foreign_facts seen (Some (store.journal.live.disk, store.journal.idle)) name
 
   -- at both names
   record BothArmed (disk : List ℕ) (after : ℕ) (mode : FaultMode) (was is : StoreParts D) : Type 0 where
     at_first : G is state_a ≡ (if same_name disk state_a then with_arm after mode (G was state_a) else G was state_a)
     at_second : G is state_b ≡ (if same_name disk state_b then with_arm after mode (G was state_b) else G was state_b)
-    carried : (s : ForeignShardState) → IsCarried content image starved was s → IsCarried content image starved is s
+    carried : (s : ForeignShardState) → IsCarried seen was s → IsCarried seen is s
 
-  foreign_armed : (disk : List ℕ) (after : ℕ) (mode : FaultMode) (was is : StoreParts D) → IsTold (content was.journal.live.disk)
-      → IsTold (content was.journal.idle) → ((s : ForeignShardState) → Carries image was s → Carries image is s)
-      → ArmsEither content image losses arms armed starved faults disk after mode was is → BothArmed disk after mode was is
+  foreign_armed : (disk : List ℕ) (after : ℕ) (mode : FaultMode) (was is : StoreParts D) → IsTold (seen was.journal.live.disk).content
+      → IsTold (seen was.journal.idle).content → ((s : ForeignShardState) → Carries seen was s → Carries seen is s)
+      → ArmsEither seen disk after mode was is → BothArmed disk after mode was is
   foreign_armed disk after mode was is told second_told stays (inl (name, a, second)) =
       subst (λ (d : List ℕ). BothArmed d after mode was is) (sym name) (record {
         at_first = armed_facts after mode was.journal.live.disk is.journal.live.disk told a;
@@ -375,9 +375,9 @@ module _ {D : Type 0} (content : D → Option (List ℕ)) (image : D → List �
         carried = λ s k. record {
           carries = stays s k.carries;
           told = ap is_some a.same_content ∙ k.told;
-          second_told = ap (λ (d : D). is_some (content d)) second ∙ k.second_told;
+          second_told = ap (λ (d : D). is_some (seen d).content) second ∙ k.second_told;
           fed = a.same_starved ∙ k.fed;
-          second_fed = ap starved second ∙ k.second_fed;
+          second_fed = ap (λ d. (seen d).starved) second ∙ k.second_fed;
         };
       })
   foreign_armed disk after mode was is told second_told stays (inr (inl (name, a, first))) =
@@ -386,9 +386,9 @@ module _ {D : Type 0} (content : D → Option (List ℕ)) (image : D → List �
         at_second = armed_facts after mode was.journal.idle is.journal.idle second_told a;
         carried = λ s k. record {
           carries = stays s k.carries;
-          told = ap (λ (w : Writer D). is_some (content w.disk)) first ∙ k.told;
+          told = ap (λ (w : Writer D). is_some (seen w.disk).content) first ∙ k.told;
           second_told = ap is_some a.same_content ∙ k.second_told;
-          fed = ap (λ (w : Writer D). starved w.disk) first ∙ k.fed;
+          fed = ap (λ (w : Writer D). (seen w.disk).starved) first ∙ k.fed;
           second_fed = a.same_starved ∙ k.second_fed;
         };
       })
@@ -397,11 +397,11 @@ module _ {D : Type 0} (content : D → Option (List ℕ)) (image : D → List �
         ∙ sym (ap (λ (t : Bool). if t then with_arm after mode (G was state_a) else G was state_a) (differs disk state_a not_a));
     at_second = ap (λ (p : StoreParts D). G p state_b) same
         ∙ sym (ap (λ (t : Bool). if t then with_arm after mode (G was state_b) else G was state_b) (differs disk state_b not_b));
-    carried = λ s k. subst (λ (p : StoreParts D). IsCarried content image starved p s) (sym same) k;
+    carried = λ s k. subst (λ (p : StoreParts D). IsCarried seen p s) (sym same) k;
   }
 
   abbrev ArmsF : List ℕ → ℕ → FaultMode → ForeignSlot D → ForeignSlot D → Type 0
-  ArmsF disk after mode old new = ArmsForeign content image losses arms armed starved faults disk after mode old new
+  ArmsF disk after mode old new = ArmsForeign seen disk after mode old new
 
   module _ (old new : HostsParts D) (disk : List ℕ) (after : ℕ) (mode : FaultMode) (no_part : NotIn (part_disks (hosted_slots old.parts)) disk)
       (p : ArmsF disk after mode old.foreign new.foreign) (same : new.parts ≡ old.parts) (same_members : new.members ≡ old.members) (apart : AreApart old) where
@@ -412,36 +412,36 @@ module _ {D : Type 0} (content : D → Option (List ℕ)) (image : D → List �
     pairs = slots_disks old.parts
 
     abbrev in_parts : Facts → List ℕ → Facts
-    in_parts other name = among (λ (e : List ℕ × Option D). e.0) (λ e. facts_at faults losses arms armed e.1) pairs other name
+    in_parts other name = among (λ (e : List ℕ × Option D). e.0) (λ e. facts_at seen e.1) pairs other name
 
     abbrev names : List (List ℕ)
     names = part_disks (hosted_slots old.parts)
 
     past : (other : Facts) (name : List ℕ) → NotIn names name → in_parts other name ≡ other
-    past other name n = among_past (λ (e : List ℕ × Option D). e.0) (λ e. facts_at faults losses arms armed e.1) pairs other name
+    past other name n = among_past (λ (e : List ℕ × Option D). e.0) (λ e. facts_at seen e.1) pairs other name
         (subst (λ (l : List (List ℕ)). NotIn l name) (sym (disk_names old.parts)) n)
 
     zip_refl : (es : List (List ℕ × Option D)) → AllZip (λ (e f : List ℕ × Option D). (f.0 ≡ e.0)
-        × (facts_at faults losses arms armed f.1 ≡ facts_at faults losses arms armed e.1)) es es
-    zip_refl es = zip_same (λ (e f : List ℕ × Option D). (f.0 ≡ e.0) × (facts_at faults losses arms armed f.1 ≡ facts_at faults losses arms armed e.1))
+        × (facts_at seen f.1 ≡ facts_at seen e.1)) es es
+    zip_refl es = zip_same (λ (e f : List ℕ × Option D). (f.0 ≡ e.0) × (facts_at seen f.1 ≡ facts_at seen e.1))
         (λ e. (refl, refl)) es
 
     -- a partition's disk stays
     parts_stay : (name : List ℕ) → IsOneOf names name → F then_hosts name ≡ F old name
     parts_stay name one =
-        among_zip (λ (e : List ℕ × Option D). e.0) (λ e. facts_at faults losses arms armed e.1) (λ (e : List ℕ × Option D). e.0)
-        (λ e. facts_at faults losses arms armed e.1) (λ (a b : Facts). b ≡ a) pairs pairs (zip_refl pairs)
-        (foreign_facts faults losses arms armed (foreign_disks old.foreign) name)
-        (foreign_facts faults losses arms armed (foreign_disks new.foreign) name) name
+        among_zip (λ (e : List ℕ × Option D). e.0) (λ e. facts_at seen e.1) (λ (e : List ℕ × Option D). e.0)
+        (λ e. facts_at seen e.1) (λ (a b : Facts). b ≡ a) pairs pairs (zip_refl pairs)
+        (foreign_facts seen (foreign_disks old.foreign) name)
+        (foreign_facts seen (foreign_disks new.foreign) name) name
         (λ n. absurd (not_both names name (subst (λ (l : List (List ℕ)). NotIn l name) (disk_names old.parts) n) one))
 
     foreign_was : (name : List ℕ) → NotIn names name → F old name ≡ G p.was name
-    foreign_was name n = past (foreign_facts faults losses arms armed (foreign_disks old.foreign) name) name n
-        ∙ ap (λ (f : ForeignSlot D). foreign_facts faults losses arms armed (foreign_disks f) name) p.old_is
+    foreign_was name n = past (foreign_facts seen (foreign_disks old.foreign) name) name n
+        ∙ ap (λ (f : ForeignSlot D). foreign_facts seen (foreign_disks f) name) p.old_is
 
     foreign_is : (name : List ℕ) → NotIn names name → F then_hosts name ≡ G p.is name
-    foreign_is name n = past (foreign_facts faults losses arms armed (foreign_disks new.foreign) name) name n
-        ∙ ap (λ (f : ForeignSlot D). foreign_facts faults losses arms armed (foreign_disks f) name) p.new_is
+    foreign_is name n = past (foreign_facts seen (foreign_disks new.foreign) name) name n
+        ∙ ap (λ (f : ForeignSlot D). foreign_facts seen (foreign_disks f) name) p.new_is
 
     abbrev Armed_at : List ℕ → Type 0
     Armed_at name = F then_hosts name ≡ (if same_name disk name then with_arm after mode (F old name) else F old name)
@@ -456,9 +456,9 @@ module _ {D : Type 0} (content : D → Option (List ℕ)) (image : D → List �
         ∙ sym (ap (λ (t : Bool). if t then with_arm after mode (F old name) else F old name)
         (differs disk name (λ e. not_both names disk no_part (subst (λ (m : List ℕ). IsOneOf names m) (sym e) one))))
 
-    module _ (s : Shards) (k : AreCarried content image starved old s) where
-      was_carried : IsCarried content image starved p.was s.foreign
-      was_carried = subst (λ (f : ForeignSlot D). IsSlot content image starved f s.foreign) p.old_is k.foreign
+    module _ (s : Shards) (k : AreCarried seen old s) where
+      was_carried : IsCarried seen p.was s.foreign
+      was_carried = subst (λ (f : ForeignSlot D). IsSlot seen f s.foreign) p.old_is k.foreign
 
       both : BothArmed disk after mode p.was p.is
       both = foreign_armed disk after mode p.was p.is was_carried.told was_carried.second_told p.stays p.either
@@ -475,42 +475,42 @@ module _ {D : Type 0} (content : D → Option (List ℕ)) (image : D → List �
           ∙ ap (λ (n : ℕ). cond (same_name name state_a) n 0) p.end
           ∙ sym (ap (λ (f : ForeignSlot D). foreign_end f name) p.old_is)
 
-      pub arms_state : IsArmed content image starved faults losses arms armed disk after mode old s new
+      pub arms_state : IsArmed seen disk after mode old s new
       arms_state =
-          subst (λ (h : HostsParts D). IsArmed content image starved faults losses arms armed disk after mode old s h)
+          subst (λ (h : HostsParts D). IsArmed seen disk after mode old s h)
           (λ i. record { parts = sym same i; members = sym same_members i; foreign = new.foreign })
           (record {
             carried = record {
               parts = k.parts;
               members = k.members;
-              foreign = subst (λ (f : ForeignSlot D). IsSlot content image starved f s.foreign) (sym p.new_is) (both.carried s.foreign was_carried);
+              foreign = subst (λ (f : ForeignSlot D). IsSlot seen f s.foreign) (sym p.new_is) (both.carried s.foreign was_carried);
             };
             disks = λ name one. at_any name (one_in_either names (state_a ∷ state_b ∷ []) name one);
             ends = λ name. ap (λ (n : ℕ). among (λ (e : List ℕ × ℕ). e.0) (λ (e : List ℕ × ℕ). e.1) (flat_map slot_ends old.parts) n name) (end_same name);
           })
 
-    either_on : ArmsEither content image losses arms armed starved faults disk after mode p.was p.is
-        → GoesOn content faults p.was.journal.live.disk p.is.journal.live.disk × GoesOn content faults p.was.journal.idle p.is.journal.idle
+    either_on : ArmsEither seen disk after mode p.was p.is
+        → GoesOn seen p.was.journal.live.disk p.is.journal.live.disk × GoesOn seen p.was.journal.idle p.is.journal.idle
     either_on (inl (name, a, second)) = (
       arms_go_on after mode p.was.journal.live.disk p.is.journal.live.disk a,
-      subst (λ (d : D). GoesOn content faults p.was.journal.idle d) (sym second) (least_on content image starved faults losses arms armed p.was.journal.idle),
+      subst (λ (d : D). GoesOn seen p.was.journal.idle d) (sym second) (least_on seen p.was.journal.idle),
     )
     either_on (inr (inl (name, a, first))) = (
-      subst (λ (w : Writer D). GoesOn content faults p.was.journal.live.disk w.disk) (sym first)
-          (least_on content image starved faults losses arms armed p.was.journal.live.disk),
+      subst (λ (w : Writer D). GoesOn seen p.was.journal.live.disk w.disk) (sym first)
+          (least_on seen p.was.journal.live.disk),
       arms_go_on after mode p.was.journal.idle p.is.journal.idle a,
     )
     either_on (inr (inr (not_a, not_b, same))) =
-        subst (λ (q : StoreParts D). GoesOn content faults p.was.journal.live.disk q.journal.live.disk × GoesOn content faults p.was.journal.idle q.journal.idle) (sym same) (
-          least_on content image starved faults losses arms armed p.was.journal.live.disk,
-          least_on content image starved faults losses arms armed p.was.journal.idle,
+        subst (λ (q : StoreParts D). GoesOn seen p.was.journal.live.disk q.journal.live.disk × GoesOn seen p.was.journal.idle q.journal.idle) (sym same) (
+          least_on seen p.was.journal.live.disk,
+          least_on seen p.was.journal.idle,
         )
 
-    pub arms_state_on : GoOn content faults (disks_in old) (disks_in new)
+    pub arms_state_on : GoOn seen (disks_in old) (disks_in new)
     arms_state_on = record {
-      parts = subst (λ (l : List (PartSlot D)). AllZip (DiskGoesOn content faults) (slots_disks old.parts) (slots_disks l)) (sym same)
-          (zip_same (DiskGoesOn content faults) (same_goes content image starved faults losses arms armed) (slots_disks old.parts));
+      parts = subst (λ (l : List (PartSlot D)). AllZip (DiskGoesOn seen) (slots_disks old.parts) (slots_disks l)) (sym same)
+          (zip_same (DiskGoesOn seen) (same_goes seen) (slots_disks old.parts));
       foreign =
-          subst (λ (f : ForeignSlot D). BothGoOn content faults (foreign_disks f) (foreign_disks new.foreign)) (sym p.old_is)
-          (subst (λ (f : ForeignSlot D). BothGoOn content faults (Some (p.was.journal.live.disk, p.was.journal.idle)) (foreign_disks f)) (sym p.new_is) (either_on p.either));
+          subst (λ (f : ForeignSlot D). BothGoOn seen (foreign_disks f) (foreign_disks new.foreign)) (sym p.old_is)
+          (subst (λ (f : ForeignSlot D). BothGoOn seen (Some (p.was.journal.live.disk, p.was.journal.idle)) (foreign_disks f)) (sym p.new_is) (either_on p.either));
     }

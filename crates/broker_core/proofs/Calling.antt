@@ -34,26 +34,26 @@ use Rattle.broker_core.proofs.Leading.{StillSlot, halts_still, open_still, parts
 use Rattle.broker_core.proofs.Reaching.{SlotLater, SlotReaches, foreign_reaches, names_later, names_reach, open_reaches, same_later, slot_later, slot_reaches, slots_reach}
 use Rattle.broker_core.proofs.Places.{Changed, changed, changes_all, changes_either, changes_not, changes_same, changes_zip, zip_same, zip_weaker}
 use Rattle.broker_core.proofs.Slots.{AreOf, Halves, Turns, are_of, called_same, half_named, slot_end_stays, slot_used, step_named}
+use Rattle.edge_io.specs.Views.{DiskView}
 
-module _ {D : Type 0} (content : D → Option (List ℕ)) (image : D → List ℕ → Type 0) (starved : D → Bool) (faults : D → ℕ)
-    (losses : D → List (ℕ × List ℕ)) (arms : D → ℕ) (armed : D → Armed) where
+module _ {D : Type 0} (seen : D → DiskView) where
   abbrev F : HostsParts D → List ℕ → Facts
-  F hosts name = facts_in faults losses arms armed (disks_in hosts) name
+  F hosts name = facts_in seen (disks_in hosts) name
 
   abbrev N : HostsParts D → HostsParts D → Counts
-  N old new = counts_in faults losses arms armed (disks_in old) (disks_in new)
+  N old new = counts_in seen (disks_in old) (disks_in new)
 
   abbrev K : HostsParts D → Shards → Type 0
-  K hosts s = AreCarried content image starved hosts s
+  K hosts s = AreCarried seen hosts s
 
   abbrev T : PartSlot D → PartSlot D → OpenPart D → OpenPart D → Type 0
-  T x y was is = Turns content image starved faults losses arms armed x y was is
+  T x y was is = Turns seen x y was is
 
   abbrev LeadsS : ℕ → PartCall → PartSlot D → PartSlot D → Type 0
-  LeadsS now did x y = LeadsSlot content image starved faults losses arms armed now did x y
+  LeadsS now did x y = LeadsSlot seen now did x y
 
   abbrev HaltsS : ℕ → (PartCall → Type 0) → (Begun → Type 0) → PartSlot D → PartSlot D → Type 0
-  HaltsS now Whole Half x y = HaltsSlot content image starved faults now Whole Half x y
+  HaltsS now Whole Half x y = HaltsSlot seen now Whole Half x y
 
   -- the same partition, with other parts of one hosts
   abbrev pub with_parts : HostsParts D → List (PartSlot D) → HostsParts D
@@ -66,7 +66,7 @@ module _ {D : Type 0} (content : D → Option (List ℕ)) (image : D → List �
     pub was : OpenPart D
     pub is : OpenPart D
     pub turns : T x y was is
-    pub goes : PartGoesOn content faults was is
+    pub goes : PartGoesOn seen was is
 
   pub turned_leads : (now : ℕ) (did : PartCall) (x y : PartSlot D) → LeadsS now did x y → Turned x y
   turned_leads now did x y p = record {
@@ -85,13 +85,13 @@ module _ {D : Type 0} (content : D → Option (List ℕ)) (image : D → List �
   }
 
   abbrev SlotGoesOn : PartSlot D → PartSlot D → Type 0
-  SlotGoesOn x y = AllZip (DiskGoesOn content faults) (slot_disks x) (slot_disks y)
+  SlotGoesOn x y = AllZip (DiskGoesOn seen) (slot_disks x) (slot_disks y)
 
-  pub open_goes : (x y : PartSlot D) (was is : OpenPart D) → T x y was is → (place : DiskPlace) → GoesOn content faults (open_disk was place) (open_disk is place)
-      → GoesOnIf content faults (part_disk x.state place) (part_disk y.state place)
+  pub open_goes : (x y : PartSlot D) (was is : OpenPart D) → T x y was is → (place : DiskPlace) → GoesOn seen (open_disk was place) (open_disk is place)
+      → GoesOnIf seen (part_disk x.state place) (part_disk y.state place)
   open_goes x y was is t place g =
-      subst (λ (s : PartState D). GoesOnIf content faults (part_disk s place) (part_disk y.state place)) (sym t.old_is)
-      (subst (λ (s : PartState D). GoesOnIf content faults (Some (open_disk was place)) (part_disk s place)) (sym t.new_is) g)
+      subst (λ (s : PartState D). GoesOnIf seen (part_disk s place) (part_disk y.state place)) (sym t.old_is)
+      (subst (λ (s : PartState D). GoesOnIf seen (Some (open_disk was place)) (part_disk s place)) (sym t.new_is) g)
 
   pub slot_goes : (x y : PartSlot D) → Turned x y → SlotGoesOn x y
   slot_goes x y t = (
@@ -103,14 +103,14 @@ module _ {D : Type 0} (content : D → Option (List ℕ)) (image : D → List �
   )
 
   slot_same : (x : PartSlot D) → SlotGoesOn x x
-  slot_same x = zip_same (DiskGoesOn content faults) (same_goes content image starved faults losses arms armed) (slot_disks x)
+  slot_same x = zip_same (DiskGoesOn seen) (same_goes seen) (slot_disks x)
 
   pub turned_on : (old : HostsParts D) (ys : List (PartSlot D)) (n : ℕ) → ChangesAt n Turned old.parts ys
-      → GoOn content faults (disks_in old) (disks_in (with_parts old ys))
+      → GoOn seen (disks_in old) (disks_in (with_parts old ys))
   turned_on old ys n c = record {
-    parts = zip_flat SlotGoesOn (DiskGoesOn content faults) slot_disks slot_disks (λ x y z. z) old.parts ys
+    parts = zip_flat SlotGoesOn (DiskGoesOn seen) slot_disks slot_disks (λ x y z. z) old.parts ys
         (changes_zip Turned SlotGoesOn slot_same slot_goes n old.parts ys c);
-    foreign = same_both content image starved faults losses arms armed (foreign_disks old.foreign);
+    foreign = same_both seen (foreign_disks old.foreign);
   }
 
   pub turned_hosted : (old : HostsParts D) (ys : List (PartSlot D)) (n : ℕ) → ChangesAt n Turned old.parts ys → StaysHosted old (with_parts old ys)
@@ -130,21 +130,21 @@ module _ {D : Type 0} (content : D → Option (List ℕ)) (image : D → List �
     turns : T x y was is
     e_is : e.hosted ≡ hosted_slot x
     f_is : f.hosted ≡ hosted_slot x
-    step : StepsOn faults x.conf was is now e.shard did f.shard
+    step : StepsOn seen x.conf was is now e.shard did f.shard
     ends : EndsGoOn was is
-    used : Uses faults losses arms armed was is did
+    used : Uses seen was is did
 
-  slot_leads : (now : ℕ) (did : PartCall) (x y : PartSlot D) (e : HostedPart) → LeadsS now did x y → IsPartSlot content image starved x e
-      → (f : HostedPart) × IsPartSlot content image starved y f × GoesPart now did x y e f
+  slot_leads : (now : ℕ) (did : PartCall) (x y : PartSlot D) (e : HostedPart) → LeadsS now did x y → IsPartSlot seen x e
+      → (f : HostedPart) × IsPartSlot seen y f × GoesPart now did x y e f
   unfolding turned_leads
   slot_leads now did x y e p k =
-      let l = p.leads e.shard (subst (λ (s : PartState D). IsPartState content image starved x.conf s e.shard) p.old_is k.state) in (
+      let l = p.leads e.shard (subst (λ (s : PartState D). IsPartState seen x.conf s e.shard) p.old_is k.state) in (
         record { hosted = hosted_slot x; shard = l.after },
         record {
           hosted = λ i. record { topic = sym p.topic i; conf = sym p.conf i };
           state =
-              subst (λ (c : PartConfParts). IsPartState content image starved c y.state l.after) (sym p.conf)
-              (subst (λ (s : PartState D). IsPartState content image starved x.conf s l.after) (sym p.new_is) l.carried);
+              subst (λ (c : PartConfParts). IsPartState seen c y.state l.after) (sym p.conf)
+              (subst (λ (s : PartState D). IsPartState seen x.conf s l.after) (sym p.new_is) l.carried);
         },
         record {
           was = p.was;
@@ -158,7 +158,7 @@ module _ {D : Type 0} (content : D → Option (List ℕ)) (image : D → List �
         },
       )
 
-  keep_slot : (x : PartSlot D) (e : HostedPart) → IsPartSlot content image starved x e → IsPartSlot content image starved x e
+  keep_slot : (x : PartSlot D) (e : HostedPart) → IsPartSlot seen x e → IsPartSlot seen x e
   keep_slot x e k = k
 
   -- one slot changed
@@ -172,40 +172,40 @@ module _ {D : Type 0} (content : D → Option (List ℕ)) (image : D → List �
     hosted_then = changes_same hosted_slot Is (λ a b is. ap hosted_slot is.1 ∙ hosted ∙ sym (ap hosted_slot is.0)) n old.parts ys exact
 
     pub of_slot : (was is : OpenPart D) → T x y was is
-        → AreOf content image starved faults losses arms armed (hosted_slot x) was is (N old (with_parts old ys)) (ends_over old (with_parts old ys))
-    of_slot was is t = are_of content image starved faults losses arms armed old (with_parts old ys) n x y was is there here t
+        → AreOf seen (hosted_slot x) was is (N old (with_parts old ys)) (ends_over old (with_parts old ys))
+    of_slot was is t = are_of seen old (with_parts old ys) n x y was is there here t
         (parts_apart (hosted_slots old.parts) apart)
         (subst (λ (hs : List Hosted). AreDistinct (part_disks hs)) (sym hosted_then) (parts_apart (hosted_slots old.parts) apart))
 
     pub named_step : (now : ℕ) (did : PartCall) (e f : HostedPart) (was is : OpenPart D) → T x y was is → e.hosted ≡ hosted_slot x → f.hosted ≡ hosted_slot x
-        → StepsOn faults x.conf was is now e.shard did f.shard → StepsHosted (N old (with_parts old ys)) (ends_over old (with_parts old ys)) now (hosted_slot x) did e f
+        → StepsOn seen x.conf was is now e.shard did f.shard → StepsHosted (N old (with_parts old ys)) (ends_over old (with_parts old ys)) now (hosted_slot x) did e f
     named_step now did e f was is t e_is f_is step = record {
       was = e_is;
       is = f_is;
-      step = step_named content image starved faults losses arms armed (hosted_slot x) was is (N old (with_parts old ys)) (ends_over old (with_parts old ys)) (of_slot was is t)
+      step = step_named seen (hosted_slot x) was is (N old (with_parts old ys)) (ends_over old (with_parts old ys)) (of_slot was is t)
           now e.shard did f.shard step;
     }
 
-    pub on_disks : (did : PartCall) (was is : OpenPart D) → T x y was is → Uses faults losses arms armed was is did → (name : List ℕ)
+    pub on_disks : (did : PartCall) (was is : OpenPart D) → T x y was is → Uses seen was is did → (name : List ℕ)
         → OnCalled (part_calls (hosted_slot x) did name) (F old name) (F (with_parts old ys) name)
     on_disks did was is t used name =
-        among_changed (λ (e : List ℕ × Option D). e.0) (λ e. facts_at faults losses arms armed e.1) slot_disks
+        among_changed (λ (e : List ℕ × Option D). e.0) (λ e. facts_at seen e.1) slot_disks
         (OnCalled (part_calls (hosted_slot x) did name)) (called_same (part_calls (hosted_slot x) did name)) name n old.parts ys
         (changes_so n Is (λ a b. (o : Facts) → OnCalled (part_calls (hosted_slot x) did name) (found a o) (found b o))
         (λ a b i o. subst (λ (s : PartSlot D). OnCalled (part_calls (hosted_slot x) did name) (found s o) (found b o)) (sym i.0)
         (subst (λ (s : PartSlot D). OnCalled (part_calls (hosted_slot x) did name) (found x o) (found s o)) (sym i.1)
-        (slot_used content image starved faults losses arms armed x y was is did t used name o))) old.parts ys exact)
-        (foreign_facts faults losses arms armed (foreign_disks old.foreign) name)
+        (slot_used seen x y was is did t used name o))) old.parts ys exact)
+        (foreign_facts seen (foreign_disks old.foreign) name)
       where
         found : PartSlot D → Facts → Facts
-        found s o = among (λ (e : List ℕ × Option D). e.0) (λ e. facts_at faults losses arms armed e.1) (slot_disks s) o name
+        found s o = among (λ (e : List ℕ × Option D). e.0) (λ e. facts_at seen e.1) (slot_disks s) o name
 
-    pub on_ends : (did : PartCall) (was is : OpenPart D) → T x y was is → Uses faults losses arms armed was is did → (name : List ℕ)
+    pub on_ends : (did : PartCall) (was is : OpenPart D) → T x y was is → Uses seen was is did → (name : List ℕ)
         → part_calls (hosted_slot x) did name ≡ false → ends_in (with_parts old ys) name ≡ ends_in old name
     on_ends did was is t used name away =
         among_changed (λ (e : List ℕ × ℕ). e.0) (λ (e : List ℕ × ℕ). e.1) slot_ends (λ (a b : ℕ). b ≡ a) (λ a. refl) name n old.parts ys
         (changes_so n Is (λ a b. (o : ℕ) → found b o ≡ found a o)
-        (λ a b i o. ap (λ (s : PartSlot D). found s o) i.1 ∙ slot_end_stays content image starved faults losses arms armed x y was is did t used name o away
+        (λ a b i o. ap (λ (s : PartSlot D). found s o) i.1 ∙ slot_end_stays seen x y was is did t used name o away
         ∙ sym (ap (λ (s : PartSlot D). found s o) i.0)) old.parts ys exact)
         (foreign_end old.foreign name)
       where
@@ -214,9 +214,9 @@ module _ {D : Type 0} (content : D → Option (List ℕ)) (image : D → List �
 
     pub on_later : (was is : OpenPart D) → T x y was is → EndsGoOn was is → (name : List ℕ) → ends_in old name ≤ ends_in (with_parts old ys) name
     on_later was is t g =
-        let later : SlotLater image x y = slot_later image x y was is t.old_is t.new_is t.hosted g in
-        names_later image old (with_parts old ys) (changes_zip Is (SlotLater image) (same_later image)
-        (λ a b i. subst (λ (s : PartSlot D). SlotLater image s b) (sym i.0) (subst (λ (s : PartSlot D). SlotLater image x s) (sym i.1) later))
+        let later : SlotLater seen x y = slot_later seen x y was is t.old_is t.new_is t.hosted g in
+        names_later seen old (with_parts old ys) (changes_zip Is (SlotLater seen) (same_later seen)
+        (λ a b i. subst (λ (s : PartSlot D). SlotLater seen s b) (sym i.0) (subst (λ (s : PartSlot D). SlotLater seen x s) (sym i.1) later))
         n old.parts ys exact) (λ name. least (foreign_end old.foreign name))
       where
         least : (n : ℕ) → n ≤ n
@@ -228,9 +228,9 @@ module _ {D : Type 0} (content : D → Option (List ℕ)) (image : D → List �
 
   pub part_leads : (old : HostsParts D) (ys : List (PartSlot D)) (n now : ℕ) (did : PartCall) → ChangesAt n (LeadsS now did) old.parts ys → AreApart old
       → (s : Shards) → K old s
-      → Leads content image starved faults losses arms armed old s (with_parts old ys) (DidPart (N old (with_parts old ys)) (ends_over old (with_parts old ys)) now n did)
+      → Leads seen old s (with_parts old ys) (DidPart (N old (with_parts old ys)) (ends_over old (with_parts old ys)) now n did)
   part_leads old ys n now did changes apart s k =
-      let c = changed (IsPartSlot content image starved) (IsPartSlot content image starved) keep_slot (LeadsS now did) (GoesPart now did) (slot_leads now did)
+      let c = changed (IsPartSlot seen) (IsPartSlot seen) keep_slot (LeadsS now did) (GoesPart now did) (slot_leads now did)
       n old.parts ys s.parts changes k.parts in
       let t = turned_leads now did c.x c.y c.change in
       record {
@@ -264,29 +264,29 @@ module _ {D : Type 0} (content : D → Option (List ℕ)) (image : D → List �
     turns : T x y was is
     e_is : e.hosted ≡ hosted_slot x
     f_is : f.hosted ≡ hosted_slot x
-    does : (f.shard ≡ e.shard) ⊎ (((did : PartCall) × Whole did × StepsOn faults x.conf was is now e.shard did f.shard)
-        ⊎ ((begun : Begun) × Half begun × HalvesOn faults x.conf was is now e.shard begun f.shard))
+    does : (f.shard ≡ e.shard) ⊎ (((did : PartCall) × Whole did × StepsOn seen x.conf was is now e.shard did f.shard)
+        ⊎ ((begun : Begun) × Half begun × HalvesOn seen x.conf was is now e.shard begun f.shard))
     ends : EndsGoOn was is
 
   -- its disks stand for the shard, and reach to where its journals end
   record HaltedSlot (y : PartSlot D) (f : HostedPart) : Type 0 where
-    still : StillSlot content image starved faults losses arms armed y f
-    reaches : SlotReaches image (λ n. n) y y
+    still : StillSlot seen y f
+    reaches : SlotReaches seen (λ n. n) y y
 
-  keep_halted : (x : PartSlot D) (e : HostedPart) → IsPartSlot content image starved x e → HaltedSlot x e
-  keep_halted x e k = record { still = slot_still content image starved faults losses arms armed x e k; reaches = slot_reaches content image starved x e k }
+  keep_halted : (x : PartSlot D) (e : HostedPart) → IsPartSlot seen x e → HaltedSlot x e
+  keep_halted x e k = record { still = slot_still seen x e k; reaches = slot_reaches seen x e k }
 
   slot_halts : (now : ℕ) (Whole : PartCall → Type 0) (Half : Begun → Type 0) (x y : PartSlot D) (e : HostedPart) → HaltsS now Whole Half x y
-      → IsPartSlot content image starved x e
+      → IsPartSlot seen x e
       → (f : HostedPart) × HaltedSlot y f × HaltedPart now Whole Half x y e f
   unfolding turned_halts
   slot_halts now Whole Half x y e p k =
-      let h = p.halts e.shard (subst (λ (s : PartState D). IsPartState content image starved x.conf s e.shard) p.old_is k.state) in (
+      let h = p.halts e.shard (subst (λ (s : PartState D). IsPartState seen x.conf s e.shard) p.old_is k.state) in (
         record { hosted = hosted_slot x; shard = h.after },
         record {
-          still = open_still content image starved faults losses arms armed y (record { hosted = hosted_slot x; shard = h.after }) p.is p.new_is
+          still = open_still seen y (record { hosted = hosted_slot x; shard = h.after }) p.is p.new_is
               (λ i. record { topic = sym p.topic i; conf = sym p.conf i }) (h.conf_is ∙ sym p.conf) h.carries h.log_told h.first_told h.second_told;
-          reaches = open_reaches image y p.is h.after p.new_is h.carries;
+          reaches = open_reaches seen y p.is h.after p.new_is h.carries;
         },
         record {
           was = p.was;
@@ -302,13 +302,13 @@ module _ {D : Type 0} (content : D → Option (List ℕ)) (image : D → List �
   -- the slot was left in the midst of a call
   abbrev LeftAt : Counts → (ends : Ends) → ℕ → Begun → HostedPart → HostedPart → Type 0
   LeftAt counts ends now begun e f =
-      (f.hosted ≡ e.hosted) × Halves content image starved faults losses arms armed counts ends now begun e.hosted e.shard f.shard
+      (f.hosted ≡ e.hosted) × Halves seen counts ends now begun e.hosted e.shard f.shard
 
   module _ (old : HostsParts D) (ys : List (PartSlot D)) (n now : ℕ) (Whole : PartCall → Type 0) (Half : Begun → Type 0)
       (changes : ChangesAt n (HaltsS now Whole Half) old.parts ys) (apart : AreApart old) (s : Shards) (k : K old s) where
-    abbrev c : Changed (IsPartSlot content image starved) HaltedSlot keep_halted (HaltsS now Whole Half) (HaltedPart now Whole Half)
+    abbrev c : Changed (IsPartSlot seen) HaltedSlot keep_halted (HaltsS now Whole Half) (HaltedPart now Whole Half)
         (slot_halts now Whole Half) n old.parts ys s.parts
-    c = changed (IsPartSlot content image starved) HaltedSlot keep_halted (HaltsS now Whole Half) (HaltedPart now Whole Half)
+    c = changed (IsPartSlot seen) HaltedSlot keep_halted (HaltsS now Whole Half) (HaltedPart now Whole Half)
         (slot_halts now Whole Half) n old.parts ys s.parts changes k.parts
 
     abbrev new : HostsParts D
@@ -324,8 +324,8 @@ module _ {D : Type 0} (content : D → Option (List ℕ)) (image : D → List �
 
     halted : (e f : HostedPart) → HaltedPart now Whole Half c.x c.y e f → (f ≡ e) ⊎ ((d : PartCall ⊎ Begun) × Does d e f)
     halted e f g = go g.does where
-      go : (f.shard ≡ e.shard) ⊎ (((did : PartCall) × Whole did × StepsOn faults c.x.conf g.was g.is now e.shard did f.shard)
-          ⊎ ((begun : Begun) × Half begun × HalvesOn faults c.x.conf g.was g.is now e.shard begun f.shard))
+      go : (f.shard ≡ e.shard) ⊎ (((did : PartCall) × Whole did × StepsOn seen c.x.conf g.was g.is now e.shard did f.shard)
+          ⊎ ((begun : Begun) × Half begun × HalvesOn seen c.x.conf g.was g.is now e.shard begun f.shard))
           → (f ≡ e) ⊎ ((d : PartCall ⊎ Begun) × Does d e f)
       go (inl same) = inl (λ i. record { hosted = (g.f_is ∙ sym g.e_is) i; shard = same i })
       go (inr (inl d)) = inr (
@@ -341,8 +341,8 @@ module _ {D : Type 0} (content : D → Option (List ℕ)) (image : D → List �
           b.1,
           (
             g.f_is ∙ sym g.e_is,
-            subst (λ (h : Hosted). Halves content image starved faults losses arms armed (N old new) (ends_over old new) now b.0 h e.shard f.shard) (sym g.e_is)
-                (half_named content image starved faults losses arms armed (hosted_slot c.x) g.was g.is (N old new) (ends_over old new)
+            subst (λ (h : Hosted). Halves seen (N old new) (ends_over old new) now b.0 h e.shard f.shard) (sym g.e_is)
+                (half_named seen (hosted_slot c.x) g.was g.is (N old new) (ends_over old new)
                 (of_slot old ys n c.x c.y c.there c.here c.exact hosted_is apart g.was g.is g.turns) now e.shard b.0 f.shard b.2),
           ),
         ),
@@ -353,7 +353,7 @@ module _ {D : Type 0} (content : D → Option (List ℕ)) (image : D → List �
 
     abbrev LeavesAll : Shards → Shards → Type 0
     LeavesAll a b = (begun : Begun) × Half begun
-        × IsLeftIn n (Halves content image starved faults losses arms armed (N old new) (ends_over old new) now begun) a b
+        × IsLeftIn n (Halves seen (N old new) (ends_over old new) now begun) a b
 
     abbrev after : Shards
     after = record { parts = c.after; members = s.members; foreign = s.foreign }
@@ -391,18 +391,18 @@ module _ {D : Type 0} (content : D → Option (List ℕ)) (image : D → List �
     what_was_done (inl none) = inl (λ i. record { parts = changes_not n s.parts c.after none i; members = s.members; foreign = s.foreign })
     what_was_done (inr d) = whole_or_half d.0 d.1
 
-    pub halted_at : Halts content image old s new DoesAll LeavesAll
+    pub halted_at : Halts seen old s new DoesAll LeavesAll
     halted_at = record {
       after = after;
       still = record {
-        parts = parts_still content image starved faults losses arms armed ys c.after
-            (zip_weaker HaltedSlot (StillSlot content image starved faults losses arms armed) (λ y f h. h.still) ys c.after c.zip);
-        foreign = still_foreign content image starved faults losses arms armed old.foreign s.foreign k.foreign;
+        parts = parts_still seen ys c.after
+            (zip_weaker HaltedSlot (StillSlot seen) (λ y f h. h.still) ys c.after c.zip);
+        foreign = still_foreign seen old.foreign s.foreign k.foreign;
       };
       ends_later = change_of n (HaltedPart now Whole Half c.x c.y)
           (λ e f g. on_later old ys n c.x c.y c.there c.here c.exact hosted_is apart g.was g.is g.turns g.ends) s.parts c.after c.goes;
-      reach = names_reach image (λ n. n) new new (slots_reach content image starved HaltedSlot (λ y f h. h.reaches) ys c.after c.zip)
-          (foreign_reaches content image starved old.foreign s.foreign k.foreign);
+      reach = names_reach seen (λ n. n) new new (slots_reach seen HaltedSlot (λ y f h. h.reaches) ys c.after c.zip)
+          (foreign_reaches seen old.foreign s.foreign k.foreign);
       does = what_was_done (changes_either (λ e f. f ≡ e) Does n s.parts c.after
           (changes_so n (HaltedPart now Whole Half c.x c.y) (λ e f. (f ≡ e) ⊎ ((d : PartCall ⊎ Begun) × Does d e f)) halted s.parts c.after c.goes));
     }
@@ -413,16 +413,16 @@ module _ {D : Type 0} (content : D → Option (List ℕ)) (image : D → List �
 
   pub part_halts : (old : HostsParts D) (ys : List (PartSlot D)) (n now : ℕ) (Whole : PartCall → Type 0) (Half : Begun → Type 0)
       → MayHalt n now Whole Half old.parts ys → AreApart old → (s : Shards) → K old s
-      → Halts content image old s (with_parts old ys)
+      → Halts seen old s (with_parts old ys)
       (λ a call b. (did : PartCall) × Whole did × DidPart (N old (with_parts old ys)) (ends_over old (with_parts old ys)) now n did a call b)
       (λ a b. (begun : Begun) × Half begun
-      × IsLeftIn n (Halves content image starved faults losses arms armed (N old (with_parts old ys)) (ends_over old (with_parts old ys)) now begun) a b)
+      × IsLeftIn n (Halves seen (N old (with_parts old ys)) (ends_over old (with_parts old ys)) now begun) a b)
   part_halts old ys n now Whole Half (inl same) apart s k =
-      subst (λ (zs : List (PartSlot D)). Halts content image old s (with_parts old zs)
+      subst (λ (zs : List (PartSlot D)). Halts seen old s (with_parts old zs)
       (λ a call b. (did : PartCall) × Whole did × DidPart (N old (with_parts old zs)) (ends_over old (with_parts old zs)) now n did a call b)
       (λ a b. (begun : Begun) × Half begun
-      × IsLeftIn n (Halves content image starved faults losses arms armed (N old (with_parts old zs)) (ends_over old (with_parts old zs)) now begun) a b)) (sym same)
-      (halts_still content image starved faults losses arms armed old s _ _ k)
+      × IsLeftIn n (Halves seen (N old (with_parts old zs)) (ends_over old (with_parts old zs)) now begun) a b)) (sym same)
+      (halts_still seen old s _ _ k)
   part_halts old ys n now Whole Half (inr changes) apart s k = halted_at old ys n now Whole Half changes apart s k
 
   -- what holds of the disks either way
@@ -447,16 +447,16 @@ module _ {D : Type 0} (content : D → Option (List ℕ)) (image : D → List �
 
   pub half_of_visit : (counts : Counts) (ends : Ends) (now : ℕ) (asked : Part) (shard : ℕ) (visit : Visit) → asked ≡ PartVisit shard visit
       → (begun : Begun) → begun ≡ BeginsVisit visit → (a b : Shards)
-      → IsLeftIn shard (Halves content image starved faults losses arms armed counts ends now begun) a b → IsHalfDone counts ends asked a b
+      → IsLeftIn shard (Halves seen counts ends now begun) a b → IsHalfDone counts ends asked a b
   half_of_visit counts ends now asked shard visit is begun begins a b left =
       subst (λ (p : Part). IsHalfDone counts ends p a b) (sym is)
-      (subst (λ (g : Begun). IsLeftIn shard (Halves content image starved faults losses arms armed counts ends now g) a b) begins left)
+      (subst (λ (g : Begun). IsLeftIn shard (Halves seen counts ends now g) a b) begins left)
 
   -- an expiry that was left half done
   pub half_of_expiry : (counts : Counts) (ends : Ends) (now shard : ℕ) (begun : Begun) → begun ≡ BeginsExpiry → (a b : Shards)
-      → IsLeftIn shard (Halves content image starved faults losses arms armed counts ends now begun) a b → HalvesExpiry counts ends now shard a b
+      → IsLeftIn shard (Halves seen counts ends now begun) a b → HalvesExpiry counts ends now shard a b
   half_of_expiry counts ends now shard begun begins a b left =
-      subst (λ (g : Begun). IsLeftIn shard (Halves content image starved faults losses arms armed counts ends now g) a b) begins left
+      subst (λ (g : Begun). IsLeftIn shard (Halves seen counts ends now g) a b) begins left
 
   pub expiry_halts : (counts : Counts) (ends : Ends) (now shard : ℕ) (did : PartCall) (answer : ExpireAnswer) → did ≡ Expires answer → (a : Shards)
       (call : Option ShardCall) (b : Shards) → DidPart counts ends now shard did a call b

@@ -42,6 +42,7 @@ use Rattle.broker_core.proofs.Places.{among_zip, zip_weaker, one_in_front, one_i
 use Rattle.broker_core.proofs.Leading.{still_all}
 use Rattle.broker_core.proofs.Reaching.{reach_all, reach_less}
 use Rattle.broker_core.proofs.Telling.{all_told}
+use Rattle.edge_io.specs.Views.{DiskView}
 
 -- ---- open and held
 
@@ -99,21 +100,20 @@ lands_hosted [] (f ∷ new) z = absurd z
 lands_hosted (e ∷ old) [] z = absurd z
 lands_hosted (e ∷ old) (f ∷ new) z = λ i. z.0.hosted i ∷ lands_hosted old new z.1 i
 
-module _ {D : Type 0} (content : D → Option (List ℕ)) (image : D → List ℕ → Type 0) (starved : D → Bool) (faults : D → ℕ)
-    (losses : D → List (ℕ × List ℕ)) (arms : D → ℕ) (armed : D → Armed) where
+module _ {D : Type 0} (seen : D → DiskView) where
   abbrev C : CoreParts D → Machine → Type 0
-  C core m = IsCore content image starved core m
+  C core m = IsCore seen core m
 
   abbrev A : CoreParts D → Event → List Outcome → CoreParts D → Type 0
-  A old event outcomes new = Advances content image starved faults losses arms armed old event outcomes new
+  A old event outcomes new = Advances seen old event outcomes new
 
   abbrev at : Machine → CoreParts D → State
-  at m core = state_of faults losses arms armed m core
+  at m core = state_of seen m core
 
   abbrev F : LeftDisks D → List ℕ → Facts
-  F left name = facts_in faults losses arms armed left name
+  F left name = facts_in seen left name
 
-  carried_hosted : (slots : List (PartSlot D)) (ps : List HostedPart) → AllZip (IsPartSlot content image starved) slots ps → hosted_by ps ≡ hosted_slots slots
+  carried_hosted : (slots : List (PartSlot D)) (ps : List HostedPart) → AllZip (IsPartSlot seen) slots ps → hosted_by ps ≡ hosted_slots slots
   carried_hosted [] [] z = refl
   carried_hosted [] (p ∷ ps) z = absurd z
   carried_hosted (s ∷ slots) [] z = absurd z
@@ -134,31 +134,31 @@ module _ {D : Type 0} (content : D → Option (List ℕ)) (image : D → List �
 
   -- ---- counts
 
-  later_if : (old new : Option D) → GoesOnIf content faults old new
-      → (facts_at faults losses arms armed old).faults ≤ (facts_at faults losses arms armed new).faults
+  later_if : (old new : Option D) → GoesOnIf seen old new
+      → (facts_at seen old).faults ≤ (facts_at seen new).faults
   later_if (Some old) (Some new) g = g.later
   later_if (Some old) None g = absurd g
   later_if None (Some new) g = omega arith
   later_if None None g = omega arith
 
-  later_both : (old new : Option (D × D)) → BothGoOn content faults old new → (name : List ℕ)
-      → (foreign_facts faults losses arms armed old name).faults ≤ (foreign_facts faults losses arms armed new name).faults
+  later_both : (old new : Option (D × D)) → BothGoOn seen old new → (name : List ℕ)
+      → (foreign_facts seen old name).faults ≤ (foreign_facts seen new name).faults
   later_both (Some old) (Some new) g name = go (same_name name state_a) where
-    go : (b : Bool) → cond b (faults old.0) (faults old.1) ≤ cond b (faults new.0) (faults new.1)
+    go : (b : Bool) → cond b (seen old.0).faults (seen old.1).faults ≤ cond b (seen new.0).faults (seen new.1).faults
     go true = g.0.later
     go false = g.1.later
   later_both (Some old) None g name = absurd g
   later_both None (Some new) g name = omega arith
   later_both None None g name = omega arith
 
-  pub later : (old new : LeftDisks D) → GoOn content faults old new → (name : List ℕ) → (F old name).faults ≤ (F new name).faults
+  pub later : (old new : LeftDisks D) → GoOn seen old new → (name : List ℕ) → (F old name).faults ≤ (F new name).faults
   later old new g name =
-      among_zip (λ (e : List ℕ × Option D). e.0) (λ e. facts_at faults losses arms armed e.1) (λ (e : List ℕ × Option D). e.0)
-      (λ e. facts_at faults losses arms armed e.1) (λ (a b : Facts). a.faults ≤ b.faults) old.parts new.parts
-      (zip_weaker (DiskGoesOn content faults)
-      (λ (e f : List ℕ × Option D). (f.0 ≡ e.0) × ((facts_at faults losses arms armed e.1).faults ≤ (facts_at faults losses arms armed f.1).faults))
+      among_zip (λ (e : List ℕ × Option D). e.0) (λ e. facts_at seen e.1) (λ (e : List ℕ × Option D). e.0)
+      (λ e. facts_at seen e.1) (λ (a b : Facts). a.faults ≤ b.faults) old.parts new.parts
+      (zip_weaker (DiskGoesOn seen)
+      (λ (e f : List ℕ × Option D). (f.0 ≡ e.0) × ((facts_at seen e.1).faults ≤ (facts_at seen f.1).faults))
       (λ e f h. (h.name, later_if e.1 f.1 h.goes)) old.parts new.parts g.parts)
-      (foreign_facts faults losses arms armed old.foreign name) (foreign_facts faults losses arms armed new.foreign name) name
+      (foreign_facts seen old.foreign name) (foreign_facts seen new.foreign name) name
       (λ n. later_both old.foreign new.foreign g.foreign name)
 
   same_later : (old new : HostsParts D) → new ≡ old → (name : List ℕ) → (F (disks_in old) name).faults ≤ (F (disks_in new) name).faults
@@ -183,7 +183,7 @@ module _ {D : Type 0} (content : D → Option (List ℕ)) (image : D → List �
   connected : (old new : CoreParts D) (before : Machine) → new.hosts ≡ old.hosts → C old before
       → C new (record { connections = new.connections; shards = before.shards })
   connected old new before same k =
-      record { connections = refl; shards = subst (λ (h : HostsParts D). AreCarried content image starved h before.shards) (sym same) k.shards }
+      record { connections = refl; shards = subst (λ (h : HostsParts D). AreCarried seen h before.shards) (sym same) k.shards }
 
   does : (old new : CoreParts D) (before : Machine) (change : List (ℕ × ConnParts) → List (ℕ × ConnParts)) → C old before
       → new.connections ≡ change old.connections
@@ -247,14 +247,14 @@ module _ {D : Type 0} (content : D → Option (List ℕ)) (image : D → List �
   -- ---- the shards
 
   -- the machine that the broker stood for, by its connections
-  abbrev seen : CoreParts D → Shards → Machine
-  seen core s = record { connections = core.connections; shards = s }
+  abbrev shown : CoreParts D → Shards → Machine
+  shown core s = record { connections = core.connections; shards = s }
 
-  seen_is : (core : CoreParts D) (before : Machine) → C core before → seen core before.shards ≡ before
+  seen_is : (core : CoreParts D) (before : Machine) → C core before → shown core before.shards ≡ before
   seen_is core before k = λ i. record { connections = sym k.connections i; shards = before.shards }
 
   abbrev N : HostsParts D → HostsParts D → Counts
-  N old new = counts_in faults losses arms armed (disks_in old) (disks_in new)
+  N old new = counts_in seen (disks_in old) (disks_in new)
 
   abbrev ServesIn : CoreParts D → (id now : ℕ) → Option ShardCall → List Outcome → HostsParts D → Shards → Machine → Type 0
   ServesIn old id now call outcomes new a m = Serves old.conf (N old.hosts new) (ends_over old.hosts new)
@@ -267,8 +267,8 @@ module _ {D : Type 0} (content : D → Option (List ℕ)) (image : D → List �
       subst (λ m. Serves old.conf (N old.hosts new) (ends_over old.hosts new) m id now (conn_at id m.connections) call outcomes after)
       (seen_is old before k) s
 
-  pub steps : (old new : CoreParts D) (id now : ℕ) (outcomes : List Outcome) → IsWhole old → GoOn content faults (disks_in old.hosts) (disks_in new.hosts)
-      → ((s : Shards) → AreCarried content image starved old.hosts s → Leads content image starved faults losses arms armed old.hosts s new.hosts
+  pub steps : (old new : CoreParts D) (id now : ℕ) (outcomes : List Outcome) → IsWhole old → GoOn seen (disks_in old.hosts) (disks_in new.hosts)
+      → ((s : Shards) → AreCarried seen old.hosts s → Leads seen old.hosts s new.hosts
       (λ a call b. ServesIn old id now call outcomes new.hosts a (record { connections = new.connections; shards = b })))
       → A old (Step id now) outcomes new
   steps old new id now outcomes whole g served before k =
@@ -293,8 +293,8 @@ module _ {D : Type 0} (content : D → Option (List ℕ)) (image : D → List �
       (record { connections = connections; shards = a }) (shard_named topic part old.conf.topics) call outcomes (record { connections = connections; shards = b })
 
   pub expires : (old new : CoreParts D) (topic : List ℕ) (part now : ℕ) (outcomes : List Outcome) → IsWhole old → new.connections ≡ old.connections
-      → GoOn content faults (disks_in old.hosts) (disks_in new.hosts)
-      → ((s : Shards) → AreCarried content image starved old.hosts s → Leads content image starved faults losses arms armed old.hosts s new.hosts
+      → GoOn seen (disks_in old.hosts) (disks_in new.hosts)
+      → ((s : Shards) → AreCarried seen old.hosts s → Leads seen old.hosts s new.hosts
       (λ a call b. ExpiresIn old topic part now new.hosts a call outcomes b))
       → A old (Expire topic part now) outcomes new
   expires old new topic part now outcomes whole same g expired before k =
@@ -314,8 +314,8 @@ module _ {D : Type 0} (content : D → Option (List ℕ)) (image : D → List �
       )
 
   pub ticks : (old new : CoreParts D) (now : ℕ) → IsWhole old → new.connections ≡ old.connections
-      → GoOn content faults (disks_in old.hosts) (disks_in new.hosts)
-      → ((s : Shards) → AreCarried content image starved old.hosts s → Leads content image starved faults losses arms armed old.hosts s new.hosts
+      → GoOn seen (disks_in old.hosts) (disks_in new.hosts)
+      → ((s : Shards) → AreCarried seen old.hosts s → Leads seen old.hosts s new.hosts
       (λ a call b. (call ≡ Some (CallMembers Ticks)) × StepsShards (N old.hosts new.hosts) (ends_over old.hosts new.hosts) now a (CallMembers Ticks) b))
       → A old (Tick now) [] new
   ticks old new now whole same g ticked before k =
@@ -335,9 +335,9 @@ module _ {D : Type 0} (content : D → Option (List ℕ)) (image : D → List �
       )
 
   pub arms_one : (old new : CoreParts D) (disk : List ℕ) (after : ℕ) (mode : FaultMode) → IsWhole old → new.connections ≡ old.connections
-      → GoOn content faults (disks_in old.hosts) (disks_in new.hosts)
-      → ((s : Shards) → AreCarried content image starved old.hosts s
-      → IsArmed content image starved faults losses arms armed disk after mode old.hosts s new.hosts) → A old (Arm disk after mode) [] new
+      → GoOn seen (disks_in old.hosts) (disks_in new.hosts)
+      → ((s : Shards) → AreCarried seen old.hosts s
+      → IsArmed seen disk after mode old.hosts s new.hosts) → A old (Arm disk after mode) [] new
   arms_one old new disk after mode whole same g armed_in before k =
       let v = armed_in before.shards k.shards in (
         before,
@@ -355,9 +355,9 @@ module _ {D : Type 0} (content : D → Option (List ℕ)) (image : D → List �
       )
 
   pub restarts : (old new : CoreParts D) (choice : ℕ) (outcomes : List Outcome) → IsWhole old → outcomes ≡ Restarted ∷ [] → new.connections ≡ []
-      → GoOn content faults (disks_in old.hosts) (disks_in new.hosts)
-      → ((s : Shards) → AreCarried content image starved old.hosts s
-      → AreReopened content image starved faults losses arms armed choice old.hosts s new.hosts) → A old (Power choice) outcomes new
+      → GoOn seen (disks_in old.hosts) (disks_in new.hosts)
+      → ((s : Shards) → AreCarried seen old.hosts s
+      → AreReopened seen choice old.hosts s new.hosts) → A old (Power choice) outcomes new
   restarts old new choice outcomes whole tells nobody g reopened before k =
       let v = reopened before.shards k.shards in
       let after : Machine = record { connections = []; shards = v.after } in (
@@ -390,7 +390,7 @@ module _ {D : Type 0} (content : D → Option (List ℕ)) (image : D → List �
   -- ---- no memory
 
   abbrev S : CoreParts D → Machine → Event → CoreParts D → Type 0
-  S old before event new = StopsIn content image faults losses arms armed old before event new
+  S old before event new = StopsIn seen old before event new
 
   least : (n : ℕ) → n ≤ n
   least n = omega arith
@@ -401,10 +401,10 @@ module _ {D : Type 0} (content : D → Option (List ℕ)) (image : D → List �
     ends = ends_in old.hosts;
     reaches = inl refl;
     ends_later = λ name. least (ends_in old.hosts name);
-    still = subst (λ (h : HostsParts D). StandStill content image before.shards (disks_in h)) (sym same)
-        (still_all content image starved faults losses arms armed old.hosts before.shards k.shards);
-    reach = subst (λ (h : HostsParts D). DisksReach image (disks_in h) (λ name. ends_in old.hosts name - 1)) (sym same)
-        (reach_less image (disks_in old.hosts) (ends_in old.hosts) (reach_all content image starved old.hosts before.shards k.shards));
+    still = subst (λ (h : HostsParts D). StandStill seen before.shards (disks_in h)) (sym same)
+        (still_all seen old.hosts before.shards k.shards);
+    reach = subst (λ (h : HostsParts D). DisksReach seen (disks_in h) (λ name. ends_in old.hosts name - 1)) (sym same)
+        (reach_less seen (disks_in old.hosts) (ends_in old.hosts) (reach_all seen old.hosts before.shards k.shards));
   }
 
   -- a connection that is there is left in its visit
@@ -432,7 +432,7 @@ module _ {D : Type 0} (content : D → Option (List ℕ)) (image : D → List �
   halved old new before id now (Some conn) b there half = left_in old new before id now half.0 conn b there half.1 half.2
 
   pub stops_step : (old new : CoreParts D) (before : Machine) (id now : ℕ) → C old before
-      → Halts content image old.hosts before.shards new.hosts
+      → Halts seen old.hosts before.shards new.hosts
       (λ a call b. (outcomes : List Outcome) × (m : Machine) × (m.shards ≡ b) × ServesIn old id now call outcomes new.hosts a m)
       (HalvesServe old.conf (N old.hosts new.hosts) (ends_over old.hosts new.hosts) (conn_at id old.connections))
       → S old before (Step id now) new
@@ -447,29 +447,29 @@ module _ {D : Type 0} (content : D → Option (List ℕ)) (image : D → List �
         ends = ends_in new.hosts;
         reaches = inl refl;
         ends_later = h.ends_later;
-        reach = reach_less image (disks_in new.hosts) (ends_in new.hosts) h.reach;
-        still = subst (λ (s : Shards). StandStill content image s (disks_in new.hosts)) same h.still;
+        reach = reach_less seen (disks_in new.hosts) (ends_in new.hosts) h.reach;
+        still = subst (λ (s : Shards). StandStill seen s (disks_in new.hosts)) same h.still;
       }
       go (inr (inl d)) = record {
         after = d.1.1;
         ends = ends_in new.hosts;
         ends_later = h.ends_later;
-        reach = reach_less image (disks_in new.hosts) (ends_in new.hosts) h.reach;
+        reach = reach_less seen (disks_in new.hosts) (ends_in new.hosts) h.reach;
         reaches = inr (inl (d.0, d.1.0, steps_from old before d.1.1 id now d.0 d.1.0 new.hosts k d.1.3));
-        still = subst (λ (s : Shards). StandStill content image s (disks_in new.hosts)) (sym d.1.2) h.still;
+        still = subst (λ (s : Shards). StandStill seen s (disks_in new.hosts)) (sym d.1.2) h.still;
       }
       go (inr (inr half)) = record {
         after = record { connections = before.connections; shards = h.after };
         ends = ends_in new.hosts;
         ends_later = h.ends_later;
-        reach = reach_less image (disks_in new.hosts) (ends_in new.hosts) h.reach;
+        reach = reach_less seen (disks_in new.hosts) (ends_in new.hosts) h.reach;
         reaches = inr (inr (halved old new.hosts before id now (conn_at id old.connections) h.after
             (ap (λ (cs : List (ℕ × ConnParts)). conn_at id cs) k.connections) half));
         still = h.still;
       }
 
   pub stops_expire : (old new : CoreParts D) (before : Machine) (topic : List ℕ) (part now : ℕ) → C old before
-      → Halts content image old.hosts before.shards new.hosts
+      → Halts seen old.hosts before.shards new.hosts
       (λ a call b. (outcomes : List Outcome) × ExpiresIn old topic part now new.hosts a call outcomes b)
       (λ a b. (shard : ℕ) × (shard_named topic part old.conf.topics ≡ Some shard) × HalvesExpiry (N old.hosts new.hosts) (ends_over old.hosts new.hosts) now shard a b)
       → S old before (Expire topic part now) new
@@ -485,14 +485,14 @@ module _ {D : Type 0} (content : D → Option (List ℕ)) (image : D → List �
         ends = ends_in new.hosts;
         reaches = inl refl;
         ends_later = h.ends_later;
-        reach = reach_less image (disks_in new.hosts) (ends_in new.hosts) h.reach;
-        still = subst (λ (s : Shards). StandStill content image s (disks_in new.hosts)) same h.still;
+        reach = reach_less seen (disks_in new.hosts) (ends_in new.hosts) h.reach;
+        still = subst (λ (s : Shards). StandStill seen s (disks_in new.hosts)) same h.still;
       }
       go (inr (inl d)) = record {
         after = record { connections = before.connections; shards = h.after };
         ends = ends_in new.hosts;
         ends_later = h.ends_later;
-        reach = reach_less image (disks_in new.hosts) (ends_in new.hosts) h.reach;
+        reach = reach_less seen (disks_in new.hosts) (ends_in new.hosts) h.reach;
         reaches = inr (inl (d.0, d.1.0, d.1.1 before.connections));
         still = h.still;
       }
@@ -500,7 +500,7 @@ module _ {D : Type 0} (content : D → Option (List ℕ)) (image : D → List �
         after = record { connections = before.connections; shards = h.after };
         ends = ends_in new.hosts;
         ends_later = h.ends_later;
-        reach = reach_less image (disks_in new.hosts) (ends_in new.hosts) h.reach;
+        reach = reach_less seen (disks_in new.hosts) (ends_in new.hosts) h.reach;
         reaches = inr (inr (record {
           shard = half.0;
           found = half.1;
@@ -509,8 +509,8 @@ module _ {D : Type 0} (content : D → Option (List ℕ)) (image : D → List �
         still = h.still;
       }
 
-  pub stops_power : (old new : CoreParts D) (before : Machine) (choice : ℕ) → StandStill content image before.shards (disks_in new.hosts)
-      → DisksReach image (disks_in new.hosts) (λ name. ends_in old.hosts name - 1) → S old before (Power choice) new
+  pub stops_power : (old new : CoreParts D) (before : Machine) (choice : ℕ) → StandStill seen before.shards (disks_in new.hosts)
+      → DisksReach seen (disks_in new.hosts) (λ name. ends_in old.hosts name - 1) → S old before (Power choice) new
   stops_power old new before choice still reach = record {
     after = before;
     ends = ends_in old.hosts;
@@ -535,8 +535,8 @@ module _ {D : Type 0} (content : D → Option (List ℕ)) (image : D → List �
 
   pub power_stops : {T : Type 0} (r : Result T CoreFault) (fault : CoreFault) (old : CoreParts D) (choice : ℕ) (event : Event) (new : CoreParts D)
       → r ≡ Err fault → event ≡ Power choice
-      → ((s : Shards) → AreCarried content image starved old.hosts s → StandStill content image s (disks_in new.hosts)
-      × DisksReach image (disks_in new.hosts) (λ name. ends_in old.hosts name - 1) × (fault ≡ NoMemory))
+      → ((s : Shards) → AreCarried seen old.hosts s → StandStill seen s (disks_in new.hosts)
+      × DisksReach seen (disks_in new.hosts) (λ name. ends_in old.hosts name - 1) × (fault ≡ NoMemory))
       → IfErr r (λ x. (m : Machine) → C old m → S old m event new × (x ≡ NoMemory))
   power_stops {T} r fault old choice event new err is f =
       subst (λ (q : Result T CoreFault). IfErr q (λ x. (m : Machine) → C old m → S old m event new × (x ≡ NoMemory))) (sym err)

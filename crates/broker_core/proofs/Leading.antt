@@ -39,6 +39,7 @@ use Rattle.broker_core.proofs.Places.{zip_same, zip_weaker, apart_from, distinct
 use Rattle.broker_core.proofs.Reaching.{SlotLater, foreign_open, names_later, names_reach, reach_all, same_later, slot_reaches, slots_reach}
 use Rattle.broker_core.proofs.Reopens.{images_left}
 use Rattle.broker_core.proofs.Slots.{called_same, disk_names, end_names}
+use Rattle.edge_io.specs.Views.{DiskView}
 
 -- runs that are stored can be told
 each_tellable : (runs : List Run) → IsCanonical runs → AllByRecursion IsStoredRun runs → AllByRecursion IsTellable runs
@@ -75,30 +76,29 @@ not_a_part_too hosted d = apart_from (part_disks hosted) (state_a ∷ state_b �
 pub parts_apart : (hosted : List Hosted) → AreDistinct (all_names hosted) → AreDistinct (part_disks hosted)
 parts_apart hosted d = distinct_front (part_disks hosted) (state_a ∷ state_b ∷ []) d
 
-module _ {D : Type 0} (content : D → Option (List ℕ)) (image : D → List ℕ → Type 0) (starved : D → Bool) (faults : D → ℕ)
-    (losses : D → List (ℕ × List ℕ)) (arms : D → ℕ) (armed : D → Armed) where
+module _ {D : Type 0} (seen : D → DiskView) where
   -- ---- foreign state
 
   abbrev C : StoreParts D → ForeignShardState → Type 0
-  C store s = IsCarried content image starved store s
+  C store s = IsCarried seen store s
 
   abbrev Runs : StoreParts D → StoreParts D → Type 0
-  Runs old new = RunsOn content losses arms armed starved faults old.journal.live.disk new.journal.live.disk
+  Runs old new = RunsOn seen old.journal.live.disk new.journal.live.disk
 
   -- its journal never ends before where it did
   abbrev EndsOn : StoreParts D → StoreParts D → Type 0
-  EndsOn old new = (t : ForeignShardState) → Carries image old t → old.journal.live.end ≤ new.journal.live.end
+  EndsOn old new = (t : ForeignShardState) → Carries seen old t → old.journal.live.end ≤ new.journal.live.end
 
-  pub told_still : (old new : StoreParts D) → Runs old new → IsTold (content old.journal.live.disk) → IsTold (content new.journal.live.disk)
+  pub told_still : (old new : StoreParts D) → Runs old new → IsTold (seen old.journal.live.disk).content → IsTold (seen new.journal.live.disk).content
   told_still old new runs told = runs.told ∙ told
 
   abbrev Acts : StoreParts D → StoreParts D → ForeignOp → ForeignAnswer → Type 0
-  Acts old new op answer = (t : ForeignShardState) → Carries image old t → (n : ForeignShardState) × (fault : Option StoreFault) × Carries image new n
-      × StepsForeign (Rose (faults old.journal.live.disk) (faults new.journal.live.disk)) old.journal.live.end t op answer fault n
+  Acts old new op answer = (t : ForeignShardState) → Carries seen old t → (n : ForeignShardState) × (fault : Option StoreFault) × Carries seen new n
+      × StepsForeign (Rose (seen old.journal.live.disk).faults (seen new.journal.live.disk).faults) old.journal.live.end t op answer fault n
 
   pub act_leads : (old new : StoreParts D) (op : ForeignOp) (answer : ForeignAnswer) (s : ForeignShardState) → C old s → Acts old new op answer
-      → Runs old new → new.journal.idle ≡ old.journal.idle → EndsOn old new → starved new.journal.live.disk ≡ false
-      → LeadsForeign content image starved faults losses arms armed old s new op answer
+      → Runs old new → new.journal.idle ≡ old.journal.idle → EndsOn old new → (seen new.journal.live.disk).starved ≡ false
+      → LeadsForeign seen old s new op answer
   act_leads old new op answer s k acts runs idle ends fed =
       let r = acts s k.carries in
       record {
@@ -107,9 +107,9 @@ module _ {D : Type 0} (content : D → Option (List ℕ)) (image : D → List �
         carried = record {
           carries = r.2;
           told = told_still old new runs k.told;
-          second_told = ap (λ (d : D). is_some (content d)) idle ∙ k.second_told;
+          second_told = ap (λ (d : D). is_some (seen d).content) idle ∙ k.second_told;
           fed = fed;
-          second_fed = ap starved idle ∙ k.second_fed;
+          second_fed = ap (λ d. (seen d).starved) idle ∙ k.second_fed;
         };
         step = r.3;
         end = ends s k.carries;
@@ -117,7 +117,7 @@ module _ {D : Type 0} (content : D → Option (List ℕ)) (image : D → List �
       }
 
   pub act_halts : (old new : StoreParts D) (op : ForeignOp) (answer : ForeignAnswer) (s : ForeignShardState) → C old s → Acts old new op answer
-      → Runs old new → new.journal.idle ≡ old.journal.idle → EndsOn old new → HaltsForeign content image faults old s new op
+      → Runs old new → new.journal.idle ≡ old.journal.idle → EndsOn old new → HaltsForeign seen old s new op
   act_halts old new op answer s k acts runs idle ends =
       let r = acts s k.carries in
       record {
@@ -126,47 +126,47 @@ module _ {D : Type 0} (content : D → Option (List ℕ)) (image : D → List �
         does = inr (answer, r.1, r.3);
         end = ends s k.carries;
         told = told_still old new runs k.told;
-        second_told = ap (λ (d : D). is_some (content d)) idle ∙ k.second_told;
+        second_told = ap (λ (d : D). is_some (seen d).content) idle ∙ k.second_told;
       }
 
   pub act_refused : (old new : StoreParts D) (op : ForeignOp) (s : ForeignShardState) → C old s
-      → ((t : ForeignShardState) → Carries image old t → Carries image new t) → Runs old new → new.journal.idle ≡ old.journal.idle → EndsOn old new
-      → HaltsForeign content image faults old s new op
+      → ((t : ForeignShardState) → Carries seen old t → Carries seen new t) → Runs old new → new.journal.idle ≡ old.journal.idle → EndsOn old new
+      → HaltsForeign seen old s new op
   act_refused old new op s k same runs idle ends = record {
     after = s;
     carries = same s k.carries;
     does = inl refl;
     end = ends s k.carries;
     told = told_still old new runs k.told;
-    second_told = ap (λ (d : D). is_some (content d)) idle ∙ k.second_told;
+    second_told = ap (λ (d : D). is_some (seen d).content) idle ∙ k.second_told;
   }
 
   -- ---- hosts
 
   abbrev F : HostsParts D → List ℕ → Facts
-  F hosts name = facts_in faults losses arms armed (disks_in hosts) name
+  F hosts name = facts_in seen (disks_in hosts) name
 
   abbrev N : HostsParts D → HostsParts D → Counts
-  N old new = counts_in faults losses arms armed (disks_in old) (disks_in new)
+  N old new = counts_in seen (disks_in old) (disks_in new)
 
   abbrev L : HostsParts D → Shards → HostsParts D → (Shards → Option ShardCall → Shards → Type 0) → Type 0
-  L old s new Q = Leads content image starved faults losses arms armed old s new Q
+  L old s new Q = Leads seen old s new Q
 
   abbrev H : HostsParts D → Shards → HostsParts D → (Shards → Option ShardCall → Shards → Type 0) → (Shards → Shards → Type 0) → Type 0
-  H old s new Q W = Halts content image old s new Q W
+  H old s new Q W = Halts seen old s new Q W
 
   abbrev K : HostsParts D → Shards → Type 0
-  K hosts s = AreCarried content image starved hosts s
+  K hosts s = AreCarried seen hosts s
 
   -- what is carried stands for it
 
   abbrev pub StillSlot : PartSlot D → HostedPart → Type 0
-  StillSlot slot p = PartStill content image (log_of (hosted_slot slot), part_disk slot.state Log) (first_of (hosted_slot slot), part_disk slot.state StateA)
+  StillSlot slot p = PartStill seen (log_of (hosted_slot slot), part_disk slot.state Log) (first_of (hosted_slot slot), part_disk slot.state StateA)
       (second_of (hosted_slot slot), part_disk slot.state StateB) p
 
   pub open_still : (slot : PartSlot D) (p : HostedPart) (is : OpenPart D) → slot.state ≡ part.Open is → p.hosted ≡ hosted_slot slot → is.conf ≡ slot.conf
-      → CarriesPart image holding is p.shard → IsTold (content is.log.journal.disk) → IsTold (content is.states.journal.live.disk)
-      → IsTold (content is.states.journal.idle) → StillSlot slot p
+      → CarriesPart seen holding is p.shard → IsTold (seen is.log.journal.disk).content → IsTold (seen is.states.journal.live.disk).content
+      → IsTold (seen is.states.journal.idle).content → StillSlot slot p
   open_still slot p is state_is hosted conf_is carries told first_told second_told = record {
     log = is.log.journal.disk;
     first = is.states.journal.live.disk;
@@ -175,40 +175,40 @@ module _ {D : Type 0} (content : D → Option (List ℕ)) (image : D → List �
     first_is = λ i. (first_of (sym hosted i), part_disk (state_is i) StateA);
     second_is = λ i. (second_of (sym hosted i), part_disk (state_is i) StateB);
     alone = record {
-      stand = images_left content image starved faults losses arms armed p.hosted.conf is p.shard (conf_is ∙ sym (ap (λ (h : Hosted). h.conf) hosted)) carries;
+      stand = images_left seen p.hosted.conf is p.shard (conf_is ∙ sym (ap (λ (h : Hosted). h.conf) hosted)) carries;
       log_told = told;
       first_told = first_told;
       second_told = second_told;
     };
   }
 
-  pub slot_still : (slot : PartSlot D) (p : HostedPart) → IsPartSlot content image starved slot p → StillSlot slot p
+  pub slot_still : (slot : PartSlot D) (p : HostedPart) → IsPartSlot seen slot p → StillSlot slot p
   slot_still slot p k = go slot.state refl k.state where
-    go : (state : PartState D) → slot.state ≡ state → IsPartState content image starved slot.conf state p.shard → StillSlot slot p
+    go : (state : PartState D) → slot.state ≡ state → IsPartState seen slot.conf state p.shard → StillSlot slot p
     go (part.Open is) e i = open_still slot p is e k.hosted i.conf_is i.carries i.log.told i.first.told i.second.told
     go (part.Shut log first second) e i = absurd i
     go part.Gone e i = absurd i
 
-  pub parts_still : (slots : List (PartSlot D)) (ps : List HostedPart) → AllZip StillSlot slots ps → PartsStill content image (slots_disks slots) ps
+  pub parts_still : (slots : List (PartSlot D)) (ps : List HostedPart) → AllZip StillSlot slots ps → PartsStill seen (slots_disks slots) ps
   parts_still [] [] z = tt
   parts_still [] (p ∷ ps) z = absurd z
   parts_still (s ∷ slots) [] z = absurd z
   parts_still (s ∷ slots) (p ∷ ps) z = (z.0, parts_still slots ps z.1)
 
-  pub still_parts : (slots : List (PartSlot D)) (ps : List HostedPart) → AllZip (IsPartSlot content image starved) slots ps
-      → PartsStill content image (slots_disks slots) ps
-  still_parts slots ps z = parts_still slots ps (zip_weaker (IsPartSlot content image starved) StillSlot slot_still slots ps z)
+  pub still_parts : (slots : List (PartSlot D)) (ps : List HostedPart) → AllZip (IsPartSlot seen) slots ps
+      → PartsStill seen (slots_disks slots) ps
+  still_parts slots ps z = parts_still slots ps (zip_weaker (IsPartSlot seen) StillSlot slot_still slots ps z)
 
-  pub still_foreign : (slot : ForeignSlot D) (s : ForeignShardState) → IsSlot content image starved slot s → ForeignStill content image s (foreign_disks slot)
+  pub still_foreign : (slot : ForeignSlot D) (s : ForeignShardState) → IsSlot seen slot s → ForeignStill seen s (foreign_disks slot)
   still_foreign (foreign.Open store) s k = record {
-    stand = carried_stands content image starved faults losses arms armed store s k.carries;
+    stand = carried_stands seen store s k.carries;
     told = k.told;
     second_told = k.second_told;
   }
   still_foreign (foreign.Shut first second) s k = absurd k
   still_foreign foreign.Gone s k = absurd k
 
-  pub still_all : (hosts : HostsParts D) (s : Shards) → K hosts s → StandStill content image s (disks_in hosts)
+  pub still_all : (hosts : HostsParts D) (s : Shards) → K hosts s → StandStill seen s (disks_in hosts)
   still_all hosts s k = record { parts = still_parts hosts.parts s.parts k.parts; foreign = still_foreign hosts.foreign s.foreign k.foreign }
 
   pub leads_to : (old new : HostsParts D) (s : Shards) (P Q : Shards → Option ShardCall → Shards → Type 0)
@@ -247,7 +247,7 @@ module _ {D : Type 0} (content : D → Option (List ℕ)) (image : D → List �
     after = l.after;
     still = still_all new l.after l.carried;
     ends_later = l.ends_later;
-    reach = reach_all content image starved new l.after l.carried;
+    reach = reach_all seen new l.after l.carried;
     does = inr (inl (l.call, f s l.call l.after l.does));
   }
 
@@ -272,7 +272,7 @@ module _ {D : Type 0} (content : D → Option (List ℕ)) (image : D → List �
     after = s;
     still = still_all hosts s k;
     ends_later = λ name. least (ends_in hosts name);
-    reach = reach_all content image starved hosts s k;
+    reach = reach_all seen hosts s k;
     does = inl refl;
   }
 
@@ -281,50 +281,50 @@ module _ {D : Type 0} (content : D → Option (List ℕ)) (image : D → List �
   -- what is known of the one or the other disk
   abbrev either : Bool → D → D → Facts
   either b first second = record {
-    faults = cond b (faults first) (faults second);
-    losses = cond b (losses first) (losses second);
-    arms = cond b (arms first) (arms second);
-    armed = cond b (armed first) (armed second);
+    faults = cond b (seen first).faults (seen second).faults;
+    losses = cond b (seen first).losses (seen second).losses;
+    arms = cond b (seen first).arms (seen second).arms;
+    armed = cond b (seen first).armed (seen second).armed;
   }
 
   abbrev entry_facts : List ℕ × Option D → Facts
-  entry_facts e = facts_at faults losses arms armed e.1
+  entry_facts e = facts_at seen e.1
 
   module _ (old : HostsParts D) (was is : StoreParts D) (opened : old.foreign ≡ foreign.Open was) (second : is.journal.idle ≡ was.journal.idle)
       (apart : AreApart old) where
     abbrev next : HostsParts D
     next = record { parts = old.parts; members = old.members; foreign = foreign.Open is }
 
-    other_facts : (name : List ℕ) → foreign_facts faults losses arms armed (foreign_disks old.foreign) name
+    other_facts : (name : List ℕ) → foreign_facts seen (foreign_disks old.foreign) name
         ≡ either (same_name name state_a) was.journal.live.disk was.journal.idle
-    other_facts name = ap (λ (f : ForeignSlot D). foreign_facts faults losses arms armed (foreign_disks f) name) opened
+    other_facts name = ap (λ (f : ForeignSlot D). foreign_facts seen (foreign_disks f) name) opened
 
     names_apart : NotIn (part_disks (hosted_slots old.parts)) state_a
     names_apart = not_a_part (hosted_slots old.parts) apart
 
     first_facts : (left : Option (D × D)) → among (λ (e : List ℕ × Option D). e.0) entry_facts (slots_disks old.parts)
-        (foreign_facts faults losses arms armed left state_a) state_a ≡ foreign_facts faults losses arms armed left state_a
+        (foreign_facts seen left state_a) state_a ≡ foreign_facts seen left state_a
     first_facts left =
         among_past (λ (e : List ℕ × Option D). e.0) entry_facts (slots_disks old.parts)
-        (foreign_facts faults losses arms armed left state_a) state_a (subst (λ (l : List (List ℕ)). NotIn l state_a) (sym (disk_names old.parts)) names_apart)
+        (foreign_facts seen left state_a) state_a (subst (λ (l : List (List ℕ)). NotIn l state_a) (sym (disk_names old.parts)) names_apart)
 
-    was_counted : (F old state_a).faults ≡ faults was.journal.live.disk
+    was_counted : (F old state_a).faults ≡ (seen was.journal.live.disk).faults
     was_counted = ap (λ (f : Facts). f.faults) (first_facts (foreign_disks old.foreign) ∙ other_facts state_a)
 
-    is_counted : (F next state_a).faults ≡ faults is.journal.live.disk
+    is_counted : (F next state_a).faults ≡ (seen is.journal.live.disk).faults
     is_counted = ap (λ (f : Facts). f.faults) (first_facts (foreign_disks (foreign.Open is)))
 
-    foreign_used : (b : Bool) → IsUsed (facts_of faults losses arms armed was.journal.live.disk) (facts_of faults losses arms armed is.journal.live.disk)
+    foreign_used : (b : Bool) → IsUsed (facts_of seen was.journal.live.disk) (facts_of seen is.journal.live.disk)
         → OnCalled b (either b was.journal.live.disk was.journal.idle) (either b is.journal.live.disk is.journal.idle)
     foreign_used true used = used
-    foreign_used false used = ap (facts_of faults losses arms armed) second
+    foreign_used false used = ap (facts_of seen) second
 
-    foreign_disks_on : IsUsed (facts_of faults losses arms armed was.journal.live.disk) (facts_of faults losses arms armed is.journal.live.disk)
+    foreign_disks_on : IsUsed (facts_of seen was.journal.live.disk) (facts_of seen is.journal.live.disk)
         → (name : List ℕ) → OnCalled (same_name name state_a) (F old name) (F next name)
     foreign_disks_on used name =
         among_same (λ (e : List ℕ × Option D). e.0) entry_facts (OnCalled (same_name name state_a))
-        (called_same (same_name name state_a)) (slots_disks old.parts) (foreign_facts faults losses arms armed (foreign_disks old.foreign) name)
-        (foreign_facts faults losses arms armed (foreign_disks (foreign.Open is)) name) name
+        (called_same (same_name name state_a)) (slots_disks old.parts) (foreign_facts seen (foreign_disks old.foreign) name)
+        (foreign_facts seen (foreign_disks (foreign.Open is)) name) name
         (subst (λ (f : Facts). OnCalled (same_name name state_a) f (either (same_name name state_a) is.journal.live.disk is.journal.idle))
         (sym (other_facts name)) (foreign_used (same_name name state_a) used))
 
@@ -335,7 +335,7 @@ module _ {D : Type 0} (content : D → Option (List ℕ)) (image : D → List �
         ∙ sym (ap (λ (f : ForeignSlot D). foreign_end f name) opened ∙ ap (λ (b : Bool). cond b was.journal.live.end 0) away))
 
     foreign_later : was.journal.live.end ≤ is.journal.live.end → (name : List ℕ) → ends_in old name ≤ ends_in next name
-    foreign_later l = names_later image old next (zip_same (SlotLater image) (same_later image) old.parts) (λ name.
+    foreign_later l = names_later seen old next (zip_same (SlotLater seen) (same_later seen) old.parts) (λ name.
         subst (λ (f : ForeignSlot D). foreign_end f name ≤ foreign_end (foreign.Open is) name) (sym opened) (go (same_name name state_a)))
       where
         go : (b : Bool) → cond b was.journal.live.end 0 ≤ cond b is.journal.live.end 0
@@ -349,18 +349,18 @@ module _ {D : Type 0} (content : D → Option (List ℕ)) (image : D → List �
         ∙ ap (λ (f : ForeignSlot D). foreign_end f state_a) opened
 
     foreign_steps : (s after : ForeignShardState) (op : ForeignOp) (answer : ForeignAnswer) (fault : Option StoreFault)
-        → StepsForeign (Rose (faults was.journal.live.disk) (faults is.journal.live.disk)) was.journal.live.end s op answer fault after
+        → StepsForeign (Rose (seen was.journal.live.disk).faults (seen is.journal.live.disk).faults) was.journal.live.end s op answer fault after
         → StepsForeign (Rose (F old state_a).faults (F next state_a).faults) (ends_in old state_a) s op answer fault after
     foreign_steps s after op answer fault step =
         subst (λ (n : ℕ). StepsForeign (Rose (F old state_a).faults (F next state_a).faults) n s op answer fault after) (sym end_was)
         (subst (λ (m : ℕ). StepsForeign (Rose m (F next state_a).faults) was.journal.live.end s op answer fault after) (sym was_counted)
-        (subst (λ (m : ℕ). StepsForeign (Rose (faults was.journal.live.disk) m) was.journal.live.end s op answer fault after) (sym is_counted) step))
+        (subst (λ (m : ℕ). StepsForeign (Rose (seen was.journal.live.disk).faults m) was.journal.live.end s op answer fault after) (sym is_counted) step))
 
     foreign_carried : (s : Shards) → K old s → C was s.foreign
-    foreign_carried s k = subst (λ (f : ForeignSlot D). IsSlot content image starved f s.foreign) opened k.foreign
+    foreign_carried s k = subst (λ (f : ForeignSlot D). IsSlot seen f s.foreign) opened k.foreign
 
     pub foreign_leads : (now : ℕ) (op : ForeignOp) (answer : ForeignAnswer)
-        → ((t : ForeignShardState) → C was t → LeadsForeign content image starved faults losses arms armed was t is op answer)
+        → ((t : ForeignShardState) → C was t → LeadsForeign seen was t is op answer)
         → (s : Shards) → K old s → L old s next (Did (N old next) (ends_over old next) now (Foreign op) (AnswerForeign answer))
     foreign_leads now op answer leads s k =
         let l = leads s.foreign (foreign_carried s k) in
@@ -375,7 +375,7 @@ module _ {D : Type 0} (content : D → Option (List ℕ)) (image : D → List �
         }
 
     pub foreign_halts : (now : ℕ) (op : ForeignOp) (W : Shards → Shards → Type 0)
-        → ((t : ForeignShardState) → C was t → HaltsForeign content image faults was t is op)
+        → ((t : ForeignShardState) → C was t → HaltsForeign seen was t is op)
         → (s : Shards) → K old s → H old s next (λ a call b. (answer : PartAnswer) × Did (N old next) (ends_over old next) now (Foreign op) answer a call b) W
     foreign_halts now op W halts s k =
         let h = halts s.foreign (foreign_carried s k) in
@@ -384,19 +384,19 @@ module _ {D : Type 0} (content : D → Option (List ℕ)) (image : D → List �
           still = record {
             parts = still_parts old.parts s.parts k.parts;
             foreign = record {
-              stand = carried_stands content image starved faults losses arms armed is h.after h.carries;
+              stand = carried_stands seen is h.after h.carries;
               told = h.told;
               second_told = h.second_told;
             };
           };
           ends_later = foreign_later h.end;
-          reach = names_reach image (λ n. n) next next (slots_reach content image starved (IsPartSlot content image starved)
-              (slot_reaches content image starved) old.parts s.parts k.parts) (foreign_open image is h.after h.carries);
+          reach = names_reach seen (λ n. n) next next (slots_reach seen (IsPartSlot seen)
+              (slot_reaches seen) old.parts s.parts k.parts) (foreign_open seen is h.after h.carries);
           does = go h.after h.does;
         }
       where
         go : (t : ForeignShardState) → (t ≡ s.foreign) ⊎ ((answer : ForeignAnswer) × (fault : Option StoreFault)
-            × StepsForeign (Rose (faults was.journal.live.disk) (faults is.journal.live.disk)) was.journal.live.end s.foreign op answer fault t)
+            × StepsForeign (Rose (seen was.journal.live.disk).faults (seen is.journal.live.disk).faults) was.journal.live.end s.foreign op answer fault t)
             → (record { parts = s.parts; members = s.members; foreign = t } ≡ s) ⊎ (((call : Option ShardCall) × ((answer : PartAnswer)
             × Did (N old next) (ends_over old next) now (Foreign op) answer s call (record { parts = s.parts; members = s.members; foreign = t })))
             ⊎ W s (record { parts = s.parts; members = s.members; foreign = t }))
@@ -408,29 +408,29 @@ module _ {D : Type 0} (content : D → Option (List ℕ)) (image : D → List �
 
   -- ---- any disks
 
-  pub least_on : (d : D) → GoesOn content faults d d
-  least_on d = record { later = (let n = faults d in omega arith); told = refl }
+  pub least_on : (d : D) → GoesOn seen d d
+  least_on d = record { later = (let n = (seen d).faults in omega arith); told = refl }
 
-  pub same_goes : (e : List ℕ × Option D) → DiskGoesOn content faults e e
+  pub same_goes : (e : List ℕ × Option D) → DiskGoesOn seen e e
   same_goes e = record { name = refl; goes = go e.1 } where
-    go : (o : Option D) → GoesOnIf content faults o o
+    go : (o : Option D) → GoesOnIf seen o o
     go (Some d) = least_on d
     go None = tt
 
-  pub same_both : (o : Option (D × D)) → BothGoOn content faults o o
+  pub same_both : (o : Option (D × D)) → BothGoOn seen o o
   same_both (Some d) = (least_on d.0, least_on d.1)
   same_both None = tt
 
-  pub go_on_same : (left : LeftDisks D) → GoOn content faults left left
-  go_on_same left = record { parts = zip_same (DiskGoesOn content faults) same_goes left.parts; foreign = same_both left.foreign }
+  pub go_on_same : (left : LeftDisks D) → GoOn seen left left
+  go_on_same left = record { parts = zip_same (DiskGoesOn seen) same_goes left.parts; foreign = same_both left.foreign }
 
   pub foreign_on : (old : HostsParts D) (was is : StoreParts D) → old.foreign ≡ foreign.Open was
-      → GoesOn content faults was.journal.live.disk is.journal.live.disk → is.journal.idle ≡ was.journal.idle
-      → GoOn content faults (disks_in old) (disks_in (record { parts = old.parts; members = old.members; foreign = foreign.Open is }))
+      → GoesOn seen was.journal.live.disk is.journal.live.disk → is.journal.idle ≡ was.journal.idle
+      → GoOn seen (disks_in old) (disks_in (record { parts = old.parts; members = old.members; foreign = foreign.Open is }))
   foreign_on old was is opened first second = record {
-    parts = zip_same (DiskGoesOn content faults) same_goes (slots_disks old.parts);
-    foreign = subst (λ (f : ForeignSlot D). BothGoOn content faults (foreign_disks f) (Some (is.journal.live.disk, is.journal.idle))) (sym opened)
-        (first, subst (λ (d : D). GoesOn content faults was.journal.idle d) (sym second) (least_on was.journal.idle));
+    parts = zip_same (DiskGoesOn seen) same_goes (slots_disks old.parts);
+    foreign = subst (λ (f : ForeignSlot D). BothGoOn seen (foreign_disks f) (Some (is.journal.live.disk, is.journal.idle))) (sym opened)
+        (first, subst (λ (d : D). GoesOn seen was.journal.idle d) (sym second) (least_on was.journal.idle));
   }
 
   -- ---- the members of groups

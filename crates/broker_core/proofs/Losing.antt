@@ -43,6 +43,7 @@ use Rattle.broker_core.proofs.Places.{DoneTo, among_past, among_zip, each_found,
 use Rattle.broker_core.proofs.Reaching.{SlotReaches, again_reaches, fewer, foreign_left, foreign_reaches, names_reach, part_long, reach_all, reach_less, reaches_less, shut_reaches, slot_reaches, slots_reach}
 use Rattle.broker_core.proofs.Reopens.{part_left}
 use Rattle.broker_core.proofs.Slots.{disk_names}
+use Rattle.edge_io.specs.Views.{DiskView}
 
 -- the content that the last loss left
 pub last_content : List (ℕ × List ℕ) → List ℕ
@@ -61,34 +62,33 @@ pub slots_named : {D : Type 0} (slots : List (PartSlot D)) → AreNamed (hosted_
 slots_named [] n = tt
 slots_named (s ∷ slots) n = (n.0.topic, slots_named slots n.1)
 
-module _ {D : Type 0} (content : D → Option (List ℕ)) (image : D → List ℕ → Type 0) (starved : D → Bool) (faults : D → ℕ)
-    (losses : D → List (ℕ × List ℕ)) (arms : D → ℕ) (armed : D → Armed) where
+module _ {D : Type 0} (seen : D → DiskView) where
   abbrev F : HostsParts D → List ℕ → Facts
-  F hosts name = facts_in faults losses arms armed (disks_in hosts) name
+  F hosts name = facts_in seen (disks_in hosts) name
 
   abbrev entry_facts : List ℕ × Option D → Facts
-  entry_facts e = facts_at faults losses arms armed e.1
+  entry_facts e = facts_at seen e.1
 
   abbrev slot_facts : PartSlot D → DiskPlace → Facts
-  slot_facts slot place = facts_at faults losses arms armed (part_disk slot.state place)
+  slot_facts slot place = facts_at seen (part_disk slot.state place)
 
   abbrev Opens : ℕ → PartSlot D → PartSlot D → Type 0
-  Opens choice x y = ReopensSlot content image starved faults losses arms armed choice x y
+  Opens choice x y = ReopensSlot seen choice x y
 
   abbrev Shuts : CoreFault → PartSlot D → PartSlot D → Type 0
-  Shuts fault x y = ShutsSlot content image starved faults fault x y
+  Shuts fault x y = ShutsSlot seen fault x y
 
   abbrev Stops : ℕ → CoreFault → List (PartSlot D) → List (PartSlot D) → Type 0
-  Stops choice fault xs ys = StopsAt content image starved faults losses arms armed choice fault xs ys
+  Stops choice fault xs ys = StopsAt seen choice fault xs ys
 
   abbrev In : PartSlot D → HostedPart → Type 0
-  In x e = IsPartSlot content image starved x e
+  In x e = IsPartSlot seen x e
 
   abbrev Still : PartSlot D → HostedPart → Type 0
-  Still y e = StillSlot content image starved faults losses arms armed y e
+  Still y e = StillSlot seen y e
 
-  was_in : (x : PartSlot D) (was : OpenPart D) (e : HostedPart) → x.state ≡ part.Open was → In x e → IsPartCarried content image starved x.conf was e.shard
-  was_in x was e is k = subst (λ (s : PartState D). IsPartState content image starved x.conf s e.shard) is k.state
+  was_in : (x : PartSlot D) (was : OpenPart D) (e : HostedPart) → x.state ≡ part.Open was → In x e → IsPartCarried seen x.conf was e.shard
+  was_in x was e is k = subst (λ (s : PartState D). IsPartState seen x.conf s e.shard) is k.state
 
   -- ---- partitions that were opened again
 
@@ -105,11 +105,11 @@ module _ {D : Type 0} (content : D → Option (List ℕ)) (image : D → List �
   hosted_y choice x y p = λ i. record { topic = p.topic i; conf = p.conf i }
 
   at_both : (choice : ℕ) (x y : PartSlot D) (place : DiskPlace) (p : Opens choice x y)
-      → IsLostFacts choice (facts_at faults losses arms armed (Some (open_disk p.was place))) (facts_at faults losses arms armed (Some (open_disk p.is place)))
+      → IsLostFacts choice (facts_at seen (Some (open_disk p.was place))) (facts_at seen (Some (open_disk p.is place)))
       → IsLostFacts choice (slot_facts x place) (slot_facts y place)
   at_both choice x y place p l =
-      subst (λ (s : PartState D). IsLostFacts choice (facts_at faults losses arms armed (part_disk s place)) (slot_facts y place)) (sym p.old_is)
-      (subst (λ (s : PartState D). IsLostFacts choice (facts_at faults losses arms armed (Some (open_disk p.was place))) (facts_at faults losses arms armed (part_disk s place)))
+      subst (λ (s : PartState D). IsLostFacts choice (facts_at seen (part_disk s place)) (slot_facts y place)) (sym p.old_is)
+      (subst (λ (s : PartState D). IsLostFacts choice (facts_at seen (Some (open_disk p.was place))) (facts_at seen (part_disk s place)))
       (sym p.new_is) l)
 
   slot_lost : (choice : ℕ) (x y : PartSlot D) (e : HostedPart) → Opens choice x y → In x e → AllZip (LostEntry choice) (slot_disks x) (slot_disks y)
@@ -135,10 +135,10 @@ module _ {D : Type 0} (content : D → Option (List ℕ)) (image : D → List �
         (last_content (slot_facts y StateB).losses) batches states
 
   last_of : (choice : ℕ) (x y : PartSlot D) (place : DiskPlace) (p : Opens choice x y) (c : List ℕ)
-      → losses (open_disk p.is place) ≡ losses (open_disk p.was place) ++ (choice, c) ∷ [] → last_content (slot_facts y place).losses ≡ c
+      → (seen (open_disk p.is place)).losses ≡ (seen (open_disk p.was place)).losses ++ (choice, c) ∷ [] → last_content (slot_facts y place).losses ≡ c
   last_of choice x y place p c e =
-      ap (λ (s : PartState D). last_content (facts_at faults losses arms armed (part_disk s place)).losses) p.new_is
-      ∙ ap last_content e ∙ last_is (losses (open_disk p.was place)) choice c
+      ap (λ (s : PartState D). last_content (facts_at seen (part_disk s place)).losses) p.new_is
+      ∙ ap last_content e ∙ last_is (seen (open_disk p.was place)).losses choice c
 
   -- each loss left its disk to where the journal on it ended
   abbrev EndEntry : List ℕ × ℕ → List ℕ × Option D → Type 0
@@ -159,14 +159,14 @@ module _ {D : Type 0} (content : D → Option (List ℕ)) (image : D → List �
     ),
   )
     where
-      carried : IsPartCarried content image starved x.conf p.was e.shard
+      carried : IsPartCarried seen x.conf p.was e.shard
       carried = was_in x p.was e p.old_is k
 
-      r : IsRestartedPart content image starved faults losses arms armed choice x.conf p.was e.shard p.is
+      r : IsRestartedPart seen choice x.conf p.was e.shard p.is
       r = p.reopens e.shard carried
 
-      long : (place : DiskPlace) (c : List ℕ) → image (open_disk p.was place) c → open_end p.was place ≤ length c
-      long place c on = part_long image p.was e.shard carried.carries place c on
+      long : (place : DiskPlace) (c : List ℕ) → (seen (open_disk p.was place)).image c → open_end p.was place ≤ length c
+      long place c on = part_long seen p.was e.shard carried.carries place c on
 
       at : (place : DiskPlace) (c : List ℕ) → last_content (slot_facts y place).losses ≡ c → open_end p.was place ≤ length c
           → part_end x.state place ≤ length (last_content (slot_facts y place).losses)
@@ -199,8 +199,8 @@ module _ {D : Type 0} (content : D → Option (List ℕ)) (image : D → List �
           record {
             hosted = sym (hosted_y choice x y p);
             state =
-                subst (λ (c : PartConfParts). IsPartState content image starved c y.state (shard_with r.batches r.states)) (sym p.conf)
-                (subst (λ (s : PartState D). IsPartState content image starved x.conf s (shard_with r.batches r.states)) (sym p.new_is) r.carried);
+                subst (λ (c : PartConfParts). IsPartState seen c y.state (shard_with r.batches r.states)) (sym p.conf)
+                (subst (λ (s : PartState D). IsPartState seen x.conf s (shard_with r.batches r.states)) (sym p.new_is) r.carried);
           },
           more.zip,
         );
@@ -237,7 +237,7 @@ module _ {D : Type 0} (content : D → Option (List ℕ)) (image : D → List �
   -- ---- all disks
 
   abbrev G : Option (D × D) → List ℕ → Facts
-  G disks name = foreign_facts faults losses arms armed disks name
+  G disks name = foreign_facts seen disks name
 
   past : (hosts : HostsParts D) (name : List ℕ) → NotIn (part_disks (hosted_slots hosts.parts)) name → F hosts name ≡ G (foreign_disks hosts.foreign) name
   past hosts name n = among_past (λ (e : List ℕ × Option D). e.0) entry_facts (slots_disks hosts.parts) (G (foreign_disks hosts.foreign) name) name
@@ -250,15 +250,15 @@ module _ {D : Type 0} (content : D → Option (List ℕ)) (image : D → List �
   hosted_stay choice (x ∷ xs) (y ∷ ys) z = λ i. hosted_y choice x y z.0 i ∷ hosted_stay choice xs ys z.1 i
 
   module _ (choice : ℕ) (old new : HostsParts D) (opens : AllZip (Opens choice) old.parts new.parts)
-      (p : ReopensForeign content image starved faults losses arms armed choice old.foreign new.foreign) (apart : AreApart old)
-      (members : new.members ≡ no_members old.members.topics) (s : Shards) (k : AreCarried content image starved old s) where
+      (p : ReopensForeign seen choice old.foreign new.foreign) (apart : AreApart old)
+      (members : new.members ≡ no_members old.members.topics) (s : Shards) (k : AreCarried seen old s) where
     abbrev names : List (List ℕ)
     names = part_disks (hosted_slots old.parts)
 
-    was_carried : IsCarried content image starved p.was s.foreign
-    was_carried = subst (λ (f : ForeignSlot D). IsSlot content image starved f s.foreign) p.old_is k.foreign
+    was_carried : IsCarried seen p.was s.foreign
+    was_carried = subst (λ (f : ForeignSlot D). IsSlot seen f s.foreign) p.old_is k.foreign
 
-    state : IsRestartedShard content image starved faults losses arms armed choice p.was s.foreign p.is
+    state : IsRestartedShard seen choice p.was s.foreign p.is
     state = p.reopens s.foreign was_carried
 
     abbrev r : Reopened old.parts new.parts s.parts choice
@@ -329,12 +329,12 @@ module _ {D : Type 0} (content : D → Option (List ℕ)) (image : D → List �
         subst (λ (f : ForeignSlot D). EndOf (foreign_end f name) (G (foreign_disks new.foreign) name)) (sym p.old_is)
         (subst (λ (f : ForeignSlot D). EndOf (foreign_end (foreign.Open p.was) name) (G (foreign_disks f) name)) (sym p.new_is) (go (same_name name state_a)))
       where
-        left : last_content (losses p.is.journal.live.disk) ≡ state.a
-        left = ap last_content state.lost ∙ last_is (losses p.was.journal.live.disk) choice state.a
+        left : last_content (seen p.is.journal.live.disk).losses ≡ state.a
+        left = ap last_content state.lost ∙ last_is (seen p.was.journal.live.disk).losses choice state.a
 
-        go : (b : Bool) → cond b p.was.journal.live.end 0 ≤ length (last_content (cond b (losses p.is.journal.live.disk) (losses p.is.journal.idle)))
+        go : (b : Bool) → cond b p.was.journal.live.end 0 ≤ length (last_content (cond b (seen p.is.journal.live.disk).losses (seen p.is.journal.idle).losses))
         go true = subst (λ (c : List ℕ). p.was.journal.live.end ≤ length c) (sym left)
-            (held_long image p.was was_carried.carries.pending was_carried.carries.holds state.a state.were.0)
+            (held_long seen p.was was_carried.carries.pending was_carried.carries.holds state.a state.were.0)
         go false = omega arith
 
     reach_at : (name : List ℕ) → ends_in old name ≤ length (contents name)
@@ -370,14 +370,14 @@ module _ {D : Type 0} (content : D → Option (List ℕ)) (image : D → List �
       open_parts ys fs each.1 z.1,
     )
 
-    pub all_reopened : AreReopened content image starved faults losses arms armed choice old s new
+    pub all_reopened : AreReopened seen choice old s new
     all_reopened = record {
       after = record { parts = r.after; members = no_members s.members.topics; foreign = state.after };
       contents = contents;
       carried = record {
         parts = r.zip;
         members = ap (λ (m : Memberships). no_members m.topics) k.members ∙ sym members;
-        foreign = subst (λ (f : ForeignSlot D). IsSlot content image starved f state.after) (sym p.new_is) state.carried;
+        foreign = subst (λ (f : ForeignSlot D). IsSlot seen f state.after) (sym p.new_is) state.carried;
       };
       lands = record { parts = r.lands; members = refl; foreign = state.lands };
       parts = open_parts new.parts r.after (all_pieces slot_disks Found new.parts
@@ -435,7 +435,7 @@ module _ {D : Type 0} (content : D → Option (List ℕ)) (image : D → List �
         alone = record {
           stand = λ l a b on_log on_first on_second. subst (λ (h : Hosted). IsLeftOf h.conf e.shard l a b) (sym k.hosted)
               (landed_left x.conf e.shard r.batches r.states l a b r.log_is r.states_are
-              (part_left content image starved faults losses arms armed x.conf p.is (shard_with r.batches r.states) r.carried l a b on_log on_first on_second));
+              (part_left seen x.conf p.is (shard_with r.batches r.states) r.carried l a b on_log on_first on_second));
           log_told = r.carried.log.told;
           first_told = r.carried.first.told;
           second_told = r.carried.second.told;
@@ -443,7 +443,7 @@ module _ {D : Type 0} (content : D → Option (List ℕ)) (image : D → List �
       }
 
   shut_still : (fault : CoreFault) (x y : PartSlot D) (e : HostedPart) → (p : Shuts fault x y) → In x e
-      → PartStandsAlone content image x.conf e.shard p.log p.first p.second → Still y e
+      → PartStandsAlone seen x.conf e.shard p.log p.first p.second → Still y e
   shut_still fault x y e p k d =
       let is : e.hosted ≡ hosted_slot y = k.hosted ∙ (λ i. record { topic = sym p.topic i; conf = sym p.conf i }) in
       record {
@@ -453,7 +453,7 @@ module _ {D : Type 0} (content : D → Option (List ℕ)) (image : D → List �
         log_is = λ i. (log_of (sym is i), part_disk (p.new_is i) Log);
         first_is = λ i. (first_of (sym is i), part_disk (p.new_is i) StateA);
         second_is = λ i. (second_of (sym is i), part_disk (p.new_is i) StateB);
-        alone = subst (λ (h : Hosted). PartStandsAlone content image h.conf e.shard p.log p.first p.second) (sym k.hosted) d;
+        alone = subst (λ (h : Hosted). PartStandsAlone seen h.conf e.shard p.log p.first p.second) (sym k.hosted) d;
       }
 
   all_still : (choice : ℕ) (xs ys : List (PartSlot D)) (es : List HostedPart) → AllZip (Opens choice) xs ys → AllZip In xs es → AllZip Still ys es
@@ -476,7 +476,7 @@ module _ {D : Type 0} (content : D → Option (List ℕ)) (image : D → List �
         (
           shut_still fault x y e p k.0 d.0,
           subst (λ (l : List (PartSlot D)). AllZip Still l es) (sym same)
-              (zip_weaker In Still (slot_still content image starved faults losses arms armed) xs es k.1),
+              (zip_weaker In Still (slot_still seen) xs es k.1),
         ),
         d.1,
       )
@@ -484,15 +484,15 @@ module _ {D : Type 0} (content : D → Option (List ℕ)) (image : D → List �
   -- ---- how far the disks reach then
 
   abbrev Less : PartSlot D → PartSlot D → Type 0
-  Less x y = SlotReaches image (λ n. n - 1) x y
+  Less x y = SlotReaches seen (λ n. n - 1) x y
 
   same_less : (xs : List (PartSlot D)) (es : List HostedPart) → AllZip In xs es → AllZip Less xs xs
   same_less xs es k =
-      zip_weaker (SlotReaches image (λ n. n)) Less (reaches_less image) xs xs (slots_reach content image starved In (slot_reaches content image starved) xs es k)
+      zip_weaker (SlotReaches seen (λ n. n)) Less (reaches_less seen) xs xs (slots_reach seen In (slot_reaches seen) xs es k)
 
   again_less : (choice : ℕ) (x y : PartSlot D) (e : HostedPart) → Opens choice x y → In x e → Less x y
   again_less choice x y e p k =
-      again_reaches image x y p.was p.is e.shard (hosted_y choice x y p) p.old_is p.new_is (was_in x p.was e p.old_is k).carries p.images
+      again_reaches seen x y p.was p.is e.shard (hosted_y choice x y p) p.old_is p.new_is (was_in x p.was e p.old_is k).carries p.images
 
   all_less : (choice : ℕ) (xs ys : List (PartSlot D)) (es : List HostedPart) → AllZip (Opens choice) xs ys → AllZip In xs es → AllZip Less xs ys
   all_less choice [] [] [] z k = tt
@@ -509,7 +509,7 @@ module _ {D : Type 0} (content : D → Option (List ℕ)) (image : D → List �
   stops_less choice fault (x ∷ xs) (y ∷ ys) [] z k = absurd k
   stops_less choice fault (x ∷ xs) (y ∷ ys) (e ∷ es) (inl (p, more)) k = (again_less choice x y e p k.0, stops_less choice fault xs ys es more k.1)
   stops_less choice fault (x ∷ xs) (y ∷ ys) (e ∷ es) (inr (p, same)) k = (
-    shut_reaches image x y p.was e.shard p.log p.first p.second (λ i. record { topic = p.topic i; conf = p.conf i }) p.old_is p.new_is
+    shut_reaches seen x y p.was e.shard p.log p.first p.second (λ i. record { topic = p.topic i; conf = p.conf i }) p.old_is p.new_is
         (was_in x p.was e p.old_is k.0).carries p.images,
     subst (λ (l : List (PartSlot D)). AllZip Less xs l) (sym same) (same_less xs es k.1),
   )
@@ -517,49 +517,49 @@ module _ {D : Type 0} (content : D → Option (List ℕ)) (image : D → List �
   -- the disks stand for the shards, and reach to the last gate of each journal
   abbrev pub Stopped : HostsParts D → Shards → HostsParts D → CoreFault → Type 0
   Stopped old s new fault =
-      StandStill content image s (disks_in new) × DisksReach image (disks_in new) (λ name. ends_in old name - 1) × (fault ≡ NoMemory)
+      StandStill seen s (disks_in new) × DisksReach seen (disks_in new) (λ name. ends_in old name - 1) × (fault ≡ NoMemory)
 
-  pub none_stopped : (hosts : HostsParts D) (s : Shards) → AreCarried content image starved hosts s → Stopped hosts s hosts NoMemory
+  pub none_stopped : (hosts : HostsParts D) (s : Shards) → AreCarried seen hosts s → Stopped hosts s hosts NoMemory
   none_stopped hosts s k = (
-    still_all content image starved faults losses arms armed hosts s k,
-    reach_less image (disks_in hosts) (ends_in hosts) (reach_all content image starved hosts s k),
+    still_all seen hosts s k,
+    reach_less seen (disks_in hosts) (ends_in hosts) (reach_all seen hosts s k),
     refl,
   )
 
   pub parts_stopped : (choice : ℕ) (fault : CoreFault) (old new : HostsParts D) → Stops choice fault old.parts new.parts → new.foreign ≡ old.foreign
-      → (s : Shards) → AreCarried content image starved old s → Stopped old s new fault
+      → (s : Shards) → AreCarried seen old s → Stopped old s new fault
   parts_stopped choice fault old new stops same s k =
       let d = stops_still choice fault old.parts new.parts s.parts stops k.parts in (
         record {
-          parts = parts_still content image starved faults losses arms armed new.parts s.parts d.0;
-          foreign = subst (λ (f : ForeignSlot D). ForeignStill content image s.foreign (foreign_disks f)) (sym same)
-              (still_foreign content image starved faults losses arms armed old.foreign s.foreign k.foreign);
+          parts = parts_still seen new.parts s.parts d.0;
+          foreign = subst (λ (f : ForeignSlot D). ForeignStill seen s.foreign (foreign_disks f)) (sym same)
+              (still_foreign seen old.foreign s.foreign k.foreign);
         },
-        names_reach image (λ n. n - 1) old new (stops_less choice fault old.parts new.parts s.parts stops k.parts) (λ name.
-            subst (λ (f : ForeignSlot D). ReachesTo image (foreign_disk (foreign_disks f) name) (foreign_end old.foreign name - 1)) (sym same)
-            (fewer image (foreign_disk (foreign_disks old.foreign) name) (foreign_end old.foreign name)
-            (foreign_reaches content image starved old.foreign s.foreign k.foreign name))),
+        names_reach seen (λ n. n - 1) old new (stops_less choice fault old.parts new.parts s.parts stops k.parts) (λ name.
+            subst (λ (f : ForeignSlot D). ReachesTo seen (foreign_disk (foreign_disks f) name) (foreign_end old.foreign name - 1)) (sym same)
+            (fewer seen (foreign_disk (foreign_disks old.foreign) name) (foreign_end old.foreign name)
+            (foreign_reaches seen old.foreign s.foreign k.foreign name))),
         d.1,
       )
 
   pub state_stopped : (choice : ℕ) (fault : CoreFault) (old new : HostsParts D) → AllZip (Opens choice) old.parts new.parts
-      → ShutsForeign content image starved faults fault old.foreign new.foreign → (s : Shards) → AreCarried content image starved old s
+      → ShutsForeign seen fault old.foreign new.foreign → (s : Shards) → AreCarried seen old s
       → Stopped old s new fault
   state_stopped choice fault old new opens p s k =
-      let c : IsCarried content image starved p.was s.foreign =
-      subst (λ (f : ForeignSlot D). IsSlot content image starved f s.foreign) p.old_is k.foreign in
+      let c : IsCarried seen p.was s.foreign =
+      subst (λ (f : ForeignSlot D). IsSlot seen f s.foreign) p.old_is k.foreign in
       let d = p.shuts s.foreign c in (
         record {
-          parts = parts_still content image starved faults losses arms armed new.parts s.parts (all_still choice old.parts new.parts s.parts opens k.parts);
-          foreign = subst (λ (f : ForeignSlot D). ForeignStill content image s.foreign (foreign_disks f)) (sym p.new_is) (record {
+          parts = parts_still seen new.parts s.parts (all_still choice old.parts new.parts s.parts opens k.parts);
+          foreign = subst (λ (f : ForeignSlot D). ForeignStill seen s.foreign (foreign_disks f)) (sym p.new_is) (record {
             stand = λ a b on_first on_second. back a b d.0.after d.0.lands (d.0.stand a b on_first on_second);
             told = d.0.told;
             second_told = d.0.second_told;
           });
         },
-        names_reach image (λ n. n - 1) old new (all_less choice old.parts new.parts s.parts opens k.parts) (λ name.
-            subst (λ (f : ForeignSlot D). ReachesTo image (foreign_disk (foreign_disks f) name) (foreign_end old.foreign name - 1)) (sym p.new_is)
-            (foreign_left image old.foreign p.was s.foreign p.first p.second p.old_is c.carries p.images.on_first name)),
+        names_reach seen (λ n. n - 1) old new (all_less choice old.parts new.parts s.parts opens k.parts) (λ name.
+            subst (λ (f : ForeignSlot D). ReachesTo seen (foreign_disk (foreign_disks f) name) (foreign_end old.foreign name - 1)) (sym p.new_is)
+            (foreign_left seen old.foreign p.was s.foreign p.first p.second p.old_is c.carries p.images.on_first name)),
         d.1,
       )
     where
@@ -574,10 +574,10 @@ module _ {D : Type 0} (content : D → Option (List ℕ)) (image : D → List �
   -- ---- any disks
 
   abbrev SlotGoesOn : PartSlot D → PartSlot D → Type 0
-  SlotGoesOn x y = AllZip (DiskGoesOn content faults) (slot_disks x) (slot_disks y)
+  SlotGoesOn x y = AllZip (DiskGoesOn seen) (slot_disks x) (slot_disks y)
 
   opens_on : (choice : ℕ) (x y : PartSlot D) → Opens choice x y → SlotGoesOn x y
-  opens_on choice x y p = slot_goes content image starved faults losses arms armed x y (record {
+  opens_on choice x y p = slot_goes seen x y (record {
     was = p.was;
     is = p.is;
     turns = record { old_is = p.old_is; new_is = p.new_is; hosted = hosted_y choice x y p };
@@ -596,19 +596,19 @@ module _ {D : Type 0} (content : D → Option (List ℕ)) (image : D → List �
       same : hosted_slot y ≡ hosted_slot x
       same = λ i. record { topic = p.topic i; conf = p.conf i }
 
-      at : (place : DiskPlace) → GoesOn content faults (open_disk p.was place) (shut_disk p.log p.first p.second place)
-          → GoesOnIf content faults (part_disk x.state place) (part_disk y.state place)
+      at : (place : DiskPlace) → GoesOn seen (open_disk p.was place) (shut_disk p.log p.first p.second place)
+          → GoesOnIf seen (part_disk x.state place) (part_disk y.state place)
       at place g =
-          subst (λ (s : PartState D). GoesOnIf content faults (part_disk s place) (part_disk y.state place)) (sym p.old_is)
-          (subst (λ (s : PartState D). GoesOnIf content faults (Some (open_disk p.was place)) (part_disk s place)) (sym p.new_is) g)
+          subst (λ (s : PartState D). GoesOnIf seen (part_disk s place) (part_disk y.state place)) (sym p.old_is)
+          (subst (λ (s : PartState D). GoesOnIf seen (Some (open_disk p.was place)) (part_disk s place)) (sym p.new_is) g)
 
   slots_same : (xs : List (PartSlot D)) → AllZip SlotGoesOn xs xs
-  slots_same xs = zip_same SlotGoesOn (λ x. zip_same (DiskGoesOn content faults) (same_goes content image starved faults losses arms armed) (slot_disks x)) xs
+  slots_same xs = zip_same SlotGoesOn (λ x. zip_same (DiskGoesOn seen) (same_goes seen) (slot_disks x)) xs
 
-  flat_on : (xs ys : List (PartSlot D)) → AllZip SlotGoesOn xs ys → AllZip (DiskGoesOn content faults) (slots_disks xs) (slots_disks ys)
-  flat_on xs ys z = zip_flat SlotGoesOn (DiskGoesOn content faults) slot_disks slot_disks (λ x y w. w) xs ys z
+  flat_on : (xs ys : List (PartSlot D)) → AllZip SlotGoesOn xs ys → AllZip (DiskGoesOn seen) (slots_disks xs) (slots_disks ys)
+  flat_on xs ys z = zip_flat SlotGoesOn (DiskGoesOn seen) slot_disks slot_disks (λ x y w. w) xs ys z
 
-  opened_on : (choice : ℕ) (xs ys : List (PartSlot D)) → AllZip (Opens choice) xs ys → AllZip (DiskGoesOn content faults) (slots_disks xs) (slots_disks ys)
+  opened_on : (choice : ℕ) (xs ys : List (PartSlot D)) → AllZip (Opens choice) xs ys → AllZip (DiskGoesOn seen) (slots_disks xs) (slots_disks ys)
   opened_on choice xs ys z = flat_on xs ys (zip_weaker (Opens choice) SlotGoesOn (opens_on choice) xs ys z)
 
   stopped_on : (choice : ℕ) (fault : CoreFault) (xs ys : List (PartSlot D)) → Stops choice fault xs ys → AllZip SlotGoesOn xs ys
@@ -625,48 +625,48 @@ module _ {D : Type 0} (content : D → Option (List ℕ)) (image : D → List �
   hosted_stopped choice fault (x ∷ xs) (y ∷ ys) (inr (p, same)) = λ i. record { topic = p.topic i; conf = p.conf i } ∷ hosted_slots (same i)
 
   pub parts_stopped_on : (choice : ℕ) (fault : CoreFault) (old new : HostsParts D) → Stops choice fault old.parts new.parts → new.foreign ≡ old.foreign
-      → GoOn content faults (disks_in old) (disks_in new)
+      → GoOn seen (disks_in old) (disks_in new)
   parts_stopped_on choice fault old new stops same = record {
     parts = flat_on old.parts new.parts (stopped_on choice fault old.parts new.parts stops);
-    foreign = subst (λ (f : ForeignSlot D). BothGoOn content faults (foreign_disks old.foreign) (foreign_disks f)) (sym same)
-        (same_both content image starved faults losses arms armed (foreign_disks old.foreign));
+    foreign = subst (λ (f : ForeignSlot D). BothGoOn seen (foreign_disks old.foreign) (foreign_disks f)) (sym same)
+        (same_both seen (foreign_disks old.foreign));
   }
 
   pub state_stopped_on : (choice : ℕ) (fault : CoreFault) (old new : HostsParts D) → AllZip (Opens choice) old.parts new.parts
-      → ShutsForeign content image starved faults fault old.foreign new.foreign → GoOn content faults (disks_in old) (disks_in new)
+      → ShutsForeign seen fault old.foreign new.foreign → GoOn seen (disks_in old) (disks_in new)
   state_stopped_on choice fault old new opens p = record {
     parts = opened_on choice old.parts new.parts opens;
     foreign =
-        subst (λ (f : ForeignSlot D). BothGoOn content faults (foreign_disks f) (foreign_disks new.foreign)) (sym p.old_is)
-        (subst (λ (f : ForeignSlot D). BothGoOn content faults (Some (p.was.journal.live.disk, p.was.journal.idle)) (foreign_disks f)) (sym p.new_is) (p.on_first, p.on_second));
+        subst (λ (f : ForeignSlot D). BothGoOn seen (foreign_disks f) (foreign_disks new.foreign)) (sym p.old_is)
+        (subst (λ (f : ForeignSlot D). BothGoOn seen (Some (p.was.journal.live.disk, p.was.journal.idle)) (foreign_disks f)) (sym p.new_is) (p.on_first, p.on_second));
   }
 
   pub all_on : (choice : ℕ) (old new : HostsParts D) → AllZip (Opens choice) old.parts new.parts
-      → ReopensForeign content image starved faults losses arms armed choice old.foreign new.foreign → GoOn content faults (disks_in old) (disks_in new)
+      → ReopensForeign seen choice old.foreign new.foreign → GoOn seen (disks_in old) (disks_in new)
   all_on choice old new opens p = record {
     parts = opened_on choice old.parts new.parts opens;
     foreign =
-        subst (λ (f : ForeignSlot D). BothGoOn content faults (foreign_disks f) (foreign_disks new.foreign)) (sym p.old_is)
-        (subst (λ (f : ForeignSlot D). BothGoOn content faults (Some (p.was.journal.live.disk, p.was.journal.idle)) (foreign_disks f)) (sym p.new_is) (p.first, p.second));
+        subst (λ (f : ForeignSlot D). BothGoOn seen (foreign_disks f) (foreign_disks new.foreign)) (sym p.old_is)
+        (subst (λ (f : ForeignSlot D). BothGoOn seen (Some (p.was.journal.live.disk, p.was.journal.idle)) (foreign_disks f)) (sym p.new_is) (p.first, p.second));
   }
 
   -- ---- which count rose
 
   pub stopped_rose : (choice : ℕ) (fault : CoreFault) (xs ys : List (PartSlot D)) → Stops choice fault xs ys → fault ≡ Reopen Device
-      → PartRose faults (slots_disks xs) (slots_disks ys)
+      → PartRose seen (slots_disks xs) (slots_disks ys)
   stopped_rose choice fault [] ys z is = absurd z
   stopped_rose choice fault (x ∷ xs) [] z is = absurd z
   stopped_rose choice fault (x ∷ xs) (y ∷ ys) (inl (p, more)) is = inr (inr (inr (stopped_rose choice fault xs ys more is)))
   stopped_rose choice fault (x ∷ xs) (y ∷ ys) (inr (p, same)) is = one (p.device is) where
-    at : (place : DiskPlace) → Rose (faults (open_disk p.was place)) (faults (shut_disk p.log p.first p.second place))
-        → RoseIf faults (part_disk x.state place) (part_disk y.state place)
+    at : (place : DiskPlace) → Rose (seen (open_disk p.was place)).faults (seen (shut_disk p.log p.first p.second place)).faults
+        → RoseIf seen (part_disk x.state place) (part_disk y.state place)
     at place r =
-        subst (λ (s : PartState D). RoseIf faults (part_disk s place) (part_disk y.state place)) (sym p.old_is)
-        (subst (λ (s : PartState D). RoseIf faults (Some (open_disk p.was place)) (part_disk s place)) (sym p.new_is) r)
+        subst (λ (s : PartState D). RoseIf seen (part_disk s place) (part_disk y.state place)) (sym p.old_is)
+        (subst (λ (s : PartState D). RoseIf seen (Some (open_disk p.was place)) (part_disk s place)) (sym p.new_is) r)
 
-    one : Rose (faults p.was.log.journal.disk) (faults p.log)
-        ⊎ (Rose (faults p.was.states.journal.live.disk) (faults p.first) ⊎ Rose (faults p.was.states.journal.idle) (faults p.second))
-        → PartRose faults (slots_disks (x ∷ xs)) (slots_disks (y ∷ ys))
+    one : Rose (seen p.was.log.journal.disk).faults (seen p.log).faults
+        ⊎ (Rose (seen p.was.states.journal.live.disk).faults (seen p.first).faults ⊎ Rose (seen p.was.states.journal.idle).faults (seen p.second).faults)
+        → PartRose seen (slots_disks (x ∷ xs)) (slots_disks (y ∷ ys))
     one (inl r) = inl (at Log r)
     one (inr (inl r)) = inr (inl (at StateA r))
     one (inr (inr r)) = inr (inr (inl (at StateB r)))
@@ -678,11 +678,11 @@ module _ {D : Type 0} (content : D → Option (List ℕ)) (image : D → List �
   stopped_never choice fault (x ∷ xs) (y ∷ ys) (inl (p, more)) f is = stopped_never choice fault xs ys more f is
   stopped_never choice fault (x ∷ xs) (y ∷ ys) (inr (p, same)) f is = p.never f is
 
-  pub state_rose : (fault : CoreFault) (old new : HostsParts D) → ShutsForeign content image starved faults fault old.foreign new.foreign → fault ≡ Reopen Device
-      → OneRose faults (disks_in old) (disks_in new)
+  pub state_rose : (fault : CoreFault) (old new : HostsParts D) → ShutsForeign seen fault old.foreign new.foreign → fault ≡ Reopen Device
+      → OneRose seen (disks_in old) (disks_in new)
   state_rose fault old new p is = inr
-      (subst (λ (f : ForeignSlot D). BothRose faults (foreign_disks f) (foreign_disks new.foreign)) (sym p.old_is)
-      (subst (λ (f : ForeignSlot D). BothRose faults (Some (p.was.journal.live.disk, p.was.journal.idle)) (foreign_disks f)) (sym p.new_is) (p.device is)))
+      (subst (λ (f : ForeignSlot D). BothRose seen (foreign_disks f) (foreign_disks new.foreign)) (sym p.old_is)
+      (subst (λ (f : ForeignSlot D). BothRose seen (Some (p.was.journal.live.disk, p.was.journal.idle)) (foreign_disks f)) (sym p.new_is) (p.device is)))
 
   -- ---- open, and held
 

@@ -21,6 +21,7 @@ use Rattle.broker_core.specs.declared.fault.CoreOpen.{CoreOpen}
 use Rattle.broker_core.specs.declared.fault.CoreOpen.TheVariants as fault
 use Rattle.broker_core.specs.Carried.{IsCarried, GoesOn}
 use Rattle.broker_core.specs.Restarts.{IsOpened, IsOpenedDisk, IsRestartedShard, IsNotRestarted, ImagesStand, ImagesStandAs, IsLost as Lost}
+use Rattle.edge_io.specs.Views.{DiskView}
 
 -- ---- pending writes
 
@@ -97,62 +98,61 @@ same_frames a b c states (inr f) h = (
   h.2,
 )
 
-module _ {D : Type 0} (content : D → Option (List ℕ)) (image : D → List ℕ → Type 0) (starved : D → Bool) (faults : D → ℕ)
-    (losses : D → List (ℕ × List ℕ)) (arms : D → ℕ) (armed : D → Armed) where
+module _ {D : Type 0} (seen : D → DiskView) where
   -- the images of a carried shard
-  pub carried_stands : (store : StoreParts D) (shard : ForeignShardState) → Carries image store shard → ImagesStand image shard store.journal.live.disk store.journal.idle
+  pub carried_stands : (store : StoreParts D) (shard : ForeignShardState) → Carries seen store shard → ImagesStand seen shard store.journal.live.disk store.journal.idle
   carried_stands store shard k a b on_first on_second =
       of_states (StandForStates a b) store.entries k.pending shard k.states k.pending_is
       (pending_map (AreStored a b) (λ e. StandForStates a b (states_of e)) (λ e h. (e, h, refl)) store.entries k.pending (k.holds.images a b on_first on_second))
 
   abbrev Runs : D → D → Type 0
-  Runs old new = RunsOn content losses arms armed starved faults old new
+  Runs old new = RunsOn seen old new
 
-  pub opened_disk : (old new : D) → Runs old new → IsTold (content old) → starved new ≡ false
-      → IsOpenedDisk (facts_of faults losses arms armed old) (facts_of faults losses arms armed new)
+  pub opened_disk : (old new : D) → Runs old new → IsTold (seen old).content → (seen new).starved ≡ false
+      → IsOpenedDisk (facts_of seen old) (facts_of seen new)
   opened_disk old new runs told fed =
       record { losses = runs.same_losses; arms = runs.same_arms; later = runs.later; spends = runs.spends told fed }
 
-  pub opened : (first second : D) (a b : List ℕ) (store : StoreParts D) → content first ≡ Some a → content second ≡ Some b
-      → ((x y : List ℕ) → content first ≡ Some x → content second ≡ Some y → AreStored x y store.entries)
-      → ((x y : List ℕ) (entries : Entries) → content first ≡ Some x → content second ≡ Some y → AreStored x y entries → store.entries ≡ entries)
-      → Carries image store (record { states = states_of store.entries; pending = None })
-      → Runs first store.journal.live.disk → Runs second store.journal.idle → starved store.journal.live.disk ≡ false → starved store.journal.idle ≡ false
-      → IsOpened content image starved faults losses arms armed first second a b store
+  pub opened : (first second : D) (a b : List ℕ) (store : StoreParts D) → (seen first).content ≡ Some a → (seen second).content ≡ Some b
+      → ((x y : List ℕ) → (seen first).content ≡ Some x → (seen second).content ≡ Some y → AreStored x y store.entries)
+      → ((x y : List ℕ) (entries : Entries) → (seen first).content ≡ Some x → (seen second).content ≡ Some y → AreStored x y entries → store.entries ≡ entries)
+      → Carries seen store (record { states = states_of store.entries; pending = None })
+      → Runs first store.journal.live.disk → Runs second store.journal.idle → (seen store.journal.live.disk).starved ≡ false → (seen store.journal.idle).starved ≡ false
+      → IsOpened seen first second a b store
   opened first second a b store is is_second opens only carries runs second_runs fed second_fed = record {
     shard = record { states = states_of store.entries; pending = None };
     carried = record {
       carries = carries;
-      told = runs.told ∙ told_of (content first) a is;
-      second_told = second_runs.told ∙ told_of (content second) b is_second;
+      told = runs.told ∙ told_of (seen first).content a is;
+      second_told = second_runs.told ∙ told_of (seen second).content b is_second;
       fed = fed;
       second_fed = second_fed;
     };
     stands = (store.entries, opens a b is is_second, refl);
     only = λ states h. ap states_of (only a b h.0 is is_second h.1) ∙ sym h.2;
     nothing = refl;
-    on_first = opened_disk first store.journal.live.disk runs (told_of (content first) a is) fed;
-    on_second = opened_disk second store.journal.idle second_runs (told_of (content second) b is_second) second_fed;
+    on_first = opened_disk first store.journal.live.disk runs (told_of (seen first).content a is) fed;
+    on_second = opened_disk second store.journal.idle second_runs (told_of (seen second).content b is_second) second_fed;
   }
 
   -- ---- restarts
 
   -- what a power loss left of a disk
   abbrev pub IsLost : ℕ → D → D → List ℕ → Type 0
-  IsLost choice old new c = Lost content image faults losses arms armed choice old new c
+  IsLost choice old new c = Lost seen choice old new c
 
-  pub lost_of : (choice : ℕ) (live old new : D) → old ≡ live → IsTold (content live)
-      → LosesPower choice (image old) (losses old) (content new) (image new) (losses new) (armed new)
-      → is_some (content new) ≡ is_some (content old) → arms new ≡ arms old → (IsTold (content old) → faults new ≡ faults old)
+  pub lost_of : (choice : ℕ) (live old new : D) → old ≡ live → IsTold (seen live).content
+      → LosesPower choice (seen old) (seen new)
+      → is_some (seen new).content ≡ is_some (seen old).content → (seen new).arms ≡ (seen old).arms → (IsTold (seen old).content → (seen new).faults ≡ (seen old).faults)
       → (c : List ℕ) × IsLost choice live new c
   lost_of choice live old new same told l still same_arms quiet =
-      let old_told = ap (λ (d : D). is_some (content d)) same ∙ told in
-      let t = is_told (content new) (still ∙ old_told) in (
+      let old_told = ap (λ (d : D). is_some (seen d).content) same ∙ told in
+      let t = is_told (seen new).content (still ∙ old_told) in (
         t.0,
         subst (λ (d : D). IsLost choice d new t.0) same (record {
           is = t.1;
           was = (l.left t.0 t.1).0;
-          only = λ d now. same_some (content new) d t.0 (l.only d now) t.1;
+          only = λ d now. same_some (seen new).content d t.0 (l.only d now) t.1;
           lost = (l.left t.0 t.1).1;
           same_arms = same_arms;
           disarmed = l.disarmed;
@@ -161,30 +161,30 @@ module _ {D : Type 0} (content : D → Option (List ℕ)) (image : D → List �
       )
 
   -- a loss is refused for want of memory alone
-  pub loss_refused : {T E : Type 0} (live old new : D) (result : Result T E) → old ≡ live → IsTold (content live) → IsErr result
-      → (IsTold (content old) → FailsBy ⊥ (starved old) (starved new) result) → starved new ≡ true
-  loss_refused live old new result same told err fails = go ((fails (ap (λ (d : D). is_some (content d)) same ∙ told)).only err)
+  pub loss_refused : {T E : Type 0} (live old new : D) (result : Result T E) → old ≡ live → IsTold (seen live).content → IsErr result
+      → (IsTold (seen old).content → FailsBy ⊥ (seen old).starved (seen new).starved result) → (seen new).starved ≡ true
+  loss_refused live old new result same told err fails = go ((fails (ap (λ (d : D). is_some (seen d).content) same ∙ told)).only err)
     where
-      go : ⊥ ⊎ (starved new ≡ true) → starved new ≡ true
+      go : ⊥ ⊎ ((seen new).starved ≡ true) → (seen new).starved ≡ true
       go (inl never) = absurd never
       go (inr is) = is
 
-  pub within_still : (live old new : D) → old ≡ live → Within (image old) (image new) → Within (image live) (image new)
-  within_still live old new same w = subst (λ (d : D). Within (image d) (image new)) same w
+  pub within_still : (live old new : D) → old ≡ live → Within (seen old).image (seen new).image → Within (seen live).image (seen new).image
+  within_still live old new same w = subst (λ (d : D). Within (seen d).image (seen new).image) same w
 
-  pub told_on : (live old new : D) → old ≡ live → is_some (content new) ≡ is_some (content old) → IsTold (content live) → IsTold (content new)
-  told_on live old new same still told = still ∙ ap (λ (d : D). is_some (content d)) same ∙ told
+  pub told_on : (live old new : D) → old ≡ live → is_some (seen new).content ≡ is_some (seen old).content → IsTold (seen live).content → IsTold (seen new).content
+  told_on live old new same still told = still ∙ ap (λ (d : D). is_some (seen d).content) same ∙ told
 
   pub restarted_disk : (choice : ℕ) (old mid new : D) (c : List ℕ) → IsLost choice old mid c
-      → IsOpenedDisk (facts_of faults losses arms armed mid) (facts_of faults losses arms armed new)
-      → (arms new ≡ arms old) × (armed new ≡ Nothing) × (faults new ≡ faults old)
+      → IsOpenedDisk (facts_of seen mid) (facts_of seen new)
+      → ((seen new).arms ≡ (seen old).arms) × ((seen new).armed ≡ Nothing) × ((seen new).faults ≡ (seen old).faults)
   restarted_disk choice old mid new c l o =
       (o.arms ∙ l.same_arms, (o.spends.disarmed l.disarmed).0, (o.spends.disarmed l.disarmed).1 ∙ l.quiet)
 
   pub restarted : (choice : ℕ) (store : StoreParts D) (shard : ForeignShardState) (mid_first mid_second : D) (a b : List ℕ) (new : StoreParts D)
-      → IsCarried content image starved store shard → IsLost choice store.journal.live.disk mid_first a → IsLost choice store.journal.idle mid_second b
-      → IsOpened content image starved faults losses arms armed mid_first mid_second a b new
-      → IsRestartedShard content image starved faults losses arms armed choice store shard new
+      → IsCarried seen store shard → IsLost choice store.journal.live.disk mid_first a → IsLost choice store.journal.idle mid_second b
+      → IsOpened seen mid_first mid_second a b new
+      → IsRestartedShard seen choice store shard new
   restarted choice store shard mid_first mid_second a b new k l m o =
       let first = restarted_disk choice store.journal.live.disk mid_first new.journal.live.disk a l o.on_first in
       let second = restarted_disk choice store.journal.idle mid_second new.journal.idle b m o.on_second in
@@ -207,23 +207,23 @@ module _ {D : Type 0} (content : D → Option (List ℕ)) (image : D → List �
       }
 
   -- no image came
-  pub images_within : (old_first old_second first second : D) → Within (image old_first) (image first) → Within (image old_second) (image second)
-      → ImagesStandAs image old_first old_second first second
+  pub images_within : (old_first old_second first second : D) → Within (seen old_first).image (seen first).image → Within (seen old_second).image (seen second).image
+      → ImagesStandAs seen old_first old_second first second
   images_within old_first old_second first second p q = record { on_first = λ c on. (c, p c on, inl refl); on_second = q }
 
   -- nor behind that any but by an opening
-  pub images_behind : (old_first old_second mid_first mid_second first second : D) → Within (image old_first) (image mid_first)
-      → Within (image old_second) (image mid_second) → ImagesStandAs image mid_first mid_second first second
-      → ImagesStandAs image old_first old_second first second
+  pub images_behind : (old_first old_second mid_first mid_second first second : D) → Within (seen old_first).image (seen mid_first).image
+      → Within (seen old_second).image (seen mid_second).image → ImagesStandAs seen mid_first mid_second first second
+      → ImagesStandAs seen old_first old_second first second
   images_behind old_first old_second mid_first mid_second first second p q i = record {
     on_first = λ c on. (let d = i.on_first c on in (d.0, p d.0 d.1, d.2));
     on_second = λ c on. q c (i.on_second c on);
   }
 
   -- a loss was refused
-  pub not_lost : (store : StoreParts D) (shard : ForeignShardState) (first second : D) → IsCarried content image starved store shard
-      → Within (image store.journal.live.disk) (image first) → Within (image store.journal.idle) (image second)
-      → IsTold (content first) → IsTold (content second) → IsNotRestarted content image shard first second
+  pub not_lost : (store : StoreParts D) (shard : ForeignShardState) (first second : D) → IsCarried seen store shard
+      → Within (seen store.journal.live.disk).image (seen first).image → Within (seen store.journal.idle).image (seen second).image
+      → IsTold (seen first).content → IsTold (seen second).content → IsNotRestarted seen shard first second
   not_lost store shard first second k within second_within told second_told = record {
     after = shard;
     lands = inl refl;
@@ -234,9 +234,9 @@ module _ {D : Type 0} (content : D → Option (List ℕ)) (image : D → List �
 
   -- it was not opened again
   pub not_opened : (choice : ℕ) (store : StoreParts D) (shard : ForeignShardState) (mid_first mid_second first second : D) (a b : List ℕ)
-      → IsCarried content image starved store shard → IsLost choice store.journal.live.disk mid_first a → IsLost choice store.journal.idle mid_second b
-      → ImagesStandAs image mid_first mid_second first second → IsTold (content first) → IsTold (content second)
-      → IsNotRestarted content image shard first second
+      → IsCarried seen store shard → IsLost choice store.journal.live.disk mid_first a → IsLost choice store.journal.idle mid_second b
+      → ImagesStandAs seen mid_first mid_second first second → IsTold (seen first).content → IsTold (seen second).content
+      → IsNotRestarted seen shard first second
   not_opened choice store shard mid_first mid_second first second a b k l m as_before told second_told =
       let c = chosen (StandForStates a b) shard shard.states shard.pending refl refl (carried_stands store shard k.carries a b l.was m.was) in
       record {
@@ -258,40 +258,40 @@ module _ {D : Type 0} (content : D → Option (List ℕ)) (image : D → List �
 
   -- contents that stood for states are neither damaged nor met by a fault with nothing armed
   pub only_memory : (choice : ℕ) (store : StoreParts D) (shard : ForeignShardState) (mid_first mid_second : D) (a b : List ℕ) (e : CoreOpen)
-      → IsCarried content image starved store shard → IsLost choice store.journal.live.disk mid_first a → IsLost choice store.journal.idle mid_second b
-      → ((x y : List ℕ) (states : ShareStates) → content mid_first ≡ Some x → content mid_second ≡ Some y → StandForStates x y states
+      → IsCarried seen store shard → IsLost choice store.journal.live.disk mid_first a → IsLost choice store.journal.idle mid_second b
+      → ((x y : List ℕ) (states : ShareStates) → (seen mid_first).content ≡ Some x → (seen mid_second).content ≡ Some y → StandForStates x y states
       → (name : List ℕ) (place : ℕ) → e ≢ fault.Damaged name place)
-      → (IsTold (content mid_first) → IsTold (content mid_second) → armed mid_first ≡ Nothing → armed mid_second ≡ Nothing → e ≢ fault.Device)
+      → (IsTold (seen mid_first).content → IsTold (seen mid_second).content → (seen mid_first).armed ≡ Nothing → (seen mid_second).armed ≡ Nothing → e ≢ fault.Device)
       → e ≢ fault.Bay → e ≡ fault.NoMemory
   only_memory choice store shard mid_first mid_second a b e k l m recovers sound no_bay =
       let c = chosen (StandForStates a b) shard shard.states shard.pending refl refl (carried_stands store shard k.carries a b l.was m.was) in
       one_fault_left e (recovers a b c.0.states l.is m.is c.1)
-      (sound (told_of (content mid_first) a l.is) (told_of (content mid_second) b m.is) l.disarmed m.disarmed) no_bay
+      (sound (told_of (seen mid_first).content a l.is) (told_of (seen mid_second).content b m.is) l.disarmed m.disarmed) no_bay
 
   -- behind two losses, the opening failed
   pub stays_shut : {T : Type 0} (choice : ℕ) (store : StoreParts D) (shard : ForeignShardState) (mid_first mid_second : D) (r : Result T (D × D × CoreOpen))
-      → IsCarried content image starved store shard
+      → IsCarried seen store shard
       → (a : List ℕ) × IsLost choice store.journal.live.disk mid_first a → (b : List ℕ) × IsLost choice store.journal.idle mid_second b
-      → IfErr r (λ e. ImagesStandAs image mid_first mid_second e.0 e.1)
-      → ((x y : List ℕ) (states : ShareStates) → content mid_first ≡ Some x → content mid_second ≡ Some y → StandForStates x y states
+      → IfErr r (λ e. ImagesStandAs seen mid_first mid_second e.0 e.1)
+      → ((x y : List ℕ) (states : ShareStates) → (seen mid_first).content ≡ Some x → (seen mid_second).content ≡ Some y → StandForStates x y states
       → IfErr r (λ e. (name : List ℕ) (place : ℕ) → e.2 ≢ fault.Damaged name place))
-      → (IsTold (content mid_first) → IsTold (content mid_second) → armed mid_first ≡ Nothing → armed mid_second ≡ Nothing → IfErr r (λ e. e.2 ≢ fault.Device))
-      → IfErr r (λ e. e.2 ≢ fault.Bay) → IfErr r (λ e. is_some (content e.0) ≡ is_some (content mid_first)) → IfErr r (λ e. is_some (content e.1) ≡ is_some (content mid_second))
-      → IfErr r (λ e. IsNotRestarted content image shard e.0 e.1 × (e.2 ≡ fault.NoMemory))
+      → (IsTold (seen mid_first).content → IsTold (seen mid_second).content → (seen mid_first).armed ≡ Nothing → (seen mid_second).armed ≡ Nothing → IfErr r (λ e. e.2 ≢ fault.Device))
+      → IfErr r (λ e. e.2 ≢ fault.Bay) → IfErr r (λ e. is_some (seen e.0).content ≡ is_some (seen mid_first).content) → IfErr r (λ e. is_some (seen e.1).content ≡ is_some (seen mid_second).content)
+      → IfErr r (λ e. IsNotRestarted seen shard e.0 e.1 × (e.2 ≡ fault.NoMemory))
   stays_shut choice store shard mid_first mid_second (Ok x) k l m images recovers sound no_bay told second_told = tt
   stays_shut choice store shard mid_first mid_second (Err e) k l m images recovers sound no_bay told second_told = (
-    not_opened choice store shard mid_first mid_second e.0 e.1 l.0 m.0 k l.1 m.1 images (told ∙ told_of (content mid_first) l.0 l.1.is)
-        (second_told ∙ told_of (content mid_second) m.0 m.1.is),
+    not_opened choice store shard mid_first mid_second e.0 e.1 l.0 m.0 k l.1 m.1 images (told ∙ told_of (seen mid_first).content l.0 l.1.is)
+        (second_told ∙ told_of (seen mid_second).content m.0 m.1.is),
     only_memory choice store shard mid_first mid_second l.0 m.0 e.2 k l.1 m.1 recovers sound no_bay,
   )
 
-  pub told_first : (mid : D) (r : Result (StoreParts D) (D × D × CoreOpen)) → MatchResult r (λ new. GoesOn content faults mid new.journal.live.disk) (λ e. GoesOn content faults mid e.0)
-      → IfErr r (λ e. is_some (content e.0) ≡ is_some (content mid))
+  pub told_first : (mid : D) (r : Result (StoreParts D) (D × D × CoreOpen)) → MatchResult r (λ new. GoesOn seen mid new.journal.live.disk) (λ e. GoesOn seen mid e.0)
+      → IfErr r (λ e. is_some (seen e.0).content ≡ is_some (seen mid).content)
   told_first mid (Ok x) h = tt
   told_first mid (Err e) h = h.told
 
-  pub told_second : (mid : D) (r : Result (StoreParts D) (D × D × CoreOpen)) → MatchResult r (λ new. GoesOn content faults mid new.journal.idle) (λ e. GoesOn content faults mid e.1)
-      → IfErr r (λ e. is_some (content e.1) ≡ is_some (content mid))
+  pub told_second : (mid : D) (r : Result (StoreParts D) (D × D × CoreOpen)) → MatchResult r (λ new. GoesOn seen mid new.journal.idle) (λ e. GoesOn seen mid e.1)
+      → IfErr r (λ e. is_some (seen e.1).content ≡ is_some (seen mid).content)
   told_second mid (Ok x) h = tt
   told_second mid (Err e) h = h.told
 

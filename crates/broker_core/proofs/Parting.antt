@@ -28,6 +28,7 @@ use Rattle.broker_model.specs.Shards.{PartCall, look_at, result_of}
 use Rattle.broker_model.specs.Shards.PartCall.{Visits, Produces, Looks, Expires}
 use Rattle.broker_core.specs.Carried.{Begun, EndsGoOn, GoesOn, HaltsPart, IsPartCarried, LeadsPart, OpenPart, PartGoesOn, StepsOn, Uses, UsesStates, holding}
 use Rattle.broker_core.specs.Carried.Begun.{BeginsVisit, BeginsExpiry}
+use Rattle.edge_io.specs.Views.{DiskView}
 
 -- ---- what is told
 
@@ -52,13 +53,12 @@ small_told (g ∷ grants) a = (
 pub grants_told : (grants : List Grant) → AllByRecursion IsSmallGrant grants → All IsTellableGrant grants
 grants_told grants a = All-from_recursion IsTellableGrant grants (small_told grants a)
 
-module _ {D : Type 0} (content : D → Option (List ℕ)) (image : D → List ℕ → Type 0) (starved : D → Bool) (faults : D → ℕ)
-    (losses : D → List (ℕ × List ℕ)) (arms : D → ℕ) (armed : D → Armed) where
+module _ {D : Type 0} (seen : D → DiskView) where
   abbrev Runs : D → D → Type 0
-  Runs old new = RunsOn content losses arms armed starved faults old new
+  Runs old new = RunsOn seen old new
 
   abbrev Carried : PartConfParts → OpenPart D → PartShardState → Type 0
-  Carried conf part s = IsPartCarried content image starved conf part s
+  Carried conf part s = IsPartCarried seen conf part s
 
   -- its own configuration is that of the slot
   pub of_conf : (conf : PartConfParts) (was : OpenPart D) (Q : PartConfParts → PartShardState → Type 0)
@@ -66,10 +66,10 @@ module _ {D : Type 0} (content : D → Option (List ℕ)) (image : D → List �
   of_conf conf was Q f s k = subst (λ (c : PartConfParts). Q c s) k.conf_is
       (f s (record { conf_is = refl; carries = k.carries; log = k.log; first = k.first; second = k.second }))
 
-  least_on : (d : D) → GoesOn content faults d d
-  least_on d = record { later = (let n = faults d in omega arith); told = refl }
+  least_on : (d : D) → GoesOn seen d d
+  least_on d = record { later = (let n = (seen d).faults in omega arith); told = refl }
 
-  pub same_goes_on : (p : OpenPart D) → PartGoesOn content faults p p
+  pub same_goes_on : (p : OpenPart D) → PartGoesOn seen p p
   same_goes_on p = record {
     log = least_on p.log.journal.disk;
     first = least_on p.states.journal.live.disk;
@@ -81,41 +81,41 @@ module _ {D : Type 0} (content : D → Option (List ℕ)) (image : D → List �
   -- the log and the second disk stay
   pub record OnStates (old new : OpenPart D) : Type 0 where
     pub runs : Runs old.states.journal.live.disk new.states.journal.live.disk
-    pub ends : (t : PartShardState) → Carries image holding old t → old.states.journal.live.end ≤ new.states.journal.live.end
+    pub ends : (t : PartShardState) → Carries seen holding old t → old.states.journal.live.end ≤ new.states.journal.live.end
     pub log : new.log ≡ old.log
     pub idle : new.states.journal.idle ≡ old.states.journal.idle
     pub conf : new.conf ≡ old.conf
 
-  pub states_go : (old new : OpenPart D) → OnStates old new → PartGoesOn content faults old new
+  pub states_go : (old new : OpenPart D) → OnStates old new → PartGoesOn seen old new
   states_go old new o = record {
-    log = subst (λ (l : LogParts D). GoesOn content faults old.log.journal.disk l.journal.disk) (sym o.log) (least_on old.log.journal.disk);
+    log = subst (λ (l : LogParts D). GoesOn seen old.log.journal.disk l.journal.disk) (sym o.log) (least_on old.log.journal.disk);
     first = record { later = o.runs.later; told = o.runs.told };
-    second = subst (λ (d : D). GoesOn content faults old.states.journal.idle d) (sym o.idle) (least_on old.states.journal.idle);
+    second = subst (λ (d : D). GoesOn seen old.states.journal.idle d) (sym o.idle) (least_on old.states.journal.idle);
   }
 
-  states_end : (old new : OpenPart D) → OnStates old new → (s : PartShardState) → Carries image holding old s → EndsGoOn old new
+  states_end : (old new : OpenPart D) → OnStates old new → (s : PartShardState) → Carries seen holding old s → EndsGoOn old new
   states_end old new o s k = record {
     log = (let e : new.log.journal.end ≡ old.log.journal.end = ap (λ (l : LogParts D). l.journal.end) o.log in omega (arith, e));
     first = o.ends s k;
   }
 
-  log_told : (old new : OpenPart D) → OnStates old new → IsTold (content old.log.journal.disk) → IsTold (content new.log.journal.disk)
-  log_told old new o told = ap (λ (l : LogParts D). is_some (content l.journal.disk)) o.log ∙ told
+  log_told : (old new : OpenPart D) → OnStates old new → IsTold (seen old.log.journal.disk).content → IsTold (seen new.log.journal.disk).content
+  log_told old new o told = ap (λ (l : LogParts D). is_some (seen l.journal.disk).content) o.log ∙ told
 
-  second_told : (old new : OpenPart D) → OnStates old new → IsTold (content old.states.journal.idle) → IsTold (content new.states.journal.idle)
-  second_told old new o told = ap (λ (d : D). is_some (content d)) o.idle ∙ told
+  second_told : (old new : OpenPart D) → OnStates old new → IsTold (seen old.states.journal.idle).content → IsTold (seen new.states.journal.idle).content
+  second_told old new o told = ap (λ (d : D). is_some (seen d).content) o.idle ∙ told
 
   abbrev Steps : OpenPart D → OpenPart D → ℕ → PartCall → Type 0
-  Steps old new now did = (t : PartShardState) → Carries image holding old t → (n : PartShardState) × Carries image holding new n
-      × StepsOn faults old.conf old new now t did n
+  Steps old new now did = (t : PartShardState) → Carries seen holding old t → (n : PartShardState) × Carries seen holding new n
+      × StepsOn seen old.conf old new now t did n
 
   abbrev Fed : OpenPart D → Type 0
-  Fed new = (starved new.log.journal.disk ≡ false) × (starved new.states.journal.live.disk ≡ false) × (starved new.states.journal.idle ≡ false)
+  Fed new = ((seen new.log.journal.disk).starved ≡ false) × ((seen new.states.journal.live.disk).starved ≡ false) × ((seen new.states.journal.idle).starved ≡ false)
 
   states_lead : (old new : OpenPart D) (now : ℕ) (did : PartCall) → OnStates old new → Steps old new now did → Fed new
-      → (UsesStates faults losses arms armed old new → Uses faults losses arms armed old new did)
+      → (UsesStates seen old new → Uses seen old new did)
       → (s : PartShardState) → Carried old.conf old s
-      → LeadsPart content image starved faults losses arms armed old.conf now did old s new
+      → LeadsPart seen old.conf now did old s new
   states_lead old new now did o steps fed uses s k =
       let r = steps s k.carries in
       record {
@@ -138,7 +138,7 @@ module _ {D : Type 0} (content : D → Option (List ℕ)) (image : D → List �
 
   states_whole : (old new : OpenPart D) (now : ℕ) (did : PartCall) (Whole : PartCall → Type 0) (Half : Begun → Type 0) → Whole did → OnStates old new
       → Steps old new now did → (s : PartShardState) → Carried old.conf old s
-      → HaltsPart content image faults old.conf now Whole Half old s new
+      → HaltsPart seen old.conf now Whole Half old s new
   states_whole old new now did Whole Half is o steps s k =
       let r = steps s k.carries in
       record {
@@ -153,7 +153,7 @@ module _ {D : Type 0} (content : D → Option (List ℕ)) (image : D → List �
       }
 
   states_none : (old new : OpenPart D) (now : ℕ) (Whole : PartCall → Type 0) (Half : Begun → Type 0) → OnStates old new → (s : PartShardState)
-      → Carried old.conf old s → Carries image holding new s → HaltsPart content image faults old.conf now Whole Half old s new
+      → Carried old.conf old s → Carries seen holding new s → HaltsPart seen old.conf now Whole Half old s new
   states_none old new now Whole Half o s k carries = record {
     after = s;
     conf_is = o.conf;
@@ -166,25 +166,25 @@ module _ {D : Type 0} (content : D → Option (List ℕ)) (image : D → List �
   }
 
   pub visit_leads : (old new : OpenPart D) (now : ℕ) (visit : Visit) (answer : VisitAnswer) → OnStates old new
-      → Visited image faults holding now visit old new answer → Fed new → (s : PartShardState) → Carried old.conf old s
-      → LeadsPart content image starved faults losses arms armed old.conf now (Visits visit answer) old s new
+      → Visited seen holding now visit old new answer → Fed new → (s : PartShardState) → Carried old.conf old s
+      → LeadsPart seen old.conf now (Visits visit answer) old s new
   visit_leads old new now visit answer o steps fed = states_lead old new now (Visits visit answer) o steps fed (λ u. u)
 
   abbrev pub IsVisit : Visit → PartCall → Type 0
   IsVisit visit did = (answer : VisitAnswer) × (did ≡ Visits visit answer)
 
   pub visit_whole : (old new : OpenPart D) (now : ℕ) (visit : Visit) (answer : VisitAnswer) (Half : Begun → Type 0) → OnStates old new
-      → Visited image faults holding now visit old new answer → (s : PartShardState) → Carried old.conf old s
-      → HaltsPart content image faults old.conf now (IsVisit visit) Half old s new
+      → Visited seen holding now visit old new answer → (s : PartShardState) → Carried old.conf old s
+      → HaltsPart seen old.conf now (IsVisit visit) Half old s new
   visit_whole old new now visit answer Half o steps = states_whole old new now (Visits visit answer) (IsVisit visit) Half (answer, refl) o steps
 
   pub visit_refused : (old new : OpenPart D) (now : ℕ) (visit : Visit) → OnStates old new
-      → ((t : PartShardState) → Carries image holding old t → Carries image holding new t ⊎ AcksStand image faults holding visit old new t)
+      → ((t : PartShardState) → Carries seen holding old t → Carries seen holding new t ⊎ AcksStand seen holding visit old new t)
       → (s : PartShardState) → Carried old.conf old s
-      → HaltsPart content image faults old.conf now (IsVisit visit) (λ begun. begun ≡ BeginsVisit visit) old s new
+      → HaltsPart seen old.conf now (IsVisit visit) (λ begun. begun ≡ BeginsVisit visit) old s new
   visit_refused old new now visit o memory s k = go (memory s k.carries) where
-    go : Carries image holding new s ⊎ AcksStand image faults holding visit old new s
-        → HaltsPart content image faults old.conf now (IsVisit visit) (λ begun. begun ≡ BeginsVisit visit) old s new
+    go : Carries seen holding new s ⊎ AcksStand seen holding visit old new s
+        → HaltsPart seen old.conf now (IsVisit visit) (λ begun. begun ≡ BeginsVisit visit) old s new
     go (inl same) = states_none old new now (IsVisit visit) (λ begun. begun ≡ BeginsVisit visit) o s k same
     go (inr a) = record {
       after = a.1;
@@ -198,25 +198,25 @@ module _ {D : Type 0} (content : D → Option (List ℕ)) (image : D → List �
     }
 
   pub expire_leads : (old new : OpenPart D) (now : ℕ) (answer : ExpireAnswer) → OnStates old new
-      → Expired image faults holding now old new answer → Fed new → (s : PartShardState) → Carried old.conf old s
-      → LeadsPart content image starved faults losses arms armed old.conf now (Expires answer) old s new
+      → Expired seen holding now old new answer → Fed new → (s : PartShardState) → Carried old.conf old s
+      → LeadsPart seen old.conf now (Expires answer) old s new
   expire_leads old new now answer o steps fed = states_lead old new now (Expires answer) o steps fed (λ u. u)
 
   abbrev pub IsExpiry : PartCall → Type 0
   IsExpiry did = (answer : ExpireAnswer) × (did ≡ Expires answer)
 
   pub expire_whole : (old new : OpenPart D) (now : ℕ) (answer : ExpireAnswer) (Half : Begun → Type 0) → OnStates old new
-      → Expired image faults holding now old new answer → (s : PartShardState) → Carried old.conf old s
-      → HaltsPart content image faults old.conf now IsExpiry Half old s new
+      → Expired seen holding now old new answer → (s : PartShardState) → Carried old.conf old s
+      → HaltsPart seen old.conf now IsExpiry Half old s new
   expire_whole old new now answer Half o steps = states_whole old new now (Expires answer) IsExpiry Half (answer, refl) o steps
 
   pub expire_refused : (old new : OpenPart D) (now : ℕ) → OnStates old new
-      → ((t : PartShardState) → Carries image holding old t → Carries image holding new t ⊎ PartStands image faults holding now old new t)
+      → ((t : PartShardState) → Carries seen holding old t → Carries seen holding new t ⊎ PartStands seen holding now old new t)
       → (s : PartShardState) → Carried old.conf old s
-      → HaltsPart content image faults old.conf now IsExpiry (λ begun. begun ≡ BeginsExpiry) old s new
+      → HaltsPart seen old.conf now IsExpiry (λ begun. begun ≡ BeginsExpiry) old s new
   expire_refused old new now o memory s k = go (memory s k.carries) where
-    go : Carries image holding new s ⊎ PartStands image faults holding now old new s
-        → HaltsPart content image faults old.conf now IsExpiry (λ begun. begun ≡ BeginsExpiry) old s new
+    go : Carries seen holding new s ⊎ PartStands seen holding now old new s
+        → HaltsPart seen old.conf now IsExpiry (λ begun. begun ≡ BeginsExpiry) old s new
     go (inl same) = states_none old new now IsExpiry (λ begun. begun ≡ BeginsExpiry) o s k same
     go (inr a) = record {
       after = a.0;
@@ -233,40 +233,40 @@ module _ {D : Type 0} (content : D → Option (List ℕ)) (image : D → List �
 
   pub record OnLog (old new : OpenPart D) : Type 0 where
     pub runs : Runs old.log.journal.disk new.log.journal.disk
-    pub ends : (t : PartShardState) → Carries image holding old t → old.log.journal.end ≤ new.log.journal.end
+    pub ends : (t : PartShardState) → Carries seen holding old t → old.log.journal.end ≤ new.log.journal.end
     pub states : new.states ≡ old.states
     pub conf : new.conf ≡ old.conf
 
-  pub log_goes : (old new : OpenPart D) → OnLog old new → PartGoesOn content faults old new
+  pub log_goes : (old new : OpenPart D) → OnLog old new → PartGoesOn seen old new
   log_goes old new o = record {
     log = record { later = o.runs.later; told = o.runs.told };
-    first = subst (λ (t : StoreParts D). GoesOn content faults old.states.journal.live.disk t.journal.live.disk) (sym o.states) (least_on old.states.journal.live.disk);
-    second = subst (λ (t : StoreParts D). GoesOn content faults old.states.journal.idle t.journal.idle) (sym o.states) (least_on old.states.journal.idle);
+    first = subst (λ (t : StoreParts D). GoesOn seen old.states.journal.live.disk t.journal.live.disk) (sym o.states) (least_on old.states.journal.live.disk);
+    second = subst (λ (t : StoreParts D). GoesOn seen old.states.journal.idle t.journal.idle) (sym o.states) (least_on old.states.journal.idle);
   }
 
-  log_end : (old new : OpenPart D) → OnLog old new → (s : PartShardState) → Carries image holding old s → EndsGoOn old new
+  log_end : (old new : OpenPart D) → OnLog old new → (s : PartShardState) → Carries seen holding old s → EndsGoOn old new
   log_end old new o s k = record {
     log = o.ends s k;
     first = (let e : new.states.journal.live.end ≡ old.states.journal.live.end = ap (λ (t : StoreParts D). t.journal.live.end) o.states in omega (arith, e));
   }
 
-  first_told : (old new : OpenPart D) → OnLog old new → IsTold (content old.states.journal.live.disk) → IsTold (content new.states.journal.live.disk)
-  first_told old new o told = ap (λ (t : StoreParts D). is_some (content t.journal.live.disk)) o.states ∙ told
+  first_told : (old new : OpenPart D) → OnLog old new → IsTold (seen old.states.journal.live.disk).content → IsTold (seen new.states.journal.live.disk).content
+  first_told old new o told = ap (λ (t : StoreParts D). is_some (seen t.journal.live.disk).content) o.states ∙ told
 
-  idle_told : (old new : OpenPart D) → OnLog old new → IsTold (content old.states.journal.idle) → IsTold (content new.states.journal.idle)
-  idle_told old new o told = ap (λ (t : StoreParts D). is_some (content t.journal.idle)) o.states ∙ told
+  idle_told : (old new : OpenPart D) → OnLog old new → IsTold (seen old.states.journal.idle).content → IsTold (seen new.states.journal.idle).content
+  idle_told old new o told = ap (λ (t : StoreParts D). is_some (seen t.journal.idle).content) o.states ∙ told
 
   abbrev Adds : OpenPart D → OpenPart D → (now : ℕ) → List ℕ → Result ℕ LogFault → Type 0
-  Adds old new now batch added = added ≢ Err NoMemory → ProducedSo image faults holding now batch old new added
+  Adds old new now batch added = added ≢ Err NoMemory → ProducedSo seen holding now batch old new added
 
   abbrev pub IsBatch : List ℕ → PartCall → Type 0
   IsBatch batch did = (produced : Produced) × (did ≡ Produces batch produced)
 
   pub produce_leads : (old new : OpenPart D) (now : ℕ) (batch : List ℕ) (added : Result ℕ LogFault) (produced : Produced) → result_of produced ≡ added
       → OnLog old new → Adds old new now batch added → Fed new → (s : PartShardState) → Carried old.conf old s
-      → LeadsPart content image starved faults losses arms armed old.conf now (Produces batch produced) old s new
+      → LeadsPart seen old.conf now (Produces batch produced) old s new
   produce_leads old new now batch added produced is o steps fed s k =
-      let r = subst (λ (x : Result ℕ LogFault). ProducedSo image faults holding now batch old new x) (sym is) (steps (not_memory produced added is)) s k.carries in
+      let r = subst (λ (x : Result ℕ LogFault). ProducedSo seen holding now batch old new x) (sym is) (steps (not_memory produced added is)) s k.carries in
       record {
         after = r.0;
         carried = record {
@@ -285,10 +285,10 @@ module _ {D : Type 0} (content : D → Option (List ℕ)) (image : D → List �
       }
 
   abbrev HaltsBatch : OpenPart D → OpenPart D → (now : ℕ) → List ℕ → PartShardState → Type 0
-  HaltsBatch old new now batch s = HaltsPart content image faults old.conf now (IsBatch batch) (λ begun. ⊥) old s new
+  HaltsBatch old new now batch s = HaltsPart seen old.conf now (IsBatch batch) (λ begun. ⊥) old s new
 
   produced_whole : (old new : OpenPart D) (now : ℕ) (batch : List ℕ) (produced : Produced) → OnLog old new
-      → ProducedSo image faults holding now batch old new (result_of produced) → (s : PartShardState) → Carried old.conf old s → HaltsBatch old new now batch s
+      → ProducedSo seen holding now batch old new (result_of produced) → (s : PartShardState) → Carried old.conf old s → HaltsBatch old new now batch s
   produced_whole old new now batch produced o steps s k =
       let r = steps s k.carries in
       record {
@@ -315,7 +315,7 @@ module _ {D : Type 0} (content : D → Option (List ℕ)) (image : D → List �
   produce_halts old new now batch (Err NoMemory) behind o steps same s k = record {
     after = s;
     conf_is = o.conf;
-    carries = subst (λ (p : OpenPart D). Carries image holding p s) (sym (same refl)) k.carries;
+    carries = subst (λ (p : OpenPart D). Carries seen holding p s) (sym (same refl)) k.carries;
     does = inl refl;
     ends = log_end old new o s k.carries;
     log_told = o.runs.told ∙ k.log.told;
@@ -327,7 +327,7 @@ module _ {D : Type 0} (content : D → Option (List ℕ)) (image : D → List �
 
   pub look_leads : (conf : PartConfParts) (now : ℕ) (group : List ℕ) (looked : Looked) (is : OpenPart D)
       → looked ≡ look_at (share_state_at (states_of is.states.entries) (key_of is.conf group)) → (s : PartShardState) → Carried conf is s
-      → LeadsPart content image starved faults losses arms armed conf now (Looks group looked) is s is
+      → LeadsPart seen conf now (Looks group looked) is s is
   look_leads conf now group looked is told s k = record {
     after = s;
     carried = k;

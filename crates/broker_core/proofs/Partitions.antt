@@ -1,5 +1,5 @@
 -- The three disks of each partition are taken from a bay and its shard opened, one partition after another, and they are put back.
-use Rattle.std.proofs.Common.{◌≡◌, ◌≢◌, ◌≤◌, ◌<◌, ◌-◌, ◌^◌, ◌⊎◌, inl, inr, refl, sym, ap, ◌∙◌, subst, ℕ, List, [], ◌∷◌, ◌++◌, append_assoc, append-nil, Bool, true, false, Some, is_some}
+use Rattle.std.proofs.Common.{arith, ◌≡◌, ◌≢◌, ◌≤◌, ◌<◌, ◌-◌, ◌^◌, ◌⊎◌, inl, inr, refl, sym, ap, ◌∙◌, subst, ℕ, List, [], ◌∷◌, ◌++◌, append_assoc, append-nil, Bool, true, false, Some, is_some}
 use Rattle.std.proofs.lemmas.Grind.{flat_map-append}
 use Rattle.std.specs.List.{AllByRecursion}
 use Rattle.std.specs.declared.option.Option.{Option}
@@ -22,10 +22,11 @@ use Rattle.broker_core.specs.declared.slot.PartSlot.{PartSlot}
 use Rattle.broker_core.specs.Bays.{HoldsIf, IsTakenFrom, StaysAs, TakenIf, TellsStill}
 use Rattle.broker_core.specs.Carried.{OpenPart}
 use Rattle.broker_core.specs.Hosts.{AreDistinct, AreHeldParts, AreNamed, AreOpenParts, IsHeldState, IsNamed, IsOpenState, NotIn, hosted_slot, hosted_slots, open_disk, part_disk, slot_disks, slots_disks}
-use Rattle.broker_core.specs.Restarts.{IsDamagedPart, IsOpenedPart, PartImagesStandAs}
+use Rattle.broker_core.specs.Restarts.{IsDamagedPart, IsOpenedPart, PartImagesStandAs, PartRunsOn}
 use Rattle.broker_core.specs.Taking.{GetsAll, GetsNone, Moves, PutsAll, RefusesPart, TakesPart, TakesParts}
 use Rattle.broker_core.proofs.Places.{apart_from, distinct_front, not_in_front, not_in_rest, one_in_either, one_in_rest}
-use Rattle.broker_core.proofs.Taking.{IsGiven, gets_each, gets_moves, gets_others, greater, moves_same, moves_then, named, puts_hold, puts_in, puts_moves, puts_others, puts_rise, puts_then, rose_between, slot_same, slot_then, stays_kept, stays_put}
+use Rattle.broker_core.proofs.Taking.{IsGiven, gets_each, gets_moves, gets_others, greater, moves_same, moves_then, named, puts_hold, puts_in, puts_moves, puts_others, puts_rise, puts_taken, puts_then, rose_between, slot_same, slot_then, stays_kept, stays_put}
+use Rattle.edge_io.specs.Views.{DiskView, BayView}
 
 -- ---- lists
 
@@ -63,37 +64,38 @@ pub hosts_disks_then : {D : Type 0} (xs ys : List (PartSlot D))
     → part_disks (hosted_slots (xs ++ ys)) ≡ part_disks (hosted_slots xs) ++ part_disks (hosted_slots ys)
 hosts_disks_then xs ys = ap part_disks (hosts_then xs ys) ∙ disks_then (hosted_slots xs) (hosted_slots ys)
 
-module _ {B D : Type 0} (disk : B → List ℕ → Option D) (out : B → List ℕ → Bool) (taken : B → List ℕ → ℕ) (steady : B → Type 0) (bay_faults : B → ℕ)
-    (content : D → Option (List ℕ)) (image : D → List ℕ → Type 0) (starved : D → Bool) (faults : D → ℕ)
-    (losses : D → List (ℕ × List ℕ)) (arms : D → ℕ) (armed : D → Armed) where
+module _ {B D : Type 0} (bay_seen : B → BayView D) (seen : D → DiskView) where
   abbrev Opened : Hosted → D → D → D → OpenPart D → Type 0
-  Opened h log first second shard = (l a b : List ℕ) → content log ≡ Some l → content first ≡ Some a → content second ≡ Some b
-      → IsOpenedPart content image starved faults losses arms armed h.conf log first second l a b shard
+  Opened h log first second shard = (l a b : List ℕ) → (seen log).content ≡ Some l → (seen first).content ≡ Some a → (seen second).content ≡ Some b
+      → IsOpenedPart seen h.conf log first second l a b shard
 
   abbrev Puts : List (List ℕ × Option D) → B → B → Type 0
-  Puts es old new = PutsAll disk out taken steady bay_faults faults es old new
+  Puts es old new = PutsAll bay_seen seen es old new
 
   abbrev Goes : B → B → Type 0
-  Goes old new = Moves disk steady bay_faults old new
+  Goes old new = Moves bay_seen old new
 
   abbrev Same : List ℕ → B → B → Type 0
-  Same m old new = SameSlot disk out taken m old new
+  Same m old new = SameSlot bay_seen m old new
 
   abbrev Takes : Hosted → B → PartSlot D → B → Type 0
-  Takes h old slot new = TakesPart disk out taken steady bay_faults content image starved faults losses arms armed h old slot new
+  Takes h old slot new = TakesPart bay_seen seen h old slot new
 
   abbrev Refuses : Hosted → CoreOpen → B → B → Type 0
-  Refuses h fault old new = RefusesPart disk out taken steady bay_faults content image starved faults arms armed h fault old new
+  Refuses h fault old new = RefusesPart bay_seen seen h fault old new
 
   -- ---- one partition
 
-  -- one of its disks stood at its last count
+  -- one of its disks was taken with its last count
   abbrev Last : Hosted → B → Type 0
-  Last h old = (name : List ℕ) × (d : D) × IsOneOf (disks_of h) name × IsAsTold (disk old name) d × (2 ^ 64 - 1 ≤ faults d)
+  Last h new = (name : List ℕ) × IsOneOf (disks_of h) name × (2 ^ 64 - 1 ≤ (bay_seen new).taken name)
 
   module _ (h : Hosted) (apart : AreDistinct (disks_of h)) (log first second : D) where
     abbrev Stand : D → D → D → Type 0
-    Stand log_now first_now second_now = PartImagesStandAs image log first second log_now first_now second_now
+    Stand log_now first_now second_now = PartImagesStandAs seen log first second log_now first_now second_now
+
+    abbrev Run : D → D → D → Type 0
+    Run log_now first_now second_now = PartRunsOn seen log first second log_now first_now second_now
 
     abbrev three : List (List ℕ × D)
     three = (log_of h, log) ∷ (first_of h, first) ∷ (second_of h, second) ∷ []
@@ -103,30 +105,31 @@ module _ {B D : Type 0} (disk : B → List ℕ → Option D) (out : B → List �
 
     -- names that are those of the partition's disks
     pub gets_named : (x y z : List ℕ) (old new : B) → x ≡ log_of h → y ≡ first_of h → z ≡ second_of h
-        → GetsAll disk out taken steady bay_faults faults ((x, log) ∷ (y, first) ∷ (z, second) ∷ []) old new
-        → GetsAll disk out taken steady bay_faults faults three old new
+        → GetsAll bay_seen seen ((x, log) ∷ (y, first) ∷ (z, second) ∷ []) old new
+        → GetsAll bay_seen seen three old new
     gets_named x y z old new p q r gets =
-        subst (λ (es : List (List ℕ × D)). GetsAll disk out taken steady bay_faults faults es old new) (λ i. (p i, log) ∷ (q i, first) ∷ (r i, second) ∷ []) gets
+        subst (λ (es : List (List ℕ × D)). GetsAll bay_seen seen es old new) (λ i. (p i, log) ∷ (q i, first) ∷ (r i, second) ∷ []) gets
 
     pub puts_named : (x y z : List ℕ) (old new : B) → x ≡ log_of h → y ≡ first_of h → z ≡ second_of h
         → Puts ((x, Some log) ∷ (y, Some first) ∷ (z, Some second) ∷ []) old new → Puts (back log first second) old new
     puts_named x y z old new p q r puts =
         subst (λ (es : List (List ℕ × Option D)). Puts es old new) (λ i. (p i, Some log) ∷ (q i, Some first) ∷ (r i, Some second) ∷ []) puts
 
-    pub three_out : (old new : B) → GetsAll disk out taken steady bay_faults faults three old new → (m : List ℕ) → IsOneOf (disks_of h) m → out new m ≡ true
-    three_out old new gets m one = go one (gets_each disk out taken steady bay_faults faults three old new apart gets) where
-      go : IsOneOf (disks_of h) m → AllByRecursion (IsGiven disk out taken steady bay_faults faults old new) three → out new m ≡ true
-      go (inl e) all = subst (λ (n : List ℕ). out new n ≡ true) (sym e) all.0.is_out
-      go (inr (inl e)) all = subst (λ (n : List ℕ). out new n ≡ true) (sym e) all.1.0.is_out
-      go (inr (inr (inl e))) all = subst (λ (n : List ℕ). out new n ≡ true) (sym e) all.1.1.0.is_out
+    pub three_out : (old new : B) → GetsAll bay_seen seen three old new → (m : List ℕ) → IsOneOf (disks_of h) m → (bay_seen new).out m ≡ true
+    three_out old new gets m one = go one (gets_each bay_seen seen three old new apart gets) where
+      go : IsOneOf (disks_of h) m → AllByRecursion (IsGiven bay_seen seen old new) three → (bay_seen new).out m ≡ true
+      go (inl e) all = subst (λ (n : List ℕ). (bay_seen new).out n ≡ true) (sym e) all.0.is_out
+      go (inr (inl e)) all = subst (λ (n : List ℕ). (bay_seen new).out n ≡ true) (sym e) all.1.0.is_out
+      go (inr (inr (inl e))) all = subst (λ (n : List ℕ). (bay_seen new).out n ≡ true) (sym e) all.1.1.0.is_out
       go (inr (inr (inr never))) all = absurd never
 
     pub taken_part : (old new : B) (shard : OpenPart D) (slot : PartSlot D) → hosted_slot slot ≡ h → slot.state ≡ part.Open shard
-        → GetsAll disk out taken steady bay_faults faults three old new → faults log ≤ faults shard.log.journal.disk
-        → faults first ≤ faults shard.states.journal.live.disk → faults second ≤ faults shard.states.journal.idle → Opened h log first second shard
-        → Stand shard.log.journal.disk shard.states.journal.live.disk shard.states.journal.idle → Takes h old slot new
-    taken_part old new shard slot hosted_is is_open gets on_log on_first on_second opens images =
-        let each = gets_each disk out taken steady bay_faults faults three old new apart gets in
+        → GetsAll bay_seen seen three old new → (seen log).faults ≤ (seen shard.log.journal.disk).faults
+        → (seen first).faults ≤ (seen shard.states.journal.live.disk).faults → (seen second).faults ≤ (seen shard.states.journal.idle).faults → Opened h log first second shard
+        → Stand shard.log.journal.disk shard.states.journal.live.disk shard.states.journal.idle
+        → Run shard.log.journal.disk shard.states.journal.live.disk shard.states.journal.idle → Takes h old slot new
+    taken_part old new shard slot hosted_is is_open gets on_log on_first on_second opens images runs =
+        let each = gets_each bay_seen seen three old new apart gets in
         record {
           hosted_is = hosted_is;
           parts = shard;
@@ -136,99 +139,103 @@ module _ {B D : Type 0} (disk : B → List ℕ → Option D) (out : B → List �
           on_second = record { given = second; as_told = each.1.1.0.as_told; noted = each.1.1.0.noted; later = on_second };
           opens = opens;
           images = images;
+          runs = runs;
           are_out = three_out old new gets;
-          others = λ m n. gets_others disk out taken steady bay_faults faults three old new gets m n;
-          moves = gets_moves disk out taken steady bay_faults faults three old new gets;
+          others = λ m n. gets_others bay_seen seen three old new gets m n;
+          moves = gets_moves bay_seen seen three old new gets;
         }
 
     -- they were put back behind an opening that was refused
-    pub refused_part : (old mid new : B) (log_now first_now second_now : D) (fault : CoreOpen) → GetsAll disk out taken steady bay_faults faults three old mid
+    pub refused_part : (old mid new : B) (log_now first_now second_now : D) (fault : CoreOpen) → GetsAll bay_seen seen three old mid
         → Puts (back log_now first_now second_now) mid new
-        → ((l a b : List ℕ) (batches : List Batch) (states : ShareStates) → content log ≡ Some l → content first ≡ Some a → content second ≡ Some b
+        → ((l a b : List ℕ) (batches : List Batch) (states : ShareStates) → (seen log).content ≡ Some l → (seen first).content ≡ Some a → (seen second).content ≡ Some b
         → ArePartText h.conf l a b batches states → (n : List ℕ) (place : ℕ) → fault ≢ Damaged n place)
-        → (IsTold (content log) → IsTold (content first) → IsTold (content second) → armed log ≡ Nothing → armed first ≡ Nothing → armed second ≡ Nothing
+        → (IsTold (seen log).content → IsTold (seen first).content → IsTold (seen second).content → (seen log).armed ≡ Nothing → (seen first).armed ≡ Nothing → (seen second).armed ≡ Nothing
         → fault ≢ Device)
-        → ((n : List ℕ) (place : ℕ) → fault ≡ Damaged n place → (l a b : List ℕ) → content log ≡ Some l → content first ≡ Some a → content second ≡ Some b
+        → ((n : List ℕ) (place : ℕ) → fault ≡ Damaged n place → (l a b : List ℕ) → (seen log).content ≡ Some l → (seen first).content ≡ Some a → (seen second).content ≡ Some b
         → IsDamagedPart h l a b n place)
-        → (fault ≡ Device → Rose (faults log) (faults log_now) ⊎ (Rose (faults first) (faults first_now) ⊎ Rose (faults second) (faults second_now)))
-        → fault ≢ Bay → Stand log_now first_now second_now → Refuses h fault old new
-    refused_part old mid new log_now first_now second_now fault gets puts recovers sound damaged device no_bay images =
-        let each = gets_each disk out taken steady bay_faults faults three old mid apart gets in
-        let to_mid = gets_moves disk out taken steady bay_faults faults three old mid gets in
-        let from_mid = puts_moves disk out taken steady bay_faults faults (back log_now first_now second_now) mid new puts in
-        let is_log : (d : D) → disk old (log_of h) ≡ Some d → log ≡ d = each.0.as_told in
-        let is_first : (d : D) → disk old (first_of h) ≡ Some d → first ≡ d = each.1.0.as_told in
-        let is_second : (d : D) → disk old (second_of h) ≡ Some d → second ≡ d = each.1.1.0.as_told in
+        → (fault ≡ Device → Rose (seen log).faults (seen log_now).faults ⊎ (Rose (seen first).faults (seen first_now).faults ⊎ Rose (seen second).faults (seen second_now).faults))
+        → fault ≢ Bay → Stand log_now first_now second_now → Run log_now first_now second_now → Refuses h fault old new
+    refused_part old mid new log_now first_now second_now fault gets puts recovers sound damaged device no_bay images runs =
+        let each = gets_each bay_seen seen three old mid apart gets in
+        let to_mid = gets_moves bay_seen seen three old mid gets in
+        let from_mid = puts_moves bay_seen seen (back log_now first_now second_now) mid new puts in
+        let is_log : (d : D) → (bay_seen old).disk (log_of h) ≡ Some d → log ≡ d = each.0.as_told in
+        let is_first : (d : D) → (bay_seen old).disk (first_of h) ≡ Some d → first ≡ d = each.1.0.as_told in
+        let is_second : (d : D) → (bay_seen old).disk (second_of h) ≡ Some d → second ≡ d = each.1.1.0.as_told in
         record {
           damaged = λ n place e contents tells.
               let d = tells (log_of h) (inl refl) in
               let f = tells (first_of h) (inr (inl refl)) in
               let g = tells (second_of h) (inr (inr (inl refl))) in
               damaged n place e (contents (log_of h)) (contents (first_of h)) (contents (second_of h))
-              (ap content (is_log d.0 d.1) ∙ d.2) (ap content (is_first f.0 f.1) ∙ f.2) (ap content (is_second g.0 g.1) ∙ g.2);
+              (ap (λ d. (seen d).content) (is_log d.0 d.1) ∙ d.2) (ap (λ d. (seen d).content) (is_first f.0 f.1) ∙ f.2) (ap (λ d. (seen d).content) (is_second g.0 g.1) ∙ g.2);
           recovers = λ contents tells stand n place.
               let d = tells (log_of h) (inl refl) in
               let f = tells (first_of h) (inr (inl refl)) in
               let g = tells (second_of h) (inr (inr (inl refl))) in
               recovers (contents (log_of h)) (contents (first_of h)) (contents (second_of h)) stand.0 stand.1
-              (ap content (is_log d.0 d.1) ∙ d.2) (ap content (is_first f.0 f.1) ∙ f.2) (ap content (is_second g.0 g.1) ∙ g.2) stand.2 n place;
+              (ap (λ d. (seen d).content) (is_log d.0 d.1) ∙ d.2) (ap (λ d. (seen d).content) (is_first f.0 f.1) ∙ f.2) (ap (λ d. (seen d).content) (is_second g.0 g.1) ∙ g.2) stand.2 n place;
           bay = λ e. absurd (no_bay e);
-          device = λ e. rises (device e) each.0.as_told each.1.0.as_told each.1.1.0.as_told each.0.noted each.1.0.noted each.1.1.0.noted;
+          device = λ e. rises (device e) each.0.noted each.1.0.noted each.1.1.0.noted;
           sound = λ tells still.
               let d = tells (log_of h) (inl refl) in
               let f = tells (first_of h) (inr (inl refl)) in
               let g = tells (second_of h) (inr (inr (inl refl))) in (
                 no_bay,
-                sound (ap (λ (x : D). is_some (content x)) (is_log d.0 d.1) ∙ d.2.tells) (ap (λ (x : D). is_some (content x)) (is_first f.0 f.1) ∙ f.2.tells)
-                    (ap (λ (x : D). is_some (content x)) (is_second g.0 g.1) ∙ g.2.tells) (ap armed (is_log d.0 d.1) ∙ d.2.is_unarmed)
-                    (ap armed (is_first f.0 f.1) ∙ f.2.is_unarmed) (ap armed (is_second g.0 g.1) ∙ g.2.is_unarmed),
+                sound (ap (λ (x : D). is_some (seen x).content) (is_log d.0 d.1) ∙ d.2.tells) (ap (λ (x : D). is_some (seen x).content) (is_first f.0 f.1) ∙ f.2.tells)
+                    (ap (λ (x : D). is_some (seen x).content) (is_second g.0 g.1) ∙ g.2.tells) (ap (λ d. (seen d).armed) (is_log d.0 d.1) ∙ d.2.is_unarmed)
+                    (ap (λ d. (seen d).armed) (is_first f.0 f.1) ∙ f.2.is_unarmed) (ap (λ d. (seen d).armed) (is_second g.0 g.1) ∙ g.2.is_unarmed),
               );
-          are_in = λ m one. puts_in disk out taken steady bay_faults faults (back log_now first_now second_now) mid new apart puts m one;
-          stays = stays (puts_hold disk out taken steady bay_faults faults (back log_now first_now second_now) mid new apart puts) to_mid.told
+          are_in = λ m one. puts_in bay_seen seen (back log_now first_now second_now) mid new apart puts m one;
+          stays = stays (puts_hold bay_seen seen (back log_now first_now second_now) mid new apart puts) to_mid.told
               each.0.as_told each.1.0.as_told each.1.1.0.as_told;
-          others = λ m n. slot_then disk out taken steady bay_faults m old mid new (gets_others disk out taken steady bay_faults faults three old mid gets m n)
-              (puts_others disk out taken steady bay_faults faults (back log_now first_now second_now) mid new puts m n);
-          moves = moves_then disk out taken steady bay_faults old mid new to_mid from_mid;
+          others = λ m n. slot_then bay_seen m old mid new (gets_others bay_seen seen three old mid gets m n)
+              (puts_others bay_seen seen (back log_now first_now second_now) mid new puts m n);
+          moves = moves_then bay_seen old mid new to_mid from_mid;
         }
       where
-        stays : AllByRecursion (HoldsIf disk mid new) (back log_now first_now second_now) → TellsStill disk old mid → IsAsTold (disk old (log_of h)) log
-            → IsAsTold (disk old (first_of h)) first → IsAsTold (disk old (second_of h)) second
-            → (m : List ℕ) → IsOneOf (disks_of h) m → StaysAs disk image m old new
-        stays holds still tl tf ts m (inl e) = subst (λ (n : List ℕ). StaysAs disk image n old new) (sym e)
-            (stays_put disk image (log_of h) old mid new log log_now tl (still (log_of h)) holds.0 images.on_log)
-        stays holds still tl tf ts m (inr (inl e)) = subst (λ (n : List ℕ). StaysAs disk image n old new) (sym e)
-            (stays_put disk image (first_of h) old mid new first first_now tf (still (first_of h)) holds.1.0 images.on_first)
-        stays holds still tl tf ts m (inr (inr (inl e))) = subst (λ (n : List ℕ). StaysAs disk image n old new) (sym e)
-            (stays_put disk image (second_of h) old mid new second second_now ts (still (second_of h)) holds.1.1.0
-            (λ c on. (c, images.on_second c on, inl refl)))
+        stays : AllByRecursion (HoldsIf bay_seen mid new) (back log_now first_now second_now) → TellsStill bay_seen old mid → IsAsTold ((bay_seen old).disk (log_of h)) log
+            → IsAsTold ((bay_seen old).disk (first_of h)) first → IsAsTold ((bay_seen old).disk (second_of h)) second
+            → (m : List ℕ) → IsOneOf (disks_of h) m → StaysAs bay_seen seen m old new
+        stays holds still tl tf ts m (inl e) = subst (λ (n : List ℕ). StaysAs bay_seen seen n old new) (sym e)
+            (stays_put bay_seen seen (log_of h) old mid new log log_now tl (still (log_of h)) holds.0 (record { images = images.on_log; runs = runs.on_log }))
+        stays holds still tl tf ts m (inr (inl e)) = subst (λ (n : List ℕ). StaysAs bay_seen seen n old new) (sym e)
+            (stays_put bay_seen seen (first_of h) old mid new first first_now tf (still (first_of h)) holds.1.0 (record { images = images.on_first; runs = runs.on_first }))
+        stays holds still tl tf ts m (inr (inr (inl e))) = subst (λ (n : List ℕ). StaysAs bay_seen seen n old new) (sym e)
+            (stays_put bay_seen seen (second_of h) old mid new second second_now ts (still (second_of h)) holds.1.1.0
+            (record { images = λ c on. (c, images.on_second c on, inl refl); runs = runs.on_second }))
         stays holds still tl tf ts m (inr (inr (inr never))) = absurd never
 
-        rise : taken mid (log_of h) < faults log_now ⊎ (taken mid (first_of h) < faults first_now ⊎ (taken mid (second_of h) < faults second_now ⊎ ⊥))
-            → Rose (bay_faults old) (bay_faults new) ⊎ Last h old
-        rise risen = inl (rose_between (bay_faults old) (bay_faults mid) (bay_faults new) (bay_faults new)
-            (gets_moves disk out taken steady bay_faults faults three old mid gets).later
-            (puts_rise disk out taken steady bay_faults faults (back log_now first_now second_now) mid new apart puts risen)
-            (moves_same disk out taken steady bay_faults new).later)
+        rise : (bay_seen mid).taken (log_of h) < (seen log_now).faults ⊎ ((bay_seen mid).taken (first_of h) < (seen first_now).faults ⊎ ((bay_seen mid).taken (second_of h) < (seen second_now).faults ⊎ ⊥))
+            → Rose (bay_seen old).faults (bay_seen new).faults ⊎ Last h new
+        rise risen = inl (rose_between (bay_seen old).faults (bay_seen mid).faults (bay_seen new).faults (bay_seen new).faults
+            (gets_moves bay_seen seen three old mid gets).later
+            (puts_rise bay_seen seen (back log_now first_now second_now) mid new apart puts risen)
+            (moves_same bay_seen new).later)
 
-        rises : Rose (faults log) (faults log_now) ⊎ (Rose (faults first) (faults first_now) ⊎ Rose (faults second) (faults second_now))
-            → IsAsTold (disk old (log_of h)) log → IsAsTold (disk old (first_of h)) first → IsAsTold (disk old (second_of h)) second
-            → taken mid (log_of h) ≡ faults log → taken mid (first_of h) ≡ faults first → taken mid (second_of h) ≡ faults second
-            → Rose (bay_faults old) (bay_faults new) ⊎ Last h old
-        rises (inl rose) tl tf ts nl nf ns = go (greater (faults log) (faults log_now) rose) where
-          go : (faults log < faults log_now) ⊎ (2 ^ 64 - 1 ≤ faults log) → Rose (bay_faults old) (bay_faults new) ⊎ Last h old
-          go (inl less) = rise (inl (subst (λ (k : ℕ). k < faults log_now) (sym nl) less))
-          go (inr last) = inr (log_of h, log, inl refl, tl, last)
-        rises (inr (inl rose)) tl tf ts nl nf ns = go (greater (faults first) (faults first_now) rose) where
-          go : (faults first < faults first_now) ⊎ (2 ^ 64 - 1 ≤ faults first) → Rose (bay_faults old) (bay_faults new) ⊎ Last h old
-          go (inl less) = rise (inr (inl (subst (λ (k : ℕ). k < faults first_now) (sym nf) less)))
-          go (inr last) = inr (first_of h, first, inr (inl refl), tf, last)
-        rises (inr (inr rose)) tl tf ts nl nf ns = go (greater (faults second) (faults second_now) rose) where
-          go : (faults second < faults second_now) ⊎ (2 ^ 64 - 1 ≤ faults second) → Rose (bay_faults old) (bay_faults new) ⊎ Last h old
-          go (inl less) = rise (inr (inr (inl (subst (λ (k : ℕ). k < faults second_now) (sym ns) less))))
-          go (inr last) = inr (second_of h, second, inr (inr (inl refl)), ts, last)
+        at_last : (n : List ℕ) (d : D) → (bay_seen mid).taken n ≡ (seen d).faults → 2 ^ 64 - 1 ≤ (seen d).faults → 2 ^ 64 - 1 ≤ (bay_seen new).taken n
+        at_last n d noted last =
+            let same = puts_taken bay_seen seen (back log_now first_now second_now) mid new puts n in omega (arith, same, noted, last)
+
+        rises : Rose (seen log).faults (seen log_now).faults ⊎ (Rose (seen first).faults (seen first_now).faults ⊎ Rose (seen second).faults (seen second_now).faults)
+            → (bay_seen mid).taken (log_of h) ≡ (seen log).faults → (bay_seen mid).taken (first_of h) ≡ (seen first).faults → (bay_seen mid).taken (second_of h) ≡ (seen second).faults
+            → Rose (bay_seen old).faults (bay_seen new).faults ⊎ Last h new
+        rises (inl rose) nl nf ns = go (greater (seen log).faults (seen log_now).faults rose) where
+          go : ((seen log).faults < (seen log_now).faults) ⊎ (2 ^ 64 - 1 ≤ (seen log).faults) → Rose (bay_seen old).faults (bay_seen new).faults ⊎ Last h new
+          go (inl less) = rise (inl (subst (λ (k : ℕ). k < (seen log_now).faults) (sym nl) less))
+          go (inr last) = inr (log_of h, inl refl, at_last (log_of h) log nl last)
+        rises (inr (inl rose)) nl nf ns = go (greater (seen first).faults (seen first_now).faults rose) where
+          go : ((seen first).faults < (seen first_now).faults) ⊎ (2 ^ 64 - 1 ≤ (seen first).faults) → Rose (bay_seen old).faults (bay_seen new).faults ⊎ Last h new
+          go (inl less) = rise (inr (inl (subst (λ (k : ℕ). k < (seen first_now).faults) (sym nf) less)))
+          go (inr last) = inr (first_of h, inr (inl refl), at_last (first_of h) first nf last)
+        rises (inr (inr rose)) nl nf ns = go (greater (seen second).faults (seen second_now).faults rose) where
+          go : ((seen second).faults < (seen second_now).faults) ⊎ (2 ^ 64 - 1 ≤ (seen second).faults) → Rose (bay_seen old).faults (bay_seen new).faults ⊎ Last h new
+          go (inl less) = rise (inr (inr (inl (subst (λ (k : ℕ). k < (seen second_now).faults) (sym ns) less))))
+          go (inr last) = inr (second_of h, inr (inr (inl refl)), at_last (second_of h) second ns last)
 
   -- the bay gave one of them not
-  pub none_part : (h : Hosted) (old new : B) (fault : CoreOpen) → GetsNone disk out taken steady bay_faults (disks_of h) fault old new → Refuses h fault old new
+  pub none_part : (h : Hosted) (old new : B) (fault : CoreOpen) → GetsNone bay_seen (disks_of h) fault old new → Refuses h fault old new
   none_part h old new fault g = record {
     damaged = λ n place e contents tells. absurd (never n place e);
     recovers = λ contents tells stand n place e. never n place e;
@@ -236,7 +243,7 @@ module _ {B D : Type 0} (disk : B → List ℕ → Option D) (out : B → List �
     device = λ e. absurd (no_device e);
     sound = λ tells still. (g.sound still, no_device);
     are_in = g.are_in;
-    stays = λ m one. stays_kept disk image m old new (λ d was. g.kept m d one was);
+    stays = λ m one. stays_kept bay_seen seen m old new (λ d was. g.kept m d one was);
     others = g.others;
     moves = g.moves;
   }
@@ -256,7 +263,7 @@ module _ {B D : Type 0} (disk : B → List ℕ → Option D) (out : B → List �
   -- ---- one partition after another
 
   abbrev TakesList : List Hosted → B → List (PartSlot D) → B → Type 0
-  TakesList hosted old slots new = TakesParts disk out taken steady bay_faults content image starved faults losses arms armed hosted old slots new
+  TakesList hosted old slots new = TakesParts bay_seen seen hosted old slots new
 
   pub takes_hosts : (hosted : List Hosted) (old : B) (slots : List (PartSlot D)) (new : B) → TakesList hosted old slots new → hosted_slots slots ≡ hosted
   takes_hosts [] old [] new t = refl
@@ -265,28 +272,28 @@ module _ {B D : Type 0} (disk : B → List ℕ → Option D) (out : B → List �
   takes_hosts (h ∷ hosted) old (s ∷ slots) new (mid, one, more) = λ i. one.hosted_is i ∷ takes_hosts hosted mid slots new more i
 
   pub takes_moves : (hosted : List Hosted) (old : B) (slots : List (PartSlot D)) (new : B) → TakesList hosted old slots new → Goes old new
-  takes_moves [] old [] new t = subst (λ (b : B). Goes old b) (sym t) (moves_same disk out taken steady bay_faults old)
+  takes_moves [] old [] new t = subst (λ (b : B). Goes old b) (sym t) (moves_same bay_seen old)
   takes_moves [] old (s ∷ slots) new t = absurd t
   takes_moves (h ∷ hosted) old [] new t = absurd t
   takes_moves (h ∷ hosted) old (s ∷ slots) new (mid, one, more) =
-      moves_then disk out taken steady bay_faults old mid new one.moves (takes_moves hosted mid slots new more)
+      moves_then bay_seen old mid new one.moves (takes_moves hosted mid slots new more)
 
   pub takes_others : (hosted : List Hosted) (old : B) (slots : List (PartSlot D)) (new : B) → TakesList hosted old slots new → (m : List ℕ)
       → NotIn (part_disks hosted) m → Same m old new
-  takes_others [] old [] new t m n = subst (λ (b : B). Same m old b) (sym t) (slot_same disk out taken steady bay_faults m old)
+  takes_others [] old [] new t m n = subst (λ (b : B). Same m old b) (sym t) (slot_same bay_seen m old)
   takes_others [] old (s ∷ slots) new t m n = absurd t
   takes_others (h ∷ hosted) old [] new t m n = absurd t
-  takes_others (h ∷ hosted) old (s ∷ slots) new (mid, one, more) m n = slot_then disk out taken steady bay_faults m old mid new
+  takes_others (h ∷ hosted) old (s ∷ slots) new (mid, one, more) m n = slot_then bay_seen m old mid new
       (one.others m (not_in_front (disks_of h) (part_disks hosted) m n)) (takes_others hosted mid slots new more m (not_in_rest (disks_of h) (part_disks hosted) m n))
 
   pub takes_out : (hosted : List Hosted) (old : B) (slots : List (PartSlot D)) (new : B) → AreDistinct (part_disks hosted) → TakesList hosted old slots new
-      → (m : List ℕ) → IsOneOf (part_disks hosted) m → out new m ≡ true
+      → (m : List ℕ) → IsOneOf (part_disks hosted) m → (bay_seen new).out m ≡ true
   takes_out [] old slots new d t m one = absurd one
   takes_out (h ∷ hosted) old [] new d t m one = absurd t
   takes_out (h ∷ hosted) old (s ∷ slots) new d (mid, first, more) m one =
       go (one_in_either (disks_of h) (part_disks hosted) m one) (λ o. takes_out hosted mid slots new (distinct_rest (disks_of h) (part_disks hosted) d) more m o)
     where
-      go : IsOneOf (disks_of h) m ⊎ IsOneOf (part_disks hosted) m → (IsOneOf (part_disks hosted) m → out new m ≡ true) → out new m ≡ true
+      go : IsOneOf (disks_of h) m ⊎ IsOneOf (part_disks hosted) m → (IsOneOf (part_disks hosted) m → (bay_seen new).out m ≡ true) → (bay_seen new).out m ≡ true
       go (inl o) later = (takes_others hosted mid slots new more m (apart_behind (disks_of h) (part_disks hosted) m d o)).same_out ∙ first.are_out m o
       go (inr o) later = later o
 
@@ -301,11 +308,13 @@ module _ {B D : Type 0} (disk : B → List ℕ → Option D) (out : B → List �
   pub record IsTakenSlot (h : Hosted) (old new : B) (slot : PartSlot D) : Type 0 where
     pub shard : OpenPart D
     pub is_open : slot.state ≡ part.Open shard
-    pub on_log : IsTakenFrom disk taken faults (log_of h) old new shard.log.journal.disk
-    pub on_first : IsTakenFrom disk taken faults (first_of h) old new shard.states.journal.live.disk
-    pub on_second : IsTakenFrom disk taken faults (second_of h) old new shard.states.journal.idle
+    pub on_log : IsTakenFrom bay_seen seen (log_of h) old new shard.log.journal.disk
+    pub on_first : IsTakenFrom bay_seen seen (first_of h) old new shard.states.journal.live.disk
+    pub on_second : IsTakenFrom bay_seen seen (second_of h) old new shard.states.journal.idle
     pub opens : Opened h on_log.given on_first.given on_second.given shard
-    pub images : PartImagesStandAs image on_log.given on_first.given on_second.given shard.log.journal.disk shard.states.journal.live.disk
+    pub images : PartImagesStandAs seen on_log.given on_first.given on_second.given shard.log.journal.disk shard.states.journal.live.disk
+        shard.states.journal.idle
+    pub runs : PartRunsOn seen on_log.given on_first.given on_second.given shard.log.journal.disk shard.states.journal.live.disk
         shard.states.journal.idle
 
   abbrev Slots : B → B → List (PartSlot D) → Type 0
@@ -336,6 +345,7 @@ module _ {B D : Type 0} (disk : B → List ℕ → Option D) (out : B → List �
     };
     opens = one.opens;
     images = one.images;
+    runs = one.runs;
   }
 
   later_slot : (h : Hosted) (old mid new : B) (s : PartSlot D) → ((m : List ℕ) → IsOneOf (disks_of h) m → Same m old mid) → IsTakenSlot h mid new s
@@ -363,6 +373,7 @@ module _ {B D : Type 0} (disk : B → List ℕ → Option D) (out : B → List �
     };
     opens = t.opens;
     images = t.images;
+    runs = t.runs;
   }
 
   later_slots : (old mid new : B) (slots : List (PartSlot D)) → ((m : List ℕ) → IsOneOf (part_disks (hosted_slots slots)) m → Same m old mid)
@@ -405,36 +416,36 @@ module _ {B D : Type 0} (disk : B → List ℕ → Option D) (out : B → List �
       (subst (λ (st : PartState D). IsHeldState st) (sym one.is_open) tt, takes_held hosted mid slots new more)
 
   -- what is told of their disks once they are put back
-  pub slots_stay : (old mid behind new : B) (slots : List (PartSlot D)) → Slots old mid slots → AllByRecursion (HoldsIf disk behind new) (slots_disks slots)
-      → TellsStill disk old behind → (m : List ℕ) → IsOneOf (part_disks (hosted_slots slots)) m → StaysAs disk image m old new
+  pub slots_stay : (old mid behind new : B) (slots : List (PartSlot D)) → Slots old mid slots → AllByRecursion (HoldsIf bay_seen behind new) (slots_disks slots)
+      → TellsStill bay_seen old behind → (m : List ℕ) → IsOneOf (part_disks (hosted_slots slots)) m → StaysAs bay_seen seen m old new
   slots_stay old mid behind new [] all holds still m one = absurd one
   slots_stay old mid behind new (s ∷ slots) all holds still m one =
       go one (λ more. slots_stay old mid behind new slots all.1 holds.1.1.1 still m more) where
         t : IsTakenSlot (hosted_slot s) old mid s
         t = all.0
 
-        at : (state : PartState D) → state ≡ part.Open t.shard → (place : DiskPlace) (name : List ℕ) → HoldsIf disk behind new (name, part_disk state place)
-            → HoldsIf disk behind new (name, Some (open_disk t.shard place))
-        at state is place name h = subst (λ (p : PartState D). HoldsIf disk behind new (name, part_disk p place)) is h
+        at : (state : PartState D) → state ≡ part.Open t.shard → (place : DiskPlace) (name : List ℕ) → HoldsIf bay_seen behind new (name, part_disk state place)
+            → HoldsIf bay_seen behind new (name, Some (open_disk t.shard place))
+        at state is place name h = subst (λ (p : PartState D). HoldsIf bay_seen behind new (name, part_disk p place)) is h
 
-        go : IsOneOf (part_disks (hosted_slots (s ∷ slots))) m → (IsOneOf (part_disks (hosted_slots slots)) m → StaysAs disk image m old new)
-            → StaysAs disk image m old new
-        go (inl e) others = subst (λ (n : List ℕ). StaysAs disk image n old new) (sym e)
-            (stays_put disk image (log_of (hosted_slot s)) old behind new t.on_log.given t.shard.log.journal.disk t.on_log.as_told
-            (still (log_of (hosted_slot s))) (at s.state t.is_open Log (log_of (hosted_slot s)) holds.0) t.images.on_log)
-        go (inr (inl e)) others = subst (λ (n : List ℕ). StaysAs disk image n old new) (sym e)
-            (stays_put disk image (first_of (hosted_slot s)) old behind new t.on_first.given t.shard.states.journal.live.disk t.on_first.as_told
-            (still (first_of (hosted_slot s))) (at s.state t.is_open StateA (first_of (hosted_slot s)) holds.1.0) t.images.on_first)
-        go (inr (inr (inl e))) others = subst (λ (n : List ℕ). StaysAs disk image n old new) (sym e)
-            (stays_put disk image (second_of (hosted_slot s)) old behind new t.on_second.given t.shard.states.journal.idle t.on_second.as_told
+        go : IsOneOf (part_disks (hosted_slots (s ∷ slots))) m → (IsOneOf (part_disks (hosted_slots slots)) m → StaysAs bay_seen seen m old new)
+            → StaysAs bay_seen seen m old new
+        go (inl e) others = subst (λ (n : List ℕ). StaysAs bay_seen seen n old new) (sym e)
+            (stays_put bay_seen seen (log_of (hosted_slot s)) old behind new t.on_log.given t.shard.log.journal.disk t.on_log.as_told
+            (still (log_of (hosted_slot s))) (at s.state t.is_open Log (log_of (hosted_slot s)) holds.0) (record { images = t.images.on_log; runs = t.runs.on_log }))
+        go (inr (inl e)) others = subst (λ (n : List ℕ). StaysAs bay_seen seen n old new) (sym e)
+            (stays_put bay_seen seen (first_of (hosted_slot s)) old behind new t.on_first.given t.shard.states.journal.live.disk t.on_first.as_told
+            (still (first_of (hosted_slot s))) (at s.state t.is_open StateA (first_of (hosted_slot s)) holds.1.0) (record { images = t.images.on_first; runs = t.runs.on_first }))
+        go (inr (inr (inl e))) others = subst (λ (n : List ℕ). StaysAs bay_seen seen n old new) (sym e)
+            (stays_put bay_seen seen (second_of (hosted_slot s)) old behind new t.on_second.given t.shard.states.journal.idle t.on_second.as_told
             (still (second_of (hosted_slot s))) (at s.state t.is_open StateB (second_of (hosted_slot s)) holds.1.1.0)
-            (λ c on. (c, t.images.on_second c on, inl refl)))
+            (record { images = λ c on. (c, t.images.on_second c on, inl refl); runs = t.runs.on_second }))
         go (inr (inr (inr more))) others = others more
 
   -- each of their disks has the count with which it was taken, or a greater one
   pub slots_counted : (old mid new : B) (slots : List (PartSlot D)) → Slots old mid slots
-      → ((m : List ℕ) → IsOneOf (part_disks (hosted_slots slots)) m → taken new m ≡ taken mid m)
-      → AllByRecursion (TakenIf disk taken faults old new) (slots_disks slots)
+      → ((m : List ℕ) → IsOneOf (part_disks (hosted_slots slots)) m → (bay_seen new).taken m ≡ (bay_seen mid).taken m)
+      → AllByRecursion (TakenIf bay_seen seen old new) (slots_disks slots)
   slots_counted old mid new [] all same = tt
   slots_counted old mid new (s ∷ slots) all same = (
     counted (λ st. part_disk st Log) all.0.is_open refl (log_of (hosted_slot s)) (same (log_of (hosted_slot s)) (inl refl)) all.0.on_log,
@@ -447,9 +458,9 @@ module _ {B D : Type 0} (disk : B → List ℕ → Option D) (out : B → List �
     ),
   )
     where
-      counted : (at : PartState D → Option D) {st opened_as : PartState D} {d : D} → st ≡ opened_as → at opened_as ≡ Some d → (name : List ℕ) → taken new name ≡ taken mid name
-          → IsTakenFrom disk taken faults name old mid d → TakenIf disk taken faults old new (name, at st)
-      counted at is has name noted t = subst (λ (o : Option D). TakenIf disk taken faults old new (name, o)) (sym (ap at is ∙ has))
+      counted : (at : PartState D → Option D) {st opened_as : PartState D} {d : D} → st ≡ opened_as → at opened_as ≡ Some d → (name : List ℕ) → (bay_seen new).taken name ≡ (bay_seen mid).taken name
+          → IsTakenFrom bay_seen seen name old mid d → TakenIf bay_seen seen old new (name, at st)
+      counted at is has name noted t = subst (λ (o : Option D). TakenIf bay_seen seen old new (name, o)) (sym (ap at is ∙ has))
           (record { given = t.given; as_told = t.as_told; noted = noted ∙ t.noted; later = t.later })
 
   -- ---- as loops take them and put them back
@@ -481,7 +492,7 @@ module _ {B D : Type 0} (disk : B → List ℕ → Option D) (out : B → List �
     in_all m (inr (inr (inl e))) = inr (inr (inl e))
     in_all m (inr (inr (inr never))) = absurd never
 
-    pub going_in : AreDistinct (part_disks all) → ((m : List ℕ) → out old m ≡ false) → (m : List ℕ) → IsOneOf (disks_of h) m → out now m ≡ false
+    pub going_in : AreDistinct (part_disks all) → ((m : List ℕ) → (bay_seen old).out m ≡ false) → (m : List ℕ) → IsOneOf (disks_of h) m → (bay_seen now).out m ≡ false
     going_in distinct whole m one =
         (takes_others yielded old slots now p.takes m
         (apart_from (part_disks yielded) (part_disks (h ∷ more)) m (both_distinct distinct) (in_all m one))).same_out ∙ whole m
@@ -499,7 +510,7 @@ module _ {B D : Type 0} (disk : B → List ℕ → Option D) (out : B → List �
 
     -- those before it are still out after a refusal
     pub going_out : AreDistinct (part_disks all) → (behind : B) → ((m : List ℕ) → NotIn (disks_of h) m → Same m now behind)
-        → (m : List ℕ) → IsOneOf (part_disks (hosted_slots slots)) m → out behind m ≡ true
+        → (m : List ℕ) → IsOneOf (part_disks (hosted_slots slots)) m → (bay_seen behind).out m ≡ true
     going_out distinct behind others m one =
         let among_them = subst (λ (l : List Hosted). IsOneOf (part_disks l) m) (takes_hosts yielded old slots now p.takes) one in
         (others m (not_in_front (disks_of h) (part_disks more) m
@@ -541,10 +552,10 @@ module _ {B D : Type 0} (disk : B → List ℕ → Option D) (out : B → List �
     in_rest m (inr (inr (inr never))) = absurd never
 
     pub putting_out : AreDistinct (part_disks (hosted_slots all))
-        → ((m : List ℕ) → IsOneOf (part_disks (hosted_slots all)) m → out old m ≡ true)
-        → (m : List ℕ) → IsOneOf (disks_of (hosted_slot s)) m → out now m ≡ true
+        → ((m : List ℕ) → IsOneOf (part_disks (hosted_slots all)) m → (bay_seen old).out m ≡ true)
+        → (m : List ℕ) → IsOneOf (disks_of (hosted_slot s)) m → (bay_seen now).out m ≡ true
     putting_out distinct outs m one =
-        (puts_others disk out taken steady bay_faults faults (slots_disks yielded) old now p.puts m
+        (puts_others bay_seen seen (slots_disks yielded) old now p.puts m
         (subst (λ (l : List (List ℕ)). NotIn l m) (sym (names_of_disks yielded))
         (apart_from (part_disks (hosted_slots yielded)) (part_disks (hosted_slots (s ∷ more))) m (slots_distinct distinct) (in_rest m one)))).same_out
         ∙ outs m (subst (λ (l : List (List ℕ)). IsOneOf l m)
@@ -555,7 +566,7 @@ module _ {B D : Type 0} (disk : B → List ℕ → Option D) (out : B → List �
     putting_on new put = record {
       parts = putting_split ∙ sym (append_assoc yielded (s ∷ []) more);
       puts = subst (λ (es : List (List ℕ × Option D)). Puts es old new) (sym (flat_map-append slot_disks yielded (s ∷ [])))
-          (puts_then disk out taken steady bay_faults faults (slots_disks yielded) (slot_disks s) old now new p.puts put);
+          (puts_then bay_seen seen (slots_disks yielded) (slot_disks s) old now new p.puts put);
     }
 
   pub putting_all : (all yielded rest : List (PartSlot D)) (old now : B) → Putting all yielded rest old now → rest ≡ [] → Puts (slots_disks all) old now

@@ -26,6 +26,7 @@ use Rattle.broker_core.specs.Hosts.{AreCarried, DisksReach, HostsParts, IsPartSl
 use Rattle.broker_core.specs.Restarts.{PartImagesStandAs}
 use Rattle.broker_core.proofs.Flats.{zip_flat}
 use Rattle.broker_core.proofs.Places.{among_zip}
+use Rattle.edge_io.specs.Views.{DiskView}
 
 -- ---- contents
 
@@ -49,50 +50,50 @@ pending_long frames None c h = (frames, h, omega arith)
 pending_long frames (Some frame) c (inl h) = (frames, h, omega arith)
 pending_long frames (Some frame) c (inr h) = (frames ++ frame ∷ [], h, more_long frames frame)
 
-module _ {D : Type 0} (image : D → List ℕ → Type 0) where
-  pub fewer : (d : Option D) (n : ℕ) → ReachesTo image d n → ReachesTo image d (n - 1)
+module _ {D : Type 0} (seen : D → DiskView) where
+  pub fewer : (d : Option D) (n : ℕ) → ReachesTo seen d n → ReachesTo seen d (n - 1)
   fewer (Some d) n r = λ c on. let l = r c on in omega (arith, l)
   fewer None n r = tt
 
   -- ---- journals
 
   -- what an opening makes of one reaches to its last gate
-  writer_left : (writer : Writer D) (frames : List (List ℕ)) (pending : Option (List ℕ)) → Stands image writer frames pending → (x : List ℕ)
-      → StandsAs (image writer.disk) x → writer.end - 1 ≤ length x
-  writer_left writer frames pending s x (c, on, inl same) = omega (arith, long image writer frames pending s c on, ap length same)
+  writer_left : (writer : Writer D) (frames : List (List ℕ)) (pending : Option (List ℕ)) → Stands seen writer frames pending → (x : List ℕ)
+      → StandsAs (seen writer.disk).image x → writer.end - 1 ≤ length x
+  writer_left writer frames pending s x (c, on, inl same) = omega (arith, long seen writer frames pending s c on, ap length same)
   writer_left writer frames pending s x (c, on, inr f) =
       let p = pending_long frames pending c (s.images c on) in
       omega (
         arith,
-        end_of_stands image writer frames pending s,
+        end_of_stands seen writer frames pending s,
         p.2,
         ap (λ (fs : List (List ℕ)). length (blocks fs)) (once c p.0 f.0 p.1 f.1),
         stands_long x f.0 f.2,
       )
 
-  store_left : (store : StoreParts D) (s : ForeignShardState) → CarriesForeign image store s → (c : List ℕ) → StandsAs (image store.journal.live.disk) c
+  store_left : (store : StoreParts D) (s : ForeignShardState) → CarriesForeign seen store s → (c : List ℕ) → StandsAs (seen store.journal.live.disk).image c
       → store.journal.live.end - 1 ≤ length c
   store_left store s k = writer_left store.journal.live k.holds.frames k.holds.unwritten k.holds.keeps.stands
 
   -- ---- partitions
 
-  pub part_long : (p : OpenPart D) (s : PartShardState) → Carries image holding p s → (place : DiskPlace) (c : List ℕ) → image (open_disk p place) c
+  pub part_long : (p : OpenPart D) (s : PartShardState) → Carries seen holding p s → (place : DiskPlace) (c : List ℕ) → (seen (open_disk p place)).image c
       → open_end p place ≤ length c
-  part_long p s k Log = log_long image holding p s k
-  part_long p s k StateA = states_long image holding p s k
+  part_long p s k Log = log_long seen holding p s k
+  part_long p s k StateA = states_long seen holding p s k
   part_long p s k StateB = λ c on. omega arith
 
-  part_left : (p : OpenPart D) (s : PartShardState) → Carries image holding p s → (log first second : D)
-      → PartImagesStandAs image p.log.journal.disk p.states.journal.live.disk p.states.journal.idle log first second
-      → (place : DiskPlace) (c : List ℕ) → image (shut_disk log first second place) c → open_end p place - 1 ≤ length c
+  part_left : (p : OpenPart D) (s : PartShardState) → Carries seen holding p s → (log first second : D)
+      → PartImagesStandAs seen p.log.journal.disk p.states.journal.live.disk p.states.journal.idle log first second
+      → (place : DiskPlace) (c : List ℕ) → (seen (shut_disk log first second place)).image c → open_end p place - 1 ≤ length c
   part_left p s k log first second i Log = λ c on. writer_left p.log.journal _ _ k.log.keeps.stands c (i.on_log c on)
   part_left p s k log first second i StateA =
       λ c on. writer_left p.states.journal.live k.holds.frames k.holds.unwritten k.holds.keeps.stands c (i.on_first c on)
   part_left p s k log first second i StateB = λ c on. omega arith
 
-  part_again : (p : OpenPart D) (s : PartShardState) → Carries image holding p s → (q : OpenPart D)
-      → PartImagesStandAs image p.log.journal.disk p.states.journal.live.disk p.states.journal.idle q.log.journal.disk q.states.journal.live.disk
-      q.states.journal.idle → (place : DiskPlace) (c : List ℕ) → image (open_disk q place) c → open_end p place - 1 ≤ length c
+  part_again : (p : OpenPart D) (s : PartShardState) → Carries seen holding p s → (q : OpenPart D)
+      → PartImagesStandAs seen p.log.journal.disk p.states.journal.live.disk p.states.journal.idle q.log.journal.disk q.states.journal.live.disk
+      q.states.journal.idle → (place : DiskPlace) (c : List ℕ) → (seen (open_disk q place)).image c → open_end p place - 1 ≤ length c
   part_again p s k q i Log = part_left p s k q.log.journal.disk q.states.journal.live.disk q.states.journal.idle i Log
   part_again p s k q i StateA = part_left p s k q.log.journal.disk q.states.journal.live.disk q.states.journal.idle i StateA
   part_again p s k q i StateB = part_left p s k q.log.journal.disk q.states.journal.live.disk q.states.journal.idle i StateB
@@ -101,10 +102,10 @@ module _ {D : Type 0} (image : D → List ℕ → Type 0) where
 
   -- the disks of the one slot reach to this of the ends of the other
   abbrev pub SlotReaches : (ℕ → ℕ) → PartSlot D → PartSlot D → Type 0
-  SlotReaches least x y = AllZip (λ (e : List ℕ × ℕ) (f : List ℕ × Option D). (f.0 ≡ e.0) × ReachesTo image f.1 (least e.1)) (slot_ends x) (slot_disks y)
+  SlotReaches least x y = AllZip (λ (e : List ℕ × ℕ) (f : List ℕ × Option D). (f.0 ≡ e.0) × ReachesTo seen f.1 (least e.1)) (slot_ends x) (slot_disks y)
 
   places_reach : (least : ℕ → ℕ) (x y : PartSlot D) → hosted_slot y ≡ hosted_slot x
-      → ((place : DiskPlace) → ReachesTo image (part_disk y.state place) (least (part_end x.state place))) → SlotReaches least x y
+      → ((place : DiskPlace) → ReachesTo seen (part_disk y.state place) (least (part_end x.state place))) → SlotReaches least x y
   places_reach least x y same r = (
     (ap (λ (h : Hosted). log_of h) same, r Log),
     ((ap (λ (h : Hosted). first_of h) same, r StateA), ((ap (λ (h : Hosted). second_of h) same, r StateB), tt)),
@@ -112,24 +113,24 @@ module _ {D : Type 0} (image : D → List ℕ → Type 0) where
 
   -- it was open, and its disks are in this state
   was_reaches : (least : ℕ → ℕ) (x y : PartSlot D) (was : OpenPart D) (state : PartState D) → hosted_slot y ≡ hosted_slot x → x.state ≡ part.Open was
-      → y.state ≡ state → ((place : DiskPlace) → ReachesTo image (part_disk state place) (least (open_end was place))) → SlotReaches least x y
+      → y.state ≡ state → ((place : DiskPlace) → ReachesTo seen (part_disk state place) (least (open_end was place))) → SlotReaches least x y
   was_reaches least x y was state same old_is new_is r = places_reach least x y same (λ place.
-      subst (λ (s : PartState D). ReachesTo image (part_disk s place) (least (part_end x.state place))) (sym new_is)
-      (subst (λ (s : PartState D). ReachesTo image (part_disk state place) (least (part_end s place))) (sym old_is) (r place)))
+      subst (λ (s : PartState D). ReachesTo seen (part_disk s place) (least (part_end x.state place))) (sym new_is)
+      (subst (λ (s : PartState D). ReachesTo seen (part_disk state place) (least (part_end s place))) (sym old_is) (r place)))
 
-  pub open_reaches : (x : PartSlot D) (is : OpenPart D) (s : PartShardState) → x.state ≡ part.Open is → Carries image holding is s → SlotReaches (λ n. n) x x
+  pub open_reaches : (x : PartSlot D) (is : OpenPart D) (s : PartShardState) → x.state ≡ part.Open is → Carries seen holding is s → SlotReaches (λ n. n) x x
   open_reaches x is s state_is k = was_reaches (λ n. n) x x is (part.Open is) refl state_is state_is (part_long is s k)
 
   pub shut_reaches : (x y : PartSlot D) (was : OpenPart D) (s : PartShardState) (log first second : D) → hosted_slot y ≡ hosted_slot x → x.state ≡ part.Open was
-      → y.state ≡ part.Shut log first second → Carries image holding was s
-      → PartImagesStandAs image was.log.journal.disk was.states.journal.live.disk was.states.journal.idle log first second
+      → y.state ≡ part.Shut log first second → Carries seen holding was s
+      → PartImagesStandAs seen was.log.journal.disk was.states.journal.live.disk was.states.journal.idle log first second
       → SlotReaches (λ n. n - 1) x y
   shut_reaches x y was s log first second same old_is new_is k i =
       was_reaches (λ n. n - 1) x y was (part.Shut log first second) same old_is new_is (part_left was s k log first second i)
 
   pub again_reaches : (x y : PartSlot D) (was is : OpenPart D) (s : PartShardState) → hosted_slot y ≡ hosted_slot x → x.state ≡ part.Open was
-      → y.state ≡ part.Open is → Carries image holding was s
-      → PartImagesStandAs image was.log.journal.disk was.states.journal.live.disk was.states.journal.idle is.log.journal.disk is.states.journal.live.disk
+      → y.state ≡ part.Open is → Carries seen holding was s
+      → PartImagesStandAs seen was.log.journal.disk was.states.journal.live.disk was.states.journal.idle is.log.journal.disk is.states.journal.live.disk
       is.states.journal.idle → SlotReaches (λ n. n - 1) x y
   again_reaches x y was is s same old_is new_is k i =
       was_reaches (λ n. n - 1) x y was (part.Open is) same old_is new_is (part_again was s k is i)
@@ -145,36 +146,36 @@ module _ {D : Type 0} (image : D → List ℕ → Type 0) where
 
   -- what is found by a name
   pub names_reach : (least : ℕ → ℕ) (old new : HostsParts D) → AllZip (SlotReaches least) old.parts new.parts
-      → ((name : List ℕ) → ReachesTo image (foreign_disk (foreign_disks new.foreign) name) (least (foreign_end old.foreign name)))
-      → DisksReach image (disks_in new) (λ name. least (ends_in old name))
+      → ((name : List ℕ) → ReachesTo seen (foreign_disk (foreign_disks new.foreign) name) (least (foreign_end old.foreign name)))
+      → DisksReach seen (disks_in new) (λ name. least (ends_in old name))
   names_reach least old new z f name =
       among_zip (λ (e : List ℕ × ℕ). e.0) (λ (e : List ℕ × ℕ). e.1) (λ (e : List ℕ × Option D). e.0) (λ (e : List ℕ × Option D). e.1)
-      (λ (n : ℕ) (d : Option D). ReachesTo image d (least n)) (flat_map slot_ends old.parts) (slots_disks new.parts)
-      (zip_flat (SlotReaches least) (λ (e : List ℕ × ℕ) (f : List ℕ × Option D). (f.0 ≡ e.0) × ReachesTo image f.1 (least e.1)) slot_ends slot_disks
+      (λ (n : ℕ) (d : Option D). ReachesTo seen d (least n)) (flat_map slot_ends old.parts) (slots_disks new.parts)
+      (zip_flat (SlotReaches least) (λ (e : List ℕ × ℕ) (f : List ℕ × Option D). (f.0 ≡ e.0) × ReachesTo seen f.1 (least e.1)) slot_ends slot_disks
       (λ x y w. w) old.parts new.parts z) (foreign_end old.foreign name) (foreign_disk (foreign_disks new.foreign) name) name (λ none. f name)
 
   -- what reaches to its ends reaches to the last gates
-  pub reach_less : (left : LeftDisks D) (ends : List ℕ → ℕ) → DisksReach image left ends → DisksReach image left (λ name. ends name - 1)
+  pub reach_less : (left : LeftDisks D) (ends : List ℕ → ℕ) → DisksReach seen left ends → DisksReach seen left (λ name. ends name - 1)
   reach_less left ends r name = fewer (disk_in left name) (ends name) (r name)
 
   -- ---- foreign state
 
-  foreign_two : (least : ℕ → ℕ) (end : ℕ) (first second : D) → ((c : List ℕ) → image first c → least end ≤ length c) → least 0 ≡ 0 → (name : List ℕ)
-      → ReachesTo image (foreign_disk (Some (first, second)) name) (least (by_name end 0 name))
+  foreign_two : (least : ℕ → ℕ) (end : ℕ) (first second : D) → ((c : List ℕ) → (seen first).image c → least end ≤ length c) → least 0 ≡ 0 → (name : List ℕ)
+      → ReachesTo seen (foreign_disk (Some (first, second)) name) (least (by_name end 0 name))
   foreign_two least end first second long none name = go (same_name name state_a) where
-    go : (b : Bool) (c : List ℕ) → image (cond b first second) c → least (cond b end 0) ≤ length c
+    go : (b : Bool) (c : List ℕ) → (seen (cond b first second)).image c → least (cond b end 0) ≤ length c
     go true c on = long c on
     go false c on = omega (arith, none)
 
-  pub foreign_open : (store : StoreParts D) (s : ForeignShardState) → CarriesForeign image store s → (name : List ℕ)
-      → ReachesTo image (foreign_disk (foreign_disks (foreign.Open store)) name) (foreign_end (foreign.Open store) name)
-  foreign_open store s k = foreign_two (λ n. n) store.journal.live.end store.journal.live.disk store.journal.idle (held_long image store k.pending k.holds) refl
+  pub foreign_open : (store : StoreParts D) (s : ForeignShardState) → CarriesForeign seen store s → (name : List ℕ)
+      → ReachesTo seen (foreign_disk (foreign_disks (foreign.Open store)) name) (foreign_end (foreign.Open store) name)
+  foreign_open store s k = foreign_two (λ n. n) store.journal.live.end store.journal.live.disk store.journal.idle (held_long seen store k.pending k.holds) refl
 
   pub foreign_left : (slot : ForeignSlot D) (store : StoreParts D) (s : ForeignShardState) (first second : D) → slot ≡ foreign.Open store
-      → CarriesForeign image store s → ((c : List ℕ) → image first c → StandsAs (image store.journal.live.disk) c) → (name : List ℕ)
-      → ReachesTo image (foreign_disk (Some (first, second)) name) (foreign_end slot name - 1)
+      → CarriesForeign seen store s → ((c : List ℕ) → (seen first).image c → StandsAs (seen store.journal.live.disk).image c) → (name : List ℕ)
+      → ReachesTo seen (foreign_disk (Some (first, second)) name) (foreign_end slot name - 1)
   foreign_left slot store s first second is k i name =
-      subst (λ (f : ForeignSlot D). ReachesTo image (foreign_disk (Some (first, second)) name) (foreign_end f name - 1)) (sym is)
+      subst (λ (f : ForeignSlot D). ReachesTo seen (foreign_disk (Some (first, second)) name) (foreign_end f name - 1)) (sym is)
       (foreign_two (λ n. n - 1) store.journal.live.end first second (λ c on. store_left store s k c (i c on)) refl name)
 
   -- ---- ends that never fall
@@ -207,28 +208,28 @@ module _ {D : Type 0} (image : D → List ℕ → Type 0) where
 
 -- ---- shards that are carried
 
-module _ {D : Type 0} (content : D → Option (List ℕ)) (image : D → List ℕ → Type 0) (starved : D → Bool) where
-  pub slot_reaches : (x : PartSlot D) (p : HostedPart) → IsPartSlot content image starved x p → SlotReaches image (λ n. n) x x
+module _ {D : Type 0} (seen : D → DiskView) where
+  pub slot_reaches : (x : PartSlot D) (p : HostedPart) → IsPartSlot seen x p → SlotReaches seen (λ n. n) x x
   slot_reaches x p k = go x.state refl k.state where
-    go : (state : PartState D) → x.state ≡ state → IsPartState content image starved x.conf state p.shard → SlotReaches image (λ n. n) x x
-    go (part.Open is) e i = open_reaches image x is p.shard e i.carries
+    go : (state : PartState D) → x.state ≡ state → IsPartState seen x.conf state p.shard → SlotReaches seen (λ n. n) x x
+    go (part.Open is) e i = open_reaches seen x is p.shard e i.carries
     go (part.Shut log first second) e i = absurd i
     go part.Gone e i = absurd i
 
-  pub slots_reach : (P : PartSlot D → HostedPart → Type 0) → ((x : PartSlot D) (p : HostedPart) → P x p → SlotReaches image (λ n. n) x x)
-      → (xs : List (PartSlot D)) (ps : List HostedPart) → AllZip P xs ps → AllZip (SlotReaches image (λ n. n)) xs xs
+  pub slots_reach : (P : PartSlot D → HostedPart → Type 0) → ((x : PartSlot D) (p : HostedPart) → P x p → SlotReaches seen (λ n. n) x x)
+      → (xs : List (PartSlot D)) (ps : List HostedPart) → AllZip P xs ps → AllZip (SlotReaches seen (λ n. n)) xs xs
   slots_reach P f [] [] z = tt
   slots_reach P f [] (p ∷ ps) z = absurd z
   slots_reach P f (x ∷ xs) [] z = absurd z
   slots_reach P f (x ∷ xs) (p ∷ ps) z = (f x p z.0, slots_reach P f xs ps z.1)
 
-  pub foreign_reaches : (slot : ForeignSlot D) (s : ForeignShardState) → IsSlot content image starved slot s → (name : List ℕ)
-      → ReachesTo image (foreign_disk (foreign_disks slot) name) (foreign_end slot name)
-  foreign_reaches (foreign.Open store) s k = foreign_open image store s k.carries
+  pub foreign_reaches : (slot : ForeignSlot D) (s : ForeignShardState) → IsSlot seen slot s → (name : List ℕ)
+      → ReachesTo seen (foreign_disk (foreign_disks slot) name) (foreign_end slot name)
+  foreign_reaches (foreign.Open store) s k = foreign_open seen store s k.carries
   foreign_reaches (foreign.Shut first second) s k = absurd k
   foreign_reaches foreign.Gone s k = absurd k
 
   -- what a crash may leave of a broker's disks reaches to where its journals end
-  pub reach_all : (hosts : HostsParts D) (s : Shards) → AreCarried content image starved hosts s → DisksReach image (disks_in hosts) (ends_in hosts)
-  reach_all hosts s k = names_reach image (λ n. n) hosts hosts
-      (slots_reach (IsPartSlot content image starved) slot_reaches hosts.parts s.parts k.parts) (foreign_reaches hosts.foreign s.foreign k.foreign)
+  pub reach_all : (hosts : HostsParts D) (s : Shards) → AreCarried seen hosts s → DisksReach seen (disks_in hosts) (ends_in hosts)
+  reach_all hosts s k = names_reach seen (λ n. n) hosts hosts
+      (slots_reach (IsPartSlot seen) slot_reaches hosts.parts s.parts k.parts) (foreign_reaches hosts.foreign s.foreign k.foreign)

@@ -21,6 +21,7 @@ use Rattle.broker_core.specs.Carried.{GoesOn, IsPartCarried, OpenPart, holding}
 use Rattle.broker_core.specs.Hosts.{PartStandsAlone}
 use Rattle.broker_core.specs.Restarts.{IsLost, IsOpenedPart, IsRestartedPart, PartImagesStandAs}
 use Rattle.broker_core.proofs.Opening.{one_fault_left, opened_disk, restarted_disk, told_of}
+use Rattle.edge_io.specs.Views.{DiskView}
 
 -- contents that are the same, or are read as the same frames
 abbrev pub AreAlike : List ℕ → List ℕ → Type 0
@@ -74,47 +75,46 @@ fed_three starves a b c not either = (
     clash : false ≡ true → ⊥
     clash e = cc
 
-module _ {D : Type 0} (content : D → Option (List ℕ)) (image : D → List ℕ → Type 0) (starved : D → Bool) (faults : D → ℕ)
-    (losses : D → List (ℕ × List ℕ)) (arms : D → ℕ) (armed : D → Armed) where
+module _ {D : Type 0} (seen : D → DiskView) where
   abbrev Runs : D → D → Type 0
-  Runs old new = RunsOn content losses arms armed starved faults old new
+  Runs old new = RunsOn seen old new
 
   abbrev Carried : PartConfParts → OpenPart D → PartShardState → Type 0
-  Carried conf part s = IsPartCarried content image starved conf part s
+  Carried conf part s = IsPartCarried seen conf part s
 
   abbrev Lost : ℕ → D → D → List ℕ → Type 0
-  Lost choice old new c = IsLost content image faults losses arms armed choice old new c
+  Lost choice old new c = IsLost seen choice old new c
 
   -- the images of a partition that is carried
-  pub images_left : (conf : PartConfParts) (part : OpenPart D) (s : PartShardState) → part.conf ≡ conf → Carries image holding part s → (l a b : List ℕ)
-      → image part.log.journal.disk l → image part.states.journal.live.disk a → image part.states.journal.idle b → IsLeftOf conf s l a b
+  pub images_left : (conf : PartConfParts) (part : OpenPart D) (s : PartShardState) → part.conf ≡ conf → Carries seen holding part s → (l a b : List ℕ)
+      → (seen part.log.journal.disk).image l → (seen part.states.journal.live.disk).image a → (seen part.states.journal.idle).image b → IsLeftOf conf s l a b
   images_left conf part s conf_is k l a b on_log on_first on_second =
-      subst (λ (c : PartConfParts). IsLeftOf c s l a b) conf_is (left_of image holding part l a b on_log on_first on_second s k)
+      subst (λ (c : PartConfParts). IsLeftOf c s l a b) conf_is (left_of seen holding part l a b on_log on_first on_second s k)
 
   pub part_left : (conf : PartConfParts) (part : OpenPart D) (s : PartShardState) → Carried conf part s → (l a b : List ℕ)
-      → image part.log.journal.disk l → image part.states.journal.live.disk a → image part.states.journal.idle b → IsLeftOf conf s l a b
+      → (seen part.log.journal.disk).image l → (seen part.states.journal.live.disk).image a → (seen part.states.journal.idle).image b → IsLeftOf conf s l a b
   part_left conf part s k = images_left conf part s k.conf_is k.carries
 
-  pub opened_part : (conf : PartConfParts) (log first second : D) (l a b : List ℕ) (part : OpenPart D) → content log ≡ Some l → content first ≡ Some a
-      → content second ≡ Some b → IsOpened content image holding conf log first second part → Runs log part.log.journal.disk
-      → Runs first part.states.journal.live.disk → Runs second part.states.journal.idle → starved part.log.journal.disk ≡ false
-      → starved part.states.journal.live.disk ≡ false → starved part.states.journal.idle ≡ false
-      → IsOpenedPart content image starved faults losses arms armed conf log first second l a b part
+  pub opened_part : (conf : PartConfParts) (log first second : D) (l a b : List ℕ) (part : OpenPart D) → (seen log).content ≡ Some l → (seen first).content ≡ Some a
+      → (seen second).content ≡ Some b → IsOpened seen holding conf log first second part → Runs log part.log.journal.disk
+      → Runs first part.states.journal.live.disk → Runs second part.states.journal.idle → (seen part.log.journal.disk).starved ≡ false
+      → (seen part.states.journal.live.disk).starved ≡ false → (seen part.states.journal.idle).starved ≡ false
+      → IsOpenedPart seen conf log first second l a b part
   opened_part conf log first second l a b part is is_first is_second o runs first_runs second_runs fed first_fed second_fed = record {
     batches = part.log.batches;
     states = states_of part.states.entries;
     carried = record {
       conf_is = o.conf_is;
       carries = o.carries;
-      log = record { told = runs.told ∙ told_of (content log) l is; fed = fed };
-      first = record { told = first_runs.told ∙ told_of (content first) a is_first; fed = first_fed };
-      second = record { told = second_runs.told ∙ told_of (content second) b is_second; fed = second_fed };
+      log = record { told = runs.told ∙ told_of (seen log).content l is; fed = fed };
+      first = record { told = first_runs.told ∙ told_of (seen first).content a is_first; fed = first_fed };
+      second = record { told = second_runs.told ∙ told_of (seen second).content b is_second; fed = second_fed };
     };
     stands = o.opens l a b is is_first is_second;
     only = λ other others h. let e = o.only l a b other others is is_first is_second h in (sym e.0, sym e.1);
-    on_log = opened_disk content image starved faults losses arms armed log part.log.journal.disk runs (told_of (content log) l is) fed;
-    on_first = opened_disk content image starved faults losses arms armed first part.states.journal.live.disk first_runs (told_of (content first) a is_first) first_fed;
-    on_second = opened_disk content image starved faults losses arms armed second part.states.journal.idle second_runs (told_of (content second) b is_second) second_fed;
+    on_log = opened_disk seen log part.log.journal.disk runs (told_of (seen log).content l is) fed;
+    on_first = opened_disk seen first part.states.journal.live.disk first_runs (told_of (seen first).content a is_first) first_fed;
+    on_second = opened_disk seen second part.states.journal.idle second_runs (told_of (seen second).content b is_second) second_fed;
   }
 
   -- ---- restarts
@@ -122,14 +122,14 @@ module _ {D : Type 0} (content : D → Option (List ℕ)) (image : D → List �
   pub restarted_part : (choice : ℕ) (conf : PartConfParts) (part : OpenPart D) (s : PartShardState) (log first second : D) (l a b : List ℕ) (new : OpenPart D)
       → Carried conf part s → Lost choice part.log.journal.disk log l → Lost choice part.states.journal.live.disk first a
       → Lost choice part.states.journal.idle second b
-      → IsOpenedPart content image starved faults losses arms armed conf log first second l a b new
-      → IsRestartedPart content image starved faults losses arms armed choice conf part s new
+      → IsOpenedPart seen conf log first second l a b new
+      → IsRestartedPart seen choice conf part s new
   restarted_part choice conf part s log first second l a b new k p q r o =
       let t = part_left conf part s k l a b p.was q.was r.was in
       let e = o.only t.batches t.states t.text in
-      let on_log = restarted_disk content image starved faults losses arms armed choice part.log.journal.disk log new.log.journal.disk l p o.on_log in
-      let on_first = restarted_disk content image starved faults losses arms armed choice part.states.journal.live.disk first new.states.journal.live.disk a q o.on_first in
-      let on_second = restarted_disk content image starved faults losses arms armed choice part.states.journal.idle second new.states.journal.idle b r o.on_second in
+      let on_log = restarted_disk seen choice part.log.journal.disk log new.log.journal.disk l p o.on_log in
+      let on_first = restarted_disk seen choice part.states.journal.live.disk first new.states.journal.live.disk a q o.on_first in
+      let on_second = restarted_disk seen choice part.states.journal.idle second new.states.journal.idle b r o.on_second in
       record {
         l = l;
         a = a;
@@ -150,9 +150,9 @@ module _ {D : Type 0} (content : D → Option (List ℕ)) (image : D → List �
       }
 
   -- no image came
-  pub images_within : (part : OpenPart D) (log first second : D) → Within (image part.log.journal.disk) (image log)
-      → Within (image part.states.journal.live.disk) (image first) → Within (image part.states.journal.idle) (image second)
-      → PartImagesStandAs image part.log.journal.disk part.states.journal.live.disk part.states.journal.idle log first second
+  pub images_within : (part : OpenPart D) (log first second : D) → Within (seen part.log.journal.disk).image (seen log).image
+      → Within (seen part.states.journal.live.disk).image (seen first).image → Within (seen part.states.journal.idle).image (seen second).image
+      → PartImagesStandAs seen part.log.journal.disk part.states.journal.live.disk part.states.journal.idle log first second
   images_within part log first second p q r = record {
     on_log = λ c on. (c, p c on, inl refl);
     on_first = λ c on. (c, q c on, inl refl);
@@ -160,10 +160,10 @@ module _ {D : Type 0} (content : D → Option (List ℕ)) (image : D → List �
   }
 
   -- nor behind that any but by an opening
-  pub images_behind : (part : OpenPart D) (mid_log mid_first mid_second log first second : D) → Within (image part.log.journal.disk) (image mid_log)
-      → Within (image part.states.journal.live.disk) (image mid_first) → Within (image part.states.journal.idle) (image mid_second)
-      → PartImagesStandAs image mid_log mid_first mid_second log first second
-      → PartImagesStandAs image part.log.journal.disk part.states.journal.live.disk part.states.journal.idle log first second
+  pub images_behind : (part : OpenPart D) (mid_log mid_first mid_second log first second : D) → Within (seen part.log.journal.disk).image (seen mid_log).image
+      → Within (seen part.states.journal.live.disk).image (seen mid_first).image → Within (seen part.states.journal.idle).image (seen mid_second).image
+      → PartImagesStandAs seen mid_log mid_first mid_second log first second
+      → PartImagesStandAs seen part.log.journal.disk part.states.journal.live.disk part.states.journal.idle log first second
   images_behind part mid_log mid_first mid_second log first second p q r i = record {
     on_log = λ c on. (let d = i.on_log c on in (d.0, p d.0 d.1, d.2));
     on_first = λ c on. (let d = i.on_first c on in (d.0, q d.0 d.1, d.2));
@@ -172,10 +172,10 @@ module _ {D : Type 0} (content : D → Option (List ℕ)) (image : D → List �
 
   -- disks that have no other images than before
   pub stands_within : (conf : PartConfParts) (part : OpenPart D) (s : PartShardState) (log first second : D) → Carried conf part s
-      → Within (image part.log.journal.disk) (image log) → Within (image part.states.journal.live.disk) (image first)
-      → Within (image part.states.journal.idle) (image second) → GoesOn content faults part.log.journal.disk log
-      → GoesOn content faults part.states.journal.live.disk first → GoesOn content faults part.states.journal.idle second
-      → PartStandsAlone content image conf s log first second
+      → Within (seen part.log.journal.disk).image (seen log).image → Within (seen part.states.journal.live.disk).image (seen first).image
+      → Within (seen part.states.journal.idle).image (seen second).image → GoesOn seen part.log.journal.disk log
+      → GoesOn seen part.states.journal.live.disk first → GoesOn seen part.states.journal.idle second
+      → PartStandsAlone seen conf s log first second
   stands_within conf part s log first second k p q r on_log on_first on_second = record {
     stand = λ l a b x y z. part_left conf part s k l a b (p l x) (q a y) (r b z);
     log_told = on_log.told ∙ k.log.told;
@@ -184,7 +184,7 @@ module _ {D : Type 0} (content : D → Option (List ℕ)) (image : D → List �
   }
 
   -- an image that stands as the one that a loss left
-  alike : (choice : ℕ) (old mid : D) (c x : List ℕ) → Lost choice old mid c → StandsAs (image mid) x → AreAlike c x
+  alike : (choice : ℕ) (old mid : D) (c x : List ℕ) → Lost choice old mid c → StandsAs (seen mid).image x → AreAlike c x
   alike choice old mid c x l (d, on, inl e) = inl (sym (l.only d on) ∙ e)
   alike choice old mid c x l (d, on, inr f) = inr (f.0, subst (λ (z : List ℕ). StandsFor z f.0) (l.only d on) f.1, f.2)
 
@@ -194,9 +194,9 @@ module _ {D : Type 0} (content : D → Option (List ℕ)) (image : D → List �
     left : IsLeftOf conf s l a b
     left = part_left conf part s k l a b p.was q.was r.was
 
-    not_opened : (new_log new_first new_second : D) → PartImagesStandAs image log first second new_log new_first new_second
-        → IsTold (content new_log) → IsTold (content new_first) → IsTold (content new_second)
-        → PartStandsAlone content image conf s new_log new_first new_second
+    not_opened : (new_log new_first new_second : D) → PartImagesStandAs seen log first second new_log new_first new_second
+        → IsTold (seen new_log).content → IsTold (seen new_first).content → IsTold (seen new_second).content
+        → PartStandsAlone seen conf s new_log new_first new_second
     not_opened new_log new_first new_second i told first_told second_told = record {
       stand = λ x y z on_log on_first on_second. record {
         batches = left.batches;
@@ -213,56 +213,56 @@ module _ {D : Type 0} (content : D → Option (List ℕ)) (image : D → List �
     }
 
     only_memory : (e : CoreOpen)
-        → ((x y z : List ℕ) (batches : List LogBatch) (states : ShareStates) → content log ≡ Some x → content first ≡ Some y → content second ≡ Some z
+        → ((x y z : List ℕ) (batches : List LogBatch) (states : ShareStates) → (seen log).content ≡ Some x → (seen first).content ≡ Some y → (seen second).content ≡ Some z
         → ArePartText conf x y z batches states → (name : List ℕ) (place : ℕ) → e ≢ fault.Damaged name place)
-        → (IsTold (content log) → IsTold (content first) → IsTold (content second) → armed log ≡ Nothing → armed first ≡ Nothing → armed second ≡ Nothing
+        → (IsTold (seen log).content → IsTold (seen first).content → IsTold (seen second).content → (seen log).armed ≡ Nothing → (seen first).armed ≡ Nothing → (seen second).armed ≡ Nothing
         → e ≢ fault.Device) → e ≢ fault.Bay → e ≡ fault.NoMemory
     only_memory e recovers sound no_bay =
         one_fault_left e (recovers l a b left.batches left.states p.is q.is r.is left.text)
-        (sound (told_of (content log) l p.is) (told_of (content first) a q.is) (told_of (content second) b r.is) p.disarmed q.disarmed r.disarmed) no_bay
+        (sound (told_of (seen log).content l p.is) (told_of (seen first).content a q.is) (told_of (seen second).content b r.is) p.disarmed q.disarmed r.disarmed) no_bay
 
     pub part_stays_shut : {T : Type 0} (result : Result T ((D × D × D) × CoreOpen))
-        → IfErr result (λ e. PartImagesStandAs image log first second e.0.0 e.0.1 e.0.2)
-        → ((x y z : List ℕ) (batches : List LogBatch) (states : ShareStates) → content log ≡ Some x → content first ≡ Some y → content second ≡ Some z
+        → IfErr result (λ e. PartImagesStandAs seen log first second e.0.0 e.0.1 e.0.2)
+        → ((x y z : List ℕ) (batches : List LogBatch) (states : ShareStates) → (seen log).content ≡ Some x → (seen first).content ≡ Some y → (seen second).content ≡ Some z
         → ArePartText conf x y z batches states → IfErr result (λ e. (name : List ℕ) (place : ℕ) → e.1 ≢ fault.Damaged name place))
-        → (IsTold (content log) → IsTold (content first) → IsTold (content second) → armed log ≡ Nothing → armed first ≡ Nothing → armed second ≡ Nothing
+        → (IsTold (seen log).content → IsTold (seen first).content → IsTold (seen second).content → (seen log).armed ≡ Nothing → (seen first).armed ≡ Nothing → (seen second).armed ≡ Nothing
         → IfErr result (λ e. e.1 ≢ fault.Device)) → IfErr result (λ e. e.1 ≢ fault.Bay)
-        → IfErr result (λ e. is_some (content e.0.0) ≡ is_some (content log)) → IfErr result (λ e. is_some (content e.0.1) ≡ is_some (content first))
-        → IfErr result (λ e. is_some (content e.0.2) ≡ is_some (content second))
-        → IfErr result (λ e. PartStandsAlone content image conf s e.0.0 e.0.1 e.0.2 × (e.1 ≡ fault.NoMemory))
+        → IfErr result (λ e. is_some (seen e.0.0).content ≡ is_some (seen log).content) → IfErr result (λ e. is_some (seen e.0.1).content ≡ is_some (seen first).content)
+        → IfErr result (λ e. is_some (seen e.0.2).content ≡ is_some (seen second).content)
+        → IfErr result (λ e. PartStandsAlone seen conf s e.0.0 e.0.1 e.0.2 × (e.1 ≡ fault.NoMemory))
     part_stays_shut (Ok x) images recovers sound no_bay told first_told second_told = tt
     part_stays_shut (Err e) images recovers sound no_bay told first_told second_told = (
-      not_opened e.0.0 e.0.1 e.0.2 images (told ∙ told_of (content log) l p.is) (first_told ∙ told_of (content first) a q.is)
-          (second_told ∙ told_of (content second) b r.is),
+      not_opened e.0.0 e.0.1 e.0.2 images (told ∙ told_of (seen log).content l p.is) (first_told ∙ told_of (seen first).content a q.is)
+          (second_told ∙ told_of (seen second).content b r.is),
       only_memory e.1 recovers sound no_bay,
     )
 
   pub told_at : {T : Type 0} (of : T → D) (at : (D × D × D) → D) (mid : D) (result : Result T ((D × D × D) × CoreOpen))
-      → MatchResult result (λ new. GoesOn content faults mid (of new)) (λ e. GoesOn content faults mid (at e.0))
-      → IfErr result (λ e. is_some (content (at e.0)) ≡ is_some (content mid))
+      → MatchResult result (λ new. GoesOn seen mid (of new)) (λ e. GoesOn seen mid (at e.0))
+      → IfErr result (λ e. is_some (seen (at e.0)).content ≡ is_some (seen mid).content)
   told_at of at mid (Ok x) h = tt
   told_at of at mid (Err e) h = h.told
 
   -- ---- disks as they are handed on
 
-  pub goes_still : (live old new : D) → old ≡ live → GoesOn content faults old new → GoesOn content faults live new
-  goes_still live old new same g = subst (λ (d : D). GoesOn content faults d new) same g
+  pub goes_still : (live old new : D) → old ≡ live → GoesOn seen old new → GoesOn seen live new
+  goes_still live old new same g = subst (λ (d : D). GoesOn seen d new) same g
 
-  pub goes_same : (live now : D) → now ≡ live → GoesOn content faults live now
-  goes_same live now same = subst (λ (d : D). GoesOn content faults d now) same (record { later = least (faults now); told = refl }) where
+  pub goes_same : (live now : D) → now ≡ live → GoesOn seen live now
+  goes_same live now same = subst (λ (d : D). GoesOn seen d now) same (record { later = least (seen now).faults; told = refl }) where
     least : (n : ℕ) → n ≤ n
     least n = omega arith
 
-  pub within_on : (live old new : D) → old ≡ live → Within (image old) (image new) → Within (image live) (image new)
-  within_on live old new same w = subst (λ (d : D). Within (image d) (image new)) same w
+  pub within_on : (live old new : D) → old ≡ live → Within (seen old).image (seen new).image → Within (seen live).image (seen new).image
+  within_on live old new same w = subst (λ (d : D). Within (seen d).image (seen new).image) same w
 
-  pub within_same : (live now : D) → now ≡ live → Within (image live) (image now)
-  within_same live now same = subst (λ (d : D). Within (image d) (image now)) same (λ x on. on)
+  pub within_same : (live now : D) → now ≡ live → Within (seen live).image (seen now).image
+  within_same live now same = subst (λ (d : D). Within (seen d).image (seen now).image) same (λ x on. on)
 
-  pub told_same : (live now : D) → now ≡ live → IsTold (content live) → IsTold (content now)
-  told_same live now same told = subst (λ (d : D). IsTold (content d)) (sym same) told
+  pub told_same : (live now : D) → now ≡ live → IsTold (seen live).content → IsTold (seen now).content
+  told_same live now same told = subst (λ (d : D). IsTold (seen d).content) (sym same) told
 
-  pub lost_still : (choice : ℕ) (live old new : D) → old ≡ live → IsTold (content live) → (IsTold (content old) → (c : List ℕ) × Lost choice old new c)
+  pub lost_still : (choice : ℕ) (live old new : D) → old ≡ live → IsTold (seen live).content → (IsTold (seen old).content → (c : List ℕ) × Lost choice old new c)
       → (c : List ℕ) × Lost choice live new c
   lost_still choice live old new same told lost =
       let l = lost (told_same live old same told) in (l.0, subst (λ (d : D). Lost choice d new l.0) same l.1)

@@ -24,6 +24,7 @@ use Rattle.broker_core.specs.Carried.Begun.{BeginsVisit, BeginsExpiry}
 use Rattle.broker_core.specs.Hosts.{AreDistinct, HostsParts, among, counts_in, disks_in, ends_in, ends_over, facts_at, facts_in, foreign_disks, foreign_end, foreign_facts, hosted_slot, hosted_slots, open_disk, open_end, part_disk, part_end, slot_disks, slot_ends, slots_disks}
 use Rattle.broker_core.proofs.Flats.{pieces_at}
 use Rattle.broker_core.proofs.Places.{each_found}
+use Rattle.edge_io.specs.Views.{DiskView}
 
 -- ---- names
 
@@ -86,19 +87,18 @@ past_first h l a c b o name away = go (same_name name (log_of h)) (same_name nam
   go false true is = absurd (let bad : true ≡ false = is in cc)
   go false false is = refl
 
-module _ {D : Type 0} (content : D → Option (List ℕ)) (image : D → List ℕ → Type 0) (starved : D → Bool) (faults : D → ℕ)
-    (losses : D → List (ℕ × List ℕ)) (arms : D → ℕ) (armed : D → Armed) where
+module _ {D : Type 0} (seen : D → DiskView) where
   abbrev facts : D → Facts
-  facts disk = facts_of faults losses arms armed disk
+  facts disk = facts_of seen disk
 
   abbrev F : HostsParts D → List ℕ → Facts
-  F hosts name = facts_in faults losses arms armed (disks_in hosts) name
+  F hosts name = facts_in seen (disks_in hosts) name
 
   abbrev entry_facts : List ℕ × Option D → Facts
-  entry_facts e = facts_at faults losses arms armed e.1
+  entry_facts e = facts_at seen e.1
 
   abbrev pub slot_facts : PartSlot D → DiskPlace → Facts
-  slot_facts slot place = facts_at faults losses arms armed (part_disk slot.state place)
+  slot_facts slot place = facts_at seen (part_disk slot.state place)
 
   abbrev pub open_facts : OpenPart D → DiskPlace → Facts
   open_facts p place = facts (open_disk p place)
@@ -112,9 +112,9 @@ module _ {D : Type 0} (content : D → Option (List ℕ)) (image : D → List �
       → AreDistinct (part_disks (hosted_slots hosts.parts)) → All3 F hosts x
   known_at hosts n x there apart =
       let p = pieces_at slot_disks (λ (e : List ℕ × Option D). among (λ (d : List ℕ × Option D). d.0) entry_facts (slots_disks hosts.parts)
-      (foreign_facts faults losses arms armed (foreign_disks hosts.foreign) e.0) e.0 ≡ entry_facts e) n hosts.parts x there
+      (foreign_facts seen (foreign_disks hosts.foreign) e.0) e.0 ≡ entry_facts e) n hosts.parts x there
       (each_found (λ (d : List ℕ × Option D). d.0) entry_facts (slots_disks hosts.parts)
-      (λ name. foreign_facts faults losses arms armed (foreign_disks hosts.foreign) name)
+      (λ name. foreign_facts seen (foreign_disks hosts.foreign) name)
       (subst AreDistinct (sym (disk_names hosts.parts)) apart)) in
       (p.0, p.1.0, p.1.1.0)
 
@@ -130,7 +130,7 @@ module _ {D : Type 0} (content : D → Option (List ℕ)) (image : D → List �
 
   -- ---- what a call uses
 
-  uses_states : (h : Hosted) (was is : OpenPart D) → UsesStates faults losses arms armed was is → (name : List ℕ) (o : Facts)
+  uses_states : (h : Hosted) (was is : OpenPart D) → UsesStates seen was is → (name : List ℕ) (o : Facts)
       → OnCalled (same_name name (first_of h)) (three h (open_facts was Log) (open_facts was StateA) (open_facts was StateB) o name)
       (three h (open_facts is Log) (open_facts is StateA) (open_facts is StateB) o name)
   uses_states h was is u name o =
@@ -140,7 +140,7 @@ module _ {D : Type 0} (content : D → Option (List ℕ)) (image : D → List �
       (three h (open_facts was Log) (open_facts is StateA) (facts b) o name)) (sym u.second)
       (on_first h (open_facts was Log) (open_facts was StateA) (open_facts is StateA) (open_facts was StateB) o name u.used))
 
-  uses_log : (h : Hosted) (was is : OpenPart D) → UsesLog faults losses arms armed was is → (name : List ℕ) (o : Facts)
+  uses_log : (h : Hosted) (was is : OpenPart D) → UsesLog seen was is → (name : List ℕ) (o : Facts)
       → OnCalled (same_name name (log_of h)) (three h (open_facts was Log) (open_facts was StateA) (open_facts was StateB) o name)
       (three h (open_facts is Log) (open_facts is StateA) (open_facts is StateB) o name)
   uses_log h was is u name o =
@@ -148,7 +148,7 @@ module _ {D : Type 0} (content : D → Option (List ℕ)) (image : D → List �
       (three h (open_facts is Log) (facts s.journal.live.disk) (facts s.journal.idle) o name)) (sym u.states)
       (on_log h (open_facts was Log) (open_facts is Log) (open_facts was StateA) (open_facts was StateB) o name u.used)
 
-  open_used : (h : Hosted) (was is : OpenPart D) (did : PartCall) → Uses faults losses arms armed was is did → (name : List ℕ) (o : Facts)
+  open_used : (h : Hosted) (was is : OpenPart D) (did : PartCall) → Uses seen was is did → (name : List ℕ) (o : Facts)
       → OnCalled (part_calls h did name) (three h (open_facts was Log) (open_facts was StateA) (open_facts was StateB) o name)
       (three h (open_facts is Log) (open_facts is StateA) (open_facts is StateB) o name)
   open_used h was is (Visits visit answer) u name o = uses_states h was is u name o
@@ -157,13 +157,13 @@ module _ {D : Type 0} (content : D → Option (List ℕ)) (image : D → List �
       ap (λ (p : OpenPart D). three h (open_facts p Log) (open_facts p StateA) (open_facts p StateB) o name) u
   open_used h was is (Expires answer) u name o = uses_states h was is u name o
 
-  ends_states : (h : Hosted) (was is : OpenPart D) → UsesStates faults losses arms armed was is → (name : List ℕ) (o : ℕ) → same_name name (first_of h) ≡ false
+  ends_states : (h : Hosted) (was is : OpenPart D) → UsesStates seen was is → (name : List ℕ) (o : ℕ) → same_name name (first_of h) ≡ false
       → three h (open_end is Log) (open_end is StateA) (open_end is StateB) o name ≡ three h (open_end was Log) (open_end was StateA) (open_end was StateB) o name
   ends_states h was is u name o away =
       ap (λ (l : LogParts D). three h l.journal.end (open_end is StateA) 0 o name) u.log
       ∙ past_first h (open_end was Log) (open_end was StateA) (open_end is StateA) 0 o name away
 
-  open_ends : (h : Hosted) (was is : OpenPart D) (did : PartCall) → Uses faults losses arms armed was is did → (name : List ℕ) (o : ℕ)
+  open_ends : (h : Hosted) (was is : OpenPart D) (did : PartCall) → Uses seen was is did → (name : List ℕ) (o : ℕ)
       → part_calls h did name ≡ false
       → three h (open_end is Log) (open_end is StateA) (open_end is StateB) o name ≡ three h (open_end was Log) (open_end was StateA) (open_end was StateB) o name
   open_ends h was is (Visits visit answer) u name o away = ends_states h was is u name o away
@@ -190,13 +190,13 @@ module _ {D : Type 0} (content : D → Option (List ℕ)) (image : D → List �
 
   -- what is found of an open slot
   abbrev Of : Hosted → PartState D → Facts → List ℕ → Facts
-  Of h state o name = three h (facts_at faults losses arms armed (part_disk state Log)) (facts_at faults losses arms armed (part_disk state StateA))
-      (facts_at faults losses arms armed (part_disk state StateB)) o name
+  Of h state o name = three h (facts_at seen (part_disk state Log)) (facts_at seen (part_disk state StateA))
+      (facts_at seen (part_disk state StateB)) o name
 
   abbrev EndOf : Hosted → PartState D → ℕ → List ℕ → ℕ
   EndOf h state o name = three h (part_end state Log) (part_end state StateA) (part_end state StateB) o name
 
-  pub slot_used : (x y : PartSlot D) (was is : OpenPart D) (did : PartCall) → Turns x y was is → Uses faults losses arms armed was is did
+  pub slot_used : (x y : PartSlot D) (was is : OpenPart D) (did : PartCall) → Turns x y was is → Uses seen was is did
       → (name : List ℕ) (o : Facts) → OnCalled (part_calls (hosted_slot x) did name) (Found x o name) (Found y o name)
   slot_used x y was is did t u name o =
       subst (λ (h : Hosted). OnCalled (part_calls (hosted_slot x) did name) (Found x o name) (Of h y.state o name)) (sym t.hosted)
@@ -204,7 +204,7 @@ module _ {D : Type 0} (content : D → Option (List ℕ)) (image : D → List �
       (subst (λ (s : PartState D). OnCalled (part_calls (hosted_slot x) did name) (Of (hosted_slot x) (part.Open was) o name) (Of (hosted_slot x) s o name)) (sym t.new_is)
       (open_used (hosted_slot x) was is did u name o)))
 
-  pub slot_end_stays : (x y : PartSlot D) (was is : OpenPart D) (did : PartCall) → Turns x y was is → Uses faults losses arms armed was is did
+  pub slot_end_stays : (x y : PartSlot D) (was is : OpenPart D) (did : PartCall) → Turns x y was is → Uses seen was is did
       → (name : List ℕ) (o : ℕ) → part_calls (hosted_slot x) did name ≡ false → End y o name ≡ End x o name
   slot_end_stays x y was is did t u name o away =
       subst (λ (h : Hosted). EndOf h y.state o name ≡ End x o name) (sym t.hosted)
@@ -216,25 +216,25 @@ module _ {D : Type 0} (content : D → Option (List ℕ)) (image : D → List �
 
   -- counts and ends by name are those of the shard's own disks
   pub record AreOf (h : Hosted) (was is : OpenPart D) (counts : Counts) (ends : Ends) : Type 0 where
-    pub log : counts (log_of h) ≡ (faults was.log.journal.disk, faults is.log.journal.disk)
-    pub first : counts (first_of h) ≡ (faults was.states.journal.live.disk, faults is.states.journal.live.disk)
+    pub log : counts (log_of h) ≡ ((seen was.log.journal.disk).faults, (seen is.log.journal.disk).faults)
+    pub first : counts (first_of h) ≡ ((seen was.states.journal.live.disk).faults, (seen is.states.journal.live.disk).faults)
     pub log_end : ends (log_of h) ≡ (was.log.journal.end, is.log.journal.end)
     pub first_end : ends (first_of h) ≡ (was.states.journal.live.end, is.states.journal.live.end)
 
   pub step_named : (h : Hosted) (was is : OpenPart D) (counts : Counts) (ends : Ends) → AreOf h was is counts ends → (now : ℕ) (old : PartShardState)
-      (did : PartCall) (new : PartShardState) → StepsOn faults h.conf was is now old did new → StepsPart counts ends now h old did new
+      (did : PartCall) (new : PartShardState) → StepsOn seen h.conf was is now old did new → StepsPart counts ends now h old did new
   step_named h was is counts ends a now old (Visits visit answer) new step =
       subst (λ (c : ℕ × ℕ). StepsVisit h.conf c.0 c.1 (ends (first_of h)).0 (ends (first_of h)).1 old now visit answer new) (sym a.first)
-      (subst (λ (e : ℕ × ℕ). StepsVisit h.conf (faults was.states.journal.live.disk) (faults is.states.journal.live.disk) e.0 e.1 old now visit answer new)
+      (subst (λ (e : ℕ × ℕ). StepsVisit h.conf (seen was.states.journal.live.disk).faults (seen is.states.journal.live.disk).faults e.0 e.1 old now visit answer new)
       (sym a.first_end) step)
   step_named h was is counts ends a now old (Produces batch produced) new step =
       subst (λ (c : ℕ × ℕ). StepsProduce (Rose c.0 c.1) (ends (log_of h)).0 old now batch (result_of produced) new) (sym a.log)
-      (subst (λ (e : ℕ × ℕ). StepsProduce (Rose (faults was.log.journal.disk) (faults is.log.journal.disk)) e.0 old now batch (result_of produced) new)
+      (subst (λ (e : ℕ × ℕ). StepsProduce (Rose (seen was.log.journal.disk).faults (seen is.log.journal.disk).faults) e.0 old now batch (result_of produced) new)
       (sym a.log_end) step)
   step_named h was is counts ends a now old (Looks group looked) new step = step
   step_named h was is counts ends a now old (Expires answer) new step =
       subst (λ (c : ℕ × ℕ). StepsExpire h.conf c.0 c.1 (ends (first_of h)).0 (ends (first_of h)).1 old now answer new) (sym a.first)
-      (subst (λ (e : ℕ × ℕ). StepsExpire h.conf (faults was.states.journal.live.disk) (faults is.states.journal.live.disk) e.0 e.1 old now answer new)
+      (subst (λ (e : ℕ × ℕ). StepsExpire h.conf (seen was.states.journal.live.disk).faults (seen is.states.journal.live.disk).faults e.0 e.1 old now answer new)
       (sym a.first_end) step)
 
   -- a call that was left half done, by name
@@ -245,22 +245,22 @@ module _ {D : Type 0} (content : D → Option (List ℕ)) (image : D → List �
       old now new
 
   pub half_named : (h : Hosted) (was is : OpenPart D) (counts : Counts) (ends : Ends) → AreOf h was is counts ends → (now : ℕ) (old : PartShardState)
-      (begun : Begun) (new : PartShardState) → HalvesOn faults h.conf was is now old begun new → Halves counts ends now begun h old new
+      (begun : Begun) (new : PartShardState) → HalvesOn seen h.conf was is now old begun new → Halves counts ends now begun h old new
   half_named h was is counts ends a now old (BeginsVisit visit) new half = (
     half.0,
     subst (λ (c : ℕ × ℕ). StepsAcks h.conf (Rose c.0 c.1) (ends (first_of h)).0 old visit half.0 new) (sym a.first)
-        (subst (λ (e : ℕ × ℕ). StepsAcks h.conf (Rose (faults was.states.journal.live.disk) (faults is.states.journal.live.disk)) e.0 old visit half.0 new)
+        (subst (λ (e : ℕ × ℕ). StepsAcks h.conf (Rose (seen was.states.journal.live.disk).faults (seen is.states.journal.live.disk).faults) e.0 old visit half.0 new)
         (sym a.first_end) half.1),
   )
   half_named h was is counts ends a now old BeginsExpiry new half =
       subst (λ (c : ℕ × ℕ). ExpiresPart h.conf c.0 c.1 (ends (first_of h)).0 (ends (first_of h)).1 old now new) (sym a.first)
-      (subst (λ (e : ℕ × ℕ). ExpiresPart h.conf (faults was.states.journal.live.disk) (faults is.states.journal.live.disk) e.0 e.1 old now new)
+      (subst (λ (e : ℕ × ℕ). ExpiresPart h.conf (seen was.states.journal.live.disk).faults (seen is.states.journal.live.disk).faults e.0 e.1 old now new)
       (sym a.first_end) half)
 
   -- the counts and ends of two hosts of which one slot changed
   pub are_of : (old new : HostsParts D) (n : ℕ) (x y : PartSlot D) (was is : OpenPart D) → HoldsAt n (λ z. z ≡ x) old.parts → HoldsAt n (λ z. z ≡ y) new.parts
       → Turns x y was is → AreDistinct (part_disks (hosted_slots old.parts)) → AreDistinct (part_disks (hosted_slots new.parts))
-      → AreOf (hosted_slot x) was is (counts_in faults losses arms armed (disks_in old) (disks_in new)) (ends_over old new)
+      → AreOf (hosted_slot x) was is (counts_in seen (disks_in old) (disks_in new)) (ends_over old new)
   are_of old new n x y was is there here t apart apart_then =
       let a = known_at old n x there apart in
       let b = subst (λ (h : Hosted). (F new (log_of h) ≡ slot_facts y Log) × (F new (first_of h) ≡ slot_facts y StateA)
@@ -270,8 +270,8 @@ module _ {D : Type 0} (content : D → Option (List ℕ)) (image : D → List �
       (ends_at new n y here apart_then) in
       let end_old : (place : DiskPlace) → part_end x.state place ≡ open_end was place = λ place. ap (λ (s : PartState D). part_end s place) t.old_is in
       let end_new : (place : DiskPlace) → part_end y.state place ≡ open_end is place = λ place. ap (λ (s : PartState D). part_end s place) t.new_is in
-      let on_old : (place : DiskPlace) → slot_facts x place ≡ open_facts was place = λ place. ap (λ (s : PartState D). facts_at faults losses arms armed (part_disk s place)) t.old_is in
-      let on_new : (place : DiskPlace) → slot_facts y place ≡ open_facts is place = λ place. ap (λ (s : PartState D). facts_at faults losses arms armed (part_disk s place)) t.new_is in
+      let on_old : (place : DiskPlace) → slot_facts x place ≡ open_facts was place = λ place. ap (λ (s : PartState D). facts_at seen (part_disk s place)) t.old_is in
+      let on_new : (place : DiskPlace) → slot_facts y place ≡ open_facts is place = λ place. ap (λ (s : PartState D). facts_at seen (part_disk s place)) t.new_is in
       record {
         log = pair (ap (λ (f : Facts). f.faults) (a.0 ∙ on_old Log)) (ap (λ (f : Facts). f.faults) (b.0 ∙ on_new Log));
         first = pair (ap (λ (f : Facts). f.faults) (a.1 ∙ on_old StateA)) (ap (λ (f : Facts). f.faults) (b.1 ∙ on_new StateA));

@@ -25,8 +25,9 @@ use Rattle.broker_core.specs.Hosts.{AreApart, AreCarried, AreDistinct, AreHeld, 
 use Rattle.broker_core.specs.Taking.{Moves, PutsAll, PutsAllBack, PutsBack, RefusesAll, RefusesAt, RefusesForeign, TakesAll, TakesParts, TellsThese}
 use Rattle.broker_core.proofs.Places.{among_past, apart_from, distinct_front, is_same, not_both, not_in_front, not_in_rest, one_in_either, one_in_front, one_in_rest, same_self}
 use Rattle.broker_core.proofs.Naming.{are_disk_names, distinct_names, named_of, not_in_both, states_apart}
-use Rattle.broker_core.proofs.Taking.{moves_same, moves_then, named, put_moves, puts_hold, puts_in, puts_moves, puts_others, puts_rise, rose_between, slot_same, slot_then, stays_between, stays_same}
+use Rattle.broker_core.proofs.Taking.{moves_same, moves_then, named, put_moves, put_taken, puts_hold, puts_in, puts_moves, puts_others, puts_rise, puts_taken, rose_between, slot_same, slot_then, stays_between, stays_same}
 use Rattle.broker_core.proofs.Partitions.{IsTakenSlot, disks_then, names_of_disks, slots_counted, slots_open, slots_stay, takes_held, takes_hosts, takes_moves, takes_others, takes_out, takes_slots}
+use Rattle.edge_io.specs.Views.{DiskView, BayView}
 
 -- a name is one of these, or none of them
 pub one_or_none : (names : List (List ℕ)) (name : List ℕ) → IsOneOf names name ⊎ NotIn names name
@@ -61,58 +62,56 @@ all_in_rest : {A : Type 0} (P : A → Type 0) (xs : List A) (y : A) (ys : List A
 all_in_rest P [] y ys all = all.0
 all_in_rest P (x ∷ xs) y ys all = all_in_rest P xs y ys all.1
 
-module _ {B D : Type 0} (disk : B → List ℕ → Option D) (out : B → List ℕ → Bool) (taken : B → List ℕ → ℕ) (steady : B → Type 0) (bay_faults : B → ℕ)
-    (content : D → Option (List ℕ)) (image : D → List ℕ → Type 0) (starved : D → Bool) (faults : D → ℕ)
-    (losses : D → List (ℕ × List ℕ)) (arms : D → ℕ) (armed : D → Armed) where
+module _ {B D : Type 0} (bay_seen : B → BayView D) (seen : D → DiskView) where
   abbrev Tells : ConfigParts → B → (List ℕ → List ℕ) → Disks → Type 0
-  Tells conf bay contents was = TellsDisks disk content faults losses arms armed conf bay contents was
+  Tells conf bay contents was = TellsDisks bay_seen seen conf bay contents was
 
   abbrev Slots : B → B → List (PartSlot D) → Type 0
   Slots old new slots = AllByRecursion
-      (λ (s : PartSlot D). IsTakenSlot disk out taken steady bay_faults content image starved faults losses arms armed (hosted_slot s) old new s) slots
+      (λ (s : PartSlot D). IsTakenSlot bay_seen seen (hosted_slot s) old new s) slots
 
   abbrev F : HostsParts D → List ℕ → Facts
-  F hosts name = facts_in faults losses arms armed (disks_in hosts) name
+  F hosts name = facts_in seen (disks_in hosts) name
 
   abbrev G : Option (D × D) → List ℕ → Facts
-  G left name = foreign_facts faults losses arms armed left name
+  G left name = foreign_facts seen left name
 
   abbrev Known : Disks → List (List ℕ × Option D) → Type 0
-  Known was es = AllByRecursion (λ (e : List ℕ × Option D). IsOpenedDisk (was e.0) (facts_at faults losses arms armed e.1)) es
+  Known was es = AllByRecursion (λ (e : List ℕ × Option D). IsOpenedDisk (was e.0) (facts_at seen e.1)) es
 
   abbrev Before : List Hosted → B → List (PartSlot D) → B → Type 0
-  Before hosted old slots mid = TakesParts disk out taken steady bay_faults content image starved faults losses arms armed hosted old slots mid
+  Before hosted old slots mid = TakesParts bay_seen seen hosted old slots mid
 
   abbrev Behind : List (List ℕ × Option D) → B → B → Type 0
-  Behind es mid new = PutsAll disk out taken steady bay_faults faults es mid new
+  Behind es mid new = PutsAll bay_seen seen es mid new
 
   abbrev Goes : B → B → Type 0
-  Goes old new = Moves disk steady bay_faults old new
+  Goes old new = Moves bay_seen old new
 
   abbrev Same : List ℕ → B → B → Type 0
-  Same m old new = SameSlot disk out taken m old new
+  Same m old new = SameSlot bay_seen m old new
 
   -- ---- partitions
 
   -- what the partitions that were taken stand for
   record Stand (contents : List ℕ → List ℕ) (was : Disks) (slots : List (PartSlot D)) : Type 0 where
     parts : List HostedPart
-    zip : AllZip (IsPartSlot content image starved) slots parts
+    zip : AllZip (IsPartSlot seen) slots parts
     opens : AllByRecursion (OpensPart contents) parts
     hosts : hosted_by parts ≡ hosted_slots slots
     known : Known was (slots_disks slots)
 
   known_one : (was : Disks) (at : PartState D → Option D) (st opened_as : PartState D) (d given told : D) → st ≡ opened_as → at opened_as ≡ Some d → (name : List ℕ)
-      → given ≡ told → was name ≡ facts_of faults losses arms armed told
-      → IsOpenedDisk (facts_of faults losses arms armed given) (facts_of faults losses arms armed d)
-      → IsOpenedDisk (was name) (facts_at faults losses arms armed (at st))
+      → given ≡ told → was name ≡ facts_of seen told
+      → IsOpenedDisk (facts_of seen given) (facts_of seen d)
+      → IsOpenedDisk (was name) (facts_at seen (at st))
   known_one was at st opened_as d given told is has name same knows o =
-      subst (λ (p : Option D). IsOpenedDisk (was name) (facts_at faults losses arms armed p)) (sym (ap at is ∙ has))
-      (subst (λ (f : Facts). IsOpenedDisk f (facts_of faults losses arms armed d)) (ap (facts_of faults losses arms armed) same ∙ sym knows) o)
+      subst (λ (p : Option D). IsOpenedDisk (was name) (facts_at seen p)) (sym (ap at is ∙ has))
+      (subst (λ (f : Facts). IsOpenedDisk f (facts_of seen d)) (ap (facts_of seen) same ∙ sym knows) o)
 
   stands : (contents : List ℕ → List ℕ) (was : Disks) (old new : B) (slots : List (PartSlot D))
-      → ((name : List ℕ) → IsOneOf (part_disks (hosted_slots slots)) name → (d : D) × (disk old name ≡ Some d) × (content d ≡ Some (contents name))
-      × (was name ≡ facts_of faults losses arms armed d)) → Slots old new slots → Stand contents was slots
+      → ((name : List ℕ) → IsOneOf (part_disks (hosted_slots slots)) name → (d : D) × ((bay_seen old).disk name ≡ Some d) × ((seen d).content ≡ Some (contents name))
+      × (was name ≡ facts_of seen d)) → Slots old new slots → Stand contents was slots
   stands contents was old new [] tells all = record { parts = []; zip = tt; opens = tt; hosts = refl; known = tt }
   stands contents was old new (s ∷ slots) tells all =
       let more = stands contents was old new slots (λ name one. tells name (inr (inr (inr one)))) all.1 in
@@ -123,13 +122,13 @@ module _ {B D : Type 0} (disk : B → List ℕ → Option D) (out : B → List �
       let is_first = all.0.on_first.as_told a.0 a.1 in
       let is_second = all.0.on_second.as_told b.0 b.1 in
       let o = all.0.opens (contents (log_of (hosted_slot s))) (contents (first_of (hosted_slot s))) (contents (second_of (hosted_slot s)))
-      (ap content is_log ∙ l.2) (ap content is_first ∙ a.2) (ap content is_second ∙ b.2) in
+      (ap (λ d. (seen d).content) is_log ∙ l.2) (ap (λ d. (seen d).content) is_first ∙ a.2) (ap (λ d. (seen d).content) is_second ∙ b.2) in
       record {
         parts = record { hosted = hosted_slot s; shard = shard_with o.batches o.states } ∷ more.parts;
         zip = (
           record {
             hosted = refl;
-            state = subst (λ (st : PartState D). IsPartState content image starved s.conf st (shard_with o.batches o.states)) (sym all.0.is_open) o.carried;
+            state = subst (λ (st : PartState D). IsPartState seen s.conf st (shard_with o.batches o.states)) (sym all.0.is_open) o.carried;
           },
           more.zip,
         );
@@ -149,7 +148,7 @@ module _ {B D : Type 0} (disk : B → List ℕ → Option D) (out : B → List �
 
   -- partitions that were taken had disks that stand for logs and tables
   had_tables : (contents : List ℕ → List ℕ) (old new : B) (slots : List (PartSlot D))
-      → TellsThese disk content (part_disks (hosted_slots slots)) old contents → Slots old new slots
+      → TellsThese bay_seen seen (part_disks (hosted_slots slots)) old contents → Slots old new slots
       → AllByRecursion (StandsForTables contents) (hosted_slots slots)
   had_tables contents old new [] tells all = tt
   had_tables contents old new (s ∷ slots) tells all =
@@ -157,29 +156,29 @@ module _ {B D : Type 0} (disk : B → List ℕ → Option D) (out : B → List �
       let a = tells (first_of (hosted_slot s)) (inr (inl refl)) in
       let b = tells (second_of (hosted_slot s)) (inr (inr (inl refl))) in
       let o = all.0.opens (contents (log_of (hosted_slot s))) (contents (first_of (hosted_slot s))) (contents (second_of (hosted_slot s)))
-      (ap content (all.0.on_log.as_told l.0 l.1) ∙ l.2) (ap content (all.0.on_first.as_told a.0 a.1) ∙ a.2)
-      (ap content (all.0.on_second.as_told b.0 b.1) ∙ b.2) in
+      (ap (λ d. (seen d).content) (all.0.on_log.as_told l.0 l.1) ∙ l.2) (ap (λ d. (seen d).content) (all.0.on_first.as_told a.0 a.1) ∙ a.2)
+      (ap (λ d. (seen d).content) (all.0.on_second.as_told b.0 b.1) ∙ b.2) in
       ((o.batches, o.states, o.stands), had_tables contents old new slots (λ name one. tells name (inr (inr (inr one)))) all.1)
 
   before_had_tables : (contents : List ℕ → List ℕ) (hosted : List Hosted) (old : B) (slots : List (PartSlot D)) (mid : B) → AreDistinct (part_disks hosted)
-      → Before hosted old slots mid → TellsThese disk content (part_disks hosted) old contents → AllByRecursion (StandsForTables contents) hosted
+      → Before hosted old slots mid → TellsThese bay_seen seen (part_disks hosted) old contents → AllByRecursion (StandsForTables contents) hosted
   before_had_tables contents hosted old slots mid distinct t tells =
       let same : hosted_slots slots ≡ hosted =
-      takes_hosts disk out taken steady bay_faults content image starved faults losses arms armed hosted old slots mid t in
+      takes_hosts bay_seen seen hosted old slots mid t in
       subst (AllByRecursion (StandsForTables contents)) same (had_tables contents old mid slots
       (λ name one. tells name (subst (λ (l : List Hosted). IsOneOf (part_disks l) name) same one))
-      (takes_slots disk out taken steady bay_faults content image starved faults losses arms armed hosted old slots mid distinct t))
+      (takes_slots bay_seen seen hosted old slots mid distinct t))
 
   known_among : (was : Disks) (es : List (List ℕ × Option D)) (other : Facts) (name : List ℕ) → IsOneOf (named es) name → Known was es
-      → IsOpenedDisk (was name) (among (λ (e : List ℕ × Option D). e.0) (λ e. facts_at faults losses arms armed e.1) es other name)
+      → IsOpenedDisk (was name) (among (λ (e : List ℕ × Option D). e.0) (λ e. facts_at seen e.1) es other name)
   known_among was [] other name one all = absurd one
   known_among was (e ∷ es) other name one all = go (same_name name e.0) refl (λ more. known_among was es other name more all.1) one where
     rest : Facts
-    rest = among (λ (x : List ℕ × Option D). x.0) (λ x. facts_at faults losses arms armed x.1) es other name
+    rest = among (λ (x : List ℕ × Option D). x.0) (λ x. facts_at seen x.1) es other name
 
     go : (b : Bool) → same_name name e.0 ≡ b → (IsOneOf (named es) name → IsOpenedDisk (was name) rest)
-        → IsOneOf (named (e ∷ es)) name → IsOpenedDisk (was name) (cond b (facts_at faults losses arms armed e.1) rest)
-    go true is more one = subst (λ (n : List ℕ). IsOpenedDisk (was n) (facts_at faults losses arms armed e.1)) (sym (is_same name e.0 is)) all.0
+        → IsOneOf (named (e ∷ es)) name → IsOpenedDisk (was name) (cond b (facts_at seen e.1) rest)
+    go true is more one = subst (λ (n : List ℕ). IsOpenedDisk (was n) (facts_at seen e.1)) (sym (is_same name e.0 is)) all.0
     go false is more (inl same) = absurd (let bad : true ≡ false = sym (subst (λ (m : List ℕ). same_name name m ≡ true) same (same_self name)) ∙ is in cc)
     go false is more (inr one) = more one
 
@@ -191,7 +190,7 @@ module _ {B D : Type 0} (disk : B → List ℕ → Option D) (out : B → List �
   -- ---- all is taken
 
   module _ (conf : ConfigParts) (list : IsTopicList conf.topics) (old : B) (hosts : HostsParts D) (new : B)
-      (t : TakesAll disk out taken steady bay_faults content image starved faults losses arms armed conf old hosts new) where
+      (t : TakesAll bay_seen seen conf old hosts new) where
     abbrev names : List (List ℕ)
     names = part_disks (hosted_of conf)
 
@@ -208,7 +207,7 @@ module _ {B D : Type 0} (disk : B → List ℕ → Option D) (out : B → List �
     no_b = no_state_b (hosted_of conf) distinct
 
     pub hosts_are : hosted_slots hosts.parts ≡ hosted_of conf
-    hosts_are = takes_hosts disk out taken steady bay_faults content image starved faults losses arms armed (hosted_of conf) old hosts.parts t.mid t.parts
+    hosts_are = takes_hosts bay_seen seen (hosted_of conf) old hosts.parts t.mid t.parts
 
     pub hosts_apart : AreApart hosts
     hosts_apart = subst (λ (l : List Hosted). AreDistinct (all_names l)) (sym hosts_are) distinct
@@ -217,20 +216,20 @@ module _ {B D : Type 0} (disk : B → List ℕ → Option D) (out : B → List �
     hosts_named = subst AreNamed (sym hosts_are) (named_of conf list)
 
     slots : Slots old t.mid hosts.parts
-    slots = takes_slots disk out taken steady bay_faults content image starved faults losses arms armed (hosted_of conf) old hosts.parts t.mid distinct_parts t.parts
+    slots = takes_slots bay_seen seen (hosted_of conf) old hosts.parts t.mid distinct_parts t.parts
 
     parts_others : (m : List ℕ) → NotIn names m → Same m old t.mid
-    parts_others = takes_others disk out taken steady bay_faults content image starved faults losses arms armed (hosted_of conf) old hosts.parts t.mid t.parts
+    parts_others = takes_others bay_seen seen (hosted_of conf) old hosts.parts t.mid t.parts
 
     pub hosts_open : AreOpen hosts
     hosts_open = record {
-      parts = slots_open disk out taken steady bay_faults content image starved faults losses arms armed old t.mid hosts.parts slots;
+      parts = slots_open bay_seen seen old t.mid hosts.parts slots;
       foreign = subst IsOpen (sym t.foreign.is_open) tt;
     }
 
     pub hosts_held : AreHeld hosts
     hosts_held = record {
-      parts = takes_held disk out taken steady bay_faults content image starved faults losses arms armed (hosted_of conf) old hosts.parts t.mid t.parts;
+      parts = takes_held bay_seen seen (hosted_of conf) old hosts.parts t.mid t.parts;
       foreign = subst IsHeld (sym t.foreign.is_open) tt;
     }
 
@@ -240,18 +239,18 @@ module _ {B D : Type 0} (disk : B → List ℕ → Option D) (out : B → List �
     to_names : (name : List ℕ) → IsOneOf (part_disks (hosted_slots hosts.parts)) name → IsOneOf names name
     to_names name one = subst (λ (l : List Hosted). IsOneOf (part_disks l) name) hosts_are one
 
-    first_told : IsAsTold (disk old state_a) t.foreign.first
+    first_told : IsAsTold ((bay_seen old).disk state_a) t.foreign.first
     first_told d told = t.foreign.first_told d ((parts_others state_a no_a).same_disk ∙ told)
 
-    second_told : IsAsTold (disk old state_b) t.foreign.second
+    second_told : IsAsTold ((bay_seen old).disk state_b) t.foreign.second
     second_told d told = t.foreign.second_told d ((parts_others state_b no_b).same_disk ∙ told)
 
     pub all_moves : Goes old new
-    all_moves = moves_then disk out taken steady bay_faults old t.mid new
-        (takes_moves disk out taken steady bay_faults content image starved faults losses arms armed (hosted_of conf) old hosts.parts t.mid t.parts) t.foreign.moves
+    all_moves = moves_then bay_seen old t.mid new
+        (takes_moves bay_seen seen (hosted_of conf) old hosts.parts t.mid t.parts) t.foreign.moves
 
-    pub all_out : AreOut out [] old → AreOut out (all_names (hosted_slots hosts.parts)) new
-    all_out whole = subst (λ (l : List Hosted). AreOut out (all_names l) new) (sym hosts_are) (record {
+    pub all_out : AreOut bay_seen [] old → AreOut bay_seen (all_names (hosted_slots hosts.parts)) new
+    all_out whole = subst (λ (l : List Hosted). AreOut bay_seen (all_names l) new) (sym hosts_are) (record {
       those = λ name one. those name (one_in_either names (state_a ∷ state_b ∷ []) name one);
       others = λ name away.
           let n = not_in_rest names (state_a ∷ state_b ∷ []) name away in
@@ -259,23 +258,23 @@ module _ {B D : Type 0} (disk : B → List ℕ → Option D) (out : B → List �
           ∙ (parts_others name (not_in_front names (state_a ∷ state_b ∷ []) name away)).same_out ∙ whole.others name tt;
     })
       where
-        those : (name : List ℕ) → IsOneOf names name ⊎ IsOneOf (state_a ∷ state_b ∷ []) name → out new name ≡ true
+        those : (name : List ℕ) → IsOneOf names name ⊎ IsOneOf (state_a ∷ state_b ∷ []) name → (bay_seen new).out name ≡ true
         those name (inl one) = (foreign_others name one).same_out
-            ∙ takes_out disk out taken steady bay_faults content image starved faults losses arms armed (hosted_of conf) old hosts.parts t.mid distinct_parts t.parts name one
-        those name (inr (inl e)) = subst (λ (n : List ℕ). out new n ≡ true) (sym e) t.foreign.first_out
-        those name (inr (inr (inl e))) = subst (λ (n : List ℕ). out new n ≡ true) (sym e) t.foreign.second_out
+            ∙ takes_out bay_seen seen (hosted_of conf) old hosts.parts t.mid distinct_parts t.parts name one
+        those name (inr (inl e)) = subst (λ (n : List ℕ). (bay_seen new).out n ≡ true) (sym e) t.foreign.first_out
+        those name (inr (inr (inl e))) = subst (λ (n : List ℕ). (bay_seen new).out n ≡ true) (sym e) t.foreign.second_out
         those name (inr (inr (inr never))) = absurd never
 
     pub all_others : (m : List ℕ) → (IsTaken conf m → ⊥) → Same m old new
-    all_others m away = slot_then disk out taken steady bay_faults m old t.mid new (parts_others m (none_of names m (λ one. away (inl one))))
+    all_others m away = slot_then bay_seen m old t.mid new (parts_others m (none_of names m (λ one. away (inl one))))
         (t.foreign.others m (λ e. away (inr (inl e))) (λ e. away (inr (inr e))))
 
-    pub all_counted : AreTakenFrom disk taken faults conf old new (disks_in hosts)
+    pub all_counted : AreTakenFrom bay_seen seen conf old new (disks_in hosts)
     all_counted = record {
-      parts = slots_counted disk out taken steady bay_faults content image starved faults losses arms armed old t.mid new hosts.parts slots
+      parts = slots_counted bay_seen seen old t.mid new hosts.parts slots
           (λ name one. (foreign_others name (to_names name one)).same_taken);
       names = λ name has. inl (to_names name (subst (λ (l : List (List ℕ)). IsOneOf l name) (names_of_disks hosts.parts) (named_one (slots_disks hosts.parts) name has)));
-      foreign = subst (λ (f : ForeignSlot D). BothTaken disk taken faults old new (foreign_disks f)) (sym t.foreign.is_open) (
+      foreign = subst (λ (f : ForeignSlot D). BothTaken bay_seen seen old new (foreign_disks f)) (sym t.foreign.is_open) (
         record { given = t.foreign.first; as_told = first_told; noted = t.foreign.first_noted; later = t.foreign.first_counted },
         record { given = t.foreign.second; as_told = second_told; noted = t.foreign.second_noted; later = t.foreign.second_counted },
       );
@@ -291,23 +290,23 @@ module _ {B D : Type 0} (disk : B → List ℕ → Option D) (out : B → List �
       second_is : t.foreign.second ≡ (tells state_b (inr (inr refl))).0
       second_is = let d = tells state_b (inr (inr refl)) in second_told d.0 d.1
 
-      opened : IsOpened content image starved faults losses arms armed t.foreign.first t.foreign.second (contents state_a) (contents state_b) t.foreign.store
-      opened = t.foreign.opens (contents state_a) (contents state_b) (ap content first_is ∙ (tells state_a (inr (inl refl))).2)
-          (ap content second_is ∙ (tells state_b (inr (inr refl))).2)
+      opened : IsOpened seen t.foreign.first t.foreign.second (contents state_a) (contents state_b) t.foreign.store
+      opened = t.foreign.opens (contents state_a) (contents state_b) (ap (λ d. (seen d).content) first_is ∙ (tells state_a (inr (inl refl))).2)
+          (ap (λ d. (seen d).content) second_is ∙ (tells state_b (inr (inr refl))).2)
 
       abbrev machine : Machine
       machine = record { connections = []; shards = record { parts = stand.parts; members = hosts.members; foreign = opened.shard } }
 
-      carried : AreCarried content image starved hosts (record { parts = stand.parts; members = hosts.members; foreign = opened.shard })
+      carried : AreCarried seen hosts (record { parts = stand.parts; members = hosts.members; foreign = opened.shard })
       carried = record {
         parts = stand.zip;
         members = refl;
-        foreign = subst (λ (f : ForeignSlot D). IsSlot content image starved f opened.shard) (sym t.foreign.is_open) opened.carried;
+        foreign = subst (λ (f : ForeignSlot D). IsSlot seen f opened.shard) (sym t.foreign.is_open) opened.carried;
       }
 
       foreign_at : (name : List ℕ) → NotIn names name → F hosts name ≡ G (Some (t.foreign.store.journal.live.disk, t.foreign.store.journal.idle)) name
       foreign_at name n =
-          among_past (λ (e : List ℕ × Option D). e.0) (λ e. facts_at faults losses arms armed e.1) (slots_disks hosts.parts) (G (foreign_disks hosts.foreign) name) name
+          among_past (λ (e : List ℕ × Option D). e.0) (λ e. facts_at seen e.1) (slots_disks hosts.parts) (G (foreign_disks hosts.foreign) name) name
           (subst (λ (l : List (List ℕ)). NotIn l name) (sym (names_of_disks hosts.parts)) (subst (λ (l : List Hosted). NotIn (part_disks l) name) (sym hosts_are) n))
           ∙ ap (λ (f : ForeignSlot D). G (foreign_disks f) name) t.foreign.is_open
 
@@ -319,16 +318,16 @@ module _ {B D : Type 0} (disk : B → List ℕ → Option D) (out : B → List �
       known name (inr (inl e)) =
           subst (λ (n : List ℕ). IsOpenedDisk (was n) (F hosts n)) (sym e)
           (subst (λ (f : Facts). IsOpenedDisk (was state_a) f) (sym (foreign_at state_a no_a))
-          (subst (λ (f : Facts). IsOpenedDisk f (facts_of faults losses arms armed t.foreign.store.journal.live.disk))
-          (ap (facts_of faults losses arms armed) first_is ∙ sym (tells state_a (inr (inl refl))).3) opened.on_first))
+          (subst (λ (f : Facts). IsOpenedDisk f (facts_of seen t.foreign.store.journal.live.disk))
+          (ap (facts_of seen) first_is ∙ sym (tells state_a (inr (inl refl))).3) opened.on_first))
       known name (inr (inr e)) =
           subst (λ (n : List ℕ). IsOpenedDisk (was n) (F hosts n)) (sym e)
           (subst (λ (f : Facts). IsOpenedDisk (was state_b) f) (sym (foreign_at state_b no_b))
-          (subst (λ (f : Facts). IsOpenedDisk f (facts_of faults losses arms armed t.foreign.store.journal.idle))
-          (ap (facts_of faults losses arms armed) second_is ∙ sym (tells state_b (inr (inr refl))).3) opened.on_second))
+          (subst (λ (f : Facts). IsOpenedDisk f (facts_of seen t.foreign.store.journal.idle))
+          (ap (facts_of seen) second_is ∙ sym (tells state_b (inr (inr refl))).3) opened.on_second))
 
-      pub started : (m : Machine) × IsCore content image starved (core_of conf [] hosts) m
-          × IsFirst conf contents was (state_of faults losses arms armed m (core_of conf [] hosts))
+      pub started : (m : Machine) × IsCore seen (core_of conf [] hosts) m
+          × IsFirst conf contents was (state_of seen m (core_of conf [] hosts))
       started = (
         machine,
         record { connections = refl; shards = carried },
@@ -349,24 +348,24 @@ module _ {B D : Type 0} (disk : B → List ℕ → Option D) (out : B → List �
 
   -- what stands after a refusal, and why it came
   pub record Refused (conf : ConfigParts) (fault : CoreOpen) (old new : B) : Type 0 where
-    pub back : AreOut out [] old → AreOut out [] new
+    pub back : AreOut bay_seen [] old → AreOut bay_seen [] new
     pub moves : Goes old new
     pub others : (m : List ℕ) → (IsTaken conf m → ⊥) → Same m old new
-    pub stays : (m : List ℕ) → StaysAs disk image m old new
+    pub stays : (m : List ℕ) → StaysAs bay_seen seen m old new
     pub damaged : (n : List ℕ) (place : ℕ) → fault ≡ Damaged n place → (contents : List ℕ → List ℕ) (was : Disks) → Tells conf old contents was
         → IsDamagedDisk conf contents n place
     pub recovers : (contents : List ℕ → List ℕ) (was : Disks) → Tells conf old contents was → StandForAll conf contents
         → (n : List ℕ) (place : ℕ) → fault ≢ Damaged n place
-    pub bay : fault ≡ Bay → Rose (bay_faults old) (bay_faults new)
-    pub device : fault ≡ Device → Rose (bay_faults old) (bay_faults new) ⊎ HasLastCount disk faults conf old
-    pub sound : IsSound disk steady content armed arms starved faults old → (fault ≢ Bay) × (fault ≢ Device)
+    pub bay : fault ≡ Bay → Rose (bay_seen old).faults (bay_seen new).faults
+    pub device : fault ≡ Device → Rose (bay_seen old).faults (bay_seen new).faults ⊎ HasLastCount bay_seen conf new
+    pub sound : IsSound bay_seen seen old → (fault ≢ Bay) × (fault ≢ Device)
 
   want_refused : (conf : ConfigParts) (fault : CoreOpen) (old new : B) → fault ≡ NoMemory → new ≡ old → Refused conf fault old new
   want_refused conf fault old new is same = record {
-    back = λ whole. subst (λ (b : B). AreOut out [] b) (sym same) whole;
-    moves = subst (λ (b : B). Goes old b) (sym same) (moves_same disk out taken steady bay_faults old);
-    others = λ m away. subst (λ (b : B). Same m old b) (sym same) (slot_same disk out taken steady bay_faults m old);
-    stays = λ m. stays_same disk image m old new (ap (λ (b : B). disk b m) same);
+    back = λ whole. subst (λ (b : B). AreOut bay_seen [] b) (sym same) whole;
+    moves = subst (λ (b : B). Goes old b) (sym same) (moves_same bay_seen old);
+    others = λ m away. subst (λ (b : B). Same m old b) (sym same) (slot_same bay_seen m old);
+    stays = λ m. stays_same bay_seen seen m old new (ap (λ (b : B). (bay_seen b).disk m) same);
     damaged = λ n place e contents was tells. absurd (let bad : NoMemory ≡ Damaged n place = sym is ∙ e in cc);
     recovers = λ contents was tells stand n place e. (let bad : NoMemory ≡ Damaged n place = sym is ∙ e in cc);
     bay = λ e. absurd (let bad : NoMemory ≡ Bay = sym is ∙ e in cc);
@@ -382,7 +381,7 @@ module _ {B D : Type 0} (disk : B → List ℕ → Option D) (out : B → List �
     all_apart = distinct_names conf list
 
     -- a partition was refused
-    module _ (r : RefusesAt disk out taken steady bay_faults content image starved faults losses arms armed (hosted_of conf) fault old new) where
+    module _ (r : RefusesAt bay_seen seen (hosted_of conf) fault old new) where
       split_disks : all ≡ part_disks r.before ++ part_disks (r.h ∷ r.after)
       split_disks = ap part_disks r.split ∙ disks_then r.before (r.h ∷ r.after)
 
@@ -405,73 +404,73 @@ module _ {B D : Type 0} (disk : B → List ℕ → Option D) (out : B → List �
 
       slots_are : named (slots_disks r.slots) ≡ part_disks r.before
       slots_are = names_of_disks r.slots ∙ ap part_disks
-          (takes_hosts disk out taken steady bay_faults content image starved faults losses arms armed r.before old r.slots r.mid r.takes)
+          (takes_hosts bay_seen seen r.before old r.slots r.mid r.takes)
 
       slots_distinct : AreDistinct (named (slots_disks r.slots))
       slots_distinct = subst AreDistinct (sym slots_are) before_distinct
 
       mid_is : (name : List ℕ) → IsOneOf (disks_of r.h) name → Same name old r.mid
-      mid_is name one = takes_others disk out taken steady bay_faults content image starved faults losses arms armed r.before old r.slots r.mid r.takes name
+      mid_is name one = takes_others bay_seen seen r.before old r.slots r.mid r.takes name
           (apart_from (part_disks r.before) (part_disks (r.h ∷ r.after)) name both_distinct (own_in name one))
 
       to_mid : Goes old r.mid
-      to_mid = takes_moves disk out taken steady bay_faults content image starved faults losses arms armed r.before old r.slots r.mid r.takes
+      to_mid = takes_moves bay_seen seen r.before old r.slots r.mid r.takes
 
       from_behind : Goes r.behind new
-      from_behind = puts_moves disk out taken steady bay_faults faults (slots_disks r.slots) r.behind new r.puts
+      from_behind = puts_moves bay_seen seen (slots_disks r.slots) r.behind new r.puts
 
-      tells_mid : (contents : List ℕ → List ℕ) (was : Disks) → Tells conf old contents was → TellsThese disk content (disks_of r.h) r.mid contents
+      tells_mid : (contents : List ℕ → List ℕ) (was : Disks) → Tells conf old contents was → TellsThese bay_seen seen (disks_of r.h) r.mid contents
       tells_mid contents was tells name one = let d = tells name (inl (in_all name one)) in (d.0, (mid_is name one).same_disk ∙ d.1, d.2)
 
-      part_back : AreOut out [] old → (name : List ℕ) → IsOneOf (part_disks r.before) name ⊎ NotIn (part_disks r.before) name → out new name ≡ false
-      part_back whole name (inl one) = puts_in disk out taken steady bay_faults faults (slots_disks r.slots) r.behind new slots_distinct r.puts name
+      part_back : AreOut bay_seen [] old → (name : List ℕ) → IsOneOf (part_disks r.before) name ⊎ NotIn (part_disks r.before) name → (bay_seen new).out name ≡ false
+      part_back whole name (inl one) = puts_in bay_seen seen (slots_disks r.slots) r.behind new slots_distinct r.puts name
           (subst (λ (l : List (List ℕ)). IsOneOf l name) (sym slots_are) one)
       part_back whole name (inr away) = go (one_or_none (disks_of r.h) name) where
-        behind_same : out new name ≡ out r.behind name
-        behind_same = (puts_others disk out taken steady bay_faults faults (slots_disks r.slots) r.behind new r.puts name
+        behind_same : (bay_seen new).out name ≡ (bay_seen r.behind).out name
+        behind_same = (puts_others bay_seen seen (slots_disks r.slots) r.behind new r.puts name
             (subst (λ (l : List (List ℕ)). NotIn l name) (sym slots_are) away)).same_out
 
-        go : IsOneOf (disks_of r.h) name ⊎ NotIn (disks_of r.h) name → out new name ≡ false
+        go : IsOneOf (disks_of r.h) name ⊎ NotIn (disks_of r.h) name → (bay_seen new).out name ≡ false
         go (inl one) = behind_same ∙ r.refuses.are_in name one
         go (inr n) = behind_same ∙ (r.refuses.others name n).same_out
-            ∙ (takes_others disk out taken steady bay_faults content image starved faults losses arms armed r.before old r.slots r.mid r.takes name away).same_out
+            ∙ (takes_others bay_seen seen r.before old r.slots r.mid r.takes name away).same_out
             ∙ whole.others name tt
 
       part_others : (m : List ℕ) → (IsOneOf all m → ⊥) → Same m old new
       part_others m away =
           let before : NotIn (part_disks r.before) m = none_of (part_disks r.before) m (λ one. away (in_front m one)) in
-          slot_then disk out taken steady bay_faults m old r.mid new
-          (takes_others disk out taken steady bay_faults content image starved faults losses arms armed r.before old r.slots r.mid r.takes m before)
-          (slot_then disk out taken steady bay_faults m r.mid r.behind new (r.refuses.others m (none_of (disks_of r.h) m (λ one. away (in_all m one))))
-          (puts_others disk out taken steady bay_faults faults (slots_disks r.slots) r.behind new r.puts m
+          slot_then bay_seen m old r.mid new
+          (takes_others bay_seen seen r.before old r.slots r.mid r.takes m before)
+          (slot_then bay_seen m r.mid r.behind new (r.refuses.others m (none_of (disks_of r.h) m (λ one. away (in_all m one))))
+          (puts_others bay_seen seen (slots_disks r.slots) r.behind new r.puts m
           (subst (λ (l : List (List ℕ)). NotIn l m) (sym slots_are) before)))
 
       before_slots : Slots old r.mid r.slots
-      before_slots = takes_slots disk out taken steady bay_faults content image starved faults losses arms armed r.before old r.slots r.mid before_distinct r.takes
+      before_slots = takes_slots bay_seen seen r.before old r.slots r.mid before_distinct r.takes
 
       before_are : hosted_slots r.slots ≡ r.before
-      before_are = takes_hosts disk out taken steady bay_faults content image starved faults losses arms armed r.before old r.slots r.mid r.takes
+      before_are = takes_hosts bay_seen seen r.before old r.slots r.mid r.takes
 
       put_others : (m : List ℕ) → NotIn (part_disks r.before) m → Same m r.behind new
-      put_others m away = puts_others disk out taken steady bay_faults faults (slots_disks r.slots) r.behind new r.puts m
+      put_others m away = puts_others bay_seen seen (slots_disks r.slots) r.behind new r.puts m
           (subst (λ (l : List (List ℕ)). NotIn l m) (sym slots_are) away)
 
       part_stays : (m : List ℕ) → IsOneOf (part_disks r.before) m ⊎ NotIn (part_disks r.before) m → IsOneOf (disks_of r.h) m ⊎ NotIn (disks_of r.h) m
-          → StaysAs disk image m old new
-      part_stays m (inl one) own = slots_stay disk out taken steady bay_faults content image starved faults losses arms armed old r.mid r.behind new r.slots before_slots
-          (puts_hold disk out taken steady bay_faults faults (slots_disks r.slots) r.behind new slots_distinct r.puts)
-          (moves_then disk out taken steady bay_faults old r.mid r.behind to_mid r.refuses.moves).told m
+          → StaysAs bay_seen seen m old new
+      part_stays m (inl one) own = slots_stay bay_seen seen old r.mid r.behind new r.slots before_slots
+          (puts_hold bay_seen seen (slots_disks r.slots) r.behind new slots_distinct r.puts)
+          (moves_then bay_seen old r.mid r.behind to_mid r.refuses.moves).told m
           (subst (λ (l : List Hosted). IsOneOf (part_disks l) m) (sym before_are) one)
       part_stays m (inr away) (inl one) =
-          stays_between disk image m old r.mid r.behind new (mid_is m one).same_disk (put_others m away).same_disk (r.refuses.stays m one)
-      part_stays m (inr away) (inr n) = stays_same disk image m old new ((put_others m away).same_disk ∙ (r.refuses.others m n).same_disk
-          ∙ (takes_others disk out taken steady bay_faults content image starved faults losses arms armed r.before old r.slots r.mid r.takes m away).same_disk)
+          stays_between bay_seen seen m old r.mid r.behind new (mid_is m one).same_disk (put_others m away).same_disk (r.refuses.stays m one)
+      part_stays m (inr away) (inr n) = stays_same bay_seen seen m old new ((put_others m away).same_disk ∙ (r.refuses.others m n).same_disk
+          ∙ (takes_others bay_seen seen r.before old r.slots r.mid r.takes m away).same_disk)
 
       part_refused : Refused conf fault old new
       part_refused = record {
         back = λ whole. record { those = λ name one. absurd one; others = λ name away. part_back whole name (one_or_none (part_disks r.before) name) };
-        moves = moves_then disk out taken steady bay_faults old r.mid new to_mid
-            (moves_then disk out taken steady bay_faults r.mid r.behind new r.refuses.moves from_behind);
+        moves = moves_then bay_seen old r.mid new to_mid
+            (moves_then bay_seen r.mid r.behind new r.refuses.moves from_behind);
         others = λ m away. part_others m (λ one. away (inl one));
         stays = λ m. part_stays m (one_or_none (part_disks r.before) m) (one_or_none (disks_of r.h) m);
         damaged = λ n place e contents was tells. inl (
@@ -485,7 +484,7 @@ module _ {B D : Type 0} (disk : B → List ℕ → Option D) (out : B → List �
         );
         recovers = λ contents was tells stand n place. r.refuses.recovers contents (tells_mid contents was tells)
             (all_in_rest (StandsForTables contents) r.before r.h r.after (subst (AllByRecursion (StandsForTables contents)) r.split stand.parts)) n place;
-        bay = λ e. rose_between (bay_faults old) (bay_faults r.mid) (bay_faults r.behind) (bay_faults new) to_mid.later (r.refuses.bay e) from_behind.later;
+        bay = λ e. rose_between (bay_seen old).faults (bay_seen r.mid).faults (bay_seen r.behind).faults (bay_seen new).faults to_mid.later (r.refuses.bay e) from_behind.later;
         device = λ e. device (r.refuses.device e);
         sound = λ s. r.refuses.sound
             (λ name one.
@@ -494,24 +493,25 @@ module _ {B D : Type 0} (disk : B → List ℕ → Option D) (out : B → List �
             (to_mid.steadies s.is_steady);
       }
         where
-          device : Rose (bay_faults r.mid) (bay_faults r.behind)
-              ⊎ ((name : List ℕ) × (d : D) × IsOneOf (disks_of r.h) name × IsAsTold (disk r.mid name) d × (2 ^ 64 - 1 ≤ faults d))
-              → Rose (bay_faults old) (bay_faults new) ⊎ HasLastCount disk faults conf old
-          device (inl rose) = inl (rose_between (bay_faults old) (bay_faults r.mid) (bay_faults r.behind) (bay_faults new) to_mid.later rose from_behind.later)
-          device (inr (name, d, one, told, last)) = inr (name, d, inl (in_all name one), (λ x is. told x ((mid_is name one).same_disk ∙ is)), last)
+          device : Rose (bay_seen r.mid).faults (bay_seen r.behind).faults
+              ⊎ ((name : List ℕ) × IsOneOf (disks_of r.h) name × (2 ^ 64 - 1 ≤ (bay_seen r.behind).taken name))
+              → Rose (bay_seen old).faults (bay_seen new).faults ⊎ HasLastCount bay_seen conf new
+          device (inl rose) = inl (rose_between (bay_seen old).faults (bay_seen r.mid).faults (bay_seen r.behind).faults (bay_seen new).faults to_mid.later rose from_behind.later)
+          device (inr (name, one, last)) =
+              let same = puts_taken bay_seen seen (slots_disks r.slots) r.behind new r.puts name in inr (name, inl (in_all name one), omega (arith, same, last))
 
     -- foreign state was refused
     module _ (slots : List (PartSlot D)) (mid behind : B) (takes : Before (hosted_of conf) old slots mid)
-        (r : RefusesForeign disk out taken steady bay_faults content image starved faults arms armed fault mid behind) (puts : Behind (slots_disks slots) behind new) where
+        (r : RefusesForeign bay_seen seen fault mid behind) (puts : Behind (slots_disks slots) behind new) where
       names_are : named (slots_disks slots) ≡ all
       names_are = names_of_disks slots ∙ ap part_disks
-          (takes_hosts disk out taken steady bay_faults content image starved faults losses arms armed (hosted_of conf) old slots mid takes)
+          (takes_hosts bay_seen seen (hosted_of conf) old slots mid takes)
 
       slots_apart : AreDistinct (named (slots_disks slots))
       slots_apart = subst AreDistinct (sym names_are) (parts_distinct (hosted_of conf) all_apart)
 
       others_of : (m : List ℕ) → NotIn all m → Same m old mid
-      others_of = takes_others disk out taken steady bay_faults content image starved faults losses arms armed (hosted_of conf) old slots mid takes
+      others_of = takes_others bay_seen seen (hosted_of conf) old slots mid takes
 
       a_same : Same state_a old mid
       a_same = others_of state_a (no_state_a (hosted_of conf) all_apart)
@@ -520,64 +520,64 @@ module _ {B D : Type 0} (disk : B → List ℕ → Option D) (out : B → List �
       b_same = others_of state_b (no_state_b (hosted_of conf) all_apart)
 
       before : Goes old mid
-      before = takes_moves disk out taken steady bay_faults content image starved faults losses arms armed (hosted_of conf) old slots mid takes
+      before = takes_moves bay_seen seen (hosted_of conf) old slots mid takes
 
       after : Goes behind new
-      after = puts_moves disk out taken steady bay_faults faults (slots_disks slots) behind new puts
+      after = puts_moves bay_seen seen (slots_disks slots) behind new puts
 
-      state_back : AreOut out [] old → (name : List ℕ) → IsOneOf all name ⊎ NotIn all name → out new name ≡ false
-      state_back whole name (inl one) = puts_in disk out taken steady bay_faults faults (slots_disks slots) behind new slots_apart puts name
+      state_back : AreOut bay_seen [] old → (name : List ℕ) → IsOneOf all name ⊎ NotIn all name → (bay_seen new).out name ≡ false
+      state_back whole name (inl one) = puts_in bay_seen seen (slots_disks slots) behind new slots_apart puts name
           (subst (λ (l : List (List ℕ)). IsOneOf l name) (sym names_are) one)
       state_back whole name (inr away) = go (one_or_none (state_a ∷ state_b ∷ []) name) where
-        behind_same : out new name ≡ out behind name
-        behind_same = (puts_others disk out taken steady bay_faults faults (slots_disks slots) behind new puts name
+        behind_same : (bay_seen new).out name ≡ (bay_seen behind).out name
+        behind_same = (puts_others bay_seen seen (slots_disks slots) behind new puts name
             (subst (λ (l : List (List ℕ)). NotIn l name) (sym names_are) away)).same_out
 
-        go : IsOneOf (state_a ∷ state_b ∷ []) name ⊎ NotIn (state_a ∷ state_b ∷ []) name → out new name ≡ false
-        go (inl (inl e)) = behind_same ∙ subst (λ (n : List ℕ). out behind n ≡ false) (sym e) r.first_in
-        go (inl (inr (inl e))) = behind_same ∙ subst (λ (n : List ℕ). out behind n ≡ false) (sym e) r.second_in
+        go : IsOneOf (state_a ∷ state_b ∷ []) name ⊎ NotIn (state_a ∷ state_b ∷ []) name → (bay_seen new).out name ≡ false
+        go (inl (inl e)) = behind_same ∙ subst (λ (n : List ℕ). (bay_seen behind).out n ≡ false) (sym e) r.first_in
+        go (inl (inr (inl e))) = behind_same ∙ subst (λ (n : List ℕ). (bay_seen behind).out n ≡ false) (sym e) r.second_in
         go (inl (inr (inr never))) = absurd never
         go (inr n) = behind_same ∙ (r.others name n.0 n.1.0).same_out ∙ (others_of name away).same_out ∙ whole.others name tt
 
       state_others : (m : List ℕ) → (IsTaken conf m → ⊥) → Same m old new
       state_others m away =
           let own : NotIn all m = none_of all m (λ one. away (inl one)) in
-          slot_then disk out taken steady bay_faults m old mid new (others_of m own)
-          (slot_then disk out taken steady bay_faults m mid behind new (r.others m (λ e. away (inr (inl e))) (λ e. away (inr (inr e))))
-          (puts_others disk out taken steady bay_faults faults (slots_disks slots) behind new puts m
+          slot_then bay_seen m old mid new (others_of m own)
+          (slot_then bay_seen m mid behind new (r.others m (λ e. away (inr (inl e))) (λ e. away (inr (inr e))))
+          (puts_others bay_seen seen (slots_disks slots) behind new puts m
           (subst (λ (l : List (List ℕ)). NotIn l m) (sym names_are) own)))
 
       all_slots : Slots old mid slots
-      all_slots = takes_slots disk out taken steady bay_faults content image starved faults losses arms armed (hosted_of conf) old slots mid
+      all_slots = takes_slots bay_seen seen (hosted_of conf) old slots mid
           (parts_distinct (hosted_of conf) all_apart) takes
 
       all_are : hosted_slots slots ≡ hosted_of conf
-      all_are = takes_hosts disk out taken steady bay_faults content image starved faults losses arms armed (hosted_of conf) old slots mid takes
+      all_are = takes_hosts bay_seen seen (hosted_of conf) old slots mid takes
 
       put_away : (m : List ℕ) → NotIn all m → Same m behind new
-      put_away m away = puts_others disk out taken steady bay_faults faults (slots_disks slots) behind new puts m
+      put_away m away = puts_others bay_seen seen (slots_disks slots) behind new puts m
           (subst (λ (l : List (List ℕ)). NotIn l m) (sym names_are) away)
 
       state_stays : (m : List ℕ) → IsOneOf all m ⊎ NotIn all m → IsOneOf (state_a ∷ state_b ∷ []) m ⊎ NotIn (state_a ∷ state_b ∷ []) m
-          → StaysAs disk image m old new
-      state_stays m (inl one) own = slots_stay disk out taken steady bay_faults content image starved faults losses arms armed old mid behind new slots all_slots
-          (puts_hold disk out taken steady bay_faults faults (slots_disks slots) behind new slots_apart puts)
-          (moves_then disk out taken steady bay_faults old mid behind before r.moves).told m
+          → StaysAs bay_seen seen m old new
+      state_stays m (inl one) own = slots_stay bay_seen seen old mid behind new slots all_slots
+          (puts_hold bay_seen seen (slots_disks slots) behind new slots_apart puts)
+          (moves_then bay_seen old mid behind before r.moves).told m
           (subst (λ (l : List Hosted). IsOneOf (part_disks l) m) (sym all_are) one)
-      state_stays m (inr away) (inl (inl e)) = subst (λ (n : List ℕ). StaysAs disk image n old new) (sym e)
-          (stays_between disk image state_a old mid behind new a_same.same_disk
+      state_stays m (inr away) (inl (inl e)) = subst (λ (n : List ℕ). StaysAs bay_seen seen n old new) (sym e)
+          (stays_between bay_seen seen state_a old mid behind new a_same.same_disk
           (put_away state_a (no_state_a (hosted_of conf) all_apart)).same_disk r.on_first)
-      state_stays m (inr away) (inl (inr (inl e))) = subst (λ (n : List ℕ). StaysAs disk image n old new) (sym e)
-          (stays_between disk image state_b old mid behind new b_same.same_disk
+      state_stays m (inr away) (inl (inr (inl e))) = subst (λ (n : List ℕ). StaysAs bay_seen seen n old new) (sym e)
+          (stays_between bay_seen seen state_b old mid behind new b_same.same_disk
           (put_away state_b (no_state_b (hosted_of conf) all_apart)).same_disk r.on_second)
       state_stays m (inr away) (inl (inr (inr never))) = absurd never
-      state_stays m (inr away) (inr n) = stays_same disk image m old new
+      state_stays m (inr away) (inr n) = stays_same bay_seen seen m old new
           ((put_away m away).same_disk ∙ (r.others m n.0 n.1.0).same_disk ∙ (others_of m away).same_disk)
 
       state_refused : Refused conf fault old new
       state_refused = record {
         back = λ whole. record { those = λ name one. absurd one; others = λ name away. state_back whole name (one_or_none all name) };
-        moves = moves_then disk out taken steady bay_faults old mid new before (moves_then disk out taken steady bay_faults mid behind new r.moves after);
+        moves = moves_then bay_seen old mid new before (moves_then bay_seen mid behind new r.moves after);
         others = state_others;
         stays = λ m. state_stays m (one_or_none all m) (one_or_none (state_a ∷ state_b ∷ []) m);
         damaged = λ n place e contents was tells.
@@ -592,7 +592,7 @@ module _ {B D : Type 0} (disk : B → List ℕ → Option D) (out : B → List �
             let d = tells state_a (inr (inl refl)) in
             let f = tells state_b (inr (inr refl)) in
             r.recovers d.0 f.0 (contents state_a) (contents state_b) stand.states (a_same.same_disk ∙ d.1) (b_same.same_disk ∙ f.1) d.2 f.2 stand.stand n place;
-        bay = λ e. rose_between (bay_faults old) (bay_faults mid) (bay_faults behind) (bay_faults new) before.later (r.bay e) after.later;
+        bay = λ e. rose_between (bay_seen old).faults (bay_seen mid).faults (bay_seen behind).faults (bay_seen new).faults before.later (r.bay e) after.later;
         device = λ e. device (r.device e);
         sound = λ s.
             let d = s.each state_a (inr (inl refl)) in
@@ -600,23 +600,21 @@ module _ {B D : Type 0} (disk : B → List ℕ → Option D) (out : B → List �
             r.sound d.0 f.0 (a_same.same_disk ∙ d.1) (b_same.same_disk ∙ f.1) d.2 f.2 (before.steadies s.is_steady);
       }
         where
-          device : Rose (bay_faults mid) (bay_faults behind)
-              ⊎ ((name : List ℕ) × (d : D) × ((name ≡ state_a) ⊎ (name ≡ state_b)) × IsAsTold (disk mid name) d × (2 ^ 64 - 1 ≤ faults d))
-              → Rose (bay_faults old) (bay_faults new) ⊎ HasLastCount disk faults conf old
-          device (inl rose) = inl (rose_between (bay_faults old) (bay_faults mid) (bay_faults behind) (bay_faults new) before.later rose after.later)
-          device (inr (name, d, (inl e), told, last)) =
-              inr (name, d, inr (inl e), (λ x is. told x (subst (λ (n : List ℕ). disk mid n ≡ disk old n) (sym e) a_same.same_disk ∙ is)), last)
-          device (inr (name, d, (inr e), told, last)) =
-              inr (name, d, inr (inr e), (λ x is. told x (subst (λ (n : List ℕ). disk mid n ≡ disk old n) (sym e) b_same.same_disk ∙ is)), last)
+          device : Rose (bay_seen mid).faults (bay_seen behind).faults
+              ⊎ ((name : List ℕ) × ((name ≡ state_a) ⊎ (name ≡ state_b)) × (2 ^ 64 - 1 ≤ (bay_seen behind).taken name))
+              → Rose (bay_seen old).faults (bay_seen new).faults ⊎ HasLastCount bay_seen conf new
+          device (inl rose) = inl (rose_between (bay_seen old).faults (bay_seen mid).faults (bay_seen behind).faults (bay_seen new).faults before.later rose after.later)
+          device (inr (name, is, last)) =
+              let same = puts_taken bay_seen seen (slots_disks slots) behind new puts name in inr (name, inr is, omega (arith, same, last))
 
-    pub refused : RefusesAll disk out taken steady bay_faults content image starved faults losses arms armed conf fault old new → Refused conf fault old new
+    pub refused : RefusesAll bay_seen seen conf fault old new → Refused conf fault old new
     refused (inl (is, same)) = want_refused conf fault old new is same
     refused (inr (inl r)) = part_refused r
     refused (inr (inr (slots, mid, behind, takes, r, puts))) = state_refused slots mid behind takes r puts
 
   -- ---- all is put back
 
-  module _ (hosts : HostsParts D) (apart : AreApart hosts) (old new : B) (p : PutsAllBack disk out taken steady bay_faults faults hosts old new) where
+  module _ (hosts : HostsParts D) (apart : AreApart hosts) (old new : B) (p : PutsAllBack bay_seen seen hosts old new) where
     abbrev entries : List (List ℕ × Option D)
     entries = slots_disks hosts.parts
 
@@ -644,14 +642,14 @@ module _ {B D : Type 0} (disk : B → List ℕ → Option D) (out : B → List �
     a_not_b : state_a ≢ state_b
     a_not_b e = states_apart e
 
-    first_back : PutsBack disk out taken steady bay_faults faults state_a p.2.0 mid_bay next_bay
+    first_back : PutsBack bay_seen seen state_a p.2.0 mid_bay next_bay
     first_back = p.2.4
 
-    second_back : PutsBack disk out taken steady bay_faults faults state_b p.2.1 next_bay new
+    second_back : PutsBack bay_seen seen state_b p.2.1 next_bay new
     second_back = p.2.5
 
     parts_same : (m : List ℕ) → NotIn own m → Same m old mid_bay
-    parts_same m n = puts_others disk out taken steady bay_faults faults entries old mid_bay parts_back m (from_own m n)
+    parts_same m n = puts_others bay_seen seen entries old mid_bay parts_back m (from_own m n)
 
     a_same_too : Same state_a old mid_bay
     a_same_too = parts_same state_a (no_state_a (hosted_slots hosts.parts) apart)
@@ -660,75 +658,87 @@ module _ {B D : Type 0} (disk : B → List ℕ → Option D) (out : B → List �
     b_same_too = parts_same state_b (no_state_b (hosted_slots hosts.parts) apart)
 
     state_same : (m : List ℕ) → m ≢ state_a → m ≢ state_b → Same m mid_bay new
-    state_same m n k = slot_then disk out taken steady bay_faults m mid_bay next_bay new (first_back.others m n) (second_back.others m k)
+    state_same m n k = slot_then bay_seen m mid_bay next_bay new (first_back.others m n) (second_back.others m k)
+
+    -- with what counts the disks were taken is noted still
+    pub back_noted : (m : List ℕ) → (bay_seen new).taken m ≡ (bay_seen old).taken m
+    back_noted m = put_taken bay_seen seen state_b p.2.1 next_bay new second_back m
+        ∙ (put_taken bay_seen seen state_a p.2.0 mid_bay next_bay first_back m ∙ puts_taken bay_seen seen entries old mid_bay parts_back m)
 
     pub back_moves : Goes old new
-    back_moves = moves_then disk out taken steady bay_faults old mid_bay new (puts_moves disk out taken steady bay_faults faults entries old mid_bay parts_back)
-        (moves_then disk out taken steady bay_faults mid_bay next_bay new (put_moves disk out taken steady bay_faults faults state_a p.2.0 mid_bay next_bay first_back)
-        (put_moves disk out taken steady bay_faults faults state_b p.2.1 next_bay new second_back))
+    back_moves = moves_then bay_seen old mid_bay new (puts_moves bay_seen seen entries old mid_bay parts_back)
+        (moves_then bay_seen mid_bay next_bay new (put_moves bay_seen seen state_a p.2.0 mid_bay next_bay first_back)
+        (put_moves bay_seen seen state_b p.2.1 next_bay new second_back))
 
     -- a disk of another broker
     pub others_same : (conf : ConfigParts) → hosted_slots hosts.parts ≡ hosted_of conf → (m : List ℕ) → (IsTaken conf m → ⊥) → Same m old new
-    others_same conf is m away = slot_then disk out taken steady bay_faults m old mid_bay new
+    others_same conf is m away = slot_then bay_seen m old mid_bay new
         (parts_same m (subst (λ (l : List Hosted). NotIn (part_disks l) m) (sym is) (none_of (part_disks (hosted_of conf)) m (λ one. away (inl one)))))
         (state_same m (λ e. away (inr (inl e))) (λ e. away (inr (inr e))))
 
-    part_holds : (es : List (List ℕ × Option D)) → ((m : List ℕ) → IsOneOf (named es) m → disk new m ≡ disk mid_bay m)
-        → AllByRecursion (HoldsIf disk old mid_bay) es → AllByRecursion (HoldsIf disk old new) es
+    part_holds : (es : List (List ℕ × Option D)) → ((m : List ℕ) → IsOneOf (named es) m → (bay_seen new).disk m ≡ (bay_seen mid_bay).disk m)
+        → AllByRecursion (HoldsIf bay_seen old mid_bay) es → AllByRecursion (HoldsIf bay_seen old new) es
     part_holds [] same h = tt
     part_holds (e ∷ es) same h = (go e.1 h.0, part_holds es (λ m one. same m (inr one)) h.1) where
-      go : (o : Option D) → HoldsIf disk old mid_bay (e.0, o) → HoldsIf disk old new (e.0, o)
+      go : (o : Option D) → HoldsIf bay_seen old mid_bay (e.0, o) → HoldsIf bay_seen old new (e.0, o)
       go (Some d) holds = λ t. same e.0 (inl refl) ∙ holds t
       go None holds = absurd holds
 
-    pub all_back : ArePutBack disk old new (disks_in hosts)
+    pub all_back : ArePutBack bay_seen old new (disks_in hosts)
     all_back = record {
       parts = part_holds entries
           (λ m one.
           let n = not_states (hosted_slots hosts.parts) apart m (subst (λ (l : List (List ℕ)). IsOneOf l m) (names_of_disks hosts.parts) one) in
           (state_same m n.0 n.1).same_disk)
-          (puts_hold disk out taken steady bay_faults faults entries old mid_bay own_distinct parts_back);
-      foreign = subst (λ (o : Option (D × D)). BothHold disk old new o) (sym pair_is) (
+          (puts_hold bay_seen seen entries old mid_bay own_distinct parts_back);
+      foreign = subst (λ (o : Option (D × D)). BothHold bay_seen old new o) (sym pair_is) (
         λ t. (second_back.others state_a a_not_b).same_disk ∙ first_back.there (ap is_some a_same_too.same_disk ∙ t),
         λ t. second_back.there (ap is_some (first_back.others state_b (λ e. a_not_b (sym e))).same_disk ∙ ap is_some b_same_too.same_disk ∙ t),
       );
     }
 
-    pub all_in : AreOut out (all_names (hosted_slots hosts.parts)) old → AreOut out [] new
+    is_in : (name : List ℕ) → IsOneOf own name ⊎ IsOneOf (state_a ∷ state_b ∷ []) name → (bay_seen new).out name ≡ false
+    is_in name (inl one) =
+        let n = not_states (hosted_slots hosts.parts) apart name one in
+        (state_same name n.0 n.1).same_out
+        ∙ puts_in bay_seen seen entries old mid_bay own_distinct parts_back name
+        (subst (λ (l : List (List ℕ)). IsOneOf l name) (sym (names_of_disks hosts.parts)) one)
+    is_in name (inr (inl e)) =
+        subst (λ (m : List ℕ). (bay_seen new).out m ≡ false) (sym e) ((second_back.others state_a a_not_b).same_out ∙ first_back.is_in)
+    is_in name (inr (inr (inl e))) = subst (λ (m : List ℕ). (bay_seen new).out m ≡ false) (sym e) second_back.is_in
+    is_in name (inr (inr (inr never))) = absurd never
+
+    pub names_in : (name : List ℕ) → IsOneOf (all_names (hosted_slots hosts.parts)) name → (bay_seen new).out name ≡ false
+    names_in name one = is_in name (one_in_either own (state_a ∷ state_b ∷ []) name one)
+
+    pub all_in : AreOut bay_seen (all_names (hosted_slots hosts.parts)) old → AreOut bay_seen [] new
     all_in were = record {
       those = λ name one. absurd one;
       others = λ name away. go name (one_or_none own name) (one_or_none (state_a ∷ state_b ∷ []) name);
     }
       where
-        go : (name : List ℕ) → IsOneOf own name ⊎ NotIn own name → IsOneOf (state_a ∷ state_b ∷ []) name ⊎ NotIn (state_a ∷ state_b ∷ []) name → out new name ≡ false
-        go name (inl one) either =
-            let n = not_states (hosted_slots hosts.parts) apart name one in
-            (state_same name n.0 n.1).same_out
-            ∙ puts_in disk out taken steady bay_faults faults entries old mid_bay own_distinct parts_back name
-            (subst (λ (l : List (List ℕ)). IsOneOf l name) (sym (names_of_disks hosts.parts)) one)
-        go name (inr away) (inl (inl e)) =
-            subst (λ (m : List ℕ). out new m ≡ false) (sym e) ((second_back.others state_a a_not_b).same_out ∙ first_back.is_in)
-        go name (inr away) (inl (inr (inl e))) = subst (λ (m : List ℕ). out new m ≡ false) (sym e) second_back.is_in
-        go name (inr away) (inl (inr (inr never))) = absurd never
+        go : (name : List ℕ) → IsOneOf own name ⊎ NotIn own name → IsOneOf (state_a ∷ state_b ∷ []) name ⊎ NotIn (state_a ∷ state_b ∷ []) name → (bay_seen new).out name ≡ false
+        go name (inl one) either = is_in name (inl one)
+        go name (inr away) (inl one) = is_in name (inr one)
         go name (inr away) (inr n) = (state_same name n.0 n.1.0).same_out ∙ (parts_same name away).same_out
             ∙ were.others name (not_in_both own (state_a ∷ state_b ∷ []) name away n)
 
-    pub all_rise : HasRisen taken faults old (disks_in hosts) → Rose (bay_faults old) (bay_faults new)
+    pub all_rise : HasRisen bay_seen seen old (disks_in hosts) → Rose (bay_seen old).faults (bay_seen new).faults
     all_rise (inl risen) =
-        let r = puts_rise disk out taken steady bay_faults faults entries old mid_bay own_distinct parts_back risen in
+        let r = puts_rise bay_seen seen entries old mid_bay own_distinct parts_back risen in
         let l = first_back.later in
         let m = second_back.later in
         omega (arith, r, l, m)
-    all_rise (inr risen) = state_rise (subst (λ (o : Option (D × D)). BothRisen taken faults old o) pair_is risen) where
-      state_rise : (taken old state_a < faults p.2.0) ⊎ (taken old state_b < faults p.2.1) → Rose (bay_faults old) (bay_faults new)
+    all_rise (inr risen) = state_rise (subst (λ (o : Option (D × D)). BothRisen bay_seen seen old o) pair_is risen) where
+      state_rise : ((bay_seen old).taken state_a < (seen p.2.0).faults) ⊎ ((bay_seen old).taken state_b < (seen p.2.1).faults) → Rose (bay_seen old).faults (bay_seen new).faults
       state_rise (inl less) =
-          let l = (puts_moves disk out taken steady bay_faults faults entries old mid_bay parts_back).later in
+          let l = (puts_moves bay_seen seen entries old mid_bay parts_back).later in
           let c = first_back.counts in
           let s = a_same_too.same_taken in
           let m = second_back.later in
           omega (arith, less, l, c, s, m)
       state_rise (inr less) =
-          let l = (puts_moves disk out taken steady bay_faults faults entries old mid_bay parts_back).later in
+          let l = (puts_moves bay_seen seen entries old mid_bay parts_back).later in
           let c = second_back.counts in
           let s = b_same_too.same_taken in
           let t = (first_back.others state_b (λ e. a_not_b (sym e))).same_taken in

@@ -24,65 +24,64 @@ use Rattle.broker_model.specs.Hosted.{state_a, same_name}
 use Rattle.broker_model.specs.Shards.{PartCall, look_at, result_of}
 use Rattle.broker_model.specs.Shards.PartCall.{Visits, Produces, Looks, Expires}
 use Rattle.broker_model.specs.Disks.{Disks, IsUsed, facts_of}
+use Rattle.edge_io.specs.Views.{DiskView}
 
 -- ---- one disk
 
--- it tells its content, and has found memory at each call; the members of the disk come first
-pub record IsFed {D : Type 0} (content : D → Option (List ℕ)) (starved : D → Bool) (disk : D) : Type 0 where
-  pub told : IsTold (content disk)
-  pub fed : starved disk ≡ false
+-- it tells its content, and has found memory at each call
+pub record IsFed {D : Type 0} (seen : D → DiskView) (disk : D) : Type 0 where
+  pub told : IsTold (seen disk).content
+  pub fed : (seen disk).starved ≡ false
 
 -- a disk over calls: its count of faults doesn't fall, and it tells its content where it did
-pub record GoesOn {D : Type 0} (content : D → Option (List ℕ)) (faults : D → ℕ) (old new : D) : Type 0 where
-  pub later : faults old ≤ faults new
-  pub told : is_some (content new) ≡ is_some (content old)
+pub record GoesOn {D : Type 0} (seen : D → DiskView) (old new : D) : Type 0 where
+  pub later : (seen old).faults ≤ (seen new).faults
+  pub told : is_some (seen new).content ≡ is_some (seen old).content
 
 -- ---- foreign state
 
--- A store on disks that tell their contents and have found memory at each call stands for this shard. The members of the disk come
--- first.
-pub record IsCarried {D : Type 0} (content : D → Option (List ℕ)) (image : D → List ℕ → Type 0) (starved : D → Bool)
+-- A store on disks that tell their contents and have found memory at each call stands for this shard.
+pub record IsCarried {D : Type 0} (seen : D → DiskView)
     (store : StoreParts D) (shard : ForeignShardState) : Type 0 where
-  pub carries : CarriesForeign image store shard
-  pub told : IsTold (content store.journal.live.disk)
-  pub second_told : IsTold (content store.journal.idle)
-  pub fed : starved store.journal.live.disk ≡ false
-  pub second_fed : starved store.journal.idle ≡ false
+  pub carries : CarriesForeign seen store shard
+  pub told : IsTold (seen store.journal.live.disk).content
+  pub second_told : IsTold (seen store.journal.idle).content
+  pub fed : (seen store.journal.live.disk).starved ≡ false
+  pub second_fed : (seen store.journal.idle).starved ≡ false
 
 -- what the first and the second disk have, by the name
 abbrev pub by_name : {A : Type 0} → A → A → List ℕ → A
 by_name first second name = if same_name name state_a then first else second
 
 -- what is known of the disks of foreign state, by their names
-abbrev pub facts_by : {D : Type 0} → (D → ℕ) → (D → List (ℕ × List ℕ)) → (D → ℕ) → (D → Armed) → D → D → Disks
-facts_by faults losses arms armed first second name = record {
-  faults = by_name (faults first) (faults second) name;
-  losses = by_name (losses first) (losses second) name;
-  arms = by_name (arms first) (arms second) name;
-  armed = by_name (armed first) (armed second) name;
+abbrev pub facts_by : {D : Type 0} → (D → DiskView) → D → D → Disks
+facts_by seen first second name = record {
+  faults = by_name (seen first).faults (seen second).faults name;
+  losses = by_name (seen first).losses (seen second).losses name;
+  arms = by_name (seen first).arms (seen second).arms name;
+  armed = by_name (seen first).armed (seen second).armed name;
 }
 
 -- From the shard that the store stood for, it stands for one now to which this call led. Its journal never ends before where it did.
-pub record LeadsForeign {D : Type 0} (content : D → Option (List ℕ)) (image : D → List ℕ → Type 0) (starved : D → Bool)
-    (faults : D → ℕ) (losses : D → List (ℕ × List ℕ)) (arms : D → ℕ) (armed : D → Armed) (old : StoreParts D) (shard : ForeignShardState)
+pub record LeadsForeign {D : Type 0} (seen : D → DiskView) (old : StoreParts D) (shard : ForeignShardState)
     (new : StoreParts D) (op : ForeignOp) (answer : ForeignAnswer) : Type 0 where
   pub after : ForeignShardState
   pub fault : Option StoreFault
-  pub carried : IsCarried content image starved new after
-  pub step : StepsForeign (Rose (faults old.journal.live.disk) (faults new.journal.live.disk)) old.journal.live.end shard op answer fault after
+  pub carried : IsCarried seen new after
+  pub step : StepsForeign (Rose (seen old.journal.live.disk).faults (seen new.journal.live.disk).faults) old.journal.live.end shard op answer fault after
   pub end : old.journal.live.end ≤ new.journal.live.end
-  pub used : IsUsed (facts_of faults losses arms armed old.journal.live.disk) (facts_of faults losses arms armed new.journal.live.disk)
+  pub used : IsUsed (facts_of seen old.journal.live.disk) (facts_of seen new.journal.live.disk)
 
 -- No memory was found: it was done in the shard, or not at all. The disks tell their contents still.
-pub record HaltsForeign {D : Type 0} (content : D → Option (List ℕ)) (image : D → List ℕ → Type 0) (faults : D → ℕ)
+pub record HaltsForeign {D : Type 0} (seen : D → DiskView)
     (old : StoreParts D) (shard : ForeignShardState) (new : StoreParts D) (op : ForeignOp) : Type 0 where
   pub after : ForeignShardState
-  pub carries : CarriesForeign image new after
+  pub carries : CarriesForeign seen new after
   pub does : (after ≡ shard) ⊎ ((answer : ForeignAnswer) × (fault : Option StoreFault)
-      × StepsForeign (Rose (faults old.journal.live.disk) (faults new.journal.live.disk)) old.journal.live.end shard op answer fault after)
+      × StepsForeign (Rose (seen old.journal.live.disk).faults (seen new.journal.live.disk).faults) old.journal.live.end shard op answer fault after)
   pub end : old.journal.live.end ≤ new.journal.live.end
-  pub told : IsTold (content new.journal.live.disk)
-  pub second_told : IsTold (content new.journal.idle)
+  pub told : IsTold (seen new.journal.live.disk).content
+  pub second_told : IsTold (seen new.journal.idle).content
 
 -- ---- hosted partitions
 
@@ -94,19 +93,19 @@ abbrev pub holding : WindowParts → Held
 holding window = window.held
 
 -- A partition's shard of this configuration, on disks that tell their contents and have found memory at each call, stands for this one.
-pub record IsPartCarried {D : Type 0} (content : D → Option (List ℕ)) (image : D → List ℕ → Type 0) (starved : D → Bool)
+pub record IsPartCarried {D : Type 0} (seen : D → DiskView)
     (conf : PartConfParts) (part : OpenPart D) (shard : PartShardState) : Type 0 where
   pub conf_is : part.conf ≡ conf
-  pub carries : Carries image holding part shard
-  pub log : IsFed content starved part.log.journal.disk
-  pub first : IsFed content starved part.states.journal.live.disk
-  pub second : IsFed content starved part.states.journal.idle
+  pub carries : Carries seen holding part shard
+  pub log : IsFed seen part.log.journal.disk
+  pub first : IsFed seen part.states.journal.live.disk
+  pub second : IsFed seen part.states.journal.idle
 
 -- its three disks go on
-pub record PartGoesOn {D : Type 0} (content : D → Option (List ℕ)) (faults : D → ℕ) (old new : OpenPart D) : Type 0 where
-  pub log : GoesOn content faults old.log.journal.disk new.log.journal.disk
-  pub first : GoesOn content faults old.states.journal.live.disk new.states.journal.live.disk
-  pub second : GoesOn content faults old.states.journal.idle new.states.journal.idle
+pub record PartGoesOn {D : Type 0} (seen : D → DiskView) (old new : OpenPart D) : Type 0 where
+  pub log : GoesOn seen old.log.journal.disk new.log.journal.disk
+  pub first : GoesOn seen old.states.journal.live.disk new.states.journal.live.disk
+  pub second : GoesOn seen old.states.journal.idle new.states.journal.idle
 
 -- its two journals never end before where they did
 pub record EndsGoOn {D : Type 0} (old new : OpenPart D) : Type 0 where
@@ -114,43 +113,42 @@ pub record EndsGoOn {D : Type 0} (old new : OpenPart D) : Type 0 where
   pub first : old.states.journal.live.end ≤ new.states.journal.live.end
 
 -- The shard takes the step of this call, by the counts of its own disks and the ends of its own journals.
-abbrev pub StepsOn : {D : Type 0} → (D → ℕ) → PartConfParts → OpenPart D → OpenPart D → (now : ℕ) → PartShardState → PartCall → PartShardState → Type 0
-StepsOn faults conf old new now shard (Visits visit answer) after =
-    StepsVisit conf (faults old.states.journal.live.disk) (faults new.states.journal.live.disk) old.states.journal.live.end new.states.journal.live.end
+abbrev pub StepsOn : {D : Type 0} → (D → DiskView) → PartConfParts → OpenPart D → OpenPart D → (now : ℕ) → PartShardState → PartCall → PartShardState → Type 0
+StepsOn seen conf old new now shard (Visits visit answer) after =
+    StepsVisit conf (seen old.states.journal.live.disk).faults (seen new.states.journal.live.disk).faults old.states.journal.live.end new.states.journal.live.end
     shard now visit answer after
-StepsOn faults conf old new now shard (Produces batch produced) after =
-    StepsProduce (Rose (faults old.log.journal.disk) (faults new.log.journal.disk)) old.log.journal.end shard now batch (result_of produced) after
-StepsOn faults conf old new now shard (Looks group looked) after =
+StepsOn seen conf old new now shard (Produces batch produced) after =
+    StepsProduce (Rose (seen old.log.journal.disk).faults (seen new.log.journal.disk).faults) old.log.journal.end shard now batch (result_of produced) after
+StepsOn seen conf old new now shard (Looks group looked) after =
     (looked ≡ look_at (share_state_at shard.states (key_of conf group))) × (after ≡ shard)
-StepsOn faults conf old new now shard (Expires answer) after =
-    StepsExpire conf (faults old.states.journal.live.disk) (faults new.states.journal.live.disk) old.states.journal.live.end new.states.journal.live.end
+StepsOn seen conf old new now shard (Expires answer) after =
+    StepsExpire conf (seen old.states.journal.live.disk).faults (seen new.states.journal.live.disk).faults old.states.journal.live.end new.states.journal.live.end
     shard now answer after
 
 -- a visit and an expiry use the first disk of the states alone, a batch that of the log, and a look none
-pub record UsesStates {D : Type 0} (faults : D → ℕ) (losses : D → List (ℕ × List ℕ)) (arms : D → ℕ) (armed : D → Armed) (old new : OpenPart D) : Type 0 where
-  pub used : IsUsed (facts_of faults losses arms armed old.states.journal.live.disk) (facts_of faults losses arms armed new.states.journal.live.disk)
+pub record UsesStates {D : Type 0} (seen : D → DiskView) (old new : OpenPart D) : Type 0 where
+  pub used : IsUsed (facts_of seen old.states.journal.live.disk) (facts_of seen new.states.journal.live.disk)
   pub log : new.log ≡ old.log
   pub second : new.states.journal.idle ≡ old.states.journal.idle
 
-pub record UsesLog {D : Type 0} (faults : D → ℕ) (losses : D → List (ℕ × List ℕ)) (arms : D → ℕ) (armed : D → Armed) (old new : OpenPart D) : Type 0 where
-  pub used : IsUsed (facts_of faults losses arms armed old.log.journal.disk) (facts_of faults losses arms armed new.log.journal.disk)
+pub record UsesLog {D : Type 0} (seen : D → DiskView) (old new : OpenPart D) : Type 0 where
+  pub used : IsUsed (facts_of seen old.log.journal.disk) (facts_of seen new.log.journal.disk)
   pub states : new.states ≡ old.states
 
-abbrev pub Uses : {D : Type 0} → (D → ℕ) → (D → List (ℕ × List ℕ)) → (D → ℕ) → (D → Armed) → OpenPart D → OpenPart D → PartCall → Type 0
-Uses faults losses arms armed old new (Visits visit answer) = UsesStates faults losses arms armed old new
-Uses faults losses arms armed old new (Produces batch produced) = UsesLog faults losses arms armed old new
-Uses faults losses arms armed old new (Looks group looked) = new ≡ old
-Uses faults losses arms armed old new (Expires answer) = UsesStates faults losses arms armed old new
+abbrev pub Uses : {D : Type 0} → (D → DiskView) → OpenPart D → OpenPart D → PartCall → Type 0
+Uses seen old new (Visits visit answer) = UsesStates seen old new
+Uses seen old new (Produces batch produced) = UsesLog seen old new
+Uses seen old new (Looks group looked) = new ≡ old
+Uses seen old new (Expires answer) = UsesStates seen old new
 
 -- from the shard that it stood for, it stands for one now to which this call led
-pub record LeadsPart {D : Type 0} (content : D → Option (List ℕ)) (image : D → List ℕ → Type 0) (starved : D → Bool)
-    (faults : D → ℕ) (losses : D → List (ℕ × List ℕ)) (arms : D → ℕ) (armed : D → Armed) (conf : PartConfParts) (now : ℕ) (did : PartCall)
+pub record LeadsPart {D : Type 0} (seen : D → DiskView) (conf : PartConfParts) (now : ℕ) (did : PartCall)
     (old : OpenPart D) (shard : PartShardState) (new : OpenPart D) : Type 0 where
   pub after : PartShardState
-  pub carried : IsPartCarried content image starved conf new after
-  pub step : StepsOn faults conf old new now shard did after
+  pub carried : IsPartCarried seen conf new after
+  pub step : StepsOn seen conf old new now shard did after
   pub ends : EndsGoOn old new
-  pub used : Uses faults losses arms armed old new did
+  pub used : Uses seen old new did
 
 -- a call that makes several writes, between two of which memory may run out
 pub data Begun : Type 0 where
@@ -158,23 +156,23 @@ pub data Begun : Type 0 where
   BeginsExpiry : Begun
 
 -- It was left between two writes: a visit behind its acknowledgements, an expiry behind some of the groups.
-abbrev pub HalvesOn : {D : Type 0} → (D → ℕ) → PartConfParts → OpenPart D → OpenPart D → (now : ℕ) → PartShardState → Begun → PartShardState → Type 0
-HalvesOn faults conf old new now shard (BeginsVisit visit) after = (ack : AckOutcome) × StepsAcks conf
-    (Rose (faults old.states.journal.live.disk) (faults new.states.journal.live.disk)) old.states.journal.live.end shard visit ack after
-HalvesOn faults conf old new now shard BeginsExpiry after =
-    ExpiresPart conf (faults old.states.journal.live.disk) (faults new.states.journal.live.disk) old.states.journal.live.end new.states.journal.live.end
+abbrev pub HalvesOn : {D : Type 0} → (D → DiskView) → PartConfParts → OpenPart D → OpenPart D → (now : ℕ) → PartShardState → Begun → PartShardState → Type 0
+HalvesOn seen conf old new now shard (BeginsVisit visit) after = (ack : AckOutcome) × StepsAcks conf
+    (Rose (seen old.states.journal.live.disk).faults (seen new.states.journal.live.disk).faults) old.states.journal.live.end shard visit ack after
+HalvesOn seen conf old new now shard BeginsExpiry after =
+    ExpiresPart conf (seen old.states.journal.live.disk).faults (seen new.states.journal.live.disk).faults old.states.journal.live.end new.states.journal.live.end
     shard now after
 
 -- No memory was found: nothing was done in the shard, or such a call was done whole, or left half done. The disks tell their contents
 -- still.
-pub record HaltsPart {D : Type 0} (content : D → Option (List ℕ)) (image : D → List ℕ → Type 0) (faults : D → ℕ) (conf : PartConfParts) (now : ℕ)
+pub record HaltsPart {D : Type 0} (seen : D → DiskView) (conf : PartConfParts) (now : ℕ)
     (Whole : PartCall → Type 0) (Half : Begun → Type 0) (old : OpenPart D) (shard : PartShardState) (new : OpenPart D) : Type 0 where
   pub after : PartShardState
   pub conf_is : new.conf ≡ conf
-  pub carries : Carries image holding new after
-  pub does : (after ≡ shard) ⊎ (((did : PartCall) × Whole did × StepsOn faults conf old new now shard did after)
-      ⊎ ((begun : Begun) × Half begun × HalvesOn faults conf old new now shard begun after))
+  pub carries : Carries seen holding new after
+  pub does : (after ≡ shard) ⊎ (((did : PartCall) × Whole did × StepsOn seen conf old new now shard did after)
+      ⊎ ((begun : Begun) × Half begun × HalvesOn seen conf old new now shard begun after))
   pub ends : EndsGoOn old new
-  pub log_told : IsTold (content new.log.journal.disk)
-  pub first_told : IsTold (content new.states.journal.live.disk)
-  pub second_told : IsTold (content new.states.journal.idle)
+  pub log_told : IsTold (seen new.log.journal.disk).content
+  pub first_told : IsTold (seen new.states.journal.live.disk).content
+  pub second_told : IsTold (seen new.states.journal.idle).content

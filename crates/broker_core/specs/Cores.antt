@@ -17,6 +17,7 @@ use Rattle.broker_model.specs.Disks.{IsRestarted, with_arm}
 use Rattle.broker_model.specs.Steps.{StepsTo, StopsWithin}
 use Rattle.broker_model.specs.States.{State, IsStep}
 use Rattle.broker_core.specs.Hosts.{HostsParts, AreCarried, AreHeld, AreApart, AreNamed, DisksReach, StandStill, all_names, counts_in, disks_in, ends_in, facts_in, hosted_slots}
+use Rattle.edge_io.specs.Views.{DiskView}
 
 -- moments are at most 2^62 milliseconds
 abbrev pub HasMoment : Event → Type 0
@@ -47,50 +48,47 @@ pub record IsWhole {D : Type 0} (core : CoreParts D) : Type 0 where
   pub named : AreNamed (hosted_slots core.hosts.parts)
 
 -- A fault of the disk of this name was armed, if it is one of these, and nothing else has changed.
-pub record IsArmed {D : Type 0} (content : D → Option (List ℕ)) (image : D → List ℕ → Type 0) (starved : D → Bool) (faults : D → ℕ)
-    (losses : D → List (ℕ × List ℕ)) (arms : D → ℕ) (armed : D → Armed) (disk : List ℕ) (passes : ℕ) (mode : FaultMode) (old : HostsParts D)
+pub record IsArmed {D : Type 0} (seen : D → DiskView) (disk : List ℕ) (passes : ℕ) (mode : FaultMode) (old : HostsParts D)
     (shards : Shards) (new : HostsParts D) : Type 0 where
-  pub carried : AreCarried content image starved new shards
-  pub disks : (name : List ℕ) → IsOneOf (all_names (hosted_slots old.parts)) name → facts_in faults losses arms armed (disks_in new) name
-      ≡ (if same_name disk name then with_arm passes mode (facts_in faults losses arms armed (disks_in old) name)
-      else facts_in faults losses arms armed (disks_in old) name)
+  pub carried : AreCarried seen new shards
+  pub disks : (name : List ℕ) → IsOneOf (all_names (hosted_slots old.parts)) name → facts_in seen (disks_in new) name
+      ≡ (if same_name disk name then with_arm passes mode (facts_in seen (disks_in old) name)
+      else facts_in seen (disks_in old) name)
   pub ends : (name : List ℕ) → ends_in new name ≡ ends_in old name
 
 -- The power was lost with this choice, and each shard is open again. What was left of each disk reaches to where its journal ended.
-pub record AreReopened {D : Type 0} (content : D → Option (List ℕ)) (image : D → List ℕ → Type 0) (starved : D → Bool) (faults : D → ℕ)
-    (losses : D → List (ℕ × List ℕ)) (arms : D → ℕ) (armed : D → Armed) (choice : ℕ) (old : HostsParts D) (shards : Shards)
+pub record AreReopened {D : Type 0} (seen : D → DiskView) (choice : ℕ) (old : HostsParts D) (shards : Shards)
     (new : HostsParts D) : Type 0 where
   pub after : Shards
   pub contents : List ℕ → List ℕ
-  pub carried : AreCarried content image starved new after
+  pub carried : AreCarried seen new after
   pub lands : LandAll shards after
   pub parts : AllByRecursion (OpensPart contents) after.parts
   pub states : StandForStates (contents state_a) (contents state_b) after.foreign.states
-  pub lost : (name : List ℕ) → IsOneOf (all_names (hosted_slots old.parts)) name → (facts_in faults losses arms armed (disks_in new) name).losses
-      ≡ (facts_in faults losses arms armed (disks_in old) name).losses ++ (choice, contents name) ∷ []
+  pub lost : (name : List ℕ) → IsOneOf (all_names (hosted_slots old.parts)) name → (facts_in seen (disks_in new) name).losses
+      ≡ (facts_in seen (disks_in old) name).losses ++ (choice, contents name) ∷ []
   pub reach : (name : List ℕ) → IsOneOf (all_names (hosted_slots old.parts)) name → ends_in old name ≤ length (contents name)
   pub disks : (name : List ℕ) → IsOneOf (all_names (hosted_slots old.parts)) name
-      → IsRestarted (facts_in faults losses arms armed (disks_in old) name) (facts_in faults losses arms armed (disks_in new) name)
+      → IsRestarted (facts_in seen (disks_in old) name) (facts_in seen (disks_in new) name)
 
 -- ---- the broker
 
--- The broker stands for this machine. The members of the disk come first.
-pub record IsCore {D : Type 0} (content : D → Option (List ℕ)) (image : D → List ℕ → Type 0) (starved : D → Bool)
+-- The broker stands for this machine.
+pub record IsCore {D : Type 0} (seen : D → DiskView)
     (core : CoreParts D) (machine : Machine) : Type 0 where
   pub connections : machine.connections ≡ core.connections
-  pub shards : AreCarried content image starved core.hosts machine.shards
+  pub shards : AreCarried seen core.hosts machine.shards
 
 -- the machine, and what is known of the broker's disks
-abbrev pub state_of : {D : Type 0} → (D → ℕ) → (D → List (ℕ × List ℕ)) → (D → ℕ) → (D → Armed) → Machine → CoreParts D → State
-state_of faults losses arms armed machine core =
-    record { machine = machine; disks = facts_in faults losses arms armed (disks_in core.hosts); ends = ends_in core.hosts }
+abbrev pub state_of : {D : Type 0} → (D → DiskView) → Machine → CoreParts D → State
+state_of seen machine core =
+    record { machine = machine; disks = facts_in seen (disks_in core.hosts); ends = ends_in core.hosts }
 
 -- For each machine that the broker stood for it stands for one now, with a step of the event between them.
-abbrev pub Advances : {D : Type 0} → (D → Option (List ℕ)) → (D → List ℕ → Type 0) → (D → Bool) → (D → ℕ) → (D → List (ℕ × List ℕ)) → (D → ℕ)
-    → (D → Armed) → CoreParts D → Event → List Outcome → CoreParts D → Type 0
-Advances content image starved faults losses arms armed old event outcomes new = (before : Machine) → IsCore content image starved old before →
-    (after : Machine) × (call : Option ShardCall) × IsCore content image starved new after
-    × IsStep old.conf (state_of faults losses arms armed before old) event call outcomes (state_of faults losses arms armed after new)
+abbrev pub Advances : {D : Type 0} → (D → DiskView) → CoreParts D → Event → List Outcome → CoreParts D → Type 0
+Advances seen old event outcomes new = (before : Machine) → IsCore seen old before →
+    (after : Machine) × (call : Option ShardCall) × IsCore seen new after
+    × IsStep old.conf (state_of seen before old) event call outcomes (state_of seen after new)
 
 -- ---- where no memory was found
 
@@ -102,12 +100,11 @@ Reaches conf counts ends old event new =
 
 -- The event was done in the shards, or not at all, or in part, and the disks stand for what that left. The journals end there now, and what a
 -- crash may leave of each disk reaches to the last gate of its journal, the byte before the end.
-pub record StopsIn {D : Type 0} (content : D → Option (List ℕ)) (image : D → List ℕ → Type 0) (faults : D → ℕ) (losses : D → List (ℕ × List ℕ))
-    (arms : D → ℕ) (armed : D → Armed) (old : CoreParts D) (before : Machine) (event : Event) (new : CoreParts D) : Type 0 where
+pub record StopsIn {D : Type 0} (seen : D → DiskView) (old : CoreParts D) (before : Machine) (event : Event) (new : CoreParts D) : Type 0 where
   pub after : Machine
   pub ends : List ℕ → ℕ
-  pub reaches : Reaches old.conf (counts_in faults losses arms armed (disks_in old.hosts) (disks_in new.hosts)) (λ name. (ends_in old.hosts name, ends name))
+  pub reaches : Reaches old.conf (counts_in seen (disks_in old.hosts) (disks_in new.hosts)) (λ name. (ends_in old.hosts name, ends name))
       before event after
   pub ends_later : (name : List ℕ) → ends_in old.hosts name ≤ ends name
-  pub still : StandStill content image after.shards (disks_in new.hosts)
-  pub reach : DisksReach image (disks_in new.hosts) (λ name. ends name - 1)
+  pub still : StandStill seen after.shards (disks_in new.hosts)
+  pub reach : DisksReach seen (disks_in new.hosts) (λ name. ends name - 1)

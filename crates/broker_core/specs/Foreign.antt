@@ -17,52 +17,50 @@ use Rattle.broker_core.specs.declared.slot.ForeignSlot.{ForeignSlot}
 use Rattle.broker_core.specs.declared.slot.ForeignSlot.TheVariants.{Open, Shut}
 use Rattle.broker_core.specs.Carried.{IsCarried, GoesOn}
 use Rattle.broker_core.specs.Restarts.{ImagesStandAs, IsRestartedShard, IsNotRestarted}
+use Rattle.edge_io.specs.Views.{DiskView}
 
 -- A fault of the first disk was armed, or of the second, or of none, by the name.
-abbrev pub ArmsEither : {D : Type 0} → (D → Option (List ℕ)) → (D → List ℕ → Type 0) → (D → List (ℕ × List ℕ)) → (D → ℕ) → (D → Armed) → (D → Bool)
-    → (D → ℕ) → List ℕ → ℕ → FaultMode → StoreParts D → StoreParts D → Type 0
-ArmsEither content image losses arms armed starved faults disk passes mode was is =
-    ((disk ≡ state_a) × ArmsAlone content image losses arms armed starved faults passes mode was.journal.live.disk is.journal.live.disk
+abbrev pub ArmsEither : {D : Type 0} → (D → DiskView) → List ℕ → ℕ → FaultMode → StoreParts D → StoreParts D → Type 0
+ArmsEither seen disk passes mode was is =
+    ((disk ≡ state_a) × ArmsAlone seen passes mode was.journal.live.disk is.journal.live.disk
     × (is.journal.idle ≡ was.journal.idle))
-    ⊎ (((disk ≡ state_b) × ArmsAlone content image losses arms armed starved faults passes mode was.journal.idle is.journal.idle
+    ⊎ (((disk ≡ state_b) × ArmsAlone seen passes mode was.journal.idle is.journal.idle
     × (is.journal.live ≡ was.journal.live))
     ⊎ ((disk ≢ state_a) × (disk ≢ state_b) × (is ≡ was)))
 
-pub record ArmsForeign {D : Type 0} (content : D → Option (List ℕ)) (image : D → List ℕ → Type 0) (losses : D → List (ℕ × List ℕ)) (arms : D → ℕ)
-    (armed : D → Armed) (starved : D → Bool) (faults : D → ℕ) (disk : List ℕ) (passes : ℕ) (mode : FaultMode) (old new : ForeignSlot D) : Type 0 where
+pub record ArmsForeign {D : Type 0} (seen : D → DiskView) (disk : List ℕ) (passes : ℕ) (mode : FaultMode) (old new : ForeignSlot D) : Type 0 where
   pub was : StoreParts D
   pub is : StoreParts D
   pub old_is : old ≡ Open was
   pub new_is : new ≡ Open is
-  pub either : ArmsEither content image losses arms armed starved faults disk passes mode was is
+  pub either : ArmsEither seen disk passes mode was is
   pub end : is.journal.live.end ≡ was.journal.live.end
-  pub stays : (s : ForeignShardState) → Carries image was s → Carries image is s
+  pub stays : (s : ForeignShardState) → Carries seen was s → Carries seen is s
 
 -- it was opened again
-pub record ReopensForeign {D : Type 0} (content : D → Option (List ℕ)) (image : D → List ℕ → Type 0) (starved : D → Bool)
-    (faults : D → ℕ) (losses : D → List (ℕ × List ℕ)) (arms : D → ℕ) (armed : D → Armed) (choice : ℕ) (old new : ForeignSlot D) : Type 0 where
+pub record ReopensForeign {D : Type 0} (seen : D → DiskView) (choice : ℕ) (old new : ForeignSlot D) : Type 0 where
   pub was : StoreParts D
   pub is : StoreParts D
   pub old_is : old ≡ Open was
   pub new_is : new ≡ Open is
-  pub first : GoesOn content faults was.journal.live.disk is.journal.live.disk
-  pub second : GoesOn content faults was.journal.idle is.journal.idle
-  pub images : ImagesStandAs image was.journal.live.disk was.journal.idle is.journal.live.disk is.journal.idle
-  pub reopens : (s : ForeignShardState) → IsCarried content image starved was s
-      → IsRestartedShard content image starved faults losses arms armed choice was s is
+  pub first : GoesOn seen was.journal.live.disk is.journal.live.disk
+  pub second : GoesOn seen was.journal.idle is.journal.idle
+  pub images : ImagesStandAs seen was.journal.live.disk was.journal.idle is.journal.live.disk is.journal.idle
+  pub reopens : (s : ForeignShardState) → IsCarried seen was s
+      → IsRestartedShard seen choice was s is
 
 -- it was not, for this reason
-pub record ShutsForeign {D : Type 0} (content : D → Option (List ℕ)) (image : D → List ℕ → Type 0) (starved : D → Bool) (faults : D → ℕ)
+pub record ShutsForeign {D : Type 0} (seen : D → DiskView)
     (fault : CoreFault) (old new : ForeignSlot D) : Type 0 where
   pub was : StoreParts D
   pub first : D
   pub second : D
   pub old_is : old ≡ Open was
   pub new_is : new ≡ Shut first second
-  pub on_first : GoesOn content faults was.journal.live.disk first
-  pub on_second : GoesOn content faults was.journal.idle second
-  pub images : ImagesStandAs image was.journal.live.disk was.journal.idle first second
-  pub shuts : (s : ForeignShardState) → IsCarried content image starved was s
-      → IsNotRestarted content image s first second × (fault ≡ event_fault.NoMemory)
-  pub device : fault ≡ event_fault.Reopen Device → Rose (faults was.journal.live.disk) (faults first) ⊎ Rose (faults was.journal.idle) (faults second)
+  pub on_first : GoesOn seen was.journal.live.disk first
+  pub on_second : GoesOn seen was.journal.idle second
+  pub images : ImagesStandAs seen was.journal.live.disk was.journal.idle first second
+  pub shuts : (s : ForeignShardState) → IsCarried seen was s
+      → IsNotRestarted seen s first second × (fault ≡ event_fault.NoMemory)
+  pub device : fault ≡ event_fault.Reopen Device → Rose (seen was.journal.live.disk).faults (seen first).faults ⊎ Rose (seen was.journal.idle).faults (seen second).faults
   pub never : (f : CoreOpen) → fault ≡ event_fault.Reopen f → (f ≢ Bay) × (f ≢ NoMemory)

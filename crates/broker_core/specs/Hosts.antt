@@ -47,6 +47,7 @@ use Rattle.broker_core.specs.declared.slot.PartState.TheVariants as part
 use Rattle.broker_core.specs.declared.slot.PartSlot.{PartSlot}
 use Rattle.broker_core.specs.declared.hosts.Hosts.{Hosts}
 use Rattle.broker_core.specs.Carried.{Begun, GoesOn, HaltsPart, IsCarried, IsPartCarried, LeadsPart, OpenPart, PartGoesOn, facts_by, by_name, holding}
+use Rattle.edge_io.specs.Views.{DiskView}
 
 -- the shards of the hosted partitions, in the order of their numbers; the members of all groups; foreign state
 pub record HostsParts (D : Type 0) : Type 0 where
@@ -169,13 +170,13 @@ disks_in hosts = record { parts = slots_disks hosts.parts; foreign = foreign_dis
 abbrev pub no_facts : Facts
 no_facts = record { faults = 0; losses = []; arms = 0; armed = Nothing }
 
-abbrev pub facts_at : {D : Type 0} → (D → ℕ) → (D → List (ℕ × List ℕ)) → (D → ℕ) → (D → Armed) → Option D → Facts
-facts_at faults losses arms armed None = no_facts
-facts_at faults losses arms armed (Some disk) = facts_of faults losses arms armed disk
+abbrev pub facts_at : {D : Type 0} → (D → DiskView) → Option D → Facts
+facts_at seen None = no_facts
+facts_at seen (Some disk) = facts_of seen disk
 
-abbrev pub foreign_facts : {D : Type 0} → (D → ℕ) → (D → List (ℕ × List ℕ)) → (D → ℕ) → (D → Armed) → Option (D × D) → Disks
-foreign_facts faults losses arms armed None name = no_facts
-foreign_facts faults losses arms armed (Some disks) name = facts_by faults losses arms armed disks.0 disks.1 name
+abbrev pub foreign_facts : {D : Type 0} → (D → DiskView) → Option (D × D) → Disks
+foreign_facts seen None name = no_facts
+foreign_facts seen (Some disks) name = facts_by seen disks.0 disks.1 name
 
 -- what the first of these has that has this name, or else this
 abbrev pub among : {X A : Type 0} → (X → List ℕ) → (X → A) → List X → A → List ℕ → A
@@ -183,12 +184,12 @@ among name_of has [] other name = other
 among name_of has (x ∷ xs) other name = if same_name name (name_of x) then has x else among name_of has xs other name
 
 -- what is known of the disk of this name among these, or else this
-abbrev pub facts_among : {D : Type 0} → (D → ℕ) → (D → List (ℕ × List ℕ)) → (D → ℕ) → (D → Armed) → List (List ℕ × Option D) → Facts → List ℕ → Facts
-facts_among faults losses arms armed disks other name = among (λ e. e.0) (λ e. facts_at faults losses arms armed e.1) disks other name
+abbrev pub facts_among : {D : Type 0} → (D → DiskView) → List (List ℕ × Option D) → Facts → List ℕ → Facts
+facts_among seen disks other name = among (λ e. e.0) (λ e. facts_at seen e.1) disks other name
 
-abbrev pub facts_in : {D : Type 0} → (D → ℕ) → (D → List (ℕ × List ℕ)) → (D → ℕ) → (D → Armed) → LeftDisks D → Disks
-facts_in faults losses arms armed left name =
-    facts_among faults losses arms armed left.parts (foreign_facts faults losses arms armed left.foreign name) name
+abbrev pub facts_in : {D : Type 0} → (D → DiskView) → LeftDisks D → Disks
+facts_in seen left name =
+    facts_among seen left.parts (foreign_facts seen left.foreign name) name
 
 -- where the journals end, by the names of their disks; nothing is written on the second disk of states
 abbrev pub foreign_end : {D : Type 0} → ForeignSlot D → List ℕ → ℕ
@@ -229,85 +230,85 @@ abbrev pub disk_in : {D : Type 0} → LeftDisks D → List ℕ → Option D
 disk_in left name = among (λ e. e.0) (λ e. e.1) left.parts (foreign_disk left.foreign name) name
 
 -- each image of this disk reaches to this end
-abbrev pub ReachesTo : {D : Type 0} → (D → List ℕ → Type 0) → Option D → (end : ℕ) → Type 0
-ReachesTo image None end = Unit {0}
-ReachesTo image (Some disk) end = (c : List ℕ) → image disk c → end ≤ length c
+abbrev pub ReachesTo : {D : Type 0} → (D → DiskView) → Option D → (end : ℕ) → Type 0
+ReachesTo seen None end = Unit {0}
+ReachesTo seen (Some disk) end = (c : List ℕ) → (seen disk).image c → end ≤ length c
 
 -- what a crash may leave of each disk reaches to where the journal on it ends
-abbrev pub DisksReach : {D : Type 0} → (D → List ℕ → Type 0) → LeftDisks D → (ends : List ℕ → ℕ) → Type 0
-DisksReach image left ends = (name : List ℕ) → ReachesTo image (disk_in left name) (ends name)
+abbrev pub DisksReach : {D : Type 0} → (D → DiskView) → LeftDisks D → (ends : List ℕ → ℕ) → Type 0
+DisksReach seen left ends = (name : List ℕ) → ReachesTo seen (disk_in left name) (ends name)
 
 -- the counts of faults of the disk of this name, in the one and in the other
-abbrev pub counts_in : {D : Type 0} → (D → ℕ) → (D → List (ℕ × List ℕ)) → (D → ℕ) → (D → Armed) → LeftDisks D → LeftDisks D → Counts
-counts_in faults losses arms armed old new name =
-    ((facts_in faults losses arms armed old name).faults, (facts_in faults losses arms armed new name).faults)
+abbrev pub counts_in : {D : Type 0} → (D → DiskView) → LeftDisks D → LeftDisks D → Counts
+counts_in seen old new name =
+    ((facts_in seen old name).faults, (facts_in seen new name).faults)
 
 -- ---- what they stand for
 
-abbrev pub IsSlot : {D : Type 0} → (D → Option (List ℕ)) → (D → List ℕ → Type 0) → (D → Bool) → ForeignSlot D → ForeignShardState → Type 0
-IsSlot content image starved (foreign.Open store) shard = IsCarried content image starved store shard
-IsSlot content image starved (foreign.Shut first second) shard = ⊥
-IsSlot content image starved foreign.Gone shard = ⊥
+abbrev pub IsSlot : {D : Type 0} → (D → DiskView) → ForeignSlot D → ForeignShardState → Type 0
+IsSlot seen (foreign.Open store) shard = IsCarried seen store shard
+IsSlot seen (foreign.Shut first second) shard = ⊥
+IsSlot seen foreign.Gone shard = ⊥
 
-abbrev pub IsPartState : {D : Type 0} → (D → Option (List ℕ)) → (D → List ℕ → Type 0) → (D → Bool) → PartConfParts → PartState D → PartShardState → Type 0
-IsPartState content image starved conf (part.Open open_part) shard = IsPartCarried content image starved conf open_part shard
-IsPartState content image starved conf (part.Shut log first second) shard = ⊥
-IsPartState content image starved conf part.Gone shard = ⊥
+abbrev pub IsPartState : {D : Type 0} → (D → DiskView) → PartConfParts → PartState D → PartShardState → Type 0
+IsPartState seen conf (part.Open open_part) shard = IsPartCarried seen conf open_part shard
+IsPartState seen conf (part.Shut log first second) shard = ⊥
+IsPartState seen conf part.Gone shard = ⊥
 
 -- the shard in a slot stands for that of the machine's, which is of the same partition
-pub record IsPartSlot {D : Type 0} (content : D → Option (List ℕ)) (image : D → List ℕ → Type 0) (starved : D → Bool) (slot : PartSlot D) (p : HostedPart) : Type 0 where
+pub record IsPartSlot {D : Type 0} (seen : D → DiskView) (slot : PartSlot D) (p : HostedPart) : Type 0 where
   pub hosted : p.hosted ≡ hosted_slot slot
-  pub state : IsPartState content image starved slot.conf slot.state p.shard
+  pub state : IsPartState seen slot.conf slot.state p.shard
 
 -- they stand for the machine's
-pub record AreCarried {D : Type 0} (content : D → Option (List ℕ)) (image : D → List ℕ → Type 0) (starved : D → Bool)
+pub record AreCarried {D : Type 0} (seen : D → DiskView)
     (hosts : HostsParts D) (shards : Shards) : Type 0 where
-  pub parts : AllZip (IsPartSlot content image starved) hosts.parts shards.parts
+  pub parts : AllZip (IsPartSlot seen) hosts.parts shards.parts
   pub members : shards.members ≡ hosts.members
-  pub foreign : IsSlot content image starved hosts.foreign shards.foreign
+  pub foreign : IsSlot seen hosts.foreign shards.foreign
 
 -- these disks tell their contents, and each image of the one beside one of the other stands for the state
-pub record StandAlone {D : Type 0} (content : D → Option (List ℕ)) (image : D → List ℕ → Type 0) (shard : ForeignShardState) (first second : D) : Type 0 where
-  pub stand : (a b : List ℕ) → image first a → image second b → StandWith shard a b
-  pub told : IsTold (content first)
-  pub second_told : IsTold (content second)
+pub record StandAlone {D : Type 0} (seen : D → DiskView) (shard : ForeignShardState) (first second : D) : Type 0 where
+  pub stand : (a b : List ℕ) → (seen first).image a → (seen second).image b → StandWith shard a b
+  pub told : IsTold (seen first).content
+  pub second_told : IsTold (seen second).content
 
 -- these three disks tell their contents, and images of all three stand for the shard, its log and its tables each with or without the
 -- pending write
-pub record PartStandsAlone {D : Type 0} (content : D → Option (List ℕ)) (image : D → List ℕ → Type 0) (conf : PartConfParts) (shard : PartShardState)
+pub record PartStandsAlone {D : Type 0} (seen : D → DiskView) (conf : PartConfParts) (shard : PartShardState)
     (log first second : D) : Type 0 where
-  pub stand : (l a b : List ℕ) → image log l → image first a → image second b → IsLeftOf conf shard l a b
-  pub log_told : IsTold (content log)
-  pub first_told : IsTold (content first)
-  pub second_told : IsTold (content second)
+  pub stand : (l a b : List ℕ) → (seen log).image l → (seen first).image a → (seen second).image b → IsLeftOf conf shard l a b
+  pub log_told : IsTold (seen log).content
+  pub first_told : IsTold (seen first).content
+  pub second_told : IsTold (seen second).content
 
-abbrev pub ForeignStill : {D : Type 0} → (D → Option (List ℕ)) → (D → List ℕ → Type 0) → ForeignShardState → Option (D × D) → Type 0
-ForeignStill content image shard None = ⊥
-ForeignStill content image shard (Some disks) = StandAlone content image shard disks.0 disks.1
+abbrev pub ForeignStill : {D : Type 0} → (D → DiskView) → ForeignShardState → Option (D × D) → Type 0
+ForeignStill seen shard None = ⊥
+ForeignStill seen shard (Some disks) = StandAlone seen shard disks.0 disks.1
 
 -- these are the three disks of a partition, and stand for its shard
-pub record PartStill {D : Type 0} (content : D → Option (List ℕ)) (image : D → List ℕ → Type 0) (x y z : List ℕ × Option D) (p : HostedPart) : Type 0 where
+pub record PartStill {D : Type 0} (seen : D → DiskView) (x y z : List ℕ × Option D) (p : HostedPart) : Type 0 where
   pub log : D
   pub first : D
   pub second : D
   pub log_is : x ≡ (log_of p.hosted, Some log)
   pub first_is : y ≡ (first_of p.hosted, Some first)
   pub second_is : z ≡ (second_of p.hosted, Some second)
-  pub alone : PartStandsAlone content image p.hosted.conf p.shard log first second
+  pub alone : PartStandsAlone seen p.hosted.conf p.shard log first second
 
 -- three disks for each partition, in order
-abbrev pub PartsStill : {D : Type 0} → (D → Option (List ℕ)) → (D → List ℕ → Type 0) → List (List ℕ × Option D) → List HostedPart → Type 0
-PartsStill content image [] [] = Unit {0}
-PartsStill content image [] (p ∷ parts) = ⊥
-PartsStill content image (x ∷ []) parts = ⊥
-PartsStill content image (x ∷ y ∷ []) parts = ⊥
-PartsStill content image (x ∷ y ∷ z ∷ disks) [] = ⊥
-PartsStill content image (x ∷ y ∷ z ∷ disks) (p ∷ parts) = PartStill content image x y z p × PartsStill content image disks parts
+abbrev pub PartsStill : {D : Type 0} → (D → DiskView) → List (List ℕ × Option D) → List HostedPart → Type 0
+PartsStill seen [] [] = Unit {0}
+PartsStill seen [] (p ∷ parts) = ⊥
+PartsStill seen (x ∷ []) parts = ⊥
+PartsStill seen (x ∷ y ∷ []) parts = ⊥
+PartsStill seen (x ∷ y ∷ z ∷ disks) [] = ⊥
+PartsStill seen (x ∷ y ∷ z ∷ disks) (p ∷ parts) = PartStill seen x y z p × PartsStill seen disks parts
 
 -- the disks stand for the machine's shards, each with or without its pending writes
-pub record StandStill {D : Type 0} (content : D → Option (List ℕ)) (image : D → List ℕ → Type 0) (shards : Shards) (left : LeftDisks D) : Type 0 where
-  pub parts : PartsStill content image left.parts shards.parts
-  pub foreign : ForeignStill content image shards.foreign left.foreign
+pub record StandStill {D : Type 0} (seen : D → DiskView) (shards : Shards) (left : LeftDisks D) : Type 0 where
+  pub parts : PartsStill seen left.parts shards.parts
+  pub foreign : ForeignStill seen shards.foreign left.foreign
 
 -- ---- calls
 
@@ -317,15 +318,14 @@ Did counts ends now part answer old call new = (did : ShardCall) × (call ≡ So
     × StepsShards counts ends now old did new
 
 -- From these shards, they stand for those now that this relation leads to, by a call or none. No journal ends before where it did.
-pub record Leads {D : Type 0} (content : D → Option (List ℕ)) (image : D → List ℕ → Type 0) (starved : D → Bool)
-    (faults : D → ℕ) (losses : D → List (ℕ × List ℕ)) (arms : D → ℕ) (armed : D → Armed) (old : HostsParts D) (shards : Shards)
+pub record Leads {D : Type 0} (seen : D → DiskView) (old : HostsParts D) (shards : Shards)
     (new : HostsParts D) (Does : Shards → Option ShardCall → Shards → Type 0) : Type 0 where
   pub after : Shards
   pub call : Option ShardCall
-  pub carried : AreCarried content image starved new after
+  pub carried : AreCarried seen new after
   pub does : Does shards call after
-  pub disks : (name : List ℕ) → OnCalled (calls call name) (facts_in faults losses arms armed (disks_in old) name)
-      (facts_in faults losses arms armed (disks_in new) name)
+  pub disks : (name : List ℕ) → OnCalled (calls call name) (facts_in seen (disks_in old) name)
+      (facts_in seen (disks_in new) name)
   pub ends : (name : List ℕ) → calls call name ≡ false → ends_in new name ≡ ends_in old name
   pub ends_later : (name : List ℕ) → ends_in old name ≤ ends_in new name
 
@@ -360,12 +360,12 @@ HalvesExpiry counts ends now shard old new =
 
 -- No memory was found: nothing was done in the shards, or it was done whole, or left in its midst. The disks stand for what that left, and
 -- reach to where the journals end, which is never before where they did.
-pub record Halts {D : Type 0} (content : D → Option (List ℕ)) (image : D → List ℕ → Type 0) (old : HostsParts D) (shards : Shards) (new : HostsParts D)
+pub record Halts {D : Type 0} (seen : D → DiskView) (old : HostsParts D) (shards : Shards) (new : HostsParts D)
     (Does : Shards → Option ShardCall → Shards → Type 0) (Within : Shards → Shards → Type 0) : Type 0 where
   pub after : Shards
-  pub still : StandStill content image after (disks_in new)
+  pub still : StandStill seen after (disks_in new)
   pub ends_later : (name : List ℕ) → ends_in old name ≤ ends_in new name
-  pub reach : DisksReach image (disks_in new) (ends_in new)
+  pub reach : DisksReach seen (disks_in new) (ends_in new)
   pub does : (after ≡ shards) ⊎ (((call : Option ShardCall) × Does shards call after) ⊎ Within shards after)
 
 -- a visit is of a shard with a number below this
@@ -404,61 +404,60 @@ pub record StaysHosted {D : Type 0} (old new : HostsParts D) : Type 0 where
   pub hosted : hosted_slots new.parts ≡ hosted_slots old.parts
   pub topics : new.members.topics ≡ old.members.topics
 
-abbrev pub GoesOnIf : {D : Type 0} → (D → Option (List ℕ)) → (D → ℕ) → Option D → Option D → Type 0
-GoesOnIf content faults (Some old) (Some new) = GoesOn content faults old new
-GoesOnIf content faults (Some old) None = ⊥
-GoesOnIf content faults None new = Unit {0}
+abbrev pub GoesOnIf : {D : Type 0} → (D → DiskView) → Option D → Option D → Type 0
+GoesOnIf seen (Some old) (Some new) = GoesOn seen old new
+GoesOnIf seen (Some old) None = ⊥
+GoesOnIf seen None new = Unit {0}
 
-pub record DiskGoesOn {D : Type 0} (content : D → Option (List ℕ)) (faults : D → ℕ) (old new : List ℕ × Option D) : Type 0 where
+pub record DiskGoesOn {D : Type 0} (seen : D → DiskView) (old new : List ℕ × Option D) : Type 0 where
   pub name : new.0 ≡ old.0
-  pub goes : GoesOnIf content faults old.1 new.1
+  pub goes : GoesOnIf seen old.1 new.1
 
-abbrev pub BothGoOn : {D : Type 0} → (D → Option (List ℕ)) → (D → ℕ) → Option (D × D) → Option (D × D) → Type 0
-BothGoOn content faults (Some old) (Some new) = GoesOn content faults old.0 new.0 × GoesOn content faults old.1 new.1
-BothGoOn content faults (Some old) None = ⊥
-BothGoOn content faults None new = Unit {0}
+abbrev pub BothGoOn : {D : Type 0} → (D → DiskView) → Option (D × D) → Option (D × D) → Type 0
+BothGoOn seen (Some old) (Some new) = GoesOn seen old.0 new.0 × GoesOn seen old.1 new.1
+BothGoOn seen (Some old) None = ⊥
+BothGoOn seen None new = Unit {0}
 
 -- each disk goes on under its name: its count of faults doesn't fall, and it tells its content where it did
-pub record GoOn {D : Type 0} (content : D → Option (List ℕ)) (faults : D → ℕ) (old new : LeftDisks D) : Type 0 where
-  pub parts : AllZip (DiskGoesOn content faults) old.parts new.parts
-  pub foreign : BothGoOn content faults old.foreign new.foreign
+pub record GoOn {D : Type 0} (seen : D → DiskView) (old new : LeftDisks D) : Type 0 where
+  pub parts : AllZip (DiskGoesOn seen) old.parts new.parts
+  pub foreign : BothGoOn seen old.foreign new.foreign
 
-abbrev pub RoseIf : {D : Type 0} → (D → ℕ) → Option D → Option D → Type 0
-RoseIf faults (Some old) (Some new) = Rose (faults old) (faults new)
-RoseIf faults (Some old) None = ⊥
-RoseIf faults None new = ⊥
+abbrev pub RoseIf : {D : Type 0} → (D → DiskView) → Option D → Option D → Type 0
+RoseIf seen (Some old) (Some new) = Rose (seen old).faults (seen new).faults
+RoseIf seen (Some old) None = ⊥
+RoseIf seen None new = ⊥
 
-abbrev pub PartRose : {D : Type 0} → (D → ℕ) → List (List ℕ × Option D) → List (List ℕ × Option D) → Type 0
-PartRose faults [] new = ⊥
-PartRose faults (e ∷ old) [] = ⊥
-PartRose faults (e ∷ old) (f ∷ new) = RoseIf faults e.1 f.1 ⊎ PartRose faults old new
+abbrev pub PartRose : {D : Type 0} → (D → DiskView) → List (List ℕ × Option D) → List (List ℕ × Option D) → Type 0
+PartRose seen [] new = ⊥
+PartRose seen (e ∷ old) [] = ⊥
+PartRose seen (e ∷ old) (f ∷ new) = RoseIf seen e.1 f.1 ⊎ PartRose seen old new
 
-abbrev pub BothRose : {D : Type 0} → (D → ℕ) → Option (D × D) → Option (D × D) → Type 0
-BothRose faults (Some old) (Some new) = Rose (faults old.0) (faults new.0) ⊎ Rose (faults old.1) (faults new.1)
-BothRose faults (Some old) None = ⊥
-BothRose faults None new = ⊥
+abbrev pub BothRose : {D : Type 0} → (D → DiskView) → Option (D × D) → Option (D × D) → Type 0
+BothRose seen (Some old) (Some new) = Rose (seen old.0).faults (seen new.0).faults ⊎ Rose (seen old.1).faults (seen new.1).faults
+BothRose seen (Some old) None = ⊥
+BothRose seen None new = ⊥
 
 -- the count of one of them rose
-abbrev pub OneRose : {D : Type 0} → (D → ℕ) → LeftDisks D → LeftDisks D → Type 0
-OneRose faults old new = PartRose faults old.parts new.parts ⊎ BothRose faults old.foreign new.foreign
+abbrev pub OneRose : {D : Type 0} → (D → DiskView) → LeftDisks D → LeftDisks D → Type 0
+OneRose seen old new = PartRose seen old.parts new.parts ⊎ BothRose seen old.foreign new.foreign
 
 -- ---- one slot
 
 -- what a call at this moment made of a slot
-pub record LeadsSlot {D : Type 0} (content : D → Option (List ℕ)) (image : D → List ℕ → Type 0) (starved : D → Bool) (faults : D → ℕ)
-    (losses : D → List (ℕ × List ℕ)) (arms : D → ℕ) (armed : D → Armed) (now : ℕ) (did : PartCall) (old new : PartSlot D) : Type 0 where
+pub record LeadsSlot {D : Type 0} (seen : D → DiskView) (now : ℕ) (did : PartCall) (old new : PartSlot D) : Type 0 where
   pub was : OpenPart D
   pub is : OpenPart D
   pub old_is : old.state ≡ part.Open was
   pub new_is : new.state ≡ part.Open is
   pub topic : new.topic ≡ old.topic
   pub conf : new.conf ≡ old.conf
-  pub goes : PartGoesOn content faults was is
-  pub leads : (s : PartShardState) → IsPartCarried content image starved old.conf was s
-      → LeadsPart content image starved faults losses arms armed old.conf now did was s is
+  pub goes : PartGoesOn seen was is
+  pub leads : (s : PartShardState) → IsPartCarried seen old.conf was s
+      → LeadsPart seen old.conf now did was s is
 
 -- no memory was found in such a call
-pub record HaltsSlot {D : Type 0} (content : D → Option (List ℕ)) (image : D → List ℕ → Type 0) (starved : D → Bool) (faults : D → ℕ)
+pub record HaltsSlot {D : Type 0} (seen : D → DiskView)
     (now : ℕ) (Whole : PartCall → Type 0) (Half : Begun → Type 0) (old new : PartSlot D) : Type 0 where
   pub was : OpenPart D
   pub is : OpenPart D
@@ -466,32 +465,30 @@ pub record HaltsSlot {D : Type 0} (content : D → Option (List ℕ)) (image : D
   pub new_is : new.state ≡ part.Open is
   pub topic : new.topic ≡ old.topic
   pub conf : new.conf ≡ old.conf
-  pub goes : PartGoesOn content faults was is
-  pub halts : (s : PartShardState) → IsPartCarried content image starved old.conf was s
-      → HaltsPart content image faults old.conf now Whole Half was s is
+  pub goes : PartGoesOn seen was is
+  pub halts : (s : PartShardState) → IsPartCarried seen old.conf was s
+      → HaltsPart seen old.conf now Whole Half was s is
 
 -- one of a partition's three disks was armed, and the others stay
-abbrev pub ArmsPlace : {D : Type 0} → (D → Option (List ℕ)) → (D → List ℕ → Type 0) → (D → List (ℕ × List ℕ)) → (D → ℕ) → (D → Armed) → (D → Bool)
-    → (D → ℕ) → (passes : ℕ) → FaultMode → OpenPart D → OpenPart D → DiskPlace → Type 0
-ArmsPlace content image losses arms armed starved faults passes mode was is Log =
-    ArmsAlone content image losses arms armed starved faults passes mode was.log.journal.disk is.log.journal.disk × (is.states ≡ was.states)
-ArmsPlace content image losses arms armed starved faults passes mode was is StateA =
-    ArmsAlone content image losses arms armed starved faults passes mode was.states.journal.live.disk is.states.journal.live.disk
+abbrev pub ArmsPlace : {D : Type 0} → (D → DiskView) → (passes : ℕ) → FaultMode → OpenPart D → OpenPart D → DiskPlace → Type 0
+ArmsPlace seen passes mode was is Log =
+    ArmsAlone seen passes mode was.log.journal.disk is.log.journal.disk × (is.states ≡ was.states)
+ArmsPlace seen passes mode was is StateA =
+    ArmsAlone seen passes mode was.states.journal.live.disk is.states.journal.live.disk
     × (is.states.journal.idle ≡ was.states.journal.idle) × (is.log ≡ was.log)
-ArmsPlace content image losses arms armed starved faults passes mode was is StateB =
-    ArmsAlone content image losses arms armed starved faults passes mode was.states.journal.idle is.states.journal.idle
+ArmsPlace seen passes mode was is StateB =
+    ArmsAlone seen passes mode was.states.journal.idle is.states.journal.idle
     × (is.states.journal.live ≡ was.states.journal.live) × (is.log ≡ was.log)
 
 -- a fault of a disk of a slot was armed, and nothing else has changed
-pub record ArmsSlot {D : Type 0} (content : D → Option (List ℕ)) (image : D → List ℕ → Type 0) (losses : D → List (ℕ × List ℕ)) (arms : D → ℕ)
-    (armed : D → Armed) (starved : D → Bool) (faults : D → ℕ) (place : DiskPlace) (passes : ℕ) (mode : FaultMode) (old new : PartSlot D) : Type 0 where
+pub record ArmsSlot {D : Type 0} (seen : D → DiskView) (place : DiskPlace) (passes : ℕ) (mode : FaultMode) (old new : PartSlot D) : Type 0 where
   pub was : OpenPart D
   pub is : OpenPart D
   pub old_is : old.state ≡ part.Open was
   pub new_is : new.state ≡ part.Open is
   pub topic : new.topic ≡ old.topic
   pub conf : new.conf ≡ old.conf
-  pub arms_disk : ArmsPlace content image losses arms armed starved faults passes mode was is place
+  pub arms_disk : ArmsPlace seen passes mode was is place
   pub ends : (is.log.journal.end ≡ was.log.journal.end) × (is.states.journal.live.end ≡ was.states.journal.live.end)
   pub part_conf : is.conf ≡ was.conf
-  pub stays : (s : PartShardState) → Carries image holding was s → Carries image holding is s
+  pub stays : (s : PartShardState) → Carries seen holding was s → Carries seen holding is s

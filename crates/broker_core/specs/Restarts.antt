@@ -7,7 +7,7 @@ use Rattle.std.specs.declared.option.Option.{Option}
 use Rattle.edge_io.specs.declared.fault.Armed.{Armed}
 use Rattle.edge_io.specs.declared.fault.Armed.TheVariants.{Nothing}
 use Rattle.edge_io.specs.declared.name.DiskPlace.{DiskPlace}
-use Rattle.edge_io.specs.Armed.{Spends}
+use Rattle.edge_io.specs.Armed.{RunsOn, Spends}
 use Rattle.edge_io.specs.Causes.{Rose}
 use Rattle.edge_io.specs.Disk.{IsTold, Within}
 use Rattle.edge_io.specs.Names.{hosted_name}
@@ -34,6 +34,7 @@ use Rattle.broker_core.specs.declared.slot.PartSlot.{PartSlot}
 use Rattle.broker_core.specs.declared.slot.PartState.TheVariants as part
 use Rattle.broker_core.specs.Carried.{GoesOn, IsCarried, IsPartCarried, OpenPart, PartGoesOn}
 use Rattle.broker_core.specs.Hosts.{PartStandsAlone}
+use Rattle.edge_io.specs.Views.{DiskView}
 
 -- how a disk stands behind an opening
 pub record IsOpenedDisk (was now : Facts) : Type 0 where
@@ -42,27 +43,25 @@ pub record IsOpenedDisk (was now : Facts) : Type 0 where
   pub later : was.faults ≤ now.faults
   pub spends : Spends was.armed now.armed was.faults now.faults
 
--- A store was opened on disks with these contents: it stands for the states that they stand for, with nothing pending. The members of
--- the disk come first.
-pub record IsOpened {D : Type 0} (content : D → Option (List ℕ)) (image : D → List ℕ → Type 0) (starved : D → Bool)
-    (faults : D → ℕ) (losses : D → List (ℕ × List ℕ)) (arms : D → ℕ) (armed : D → Armed)
+-- A store was opened on disks with these contents: it stands for the states that they stand for, with nothing pending.
+pub record IsOpened {D : Type 0} (seen : D → DiskView)
     (first second : D) (a b : List ℕ) (store : StoreParts D) : Type 0 where
   pub shard : ForeignShardState
-  pub carried : IsCarried content image starved store shard
+  pub carried : IsCarried seen store shard
   pub stands : StandForStates a b shard.states
   pub only : (states : ShareStates) → StandForStates a b states → shard.states ≡ states
   pub nothing : shard.pending ≡ None
-  pub on_first : IsOpenedDisk (facts_of faults losses arms armed first) (facts_of faults losses arms armed store.journal.live.disk)
-  pub on_second : IsOpenedDisk (facts_of faults losses arms armed second) (facts_of faults losses arms armed store.journal.idle)
+  pub on_first : IsOpenedDisk (facts_of seen first) (facts_of seen store.journal.live.disk)
+  pub on_second : IsOpenedDisk (facts_of seen second) (facts_of seen store.journal.idle)
 
 -- each image of the first disk is one that it had or stands for the frames of one, and each image of the second is one that it had
-pub record ImagesStandAs {D : Type 0} (image : D → List ℕ → Type 0) (first second new_first new_second : D) : Type 0 where
-  pub on_first : (a : List ℕ) → image new_first a → StandsAs (image first) a
-  pub on_second : Within (image second) (image new_second)
+pub record ImagesStandAs {D : Type 0} (seen : D → DiskView) (first second new_first new_second : D) : Type 0 where
+  pub on_first : (a : List ℕ) → (seen new_first).image a → StandsAs (seen first).image a
+  pub on_second : Within (seen second).image (seen new_second).image
 
 -- an image of the one disk beside one of the other stands for this shard, with or without its pending write
-abbrev pub ImagesStand : {D : Type 0} → (D → List ℕ → Type 0) → ForeignShardState → D → D → Type 0
-ImagesStand image shard first second = (a b : List ℕ) → image first a → image second b → StandWith shard a b
+abbrev pub ImagesStand : {D : Type 0} → (D → DiskView) → ForeignShardState → D → D → Type 0
+ImagesStand seen shard first second = (a b : List ℕ) → (seen first).image a → (seen second).image b → StandWith shard a b
 
 abbrev pub name_of : Bool → List ℕ
 name_of false = state_a
@@ -92,104 +91,105 @@ IsDamagedDisk conf contents name place =
 
 -- The power of both disks was lost with this choice, and the shard was opened again: it is the old one, whose pending write landed or
 -- didn't.
-pub record IsRestartedShard {D : Type 0} (content : D → Option (List ℕ)) (image : D → List ℕ → Type 0) (starved : D → Bool)
-    (faults : D → ℕ) (losses : D → List (ℕ × List ℕ)) (arms : D → ℕ) (armed : D → Armed)
+pub record IsRestartedShard {D : Type 0} (seen : D → DiskView)
     (choice : ℕ) (old : StoreParts D) (shard : ForeignShardState) (new : StoreParts D) : Type 0 where
   pub a : List ℕ
   pub b : List ℕ
   pub after : ForeignShardState
-  pub carried : IsCarried content image starved new after
+  pub carried : IsCarried seen new after
   pub lands : Lands shard after
   pub stands : StandForStates a b after.states
-  pub were : image old.journal.live.disk a × image old.journal.idle b
-  pub lost : losses new.journal.live.disk ≡ losses old.journal.live.disk ++ (choice, a) ∷ []
-  pub second_lost : losses new.journal.idle ≡ losses old.journal.idle ++ (choice, b) ∷ []
-  pub on_first : IsRestarted (facts_of faults losses arms armed old.journal.live.disk) (facts_of faults losses arms armed new.journal.live.disk)
-  pub on_second : IsRestarted (facts_of faults losses arms armed old.journal.idle) (facts_of faults losses arms armed new.journal.idle)
+  pub were : (seen old.journal.live.disk).image a × (seen old.journal.idle).image b
+  pub lost : (seen new.journal.live.disk).losses ≡ (seen old.journal.live.disk).losses ++ (choice, a) ∷ []
+  pub second_lost : (seen new.journal.idle).losses ≡ (seen old.journal.idle).losses ++ (choice, b) ∷ []
+  pub on_first : IsRestarted (facts_of seen old.journal.live.disk) (facts_of seen new.journal.live.disk)
+  pub on_second : IsRestarted (facts_of seen old.journal.idle) (facts_of seen new.journal.idle)
 
 -- It was not opened again: the pending write landed, or didn't, or the power was not lost. The disks tell their contents.
-pub record IsNotRestarted {D : Type 0} (content : D → Option (List ℕ)) (image : D → List ℕ → Type 0) (shard : ForeignShardState)
+pub record IsNotRestarted {D : Type 0} (seen : D → DiskView) (shard : ForeignShardState)
     (first second : D) : Type 0 where
   pub after : ForeignShardState
   pub lands : (after ≡ shard) ⊎ Lands shard after
-  pub stand : ImagesStand image after first second
-  pub told : IsTold (content first)
-  pub second_told : IsTold (content second)
+  pub stand : ImagesStand seen after first second
+  pub told : IsTold (seen first).content
+  pub second_told : IsTold (seen second).content
 
 -- ---- partitions
 
 -- A partition was opened on disks with these contents: it stands for the log and the tables that they stand for, with nothing pending
 -- or held and the clock at 0.
-pub record IsOpenedPart {D : Type 0} (content : D → Option (List ℕ)) (image : D → List ℕ → Type 0) (starved : D → Bool)
-    (faults : D → ℕ) (losses : D → List (ℕ × List ℕ)) (arms : D → ℕ) (armed : D → Armed) (conf : PartConfParts)
+pub record IsOpenedPart {D : Type 0} (seen : D → DiskView) (conf : PartConfParts)
     (log first second : D) (l a b : List ℕ) (part : OpenPart D) : Type 0 where
   pub batches : List Batch
   pub states : ShareStates
-  pub carried : IsPartCarried content image starved conf part (shard_with batches states)
+  pub carried : IsPartCarried seen conf part (shard_with batches states)
   pub stands : ArePartText conf l a b batches states
   pub only : (other : List Batch) (others : ShareStates) → ArePartText conf l a b other others → (batches ≡ other) × (states ≡ others)
-  pub on_log : IsOpenedDisk (facts_of faults losses arms armed log) (facts_of faults losses arms armed part.log.journal.disk)
-  pub on_first : IsOpenedDisk (facts_of faults losses arms armed first) (facts_of faults losses arms armed part.states.journal.live.disk)
-  pub on_second : IsOpenedDisk (facts_of faults losses arms armed second) (facts_of faults losses arms armed part.states.journal.idle)
+  pub on_log : IsOpenedDisk (facts_of seen log) (facts_of seen part.log.journal.disk)
+  pub on_first : IsOpenedDisk (facts_of seen first) (facts_of seen part.states.journal.live.disk)
+  pub on_second : IsOpenedDisk (facts_of seen second) (facts_of seen part.states.journal.idle)
 
 -- each image of the log's disk and of the first of the states is one that it had or stands for the frames of one, and each of the second
 -- is one that it had
-pub record PartImagesStandAs {D : Type 0} (image : D → List ℕ → Type 0) (log first second new_log new_first new_second : D) : Type 0 where
-  pub on_log : (l : List ℕ) → image new_log l → StandsAs (image log) l
-  pub on_first : (a : List ℕ) → image new_first a → StandsAs (image first) a
-  pub on_second : Within (image second) (image new_second)
+pub record PartImagesStandAs {D : Type 0} (seen : D → DiskView) (log first second new_log new_first new_second : D) : Type 0 where
+  pub on_log : (l : List ℕ) → (seen new_log).image l → StandsAs (seen log).image l
+  pub on_first : (a : List ℕ) → (seen new_first).image a → StandsAs (seen first).image a
+  pub on_second : Within (seen second).image (seen new_second).image
+
+-- no power of its three disks was lost, and no fault was armed on them
+pub record PartRunsOn {D : Type 0} (seen : D → DiskView) (log first second new_log new_first new_second : D) : Type 0 where
+  pub on_log : RunsOn seen log new_log
+  pub on_first : RunsOn seen first new_first
+  pub on_second : RunsOn seen second new_second
 
 -- what a power loss with this choice left of a disk
-pub record IsLost {D : Type 0} (content : D → Option (List ℕ)) (image : D → List ℕ → Type 0) (faults : D → ℕ) (losses : D → List (ℕ × List ℕ))
-    (arms : D → ℕ) (armed : D → Armed) (choice : ℕ) (old new : D) (c : List ℕ) : Type 0 where
-  pub is : content new ≡ Some c
-  pub was : image old c
-  pub only : (d : List ℕ) → image new d → d ≡ c
-  pub lost : losses new ≡ losses old ++ (choice, c) ∷ []
-  pub same_arms : arms new ≡ arms old
-  pub disarmed : armed new ≡ Nothing
-  pub quiet : faults new ≡ faults old
+pub record IsLost {D : Type 0} (seen : D → DiskView) (choice : ℕ) (old new : D) (c : List ℕ) : Type 0 where
+  pub is : (seen new).content ≡ Some c
+  pub was : (seen old).image c
+  pub only : (d : List ℕ) → (seen new).image d → d ≡ c
+  pub lost : (seen new).losses ≡ (seen old).losses ++ (choice, c) ∷ []
+  pub same_arms : (seen new).arms ≡ (seen old).arms
+  pub disarmed : (seen new).armed ≡ Nothing
+  pub quiet : (seen new).faults ≡ (seen old).faults
 
 -- The power of its three disks was lost with this choice, and it was opened again: it is the old shard, whose pending writes landed or
 -- didn't.
-pub record IsRestartedPart {D : Type 0} (content : D → Option (List ℕ)) (image : D → List ℕ → Type 0) (starved : D → Bool)
-    (faults : D → ℕ) (losses : D → List (ℕ × List ℕ)) (arms : D → ℕ) (armed : D → Armed)
+pub record IsRestartedPart {D : Type 0} (seen : D → DiskView)
     (choice : ℕ) (conf : PartConfParts) (old : OpenPart D) (shard : PartShardState) (new : OpenPart D) : Type 0 where
   pub l : List ℕ
   pub a : List ℕ
   pub b : List ℕ
   pub batches : List Batch
   pub states : ShareStates
-  pub carried : IsPartCarried content image starved conf new (shard_with batches states)
+  pub carried : IsPartCarried seen conf new (shard_with batches states)
   pub log_is : IsOneOf shard.log.batches (and_pending shard.log.batches shard.log.pending) batches
   pub states_are : IsOneOf shard.states shard.pending states
   pub stands : ArePartText conf l a b batches states
-  pub were : image old.log.journal.disk l × image old.states.journal.live.disk a × image old.states.journal.idle b
-  pub log_lost : losses new.log.journal.disk ≡ losses old.log.journal.disk ++ (choice, l) ∷ []
-  pub first_lost : losses new.states.journal.live.disk ≡ losses old.states.journal.live.disk ++ (choice, a) ∷ []
-  pub second_lost : losses new.states.journal.idle ≡ losses old.states.journal.idle ++ (choice, b) ∷ []
-  pub on_log : IsRestarted (facts_of faults losses arms armed old.log.journal.disk) (facts_of faults losses arms armed new.log.journal.disk)
-  pub on_first : IsRestarted (facts_of faults losses arms armed old.states.journal.live.disk)
-      (facts_of faults losses arms armed new.states.journal.live.disk)
-  pub on_second : IsRestarted (facts_of faults losses arms armed old.states.journal.idle) (facts_of faults losses arms armed new.states.journal.idle)
+  pub were : (seen old.log.journal.disk).image l × (seen old.states.journal.live.disk).image a × (seen old.states.journal.idle).image b
+  pub log_lost : (seen new.log.journal.disk).losses ≡ (seen old.log.journal.disk).losses ++ (choice, l) ∷ []
+  pub first_lost : (seen new.states.journal.live.disk).losses ≡ (seen old.states.journal.live.disk).losses ++ (choice, a) ∷ []
+  pub second_lost : (seen new.states.journal.idle).losses ≡ (seen old.states.journal.idle).losses ++ (choice, b) ∷ []
+  pub on_log : IsRestarted (facts_of seen old.log.journal.disk) (facts_of seen new.log.journal.disk)
+  pub on_first : IsRestarted (facts_of seen old.states.journal.live.disk)
+      (facts_of seen new.states.journal.live.disk)
+  pub on_second : IsRestarted (facts_of seen old.states.journal.idle) (facts_of seen new.states.journal.idle)
 
 -- the shard in a slot was opened again
-pub record ReopensSlot {D : Type 0} (content : D → Option (List ℕ)) (image : D → List ℕ → Type 0) (starved : D → Bool)
-    (faults : D → ℕ) (losses : D → List (ℕ × List ℕ)) (arms : D → ℕ) (armed : D → Armed) (choice : ℕ) (old new : PartSlot D) : Type 0 where
+pub record ReopensSlot {D : Type 0} (seen : D → DiskView) (choice : ℕ) (old new : PartSlot D) : Type 0 where
   pub was : OpenPart D
   pub is : OpenPart D
   pub old_is : old.state ≡ part.Open was
   pub new_is : new.state ≡ part.Open is
   pub topic : new.topic ≡ old.topic
   pub conf : new.conf ≡ old.conf
-  pub goes : PartGoesOn content faults was is
-  pub images : PartImagesStandAs image was.log.journal.disk was.states.journal.live.disk was.states.journal.idle
+  pub goes : PartGoesOn seen was is
+  pub images : PartImagesStandAs seen was.log.journal.disk was.states.journal.live.disk was.states.journal.idle
       is.log.journal.disk is.states.journal.live.disk is.states.journal.idle
-  pub reopens : (s : PartShardState) → IsPartCarried content image starved old.conf was s
-      → IsRestartedPart content image starved faults losses arms armed choice old.conf was s is
+  pub reopens : (s : PartShardState) → IsPartCarried seen old.conf was s
+      → IsRestartedPart seen choice old.conf was s is
 
 -- It was not opened again, for this reason. Disks that tell their contents stand for the shard still, with or without its pending writes.
-pub record ShutsSlot {D : Type 0} (content : D → Option (List ℕ)) (image : D → List ℕ → Type 0) (starved : D → Bool) (faults : D → ℕ)
+pub record ShutsSlot {D : Type 0} (seen : D → DiskView)
     (fault : CoreFault) (old new : PartSlot D) : Type 0 where
   pub was : OpenPart D
   pub log : D
@@ -199,21 +199,20 @@ pub record ShutsSlot {D : Type 0} (content : D → Option (List ℕ)) (image : D
   pub new_is : new.state ≡ part.Shut log first second
   pub topic : new.topic ≡ old.topic
   pub conf : new.conf ≡ old.conf
-  pub on_log : GoesOn content faults was.log.journal.disk log
-  pub on_first : GoesOn content faults was.states.journal.live.disk first
-  pub on_second : GoesOn content faults was.states.journal.idle second
-  pub images : PartImagesStandAs image was.log.journal.disk was.states.journal.live.disk was.states.journal.idle log first second
-  pub shuts : (s : PartShardState) → IsPartCarried content image starved old.conf was s
-      → PartStandsAlone content image old.conf s log first second × (fault ≡ event_fault.NoMemory)
-  pub device : fault ≡ event_fault.Reopen Device → Rose (faults was.log.journal.disk) (faults log)
-      ⊎ (Rose (faults was.states.journal.live.disk) (faults first) ⊎ Rose (faults was.states.journal.idle) (faults second))
+  pub on_log : GoesOn seen was.log.journal.disk log
+  pub on_first : GoesOn seen was.states.journal.live.disk first
+  pub on_second : GoesOn seen was.states.journal.idle second
+  pub images : PartImagesStandAs seen was.log.journal.disk was.states.journal.live.disk was.states.journal.idle log first second
+  pub shuts : (s : PartShardState) → IsPartCarried seen old.conf was s
+      → PartStandsAlone seen old.conf s log first second × (fault ≡ event_fault.NoMemory)
+  pub device : fault ≡ event_fault.Reopen Device → Rose (seen was.log.journal.disk).faults (seen log).faults
+      ⊎ (Rose (seen was.states.journal.live.disk).faults (seen first).faults ⊎ Rose (seen was.states.journal.idle).faults (seen second).faults)
   pub never : (f : CoreOpen) → fault ≡ event_fault.Reopen f → (f ≢ Bay) × (f ≢ NoMemory)
 
 -- shards up to one were opened again, that one was not, and those behind it are as they were
-abbrev pub StopsAt : {D : Type 0} → (D → Option (List ℕ)) → (D → List ℕ → Type 0) → (D → Bool) → (D → ℕ) → (D → List (ℕ × List ℕ)) → (D → ℕ)
-    → (D → Armed) → ℕ → CoreFault → List (PartSlot D) → List (PartSlot D) → Type 0
-StopsAt content image starved faults losses arms armed choice fault [] new = ⊥
-StopsAt content image starved faults losses arms armed choice fault (x ∷ xs) [] = ⊥
-StopsAt content image starved faults losses arms armed choice fault (x ∷ xs) (y ∷ ys) =
-    (ReopensSlot content image starved faults losses arms armed choice x y × StopsAt content image starved faults losses arms armed choice fault xs ys)
-    ⊎ (ShutsSlot content image starved faults fault x y × (ys ≡ xs))
+abbrev pub StopsAt : {D : Type 0} → (D → DiskView) → ℕ → CoreFault → List (PartSlot D) → List (PartSlot D) → Type 0
+StopsAt seen choice fault [] new = ⊥
+StopsAt seen choice fault (x ∷ xs) [] = ⊥
+StopsAt seen choice fault (x ∷ xs) (y ∷ ys) =
+    (ReopensSlot seen choice x y × StopsAt seen choice fault xs ys)
+    ⊎ (ShutsSlot seen fault x y × (ys ≡ xs))

@@ -14,7 +14,7 @@ use edge_io::{Disk, DiskName, DiskPlace, FaultMode};
 
 fn arm_part<D: Disk>(place: DiskPlace, after: u64, mode: FaultMode, slot: &mut PartSlot<D>)
     requires { IsOpenState slot.old.state }
-    ensures { ArmsSlot D.content D.image D.losses D.arms D.armed D.starved D.faults place after mode slot.old slot.new }
+    ensures { ArmsSlot D.seen place after mode slot.old slot.new }
 {
     match &mut slot.state {
         PartState::Open(part) => part.arm(place, after, mode),
@@ -25,7 +25,7 @@ fn arm_part<D: Disk>(place: DiskPlace, after: u64, mode: FaultMode, slot: &mut P
 // Arms a fault of the disk of this name, if foreign state has it.
 fn arm_foreign<D: Disk>(disk: &DiskName, after: u64, mode: FaultMode, slot: &mut ForeignSlot<D>)
     requires { IsOpen slot.old }
-    ensures { ArmsForeign D.content D.image D.losses D.arms D.armed D.starved D.faults disk.now after mode slot.old slot.new }
+    ensures { ArmsForeign D.seen disk.now after mode slot.old slot.new }
 {
     match slot {
         ForeignSlot::Open(shard) => {
@@ -87,9 +87,9 @@ pub fn arm<D: Disk>(disk: &DiskName, after: u64, mode: FaultMode, hosts: &mut Ho
     requires open { AreOpen (parts_of hosts.old) }
     requires apart { AreApart (parts_of hosts.old) }
     requires named { AreNamed (hosted_slots hosts.old.parts.items) }
-    ensures ok { (s : Shards) → AreCarried D.content D.image D.starved (parts_of hosts.old) s →
-        IsArmed D.content D.image D.starved D.faults D.losses D.arms D.armed disk.now after mode (parts_of hosts.old) s (parts_of hosts.new) }
-    ensures disks { GoOn D.content D.faults (disks_in (parts_of hosts.old)) (disks_in (parts_of hosts.new)) }
+    ensures ok { (s : Shards) → AreCarried D.seen (parts_of hosts.old) s →
+        IsArmed D.seen disk.now after mode (parts_of hosts.old) s (parts_of hosts.new) }
+    ensures disks { GoOn D.seen (disks_in (parts_of hosts.old)) (disks_in (parts_of hosts.new)) }
     ensures open { AreOpen (parts_of hosts.new) }
     ensures stays { StaysHosted (parts_of hosts.old) (parts_of hosts.new) }
 {

@@ -70,7 +70,7 @@ pub fn hosted_parts(alloc: Global, conf: &Config) -> Result<Vec<HostedPart>, NoM
 
 // Why a bay gave no disk.
 fn no_disk<B: Bay>(bay: &B) -> CoreOpen
-    ensures bay { result ≡ CoreOpen.Bay → B.starved bay.now ≡ false }
+    ensures bay { result ≡ CoreOpen.Bay → (B.seen bay.now).starved ≡ false }
     ensures only { (result ≡ CoreOpen.Bay) ⊎ (result ≡ CoreOpen.NoMemory) }
 {
     if bay.starved() {
@@ -87,11 +87,11 @@ fn take_two<D: Disk, B: Bay<D = D>>(
     second_name: &DiskName,
 ) -> Result<(D, D), CoreOpen>
     requires apart { AreDistinct (first_name.now ∷ second_name.now ∷ []) }
-    requires first { B.out bay.old first_name.now ≡ false }
-    requires second { B.out bay.old second_name.now ≡ false }
-    ensures ok { IfOk result (λ disks. GetsAll B.disk B.out B.taken B.steady B.faults D.faults
+    requires first { (B.seen bay.old).out first_name.now ≡ false }
+    requires second { (B.seen bay.old).out second_name.now ≡ false }
+    ensures ok { IfOk result (λ disks. GetsAll B.seen D.seen
         ((first_name.now, disks.0) ∷ (second_name.now, disks.1) ∷ []) bay.old bay.new) }
-    ensures err { IfErr result (λ e. GetsNone B.disk B.out B.taken B.steady B.faults (first_name.now ∷ second_name.now ∷ []) e bay.old bay.new) }
+    ensures err { IfErr result (λ e. GetsNone B.seen (first_name.now ∷ second_name.now ∷ []) e bay.old bay.new) }
 {
     let Ok(first) = bay.take(first_name) else {
         return Err(no_disk(bay));
@@ -107,12 +107,12 @@ fn take_two<D: Disk, B: Bay<D = D>>(
 // Takes the three disks of a partition. After a refusal none is out.
 fn take_three<D: Disk, B: Bay<D = D>>(bay: &mut B, names: &PartNames) -> Result<(D, D, D), CoreOpen>
     requires apart { AreDistinct (names.now.log ∷ names.now.first ∷ names.now.second ∷ []) }
-    requires log { B.out bay.old names.now.log ≡ false }
-    requires first { B.out bay.old names.now.first ≡ false }
-    requires second { B.out bay.old names.now.second ≡ false }
-    ensures ok { IfOk result (λ disks. GetsAll B.disk B.out B.taken B.steady B.faults D.faults
+    requires log { (B.seen bay.old).out names.now.log ≡ false }
+    requires first { (B.seen bay.old).out names.now.first ≡ false }
+    requires second { (B.seen bay.old).out names.now.second ≡ false }
+    ensures ok { IfOk result (λ disks. GetsAll B.seen D.seen
         ((names.now.log, disks.0) ∷ (names.now.first, disks.1) ∷ (names.now.second, disks.2) ∷ []) bay.old bay.new) }
-    ensures err { IfErr result (λ e. GetsNone B.disk B.out B.taken B.steady B.faults
+    ensures err { IfErr result (λ e. GetsNone B.seen
         (names.now.log ∷ names.now.first ∷ names.now.second ∷ []) e bay.old bay.new) }
 {
     let Ok(log) = bay.take(&names.log) else {
@@ -130,10 +130,10 @@ fn take_three<D: Disk, B: Bay<D = D>>(bay: &mut B, names: &PartNames) -> Result<
 // Puts the three disks of a partition back.
 fn put_three<D: Disk, B: Bay<D = D>>(bay: &mut B, names: &PartNames, disks: (D, D, D))
     requires apart { AreDistinct (names.now.log ∷ names.now.first ∷ names.now.second ∷ []) }
-    requires log { B.out bay.old names.now.log ≡ true }
-    requires first { B.out bay.old names.now.first ≡ true }
-    requires second { B.out bay.old names.now.second ≡ true }
-    ensures { PutsAll B.disk B.out B.taken B.steady B.faults D.faults
+    requires log { (B.seen bay.old).out names.now.log ≡ true }
+    requires first { (B.seen bay.old).out names.now.first ≡ true }
+    requires second { (B.seen bay.old).out names.now.second ≡ true }
+    ensures { PutsAll B.seen D.seen
         ((names.now.log, Some disks.0) ∷ (names.now.first, Some disks.1) ∷ (names.now.second, Some disks.2) ∷ []) bay.old bay.new }
 {
     let (log, first, second) = disks;
@@ -152,10 +152,10 @@ fn take_part<D: Disk, B: Bay<D = D>>(
 ) -> Result<PartSlot<D>, CoreOpen>
     requires named { IsNamed part }
     requires apart { AreDistinct (disks_of part) }
-    requires not_out { (name : List ℕ) → IsOneOf (disks_of part) name → B.out bay.old name ≡ false }
-    ensures ok { IfOk result (λ slot. TakesPart B.disk B.out B.taken B.steady B.faults D.content D.image D.starved D.faults D.losses D.arms D.armed
+    requires not_out { (name : List ℕ) → IsOneOf (disks_of part) name → (B.seen bay.old).out name ≡ false }
+    ensures ok { IfOk result (λ slot. TakesPart B.seen D.seen
         part bay.old slot bay.new) }
-    ensures err { IfErr result (λ e. RefusesPart B.disk B.out B.taken B.steady B.faults D.content D.image D.starved D.faults D.arms D.armed
+    ensures err { IfErr result (λ e. RefusesPart B.seen D.seen
         part e bay.old bay.new) }
 {
     let HostedPart { topic, conf } = part;
@@ -183,11 +183,11 @@ fn add_part<D: Disk, B: Bay<D = D>>(
 ) -> Result<(), CoreOpen>
     requires named { IsNamed part }
     requires apart { AreDistinct (disks_of part) }
-    requires not_out { (name : List ℕ) → IsOneOf (disks_of part) name → B.out bay.old name ≡ false }
+    requires not_out { (name : List ℕ) → IsOneOf (disks_of part) name → (B.seen bay.old).out name ≡ false }
     ensures ok { OnOk result ((slot : PartSlot D)
-        × TakesPart B.disk B.out B.taken B.steady B.faults D.content D.image D.starved D.faults D.losses D.arms D.armed part bay.old slot bay.new
+        × TakesPart B.seen D.seen part bay.old slot bay.new
         × (slots.new.items ≡ slots.old.items ++ slot ∷ [])) }
-    ensures err { IfErr result (λ e. RefusesPart B.disk B.out B.taken B.steady B.faults D.content D.image D.starved D.faults D.arms D.armed
+    ensures err { IfErr result (λ e. RefusesPart B.seen D.seen
         part e bay.old bay.new × (slots.new.items ≡ slots.old.items)) }
 {
     if let Err(_) = slots.reserve(1) {
@@ -219,8 +219,8 @@ fn put_part_back<D: Disk, B: Bay<D = D>>(slot: PartSlot<D>, bay: &mut B)
     requires named { IsNamed (hosted_slot slot) }
     requires held { IsHeldState slot.state }
     requires apart { AreDistinct (disks_of (hosted_slot slot)) }
-    requires out { (name : List ℕ) → IsOneOf (disks_of (hosted_slot slot)) name → B.out bay.old name ≡ true }
-    ensures { PutsAll B.disk B.out B.taken B.steady B.faults D.faults (slot_disks slot) bay.old bay.new }
+    requires out { (name : List ℕ) → IsOneOf (disks_of (hosted_slot slot)) name → (B.seen bay.old).out name ≡ true }
+    ensures { PutsAll B.seen D.seen (slot_disks slot) bay.old bay.new }
 {
     let PartSlot { topic, conf, state } = slot;
     let names = names_of(&topic, &conf);
@@ -232,8 +232,8 @@ pub fn put_parts_back<D: Disk + Drop, B: Bay<D = D>>(slots: Vec<PartSlot<D>>, ba
     requires named { AreNamed (hosted_slots slots.items) }
     requires held { AreHeldParts slots.items }
     requires distinct { AreDistinct (part_disks (hosted_slots slots.items)) }
-    requires out { (name : List ℕ) → IsOneOf (part_disks (hosted_slots slots.items)) name → B.out bay.old name ≡ true }
-    ensures { PutsAll B.disk B.out B.taken B.steady B.faults D.faults (slots_disks slots.items) bay.old bay.new }
+    requires out { (name : List ℕ) → IsOneOf (part_disks (hosted_slots slots.items)) name → (B.seen bay.old).out name ≡ true }
+    ensures { PutsAll B.seen D.seen (slots_disks slots.items) bay.old bay.new }
 {
     for slot in slots {
         put_part_back(slot, bay);
@@ -248,10 +248,10 @@ pub fn take_parts<D: Disk + Drop, B: Bay<D = D>>(
 ) -> Result<Vec<PartSlot<D>>, CoreOpen>
     requires named { AreNamed parts.items }
     requires distinct { AreDistinct (part_disks parts.items) }
-    requires out { AreOut B.out [] bay.old }
-    ensures ok { IfOk result (λ slots. TakesParts B.disk B.out B.taken B.steady B.faults D.content D.image D.starved D.faults D.losses D.arms D.armed
+    requires out { AreOut B.seen [] bay.old }
+    ensures ok { IfOk result (λ slots. TakesParts B.seen D.seen
         parts.items bay.old slots.items bay.new) }
-    ensures err { IfErr result (λ e. RefusesAt B.disk B.out B.taken B.steady B.faults D.content D.image D.starved D.faults D.losses D.arms D.armed
+    ensures err { IfErr result (λ e. RefusesAt B.seen D.seen
         parts.items e bay.old bay.new) }
 {
     let mut slots = Vec::new(alloc);
@@ -271,11 +271,11 @@ pub fn take_foreign<D: Disk, B: Bay<D = D>>(
     alloc: Global,
     bay: &mut B,
 ) -> Result<ForeignSlot<D>, CoreOpen>
-    requires first { B.out bay.old state_a ≡ false }
-    requires second { B.out bay.old state_b ≡ false }
-    ensures ok { IfOk result (λ slot. TakesForeign B.disk B.out B.taken B.steady B.faults D.content D.image D.starved D.faults D.losses D.arms D.armed
+    requires first { (B.seen bay.old).out state_a ≡ false }
+    requires second { (B.seen bay.old).out state_b ≡ false }
+    ensures ok { IfOk result (λ slot. TakesForeign B.seen D.seen
         bay.old slot bay.new) }
-    ensures err { IfErr result (λ e. RefusesForeign B.disk B.out B.taken B.steady B.faults D.content D.image D.starved D.faults D.arms D.armed
+    ensures err { IfErr result (λ e. RefusesForeign B.seen D.seen
         e bay.old bay.new) }
 {
     let first_name = DiskName::foreign_state_a();
@@ -306,9 +306,9 @@ fn disks_of_foreign<D: Disk>(slot: ForeignSlot<D>) -> (D, D)
 /// Puts the two disks of foreign state back.
 pub fn put_foreign_back<D: Disk, B: Bay<D = D>>(slot: ForeignSlot<D>, bay: &mut B)
     requires held { IsHeld slot }
-    requires first { B.out bay.old state_a ≡ true }
-    requires second { B.out bay.old state_b ≡ true }
-    ensures { PutsForeignBack B.disk B.out B.taken B.steady B.faults D.faults slot bay.old bay.new }
+    requires first { (B.seen bay.old).out state_a ≡ true }
+    requires second { (B.seen bay.old).out state_b ≡ true }
+    ensures { PutsForeignBack B.seen D.seen slot bay.old bay.new }
 {
     let (first, second) = disks_of_foreign(slot);
     bay.put_back(&DiskName::foreign_state_a(), first);

@@ -1,10 +1,10 @@
-ghost use Rattle.std.specs.Prelude.{◌≡◌, ◌≢◌, ◌⊎◌, ◌≤◌, [], List, ℕ, All, IfOk, IfErr, OnOk, OnErr, Err, length};
+ghost use Rattle.std.specs.Prelude.{◌≡◌, ◌≢◌, ◌⊎◌, ◌≤◌, [], List, ℕ, true, false, All, IfOk, IfErr, OnOk, OnErr, Err, length};
 ghost use Rattle.edge_io.specs.Bays.{IsSound, SameSlot};
 ghost use Rattle.edge_io.specs.Causes.{Rose};
 ghost use Rattle.session_script.specs.declared.event.Event.TheVariants.{Power};
 ghost use Rattle.session_script.specs.Output.{IsTold};
 ghost use Rattle.topic_conf.specs.Topics.{IsTopicList, partitions};
-ghost use Rattle.broker_model.specs.Hosted.{IsTaken};
+ghost use Rattle.broker_model.specs.Hosted.{IsOneOf, IsTaken};
 ghost use Rattle.broker_model.specs.Machine.{Machine};
 ghost use Rattle.broker_model.specs.Disks.{Disks};
 ghost use Rattle.broker_core.specs.Hosts.{AreApart, AreHeld, AreNamed, AreOpen, GoOn, OneRose, StaysHosted, all_names, disks_in, hosted_slots, parts_of};
@@ -59,10 +59,10 @@ fn take_hosts<D: Disk + Drop, B: Bay<D = D>>(
     bay: &mut B,
     conf: &Config,
 ) -> Result<Hosts<D>, CoreOpen>
-    requires { AreOut B.out [] bay.old }
-    ensures ok { IfOk result (λ hosts. TakesAll B.disk B.out B.taken B.steady B.faults D.content D.image D.starved D.faults D.losses D.arms D.armed
+    requires { AreOut B.seen [] bay.old }
+    ensures ok { IfOk result (λ hosts. TakesAll B.seen D.seen
         conf.now bay.old (parts_of hosts) bay.new) }
-    ensures err { IfErr result (λ e. RefusesAll B.disk B.out B.taken B.steady B.faults D.content D.image D.starved D.faults D.losses D.arms D.armed
+    ensures err { IfErr result (λ e. RefusesAll B.seen D.seen
         conf.now e bay.old bay.new) }
     ensures list { IsTopicList conf.now.topics }
 {
@@ -91,8 +91,8 @@ fn put_hosts_back<D: Disk + Drop, B: Bay<D = D>>(hosts: Hosts<D>, bay: &mut B)
     requires named { AreNamed (hosted_slots (parts_of hosts).parts) }
     requires held { AreHeld (parts_of hosts) }
     requires apart { AreApart (parts_of hosts) }
-    requires out { AreOut B.out (all_names (hosted_slots (parts_of hosts).parts)) bay.old }
-    ensures { PutsAllBack B.disk B.out B.taken B.steady B.faults D.faults (parts_of hosts) bay.old bay.new }
+    requires out { (name : List ℕ) → IsOneOf (all_names (hosted_slots (parts_of hosts).parts)) name → (B.seen bay.old).out name ≡ true }
+    ensures { PutsAllBack B.seen D.seen (parts_of hosts) bay.old bay.new }
 {
     let Hosts { parts, foreign, .. } = hosts;
     put_parts_back(parts, bay);
@@ -113,7 +113,7 @@ fn advance<D: Disk + Drop>(
     requires whole { IsWhole (core_of conf.now clients.old.entries (parts_of hosts.old)) }
     requires apart { AreApart (parts_of hosts.old) }
     requires hosted { length hosts.old.parts.items ≡ partitions conf.now.topics }
-    ensures ok { IfOk result (λ outcomes. Advances D.content D.image D.starved D.faults D.losses D.arms D.armed
+    ensures ok { IfOk result (λ outcomes. Advances D.seen
         (core_of conf.now clients.old.entries (parts_of hosts.old)) event.now outcomes.items
         (core_of conf.now clients.new.entries (parts_of hosts.new))) }
     ensures told { IfOk result (λ outcomes. All (IsTold conf.now.topics) outcomes.items) }
@@ -121,14 +121,14 @@ fn advance<D: Disk + Drop>(
     ensures held { AreHeld (parts_of hosts.new) }
     ensures stays { StaysHosted (parts_of hosts.old) (parts_of hosts.new) }
     ensures stopped { IfErr result (λ e. (m : Machine)
-        → IsCore D.content D.image D.starved (core_of conf.now clients.old.entries (parts_of hosts.old)) m
-        → StopsIn D.content D.image D.faults D.losses D.arms D.armed (core_of conf.now clients.old.entries (parts_of hosts.old)) m event.now
+        → IsCore D.seen (core_of conf.now clients.old.entries (parts_of hosts.old)) m
+        → StopsIn D.seen (core_of conf.now clients.old.entries (parts_of hosts.old)) m event.now
         (core_of conf.now clients.new.entries (parts_of hosts.new)) × (e ≡ CoreFault.NoMemory)) }
     ensures reopen { (f : CoreOpen) → result ≡ Err (CoreFault.Reopen f) →
         ((choice : ℕ) × (event.now ≡ Power choice)) × (f ≢ CoreOpen.Bay) × (f ≢ CoreOpen.NoMemory) }
     ensures device { result ≡ Err (CoreFault.Reopen CoreOpen.Device) →
-        OneRose D.faults (disks_in (parts_of hosts.old)) (disks_in (parts_of hosts.new)) }
-    ensures disks { GoOn D.content D.faults (disks_in (parts_of hosts.old)) (disks_in (parts_of hosts.new)) }
+        OneRose D.seen (disks_in (parts_of hosts.old)) (disks_in (parts_of hosts.new)) }
+    ensures disks { GoOn D.seen (disks_in (parts_of hosts.old)) (disks_in (parts_of hosts.new)) }
 {
     match event {
         Event::Open { conn } => {
@@ -178,32 +178,32 @@ impl<D: Disk + Drop> Core<D> {
         bay: &mut B,
         conf: Config,
     ) -> Result<Core<D>, CoreOpen>
-        requires { AreOut B.out [] bay.old }
+        requires { AreOut B.seen [] bay.old }
         ensures opens { IfOk result (λ core. (contents : List ℕ → List ℕ) (was : Disks) →
-            TellsDisks B.disk D.content D.faults D.losses D.arms D.armed conf bay.old contents was →
-            (m : Machine) × IsCore D.content D.image D.starved core m
-            × IsFirst conf contents was (state_of D.faults D.losses D.arms D.armed m core)) }
+            TellsDisks B.seen D.seen conf bay.old contents was →
+            (m : Machine) × IsCore D.seen core m
+            × IsFirst conf contents was (state_of D.seen m core)) }
         ensures open { IfOk result (λ core. AreOpen core.hosts × (core.conf ≡ conf)) }
-        ensures taken { IfOk result (λ core. AreOut B.out (all_names (hosted_slots core.hosts.parts)) bay.new) }
-        ensures counts { IfOk result (λ core. AreTakenFrom B.disk B.taken D.faults conf bay.old bay.new (disks_in core.hosts)) }
-        ensures back { OnErr result (AreOut B.out [] bay.new) }
-        // After a refusal each image of a disk is one that it had, or stands for the frames of one.
-        ensures stays { OnErr result ((name : List ℕ) → StaysAs B.disk D.image name bay.old bay.new) }
+        ensures taken { IfOk result (λ core. AreOut B.seen (all_names (hosted_slots core.hosts.parts)) bay.new) }
+        ensures counts { IfOk result (λ core. AreTakenFrom B.seen D.seen conf bay.old bay.new (disks_in core.hosts)) }
+        ensures back { OnErr result (AreOut B.seen [] bay.new) }
+        // After a refusal each image of a disk is one that it had, or stands for the frames of one. No power is lost and no fault is armed.
+        ensures stays { OnErr result ((name : List ℕ) → StaysAs B.seen D.seen name bay.old bay.new) }
         // A disk that isn't the broker's is as it was.
-        ensures others { (name : List ℕ) → (IsTaken conf name → ⊥) → SameSlot B.disk B.out B.taken name bay.old bay.new }
+        ensures others { (name : List ℕ) → (IsTaken conf name → ⊥) → SameSlot B.seen name bay.old bay.new }
 
         // Each refusal has its cause. Contents that stand for logs, tables and states are never damaged.
         ensures damaged { (disk : List ℕ) (place : ℕ) → result ≡ Err (CoreOpen.Damaged disk place) → (contents : List ℕ → List ℕ) (was : Disks) →
-            TellsDisks B.disk D.content D.faults D.losses D.arms D.armed conf bay.old contents was → IsDamagedDisk conf contents disk place }
+            TellsDisks B.seen D.seen conf bay.old contents was → IsDamagedDisk conf contents disk place }
         ensures recovers { (contents : List ℕ → List ℕ) (was : Disks) →
-            TellsDisks B.disk D.content D.faults D.losses D.arms D.armed conf bay.old contents was → StandForAll conf contents →
+            TellsDisks B.seen D.seen conf bay.old contents was → StandForAll conf contents →
             (disk : List ℕ) (place : ℕ) → result ≢ Err (CoreOpen.Damaged disk place) }
-        ensures bay { result ≡ Err CoreOpen.Bay → Rose (B.faults bay.old) (B.faults bay.new) }
-        // The bay's count rose, or that of a disk stood at its last value.
-        ensures device { result ≡ Err CoreOpen.Device → Rose (B.faults bay.old) (B.faults bay.new) ⊎ HasLastCount B.disk D.faults conf bay.old }
-        ensures later { B.faults bay.old ≤ B.faults bay.new }
-        ensures told { TellsStill B.disk bay.old bay.new }
-        ensures sound { IsSound B.disk B.steady D.content D.armed D.arms D.starved D.faults bay.old →
+        ensures bay { result ≡ Err CoreOpen.Bay → Rose (B.seen bay.old).faults (B.seen bay.new).faults }
+        // The bay's count rose, or a disk was taken with one at its last value.
+        ensures device { result ≡ Err CoreOpen.Device → Rose (B.seen bay.old).faults (B.seen bay.new).faults ⊎ HasLastCount B.seen conf bay.new }
+        ensures later { (B.seen bay.old).faults ≤ (B.seen bay.new).faults }
+        ensures told { TellsStill B.seen bay.old bay.new }
+        ensures sound { IsSound B.seen D.seen bay.old →
             (result ≢ Err CoreOpen.Bay) × (result ≢ Err CoreOpen.Device) }
     {
         let hosts = take_hosts(alloc, bay, &conf)?;
@@ -215,15 +215,17 @@ impl<D: Disk + Drop> Core<D> {
         })
     }
 
-    /// Puts the disks back into the bay from which they were taken.
+    /// Puts the disks back into the bay from which they were taken, and in which they are still out.
     pub fn finish<B: Bay<D = D>>(self, bay: &mut B)
-        requires { AreOut B.out (all_names (hosted_slots self.hosts.parts)) bay.old }
-        ensures back { ArePutBack B.disk bay.old bay.new (disks_in self.hosts) }
-        ensures in_again { AreOut B.out [] bay.new }
-        ensures others { (name : List ℕ) → (IsTaken self.conf name → ⊥) → SameSlot B.disk B.out B.taken name bay.old bay.new }
-        ensures rises { HasRisen B.taken D.faults bay.old (disks_in self.hosts) → Rose (B.faults bay.old) (B.faults bay.new) }
-        ensures later { B.faults bay.old ≤ B.faults bay.new }
-        ensures told { TellsStill B.disk bay.old bay.new }
+        requires { (name : List ℕ) → IsOneOf (all_names (hosted_slots self.hosts.parts)) name → (B.seen bay.old).out name ≡ true }
+        ensures back { ArePutBack B.seen bay.old bay.new (disks_in self.hosts) }
+        ensures are_in { (name : List ℕ) → IsOneOf (all_names (hosted_slots self.hosts.parts)) name → (B.seen bay.new).out name ≡ false }
+        ensures none_out { AreOut B.seen (all_names (hosted_slots self.hosts.parts)) bay.old → AreOut B.seen [] bay.new }
+        ensures noted { (name : List ℕ) → (B.seen bay.new).taken name ≡ (B.seen bay.old).taken name }
+        ensures others { (name : List ℕ) → (IsTaken self.conf name → ⊥) → SameSlot B.seen name bay.old bay.new }
+        ensures rises { HasRisen B.seen D.seen bay.old (disks_in self.hosts) → Rose (B.seen bay.old).faults (B.seen bay.new).faults }
+        ensures later { (B.seen bay.old).faults ≤ (B.seen bay.new).faults }
+        ensures told { TellsStill B.seen bay.old bay.new }
     {
         let Core { hosts, .. } = self;
         put_hosts_back(hosts, bay);
@@ -247,20 +249,20 @@ impl<D: Disk + Drop> Core<D> {
 
         // It is a step of the machine that the broker stands for, where its disks tell their contents.
         ensures ok { IfOk result (λ outcomes.
-            Advances D.content D.image D.starved D.faults D.losses D.arms D.armed self.old event.now outcomes.items self.new) }
+            Advances D.seen self.old event.now outcomes.items self.new) }
         ensures open { OnOk result (AreOpen self.new.hosts) }
 
         // On such disks it fails for want of memory alone, and the disks stand for the machine before the event, or behind it, or behind
         // some of its writes.
-        ensures stopped { IfErr result (λ e. (m : Machine) → IsCore D.content D.image D.starved self.old m →
-            StopsIn D.content D.image D.faults D.losses D.arms D.armed self.old m event.now self.new × (e ≡ CoreFault.NoMemory)) }
+        ensures stopped { IfErr result (λ e. (m : Machine) → IsCore D.seen self.old m →
+            StopsIn D.seen self.old m event.now self.new × (e ≡ CoreFault.NoMemory)) }
 
         // On any disks: a fault that is told is that of a hosted partition. Why it was not opened again, which comes of a power loss alone.
         ensures told { IfOk result (λ outcomes. All (IsTold self.old.conf.topics) outcomes.items) }
         ensures reopen { (f : CoreOpen) → result ≡ Err (CoreFault.Reopen f) →
             ((choice : ℕ) × (event.now ≡ Power choice)) × (f ≢ CoreOpen.Bay) × (f ≢ CoreOpen.NoMemory) }
-        ensures device { result ≡ Err (CoreFault.Reopen CoreOpen.Device) → OneRose D.faults (disks_in self.old.hosts) (disks_in self.new.hosts) }
-        ensures disks { GoOn D.content D.faults (disks_in self.old.hosts) (disks_in self.new.hosts) }
+        ensures device { result ≡ Err (CoreFault.Reopen CoreOpen.Device) → OneRose D.seen (disks_in self.old.hosts) (disks_in self.new.hosts) }
+        ensures disks { GoOn D.seen (disks_in self.old.hosts) (disks_in self.new.hosts) }
         ensures conf { self.new.conf ≡ self.old.conf }
     {
         advance(

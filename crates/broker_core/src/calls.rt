@@ -22,8 +22,8 @@ fn produce_in<D: Disk>(now: u64, batch: &[u8], slot: &mut PartSlot<D>) -> Result
     requires now { now ≤ 2 ^ 62 }
     requires open { IsOpenState slot.old.state }
     ensures ok { IfOk result (λ produced.
-        LeadsSlot D.content D.image D.starved D.faults D.losses D.arms D.armed now (Produces batch.now produced) slot.old slot.new) }
-    ensures stopped { OnErr result (HaltsSlot D.content D.image D.starved D.faults now
+        LeadsSlot D.seen now (Produces batch.now produced) slot.old slot.new) }
+    ensures stopped { OnErr result (HaltsSlot D.seen now
         (λ did. (produced : Produced) × (did ≡ Produces batch.now produced)) (λ begun. ⊥) slot.old slot.new) }
     ensures fair { IfOk result HasTellableBase }
 {
@@ -43,8 +43,8 @@ pub fn produce_at<D: Disk>(
     requires now { now ≤ 2 ^ 62 }
     requires open { AreOpenParts parts.old.items }
     ensures ok { IfOk result (λ produced. ChangesAt shard
-        (LeadsSlot D.content D.image D.starved D.faults D.losses D.arms D.armed now (Produces batch.now produced)) parts.old.items parts.new.items) }
-    ensures stopped { OnErr result ((parts.new.items ≡ parts.old.items) ⊎ ChangesAt shard (HaltsSlot D.content D.image D.starved D.faults now
+        (LeadsSlot D.seen now (Produces batch.now produced)) parts.old.items parts.new.items) }
+    ensures stopped { OnErr result ((parts.new.items ≡ parts.old.items) ⊎ ChangesAt shard (HaltsSlot D.seen now
         (λ did. (produced : Produced) × (did ≡ Produces batch.now produced)) (λ begun. ⊥)) parts.old.items parts.new.items) }
     ensures fair { IfOk result HasTellableBase }
 {
@@ -65,8 +65,8 @@ fn visit_in<D: Disk>(
     requires now { now ≤ 2 ^ 62 }
     requires open { IsOpenState slot.old.state }
     ensures ok { IfOk result (λ answer.
-        LeadsSlot D.content D.image D.starved D.faults D.losses D.arms D.armed now (Visits asked.now answer) slot.old slot.new) }
-    ensures stopped { OnErr result (HaltsSlot D.content D.image D.starved D.faults now
+        LeadsSlot D.seen now (Visits asked.now answer) slot.old slot.new) }
+    ensures stopped { OnErr result (HaltsSlot D.seen now
         (λ did. (answer : VisitAnswer) × (did ≡ Visits asked.now answer)) (λ begun. begun ≡ BeginsVisit asked.now) slot.old slot.new) }
     ensures fair { IfOk result IsTellableVisit }
 {
@@ -86,8 +86,8 @@ pub fn visit_at<D: Disk>(
     requires now { now ≤ 2 ^ 62 }
     requires open { AreOpenParts parts.old.items }
     ensures ok { IfOk result (λ answer. ChangesAt shard
-        (LeadsSlot D.content D.image D.starved D.faults D.losses D.arms D.armed now (Visits asked.now answer)) parts.old.items parts.new.items) }
-    ensures stopped { OnErr result ((parts.new.items ≡ parts.old.items) ⊎ ChangesAt shard (HaltsSlot D.content D.image D.starved D.faults now
+        (LeadsSlot D.seen now (Visits asked.now answer)) parts.old.items parts.new.items) }
+    ensures stopped { OnErr result ((parts.new.items ≡ parts.old.items) ⊎ ChangesAt shard (HaltsSlot D.seen now
         (λ did. (answer : VisitAnswer) × (did ≡ Visits asked.now answer)) (λ begun. begun ≡ BeginsVisit asked.now)) parts.old.items parts.new.items) }
     ensures fair { IfOk result IsTellableVisit }
 {
@@ -102,7 +102,7 @@ pub fn visit_at<D: Disk>(
 fn look_in<D: Disk>(alloc: Global, group: &Name, slot: &PartSlot<D>) -> Result<Looked, NoMemory>
     requires open { IsOpenState slot.now.state }
     ensures ok { IfOk result (λ looked. (now : ℕ) →
-        LeadsSlot D.content D.image D.starved D.faults D.losses D.arms D.armed now (Looks group.now looked) slot.now slot.now) }
+        LeadsSlot D.seen now (Looks group.now looked) slot.now slot.now) }
     ensures fair { IfOk result IsTellableLook }
 {
     match &slot.state {
@@ -120,7 +120,7 @@ pub fn look_at<D: Disk>(
 ) -> Result<Looked, NoMemory>
     requires open { AreOpenParts parts.now }
     ensures ok { IfOk result (λ looked. (now : ℕ) → HoldsAt shard
-        (λ slot. LeadsSlot D.content D.image D.starved D.faults D.losses D.arms D.armed now (Looks group.now looked) slot slot) parts.now) }
+        (λ slot. LeadsSlot D.seen now (Looks group.now looked) slot slot) parts.now) }
     ensures fair { IfOk result IsTellableLook }
 {
     let Some(slot) = parts.get(shard as usize) else {
@@ -135,8 +135,8 @@ fn expire_in<D: Disk>(now: u64, slot: &mut PartSlot<D>) -> Result<ExpireAnswer, 
     requires now { now ≤ 2 ^ 62 }
     requires open { IsOpenState slot.old.state }
     ensures ok { IfOk result (λ answer.
-        LeadsSlot D.content D.image D.starved D.faults D.losses D.arms D.armed now (Expires answer) slot.old slot.new) }
-    ensures stopped { OnErr result (HaltsSlot D.content D.image D.starved D.faults now (λ did. (answer : ExpireAnswer) × (did ≡ Expires answer))
+        LeadsSlot D.seen now (Expires answer) slot.old slot.new) }
+    ensures stopped { OnErr result (HaltsSlot D.seen now (λ did. (answer : ExpireAnswer) × (did ≡ Expires answer))
         (λ begun. begun ≡ BeginsExpiry) slot.old slot.new) }
 {
     match &mut slot.state {
@@ -154,8 +154,8 @@ pub fn expire_at<D: Disk>(
     requires now { now ≤ 2 ^ 62 }
     requires open { AreOpenParts parts.old.items }
     ensures ok { IfOk result (λ answer. ChangesAt shard
-        (LeadsSlot D.content D.image D.starved D.faults D.losses D.arms D.armed now (Expires answer)) parts.old.items parts.new.items) }
-    ensures stopped { OnErr result ((parts.new.items ≡ parts.old.items) ⊎ ChangesAt shard (HaltsSlot D.content D.image D.starved D.faults now
+        (LeadsSlot D.seen now (Expires answer)) parts.old.items parts.new.items) }
+    ensures stopped { OnErr result ((parts.new.items ≡ parts.old.items) ⊎ ChangesAt shard (HaltsSlot D.seen now
         (λ did. (answer : ExpireAnswer) × (did ≡ Expires answer)) (λ begun. begun ≡ BeginsExpiry)) parts.old.items parts.new.items) }
 {
     let Some(slot) = parts.get_mut(shard as usize) else {

@@ -56,19 +56,19 @@ fn ask<D: Disk>(
     requires open { AreOpen (parts_of hosts.old) }
     requires apart { AreApart (parts_of hosts.old) }
     requires hosted { length hosts.old.parts.items ≡ partitions conf.now.topics }
-    ensures ok { IfOk result (λ outcomes. (s : Shards) → AreCarried D.content D.image D.starved (parts_of hosts.old) s →
-        Leads D.content D.image D.starved D.faults D.losses D.arms D.armed (parts_of hosts.old) s (parts_of hosts.new)
-        (λ a call b. Does (counts_in D.faults D.losses D.arms D.armed (disks_in (parts_of hosts.old)) (disks_in (parts_of hosts.new)))
+    ensures ok { IfOk result (λ outcomes. (s : Shards) → AreCarried D.seen (parts_of hosts.old) s →
+        Leads D.seen (parts_of hosts.old) s (parts_of hosts.new)
+        (λ a call b. Does (counts_in D.seen (disks_in (parts_of hosts.old)) (disks_in (parts_of hosts.new)))
         (ends_over (parts_of hosts.old) (parts_of hosts.new)) id now (Next.Ask part.now) conn.old a b call outcomes.items conn.new)) }
-    ensures stopped { OnErr result ((s : Shards) → AreCarried D.content D.image D.starved (parts_of hosts.old) s →
-        Halts D.content D.image (parts_of hosts.old) s (parts_of hosts.new)
+    ensures stopped { OnErr result ((s : Shards) → AreCarried D.seen (parts_of hosts.old) s →
+        Halts D.seen (parts_of hosts.old) s (parts_of hosts.new)
         (λ a call b. (outcomes : List Outcome) × (after : ConnParts)
-        × Does (counts_in D.faults D.losses D.arms D.armed (disks_in (parts_of hosts.old)) (disks_in (parts_of hosts.new)))
+        × Does (counts_in D.seen (disks_in (parts_of hosts.old)) (disks_in (parts_of hosts.new)))
         (ends_over (parts_of hosts.old) (parts_of hosts.new)) id now (Next.Ask part.now) conn.old a b call outcomes after)
-        (HalvesNext (counts_in D.faults D.losses D.arms D.armed (disks_in (parts_of hosts.old)) (disks_in (parts_of hosts.new)))
+        (HalvesNext (counts_in D.seen (disks_in (parts_of hosts.old)) (disks_in (parts_of hosts.new)))
         (ends_over (parts_of hosts.old) (parts_of hosts.new)) (Next.Ask part.now))) }
     ensures told { IfOk result (λ outcomes. All (IsTold conf.now.topics) outcomes.items) }
-    ensures disks { GoOn D.content D.faults (disks_in (parts_of hosts.old)) (disks_in (parts_of hosts.new)) }
+    ensures disks { GoOn D.seen (disks_in (parts_of hosts.old)) (disks_in (parts_of hosts.new)) }
     ensures open { AreOpen (parts_of hosts.new) }
     ensures stays { StaysHosted (parts_of hosts.old) (parts_of hosts.new) }
 {
@@ -94,19 +94,19 @@ fn done<D: Disk>(
     requires open { AreOpen (parts_of hosts.old) }
     requires apart { AreApart (parts_of hosts.old) }
     requires hosted { length hosts.old.parts.items ≡ partitions conf.now.topics }
-    ensures ok { IfOk result (λ outcomes. (s : Shards) → AreCarried D.content D.image D.starved (parts_of hosts.old) s →
-        Leads D.content D.image D.starved D.faults D.losses D.arms D.armed (parts_of hosts.old) s (parts_of hosts.new)
-        (λ a call b. Does (counts_in D.faults D.losses D.arms D.armed (disks_in (parts_of hosts.old)) (disks_in (parts_of hosts.new)))
+    ensures ok { IfOk result (λ outcomes. (s : Shards) → AreCarried D.seen (parts_of hosts.old) s →
+        Leads D.seen (parts_of hosts.old) s (parts_of hosts.new)
+        (λ a call b. Does (counts_in D.seen (disks_in (parts_of hosts.old)) (disks_in (parts_of hosts.new)))
         (ends_over (parts_of hosts.old) (parts_of hosts.new)) id now next conn.old a b call outcomes.items conn.new)) }
-    ensures stopped { OnErr result ((s : Shards) → AreCarried D.content D.image D.starved (parts_of hosts.old) s →
-        Halts D.content D.image (parts_of hosts.old) s (parts_of hosts.new)
+    ensures stopped { OnErr result ((s : Shards) → AreCarried D.seen (parts_of hosts.old) s →
+        Halts D.seen (parts_of hosts.old) s (parts_of hosts.new)
         (λ a call b. (outcomes : List Outcome) × (after : ConnParts)
-        × Does (counts_in D.faults D.losses D.arms D.armed (disks_in (parts_of hosts.old)) (disks_in (parts_of hosts.new)))
+        × Does (counts_in D.seen (disks_in (parts_of hosts.old)) (disks_in (parts_of hosts.new)))
         (ends_over (parts_of hosts.old) (parts_of hosts.new)) id now next conn.old a b call outcomes after)
-        (HalvesNext (counts_in D.faults D.losses D.arms D.armed (disks_in (parts_of hosts.old)) (disks_in (parts_of hosts.new)))
+        (HalvesNext (counts_in D.seen (disks_in (parts_of hosts.old)) (disks_in (parts_of hosts.new)))
         (ends_over (parts_of hosts.old) (parts_of hosts.new)) next)) }
     ensures told { IfOk result (λ outcomes. All (IsTold conf.now.topics) outcomes.items) }
-    ensures disks { GoOn D.content D.faults (disks_in (parts_of hosts.old)) (disks_in (parts_of hosts.new)) }
+    ensures disks { GoOn D.seen (disks_in (parts_of hosts.old)) (disks_in (parts_of hosts.new)) }
     ensures open { AreOpen (parts_of hosts.new) }
     ensures stays { StaysHosted (parts_of hosts.old) (parts_of hosts.new) }
 {
@@ -136,20 +136,20 @@ fn step<D: Disk>(
     requires open { AreOpen (parts_of hosts.old) }
     requires apart { AreApart (parts_of hosts.old) }
     requires hosted { length hosts.old.parts.items ≡ partitions conf.now.topics }
-    ensures ok { IfOk result (λ did. (s : Shards) → AreCarried D.content D.image D.starved (parts_of hosts.old) s →
-        Leads D.content D.image D.starved D.faults D.losses D.arms D.armed (parts_of hosts.old) s (parts_of hosts.new)
-        (λ a call b. DoesTurn (counts_in D.faults D.losses D.arms D.armed (disks_in (parts_of hosts.old)) (disks_in (parts_of hosts.new)))
+    ensures ok { IfOk result (λ did. (s : Shards) → AreCarried D.seen (parts_of hosts.old) s →
+        Leads D.seen (parts_of hosts.old) s (parts_of hosts.new)
+        (λ a call b. DoesTurn (counts_in D.seen (disks_in (parts_of hosts.old)) (disks_in (parts_of hosts.new)))
         (ends_over (parts_of hosts.old) (parts_of hosts.new)) id now (turn conf.now conn.old) a b call did.0.items conn.new)) }
-    ensures stopped { OnErr result ((s : Shards) → AreCarried D.content D.image D.starved (parts_of hosts.old) s →
-        Halts D.content D.image (parts_of hosts.old) s (parts_of hosts.new)
+    ensures stopped { OnErr result ((s : Shards) → AreCarried D.seen (parts_of hosts.old) s →
+        Halts D.seen (parts_of hosts.old) s (parts_of hosts.new)
         (λ a call b. (outcomes : List Outcome) × (after : ConnParts)
-        × DoesTurn (counts_in D.faults D.losses D.arms D.armed (disks_in (parts_of hosts.old)) (disks_in (parts_of hosts.new)))
+        × DoesTurn (counts_in D.seen (disks_in (parts_of hosts.old)) (disks_in (parts_of hosts.new)))
         (ends_over (parts_of hosts.old) (parts_of hosts.new)) id now (turn conf.now conn.old) a b call outcomes after)
-        (HalvesNext (counts_in D.faults D.losses D.arms D.armed (disks_in (parts_of hosts.old)) (disks_in (parts_of hosts.new)))
+        (HalvesNext (counts_in D.seen (disks_in (parts_of hosts.old)) (disks_in (parts_of hosts.new)))
         (ends_over (parts_of hosts.old) (parts_of hosts.new)) (turn conf.now conn.old).next)) }
     ensures told { IfOk result (λ did. All (IsTold conf.now.topics) did.0.items) }
     ensures gone { IfOk result (λ did. did.1 ≡ is_gone conn.new) }
-    ensures disks { GoOn D.content D.faults (disks_in (parts_of hosts.old)) (disks_in (parts_of hosts.new)) }
+    ensures disks { GoOn D.seen (disks_in (parts_of hosts.old)) (disks_in (parts_of hosts.new)) }
     ensures open { AreOpen (parts_of hosts.new) }
     ensures stays { StaysHosted (parts_of hosts.old) (parts_of hosts.new) }
 {
@@ -180,21 +180,21 @@ pub fn serve<D: Disk>(
     requires open { AreOpen (parts_of hosts.old) }
     requires apart { AreApart (parts_of hosts.old) }
     requires hosted { length hosts.old.parts.items ≡ partitions conf.now.topics }
-    ensures ok { IfOk result (λ outcomes. (s : Shards) → AreCarried D.content D.image D.starved (parts_of hosts.old) s →
-        Leads D.content D.image D.starved D.faults D.losses D.arms D.armed (parts_of hosts.old) s (parts_of hosts.new)
-        (λ a call b. Serves conf.now (counts_in D.faults D.losses D.arms D.armed (disks_in (parts_of hosts.old)) (disks_in (parts_of hosts.new)))
+    ensures ok { IfOk result (λ outcomes. (s : Shards) → AreCarried D.seen (parts_of hosts.old) s →
+        Leads D.seen (parts_of hosts.old) s (parts_of hosts.new)
+        (λ a call b. Serves conf.now (counts_in D.seen (disks_in (parts_of hosts.old)) (disks_in (parts_of hosts.new)))
         (ends_over (parts_of hosts.old) (parts_of hosts.new)) (record { connections = clients.old.entries; shards = a }) id now
         (conn_at id clients.old.entries) call outcomes.items (record { connections = clients.new.entries; shards = b }))) }
-    ensures stopped { OnErr result ((s : Shards) → AreCarried D.content D.image D.starved (parts_of hosts.old) s →
-        Halts D.content D.image (parts_of hosts.old) s (parts_of hosts.new)
+    ensures stopped { OnErr result ((s : Shards) → AreCarried D.seen (parts_of hosts.old) s →
+        Halts D.seen (parts_of hosts.old) s (parts_of hosts.new)
         (λ a call b. (outcomes : List Outcome) × (after : Machine) × (after.shards ≡ b)
-        × Serves conf.now (counts_in D.faults D.losses D.arms D.armed (disks_in (parts_of hosts.old)) (disks_in (parts_of hosts.new)))
+        × Serves conf.now (counts_in D.seen (disks_in (parts_of hosts.old)) (disks_in (parts_of hosts.new)))
         (ends_over (parts_of hosts.old) (parts_of hosts.new)) (record { connections = clients.old.entries; shards = a }) id now
         (conn_at id clients.old.entries) call outcomes after)
-        (HalvesServe conf.now (counts_in D.faults D.losses D.arms D.armed (disks_in (parts_of hosts.old)) (disks_in (parts_of hosts.new)))
+        (HalvesServe conf.now (counts_in D.seen (disks_in (parts_of hosts.old)) (disks_in (parts_of hosts.new)))
         (ends_over (parts_of hosts.old) (parts_of hosts.new)) (conn_at id clients.old.entries))) }
     ensures told { IfOk result (λ outcomes. All (IsTold conf.now.topics) outcomes.items) }
-    ensures disks { GoOn D.content D.faults (disks_in (parts_of hosts.old)) (disks_in (parts_of hosts.new)) }
+    ensures disks { GoOn D.seen (disks_in (parts_of hosts.old)) (disks_in (parts_of hosts.new)) }
     ensures open { AreOpen (parts_of hosts.new) }
     ensures stays { StaysHosted (parts_of hosts.old) (parts_of hosts.new) }
 {

@@ -40,8 +40,8 @@ impl From<NoMemory> for CoreFault {
 
 /// Why a call of a disk failed.
 pub fn fault_of_call<D: Disk>(disk: &D) -> CoreOpen
-    ensures device { result ≡ CoreOpen.Device → D.starved disk.now ≡ false }
-    ensures memory { D.starved disk.now ≡ true → result ≡ CoreOpen.NoMemory }
+    ensures device { result ≡ CoreOpen.Device → (D.seen disk.now).starved ≡ false }
+    ensures memory { (D.seen disk.now).starved ≡ true → result ≡ CoreOpen.NoMemory }
     ensures only { (result ≡ CoreOpen.Device) ⊎ (result ≡ CoreOpen.NoMemory) }
 {
     if disk.starved() {
@@ -53,13 +53,13 @@ pub fn fault_of_call<D: Disk>(disk: &D) -> CoreOpen
 
 /// Loses the power of a disk.
 pub fn lose<D: Disk>(choice: u64, disk: &mut D) -> Result<(), CoreOpen>
-    ensures lost { OnOk result (IsTold (D.content disk.old) →
-        (c : List ℕ) × IsLost D.content D.image D.faults D.losses D.arms D.armed choice disk.old disk.new c) }
-    ensures images { Within (D.image disk.old) (D.image disk.new) }
-    ensures memory { IsTold (D.content disk.old) → IfErr result (λ e. e ≡ CoreOpen.NoMemory) }
+    ensures lost { OnOk result (IsTold (D.seen disk.old).content →
+        (c : List ℕ) × IsLost D.seen choice disk.old disk.new c) }
+    ensures images { Within (D.seen disk.old).image (D.seen disk.new).image }
+    ensures memory { IsTold (D.seen disk.old).content → IfErr result (λ e. e ≡ CoreOpen.NoMemory) }
     ensures only { IfErr result (λ e. (e ≡ CoreOpen.Device) ⊎ (e ≡ CoreOpen.NoMemory)) }
-    ensures device { OnErr result (Rose (D.faults disk.old) (D.faults disk.new)) }
-    ensures goes { GoesOn D.content D.faults disk.old disk.new }
+    ensures device { OnErr result (Rose (D.seen disk.old).faults (D.seen disk.new).faults) }
+    ensures goes { GoesOn D.seen disk.old disk.new }
 {
     match disk.power_loss(choice) {
         Ok(()) => Ok(()),

@@ -32,19 +32,19 @@ pub fn act<D: Disk>(
     requires now { now ≤ 2 ^ 62 }
     requires open { AreOpen (parts_of hosts.old) }
     requires apart { AreApart (parts_of hosts.old) }
-    ensures ok { IfOk result (λ answer. (s : Shards) → AreCarried D.content D.image D.starved (parts_of hosts.old) s →
-        Leads D.content D.image D.starved D.faults D.losses D.arms D.armed (parts_of hosts.old) s (parts_of hosts.new)
-        (Did (counts_in D.faults D.losses D.arms D.armed (disks_in (parts_of hosts.old)) (disks_in (parts_of hosts.new)))
+    ensures ok { IfOk result (λ answer. (s : Shards) → AreCarried D.seen (parts_of hosts.old) s →
+        Leads D.seen (parts_of hosts.old) s (parts_of hosts.new)
+        (Did (counts_in D.seen (disks_in (parts_of hosts.old)) (disks_in (parts_of hosts.new)))
         (ends_over (parts_of hosts.old) (parts_of hosts.new)) now part.now answer)) }
-    ensures stopped { OnErr result ((s : Shards) → AreCarried D.content D.image D.starved (parts_of hosts.old) s →
-        Halts D.content D.image (parts_of hosts.old) s (parts_of hosts.new) (λ a call b. (answer : PartAnswer)
-        × Did (counts_in D.faults D.losses D.arms D.armed (disks_in (parts_of hosts.old)) (disks_in (parts_of hosts.new)))
+    ensures stopped { OnErr result ((s : Shards) → AreCarried D.seen (parts_of hosts.old) s →
+        Halts D.seen (parts_of hosts.old) s (parts_of hosts.new) (λ a call b. (answer : PartAnswer)
+        × Did (counts_in D.seen (disks_in (parts_of hosts.old)) (disks_in (parts_of hosts.new)))
         (ends_over (parts_of hosts.old) (parts_of hosts.new)) now part.now answer a call b)
-        (IsHalfDone (counts_in D.faults D.losses D.arms D.armed (disks_in (parts_of hosts.old)) (disks_in (parts_of hosts.new)))
+        (IsHalfDone (counts_in D.seen (disks_in (parts_of hosts.old)) (disks_in (parts_of hosts.new)))
         (ends_over (parts_of hosts.old) (parts_of hosts.new)) part.now)) }
     ensures fair { IfOk result (IsAnswerTo part.now) }
     ensures there { OnOk result (IsThere (length hosts.old.parts.items) part.now) }
-    ensures disks { GoOn D.content D.faults (disks_in (parts_of hosts.old)) (disks_in (parts_of hosts.new)) }
+    ensures disks { GoOn D.seen (disks_in (parts_of hosts.old)) (disks_in (parts_of hosts.new)) }
     ensures open { AreOpen (parts_of hosts.new) }
     ensures stays { StaysHosted (parts_of hosts.old) (parts_of hosts.new) }
 {

@@ -1,5 +1,5 @@
 // Calls, openings and restarts of the shard of a hosted partition on its three disks.
-ghost use Rattle.std.specs.Prelude.{◌≡◌, ◌≢◌, ◌⊎◌, ◌≤◌, ◌<◌, ◌+◌, ◌^◌, List, ℕ, true, false, Some, Err, IfOk, IfErr, OnErr, MatchResult, length};
+ghost use Rattle.std.specs.Prelude.{◌≡◌, ◌≢◌, ◌⊎◌, ◌≤◌, ◌<◌, ◌+◌, ◌^◌, List, ℕ, true, false, Some, Err, IfOk, IfErr, OnErr, MatchResult};
 ghost use Rattle.edge_io.specs.declared.fault.Armed.TheVariants.{Nothing};
 ghost use Rattle.edge_io.specs.declared.name.DiskPlace.{DiskPlace};
 ghost use Rattle.edge_io.specs.Causes.{Rose};
@@ -18,7 +18,7 @@ ghost use Rattle.broker_model.specs.Shards.PartCall.{Visits, Produces, Expires};
 ghost use Rattle.broker_core.specs.Carried.{GoesOn, HaltsPart, IsPartCarried, LeadsPart, PartGoesOn};
 ghost use Rattle.broker_core.specs.Carried.Begun.{BeginsVisit, BeginsExpiry};
 ghost use Rattle.broker_core.specs.Hosts.{PartStandsAlone};
-ghost use Rattle.broker_core.specs.Restarts.{IsOpenedPart, IsDamagedPart, IsRestartedPart, PartImagesStandAs};
+ghost use Rattle.broker_core.specs.Restarts.{IsOpenedPart, IsDamagedPart, IsRestartedPart, PartImagesStandAs, PartRunsOn};
 
 use crate::fault::{CoreOpen, lose};
 use crate::names::disk_name;
@@ -56,13 +56,13 @@ pub fn produce<D: Disk>(
     part: &mut PartShard<D, WindowRows>,
 ) -> Result<Produced, NoMemory>
     requires { now ≤ 2 ^ 62 }
-    ensures ok { IfOk result (λ produced. (s : PartShardState) → IsPartCarried D.content D.image D.starved part.old.conf part.old s →
-        LeadsPart D.content D.image D.starved D.faults D.losses D.arms D.armed part.old.conf now (Produces batch.now produced) part.old s part.new) }
-    ensures stopped { OnErr result ((s : PartShardState) → IsPartCarried D.content D.image D.starved part.old.conf part.old s →
-        HaltsPart D.content D.image D.faults part.old.conf now (λ did. (produced : Produced) × (did ≡ Produces batch.now produced)) (λ begun. ⊥)
+    ensures ok { IfOk result (λ produced. (s : PartShardState) → IsPartCarried D.seen part.old.conf part.old s →
+        LeadsPart D.seen part.old.conf now (Produces batch.now produced) part.old s part.new) }
+    ensures stopped { OnErr result ((s : PartShardState) → IsPartCarried D.seen part.old.conf part.old s →
+        HaltsPart D.seen part.old.conf now (λ did. (produced : Produced) × (did ≡ Produces batch.now produced)) (λ begun. ⊥)
         part.old s part.new) }
     ensures fair { IfOk result HasTellableBase }
-    ensures disks { PartGoesOn D.content D.faults part.old part.new }
+    ensures disks { PartGoesOn D.seen part.old part.new }
     ensures conf { part.new.conf ≡ part.old.conf }
 {
     let added = part.produce(now, batch);
@@ -72,13 +72,6 @@ pub fn produce<D: Disk>(
     told(added)
 }
 
-// Whether batches are so few that a reply can have them. It has, as no request asks for more bytes than an i32 tells.
-fn is_tellable(answer: &VisitAnswer) -> bool
-    ensures { result ≡ true → length answer.now.batches + 1 < 2 ^ 32 }
-{
-    answer.batches.as_slice().len() < u32::MAX as usize
-}
-
 /// Does a visit to a partition. Where a disk has found no memory, it answers want of memory.
 pub fn visit<D: Disk>(
     now: u64,
@@ -86,17 +79,17 @@ pub fn visit<D: Disk>(
     part: &mut PartShard<D, WindowRows>,
 ) -> Result<VisitAnswer, NoMemory>
     requires { now ≤ 2 ^ 62 }
-    ensures ok { IfOk result (λ answer. (s : PartShardState) → IsPartCarried D.content D.image D.starved part.old.conf part.old s →
-        LeadsPart D.content D.image D.starved D.faults D.losses D.arms D.armed part.old.conf now (Visits visit.now answer) part.old s part.new) }
-    ensures stopped { OnErr result ((s : PartShardState) → IsPartCarried D.content D.image D.starved part.old.conf part.old s →
-        HaltsPart D.content D.image D.faults part.old.conf now (λ did. (answer : VisitAnswer) × (did ≡ Visits visit.now answer))
+    ensures ok { IfOk result (λ answer. (s : PartShardState) → IsPartCarried D.seen part.old.conf part.old s →
+        LeadsPart D.seen part.old.conf now (Visits visit.now answer) part.old s part.new) }
+    ensures stopped { OnErr result ((s : PartShardState) → IsPartCarried D.seen part.old.conf part.old s →
+        HaltsPart D.seen part.old.conf now (λ did. (answer : VisitAnswer) × (did ≡ Visits visit.now answer))
         (λ begun. begun ≡ BeginsVisit visit.now) part.old s part.new) }
     ensures fair { IfOk result IsTellableVisit }
-    ensures disks { PartGoesOn D.content D.faults part.old part.new }
+    ensures disks { PartGoesOn D.seen part.old part.new }
     ensures conf { part.new.conf ≡ part.old.conf }
 {
     let answer = part.visit(now, visit)?;
-    if part.starved() || !is_tellable(&answer) {
+    if part.starved() {
         return Err(NoMemory);
     }
     Ok(answer)
@@ -108,12 +101,12 @@ pub fn expire<D: Disk>(
     part: &mut PartShard<D, WindowRows>,
 ) -> Result<ExpireAnswer, NoMemory>
     requires { now ≤ 2 ^ 62 }
-    ensures ok { IfOk result (λ answer. (s : PartShardState) → IsPartCarried D.content D.image D.starved part.old.conf part.old s →
-        LeadsPart D.content D.image D.starved D.faults D.losses D.arms D.armed part.old.conf now (Expires answer) part.old s part.new) }
-    ensures stopped { OnErr result ((s : PartShardState) → IsPartCarried D.content D.image D.starved part.old.conf part.old s →
-        HaltsPart D.content D.image D.faults part.old.conf now (λ did. (answer : ExpireAnswer) × (did ≡ Expires answer))
+    ensures ok { IfOk result (λ answer. (s : PartShardState) → IsPartCarried D.seen part.old.conf part.old s →
+        LeadsPart D.seen part.old.conf now (Expires answer) part.old s part.new) }
+    ensures stopped { OnErr result ((s : PartShardState) → IsPartCarried D.seen part.old.conf part.old s →
+        HaltsPart D.seen part.old.conf now (λ did. (answer : ExpireAnswer) × (did ≡ Expires answer))
         (λ begun. begun ≡ BeginsExpiry) part.old s part.new) }
-    ensures disks { PartGoesOn D.content D.faults part.old part.new }
+    ensures disks { PartGoesOn D.seen part.old part.new }
     ensures conf { part.new.conf ≡ part.old.conf }
 {
     let answer = part.expire(now)?;
@@ -167,7 +160,7 @@ fn fault_of_open(topic: &Name, conf: &PartConf, fault: PartFault) -> CoreOpen
 
 // Whether one of three disks has found no memory.
 fn one_starved<D: Disk>(disks: &(D, D, D)) -> bool
-    ensures { result ≡ false → (D.starved disks.now.0 ≡ false) × (D.starved disks.now.1 ≡ false) × (D.starved disks.now.2 ≡ false) }
+    ensures { result ≡ false → ((D.seen disks.now.0).starved ≡ false) × ((D.seen disks.now.1).starved ≡ false) × ((D.seen disks.now.2).starved ≡ false) }
 {
     disks.0.starved() || disks.1.starved() || disks.2.starved()
 }
@@ -180,29 +173,32 @@ pub fn open_part<D: Disk>(
     disks: (D, D, D),
 ) -> Result<PartShard<D, WindowRows>, ((D, D, D), CoreOpen)>
     requires { IsTopicName topic.now }
-    ensures opens { IfOk result (λ part. (l a b : List ℕ) → D.content disks.0 ≡ Some l → D.content disks.1 ≡ Some a → D.content disks.2 ≡ Some b →
-        IsOpenedPart D.content D.image D.starved D.faults D.losses D.arms D.armed conf disks.0 disks.1 disks.2 l a b part) }
+    ensures opens { IfOk result (λ part. (l a b : List ℕ) → (D.seen disks.0).content ≡ Some l → (D.seen disks.1).content ≡ Some a → (D.seen disks.2).content ≡ Some b →
+        IsOpenedPart D.seen conf disks.0 disks.1 disks.2 l a b part) }
     // Contents that stand for a log and tables are opened, where memory is found and nothing is armed; and these come.
-    ensures recovers { (l a b : List ℕ) (batches : List Batch) (states : ShareStates) → D.content disks.0 ≡ Some l → D.content disks.1 ≡ Some a →
-        D.content disks.2 ≡ Some b → ArePartText conf l a b batches states →
+    ensures recovers { (l a b : List ℕ) (batches : List Batch) (states : ShareStates) → (D.seen disks.0).content ≡ Some l → (D.seen disks.1).content ≡ Some a →
+        (D.seen disks.2).content ≡ Some b → ArePartText conf l a b batches states →
         IfErr result (λ e. (name : List ℕ) (place : ℕ) → e.1 ≢ CoreOpen.Damaged name place) }
-    ensures sound { IsTold (D.content disks.0) → IsTold (D.content disks.1) → IsTold (D.content disks.2) →
-        D.armed disks.0 ≡ Nothing → D.armed disks.1 ≡ Nothing → D.armed disks.2 ≡ Nothing → IfErr result (λ e. e.1 ≢ CoreOpen.Device) }
+    ensures sound { IsTold (D.seen disks.0).content → IsTold (D.seen disks.1).content → IsTold (D.seen disks.2).content →
+        (D.seen disks.0).armed ≡ Nothing → (D.seen disks.1).armed ≡ Nothing → (D.seen disks.2).armed ≡ Nothing → IfErr result (λ e. e.1 ≢ CoreOpen.Device) }
     ensures damaged { IfErr result (λ e. (name : List ℕ) (place : ℕ) → e.1 ≡ CoreOpen.Damaged name place →
-        (l a b : List ℕ) → D.content disks.0 ≡ Some l → D.content disks.1 ≡ Some a → D.content disks.2 ≡ Some b →
+        (l a b : List ℕ) → (D.seen disks.0).content ≡ Some l → (D.seen disks.1).content ≡ Some a → (D.seen disks.2).content ≡ Some b →
         IsDamagedPart (record { topic = topic.now; conf = conf }) l a b name place) }
     ensures device { IfErr result (λ e. e.1 ≡ CoreOpen.Device →
-        Rose (D.faults disks.0) (D.faults e.0.0) ⊎ (Rose (D.faults disks.1) (D.faults e.0.1) ⊎ Rose (D.faults disks.2) (D.faults e.0.2))) }
+        Rose (D.seen disks.0).faults (D.seen e.0.0).faults ⊎ (Rose (D.seen disks.1).faults (D.seen e.0.1).faults ⊎ Rose (D.seen disks.2).faults (D.seen e.0.2).faults)) }
     ensures no_bay { IfErr result (λ e. e.1 ≢ CoreOpen.Bay) }
     ensures images { MatchResult result
-        (λ part. PartImagesStandAs D.image disks.0 disks.1 disks.2 part.log.journal.disk part.states.journal.live.disk part.states.journal.idle)
-        (λ e. PartImagesStandAs D.image disks.0 disks.1 disks.2 e.0.0 e.0.1 e.0.2) }
-    ensures log { MatchResult result (λ part. GoesOn D.content D.faults disks.0 part.log.journal.disk)
-        (λ e. GoesOn D.content D.faults disks.0 e.0.0) }
-    ensures first { MatchResult result (λ part. GoesOn D.content D.faults disks.1 part.states.journal.live.disk)
-        (λ e. GoesOn D.content D.faults disks.1 e.0.1) }
-    ensures second { MatchResult result (λ part. GoesOn D.content D.faults disks.2 part.states.journal.idle)
-        (λ e. GoesOn D.content D.faults disks.2 e.0.2) }
+        (λ part. PartImagesStandAs D.seen disks.0 disks.1 disks.2 part.log.journal.disk part.states.journal.live.disk part.states.journal.idle)
+        (λ e. PartImagesStandAs D.seen disks.0 disks.1 disks.2 e.0.0 e.0.1 e.0.2) }
+    ensures runs { MatchResult result
+        (λ part. PartRunsOn D.seen disks.0 disks.1 disks.2 part.log.journal.disk part.states.journal.live.disk part.states.journal.idle)
+        (λ e. PartRunsOn D.seen disks.0 disks.1 disks.2 e.0.0 e.0.1 e.0.2) }
+    ensures log { MatchResult result (λ part. GoesOn D.seen disks.0 part.log.journal.disk)
+        (λ e. GoesOn D.seen disks.0 e.0.0) }
+    ensures first { MatchResult result (λ part. GoesOn D.seen disks.1 part.states.journal.live.disk)
+        (λ e. GoesOn D.seen disks.1 e.0.1) }
+    ensures second { MatchResult result (λ part. GoesOn D.seen disks.2 part.states.journal.idle)
+        (λ e. GoesOn D.seen disks.2 e.0.2) }
 {
     match PartShard::open(alloc, disks, conf) {
         Ok(part) => {
@@ -230,23 +226,23 @@ pub fn restart_part<D: Disk>(
     choice: u64,
 ) -> Result<PartShard<D, WindowRows>, ((D, D, D), CoreOpen)>
     requires { IsTopicName topic.now }
-    ensures ok { IfOk result (λ new. (s : PartShardState) → IsPartCarried D.content D.image D.starved conf part s →
-        IsRestartedPart D.content D.image D.starved D.faults D.losses D.arms D.armed choice conf part s new) }
-    ensures err { IfErr result (λ e. (s : PartShardState) → IsPartCarried D.content D.image D.starved conf part s →
-        PartStandsAlone D.content D.image conf s e.0.0 e.0.1 e.0.2 × (e.1 ≡ CoreOpen.NoMemory)) }
+    ensures ok { IfOk result (λ new. (s : PartShardState) → IsPartCarried D.seen conf part s →
+        IsRestartedPart D.seen choice conf part s new) }
+    ensures err { IfErr result (λ e. (s : PartShardState) → IsPartCarried D.seen conf part s →
+        PartStandsAlone D.seen conf s e.0.0 e.0.1 e.0.2 × (e.1 ≡ CoreOpen.NoMemory)) }
     ensures images { MatchResult result
-        (λ new. PartImagesStandAs D.image part.log.journal.disk part.states.journal.live.disk part.states.journal.idle
+        (λ new. PartImagesStandAs D.seen part.log.journal.disk part.states.journal.live.disk part.states.journal.idle
         new.log.journal.disk new.states.journal.live.disk new.states.journal.idle)
-        (λ e. PartImagesStandAs D.image part.log.journal.disk part.states.journal.live.disk part.states.journal.idle e.0.0 e.0.1 e.0.2) }
-    ensures device { IfErr result (λ e. e.1 ≡ CoreOpen.Device → Rose (D.faults part.log.journal.disk) (D.faults e.0.0)
-        ⊎ (Rose (D.faults part.states.journal.live.disk) (D.faults e.0.1) ⊎ Rose (D.faults part.states.journal.idle) (D.faults e.0.2))) }
+        (λ e. PartImagesStandAs D.seen part.log.journal.disk part.states.journal.live.disk part.states.journal.idle e.0.0 e.0.1 e.0.2) }
+    ensures device { IfErr result (λ e. e.1 ≡ CoreOpen.Device → Rose (D.seen part.log.journal.disk).faults (D.seen e.0.0).faults
+        ⊎ (Rose (D.seen part.states.journal.live.disk).faults (D.seen e.0.1).faults ⊎ Rose (D.seen part.states.journal.idle).faults (D.seen e.0.2).faults)) }
     ensures no_bay { IfErr result (λ e. e.1 ≢ CoreOpen.Bay) }
-    ensures log { MatchResult result (λ new. GoesOn D.content D.faults part.log.journal.disk new.log.journal.disk)
-        (λ e. GoesOn D.content D.faults part.log.journal.disk e.0.0) }
-    ensures first { MatchResult result (λ new. GoesOn D.content D.faults part.states.journal.live.disk new.states.journal.live.disk)
-        (λ e. GoesOn D.content D.faults part.states.journal.live.disk e.0.1) }
-    ensures second { MatchResult result (λ new. GoesOn D.content D.faults part.states.journal.idle new.states.journal.idle)
-        (λ e. GoesOn D.content D.faults part.states.journal.idle e.0.2) }
+    ensures log { MatchResult result (λ new. GoesOn D.seen part.log.journal.disk new.log.journal.disk)
+        (λ e. GoesOn D.seen part.log.journal.disk e.0.0) }
+    ensures first { MatchResult result (λ new. GoesOn D.seen part.states.journal.live.disk new.states.journal.live.disk)
+        (λ e. GoesOn D.seen part.states.journal.live.disk e.0.1) }
+    ensures second { MatchResult result (λ new. GoesOn D.seen part.states.journal.idle new.states.journal.idle)
+        (λ e. GoesOn D.seen part.states.journal.idle e.0.2) }
 {
     let (mut log, mut first, mut second) = part.into_disks();
     if let Err(fault) = lose(choice, &mut log) {

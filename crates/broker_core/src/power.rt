@@ -26,8 +26,8 @@ fn lose_part<D: Disk + Drop>(
 ) -> Result<(), CoreFault>
     requires open { IsOpenState slot.old.state }
     requires named { IsTopicName slot.old.topic }
-    ensures ok { OnOk result (ReopensSlot D.content D.image D.starved D.faults D.losses D.arms D.armed choice slot.old slot.new) }
-    ensures stopped { IfErr result (λ e. ShutsSlot D.content D.image D.starved D.faults e slot.old slot.new) }
+    ensures ok { OnOk result (ReopensSlot D.seen choice slot.old slot.new) }
+    ensures stopped { IfErr result (λ e. ShutsSlot D.seen e slot.old slot.new) }
 {
     match mem::replace(&mut slot.state, PartState::Gone) {
         PartState::Open(part) => match restart_part(alloc, &slot.topic, slot.conf, part, choice) {
@@ -53,10 +53,10 @@ fn lose_parts<D: Disk + Drop>(
 ) -> Result<(), CoreFault>
     requires open { AreOpenParts parts.old.items }
     requires named { AreNamed (hosted_slots parts.old.items) }
-    ensures ok { OnOk result (AllZip (ReopensSlot D.content D.image D.starved D.faults D.losses D.arms D.armed choice)
+    ensures ok { OnOk result (AllZip (ReopensSlot D.seen choice)
         parts.old.items parts.new.items) }
     ensures stopped { IfErr result (λ e.
-        StopsAt D.content D.image D.starved D.faults D.losses D.arms D.armed choice e parts.old.items parts.new.items) }
+        StopsAt D.seen choice e parts.old.items parts.new.items) }
 {
     let mut place = 0;
     'parts: while place < parts.len() {
@@ -72,8 +72,8 @@ fn lose_foreign<D: Disk + Drop>(
     slot: &mut ForeignSlot<D>,
 ) -> Result<(), CoreFault>
     requires { IsOpen slot.old }
-    ensures ok { OnOk result (ReopensForeign D.content D.image D.starved D.faults D.losses D.arms D.armed choice slot.old slot.new) }
-    ensures stopped { IfErr result (λ e. ShutsForeign D.content D.image D.starved D.faults e slot.old slot.new) }
+    ensures ok { OnOk result (ReopensForeign D.seen choice slot.old slot.new) }
+    ensures stopped { IfErr result (λ e. ShutsForeign D.seen e slot.old slot.new) }
 {
     match mem::replace(slot, ForeignSlot::Gone) {
         ForeignSlot::Open(shard) => match restart(alloc, shard, choice) {
@@ -101,15 +101,15 @@ pub fn lose_power<D: Disk + Drop>(
     requires apart { AreApart (parts_of hosts.old) }
     requires named { AreNamed (hosted_slots hosts.old.parts.items) }
     requires topics { hosts.old.members.topics ≡ conf.now.topics }
-    ensures ok { OnOk result ((s : Shards) → AreCarried D.content D.image D.starved (parts_of hosts.old) s →
-        AreReopened D.content D.image D.starved D.faults D.losses D.arms D.armed choice (parts_of hosts.old) s (parts_of hosts.new)) }
-    ensures stopped { IfErr result (λ e. (s : Shards) → AreCarried D.content D.image D.starved (parts_of hosts.old) s →
-        StandStill D.content D.image s (disks_in (parts_of hosts.new))
-        × DisksReach D.image (disks_in (parts_of hosts.new)) (λ name. ends_in (parts_of hosts.old) name - 1) × (e ≡ CoreFault.NoMemory)) }
+    ensures ok { OnOk result ((s : Shards) → AreCarried D.seen (parts_of hosts.old) s →
+        AreReopened D.seen choice (parts_of hosts.old) s (parts_of hosts.new)) }
+    ensures stopped { IfErr result (λ e. (s : Shards) → AreCarried D.seen (parts_of hosts.old) s →
+        StandStill D.seen s (disks_in (parts_of hosts.new))
+        × DisksReach D.seen (disks_in (parts_of hosts.new)) (λ name. ends_in (parts_of hosts.old) name - 1) × (e ≡ CoreFault.NoMemory)) }
     ensures device { result ≡ Err (CoreFault.Reopen CoreOpen.Device) →
-        OneRose D.faults (disks_in (parts_of hosts.old)) (disks_in (parts_of hosts.new)) }
+        OneRose D.seen (disks_in (parts_of hosts.old)) (disks_in (parts_of hosts.new)) }
     ensures never { (f : CoreOpen) → result ≡ Err (CoreFault.Reopen f) → (f ≢ CoreOpen.Bay) × (f ≢ CoreOpen.NoMemory) }
-    ensures disks { GoOn D.content D.faults (disks_in (parts_of hosts.old)) (disks_in (parts_of hosts.new)) }
+    ensures disks { GoOn D.seen (disks_in (parts_of hosts.old)) (disks_in (parts_of hosts.new)) }
     ensures open { OnOk result (AreOpen (parts_of hosts.new)) }
     ensures held { AreHeld (parts_of hosts.new) }
     ensures stays { StaysHosted (parts_of hosts.old) (parts_of hosts.new) }

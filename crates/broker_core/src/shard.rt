@@ -1,6 +1,7 @@
 // Calls, openings and restarts of the shard of foreign state on its two disks.
 ghost use Rattle.std.specs.Prelude.{◌≡◌, ◌≢◌, ◌⊎◌, List, ℕ, Bool, Some, All, IfOk, IfErr, OnErr, MatchResult};
 ghost use Rattle.edge_io.specs.declared.fault.Armed.TheVariants.{Nothing};
+ghost use Rattle.edge_io.specs.Armed.{RunsOn};
 ghost use Rattle.edge_io.specs.Causes.{Rose};
 ghost use Rattle.edge_io.specs.Disk.{IsTold};
 ghost use Rattle.call_fold.specs.Parts.{IsTellable};
@@ -19,12 +20,12 @@ use std::alloc::Global;
 
 /// Does a call on foreign state. Where a disk has found no memory, it answers want of memory.
 pub fn act<D: Disk>(op: &ForeignOp, shard: &mut ForeignShard<D>) -> Result<ForeignAnswer, NoMemory>
-    ensures ok { IfOk result (λ answer. (s : ForeignShardState) → IsCarried D.content D.image D.starved shard.old s →
-        LeadsForeign D.content D.image D.starved D.faults D.losses D.arms D.armed shard.old s shard.new op.now answer) }
-    ensures stopped { OnErr result ((s : ForeignShardState) → IsCarried D.content D.image D.starved shard.old s →
-        HaltsForeign D.content D.image D.faults shard.old s shard.new op.now) }
+    ensures ok { IfOk result (λ answer. (s : ForeignShardState) → IsCarried D.seen shard.old s →
+        LeadsForeign D.seen shard.old s shard.new op.now answer) }
+    ensures stopped { OnErr result ((s : ForeignShardState) → IsCarried D.seen shard.old s →
+        HaltsForeign D.seen shard.old s shard.new op.now) }
     ensures tellable { IfOk result (λ answer. All IsTellable answer.runs) }
-    ensures first { GoesOn D.content D.faults shard.old.journal.live.disk shard.new.journal.live.disk }
+    ensures first { GoesOn D.seen shard.old.journal.live.disk shard.new.journal.live.disk }
     ensures second { shard.new.journal.idle ≡ shard.old.journal.idle }
 {
     let answer = shard.act(op)?;
@@ -61,21 +62,24 @@ pub fn open<D: Disk>(
     first: D,
     second: D,
 ) -> Result<ForeignShard<D>, (D, D, CoreOpen)>
-    ensures opens { IfOk result (λ shard. (a b : List ℕ) → D.content first ≡ Some a → D.content second ≡ Some b →
-        IsOpened D.content D.image D.starved D.faults D.losses D.arms D.armed first second a b shard) }
+    ensures opens { IfOk result (λ shard. (a b : List ℕ) → (D.seen first).content ≡ Some a → (D.seen second).content ≡ Some b →
+        IsOpened D.seen first second a b shard) }
     // Contents that stand for states are opened, where memory is found and nothing is armed; and these states come.
-    ensures recovers { (a b : List ℕ) (states : ShareStates) → D.content first ≡ Some a → D.content second ≡ Some b → StandForStates a b states →
+    ensures recovers { (a b : List ℕ) (states : ShareStates) → (D.seen first).content ≡ Some a → (D.seen second).content ≡ Some b → StandForStates a b states →
         IfErr result (λ e. (name : List ℕ) (place : ℕ) → e.2 ≢ CoreOpen.Damaged name place) }
-    ensures sound { IsTold (D.content first) → IsTold (D.content second) → D.armed first ≡ Nothing → D.armed second ≡ Nothing →
+    ensures sound { IsTold (D.seen first).content → IsTold (D.seen second).content → (D.seen first).armed ≡ Nothing → (D.seen second).armed ≡ Nothing →
         IfErr result (λ e. e.2 ≢ CoreOpen.Device) }
     ensures damaged { IfErr result (λ e. (name : List ℕ) (place : ℕ) → e.2 ≡ CoreOpen.Damaged name place →
-        (a b : List ℕ) → D.content first ≡ Some a → D.content second ≡ Some b → IsDamagedState a b name place) }
-    ensures device { IfErr result (λ e. e.2 ≡ CoreOpen.Device → Rose (D.faults first) (D.faults e.0) ⊎ Rose (D.faults second) (D.faults e.1)) }
+        (a b : List ℕ) → (D.seen first).content ≡ Some a → (D.seen second).content ≡ Some b → IsDamagedState a b name place) }
+    ensures device { IfErr result (λ e. e.2 ≡ CoreOpen.Device → Rose (D.seen first).faults (D.seen e.0).faults ⊎ Rose (D.seen second).faults (D.seen e.1).faults) }
     ensures no_bay { IfErr result (λ e. e.2 ≢ CoreOpen.Bay) }
-    ensures images { MatchResult result (λ new. ImagesStandAs D.image first second new.journal.live.disk new.journal.idle)
-        (λ e. ImagesStandAs D.image first second e.0 e.1) }
-    ensures first { MatchResult result (λ new. GoesOn D.content D.faults first new.journal.live.disk) (λ e. GoesOn D.content D.faults first e.0) }
-    ensures second { MatchResult result (λ new. GoesOn D.content D.faults second new.journal.idle) (λ e. GoesOn D.content D.faults second e.1) }
+    ensures images { MatchResult result (λ new. ImagesStandAs D.seen first second new.journal.live.disk new.journal.idle)
+        (λ e. ImagesStandAs D.seen first second e.0 e.1) }
+    ensures runs { MatchResult result
+        (λ new. RunsOn D.seen first new.journal.live.disk × RunsOn D.seen second new.journal.idle)
+        (λ e. RunsOn D.seen first e.0 × RunsOn D.seen second e.1) }
+    ensures first { MatchResult result (λ new. GoesOn D.seen first new.journal.live.disk) (λ e. GoesOn D.seen first e.0) }
+    ensures second { MatchResult result (λ new. GoesOn D.seen second new.journal.idle) (λ e. GoesOn D.seen second e.1) }
 {
     match ForeignShard::open(alloc, first, second) {
         Ok(shard) => {
@@ -100,20 +104,20 @@ pub fn restart<D: Disk>(
     shard: ForeignShard<D>,
     choice: u64,
 ) -> Result<ForeignShard<D>, (D, D, CoreOpen)>
-    ensures ok { IfOk result (λ new. (s : ForeignShardState) → IsCarried D.content D.image D.starved shard s →
-        IsRestartedShard D.content D.image D.starved D.faults D.losses D.arms D.armed choice shard s new) }
-    ensures err { IfErr result (λ e. (s : ForeignShardState) → IsCarried D.content D.image D.starved shard s →
-        IsNotRestarted D.content D.image s e.0 e.1 × (e.2 ≡ CoreOpen.NoMemory)) }
+    ensures ok { IfOk result (λ new. (s : ForeignShardState) → IsCarried D.seen shard s →
+        IsRestartedShard D.seen choice shard s new) }
+    ensures err { IfErr result (λ e. (s : ForeignShardState) → IsCarried D.seen shard s →
+        IsNotRestarted D.seen s e.0 e.1 × (e.2 ≡ CoreOpen.NoMemory)) }
     ensures images { MatchResult result
-        (λ new. ImagesStandAs D.image shard.journal.live.disk shard.journal.idle new.journal.live.disk new.journal.idle)
-        (λ e. ImagesStandAs D.image shard.journal.live.disk shard.journal.idle e.0 e.1) }
+        (λ new. ImagesStandAs D.seen shard.journal.live.disk shard.journal.idle new.journal.live.disk new.journal.idle)
+        (λ e. ImagesStandAs D.seen shard.journal.live.disk shard.journal.idle e.0 e.1) }
     ensures device { IfErr result (λ e. e.2 ≡ CoreOpen.Device →
-        Rose (D.faults shard.journal.live.disk) (D.faults e.0) ⊎ Rose (D.faults shard.journal.idle) (D.faults e.1)) }
+        Rose (D.seen shard.journal.live.disk).faults (D.seen e.0).faults ⊎ Rose (D.seen shard.journal.idle).faults (D.seen e.1).faults) }
     ensures no_bay { IfErr result (λ e. e.2 ≢ CoreOpen.Bay) }
-    ensures first { MatchResult result (λ new. GoesOn D.content D.faults shard.journal.live.disk new.journal.live.disk)
-        (λ e. GoesOn D.content D.faults shard.journal.live.disk e.0) }
-    ensures second { MatchResult result (λ new. GoesOn D.content D.faults shard.journal.idle new.journal.idle)
-        (λ e. GoesOn D.content D.faults shard.journal.idle e.1) }
+    ensures first { MatchResult result (λ new. GoesOn D.seen shard.journal.live.disk new.journal.live.disk)
+        (λ e. GoesOn D.seen shard.journal.live.disk e.0) }
+    ensures second { MatchResult result (λ new. GoesOn D.seen shard.journal.idle new.journal.idle)
+        (λ e. GoesOn D.seen shard.journal.idle e.1) }
 {
     let (mut first, mut second) = shard.into_disks();
     if let Err(_) = first.power_loss(choice) {

@@ -30,19 +30,19 @@ fn expire_shard<D: Disk>(
     requires now { now ≤ 2 ^ 62 }
     requires open { AreOpen (parts_of hosts.old) }
     requires apart { AreApart (parts_of hosts.old) }
-    ensures ok { IfOk result (λ outcomes. (s : Shards) → AreCarried D.content D.image D.starved (parts_of hosts.old) s →
-        Leads D.content D.image D.starved D.faults D.losses D.arms D.armed (parts_of hosts.old) s (parts_of hosts.new)
-        (ExpiresShard (counts_in D.faults D.losses D.arms D.armed (disks_in (parts_of hosts.old)) (disks_in (parts_of hosts.new)))
+    ensures ok { IfOk result (λ outcomes. (s : Shards) → AreCarried D.seen (parts_of hosts.old) s →
+        Leads D.seen (parts_of hosts.old) s (parts_of hosts.new)
+        (ExpiresShard (counts_in D.seen (disks_in (parts_of hosts.old)) (disks_in (parts_of hosts.new)))
         (ends_over (parts_of hosts.old) (parts_of hosts.new)) now shard outcomes.items)) }
-    ensures stopped { OnErr result ((s : Shards) → AreCarried D.content D.image D.starved (parts_of hosts.old) s →
-        Halts D.content D.image (parts_of hosts.old) s (parts_of hosts.new) (λ a call b. (outcomes : List Outcome)
-        × ExpiresShard (counts_in D.faults D.losses D.arms D.armed (disks_in (parts_of hosts.old)) (disks_in (parts_of hosts.new)))
+    ensures stopped { OnErr result ((s : Shards) → AreCarried D.seen (parts_of hosts.old) s →
+        Halts D.seen (parts_of hosts.old) s (parts_of hosts.new) (λ a call b. (outcomes : List Outcome)
+        × ExpiresShard (counts_in D.seen (disks_in (parts_of hosts.old)) (disks_in (parts_of hosts.new)))
         (ends_over (parts_of hosts.old) (parts_of hosts.new)) now shard outcomes a call b)
-        (HalvesExpiry (counts_in D.faults D.losses D.arms D.armed (disks_in (parts_of hosts.old)) (disks_in (parts_of hosts.new)))
+        (HalvesExpiry (counts_in D.seen (disks_in (parts_of hosts.old)) (disks_in (parts_of hosts.new)))
         (ends_over (parts_of hosts.old) (parts_of hosts.new)) now shard)) }
     ensures told { IfOk result (λ outcomes. (topics : List Topic) → length hosts.old.parts.items ≡ partitions topics →
         All (IsTold topics) outcomes.items) }
-    ensures disks { GoOn D.content D.faults (disks_in (parts_of hosts.old)) (disks_in (parts_of hosts.new)) }
+    ensures disks { GoOn D.seen (disks_in (parts_of hosts.old)) (disks_in (parts_of hosts.new)) }
     ensures open { AreOpen (parts_of hosts.new) }
     ensures stays { StaysHosted (parts_of hosts.old) (parts_of hosts.new) }
 {
@@ -63,25 +63,25 @@ pub fn expire<D: Disk>(
     requires open { AreOpen (parts_of hosts.old) }
     requires apart { AreApart (parts_of hosts.old) }
     requires hosted { length hosts.old.parts.items ≡ partitions conf.now.topics }
-    ensures ok { IfOk result (λ outcomes. (s : Shards) → AreCarried D.content D.image D.starved (parts_of hosts.old) s →
-        Leads D.content D.image D.starved D.faults D.losses D.arms D.armed (parts_of hosts.old) s (parts_of hosts.new)
+    ensures ok { IfOk result (λ outcomes. (s : Shards) → AreCarried D.seen (parts_of hosts.old) s →
+        Leads D.seen (parts_of hosts.old) s (parts_of hosts.new)
         (λ a call b. (connections : List (ℕ × ConnParts))
-        → ExpiresAt (counts_in D.faults D.losses D.arms D.armed (disks_in (parts_of hosts.old)) (disks_in (parts_of hosts.new)))
+        → ExpiresAt (counts_in D.seen (disks_in (parts_of hosts.old)) (disks_in (parts_of hosts.new)))
         (ends_over (parts_of hosts.old) (parts_of hosts.new)) now
         (record { connections = connections; shards = a }) (shard_named topic.now part conf.now.topics) call outcomes.items
         (record { connections = connections; shards = b }))) }
-    ensures stopped { OnErr result ((s : Shards) → AreCarried D.content D.image D.starved (parts_of hosts.old) s →
-        Halts D.content D.image (parts_of hosts.old) s (parts_of hosts.new)
+    ensures stopped { OnErr result ((s : Shards) → AreCarried D.seen (parts_of hosts.old) s →
+        Halts D.seen (parts_of hosts.old) s (parts_of hosts.new)
         (λ a call b. (outcomes : List Outcome) × ((connections : List (ℕ × ConnParts))
-        → ExpiresAt (counts_in D.faults D.losses D.arms D.armed (disks_in (parts_of hosts.old)) (disks_in (parts_of hosts.new)))
+        → ExpiresAt (counts_in D.seen (disks_in (parts_of hosts.old)) (disks_in (parts_of hosts.new)))
         (ends_over (parts_of hosts.old) (parts_of hosts.new)) now
         (record { connections = connections; shards = a }) (shard_named topic.now part conf.now.topics) call outcomes
         (record { connections = connections; shards = b })))
         (λ a b. (shard : ℕ) × (shard_named topic.now part conf.now.topics ≡ Some shard)
-        × HalvesExpiry (counts_in D.faults D.losses D.arms D.armed (disks_in (parts_of hosts.old)) (disks_in (parts_of hosts.new)))
+        × HalvesExpiry (counts_in D.seen (disks_in (parts_of hosts.old)) (disks_in (parts_of hosts.new)))
         (ends_over (parts_of hosts.old) (parts_of hosts.new)) now shard a b)) }
     ensures told { IfOk result (λ outcomes. All (IsTold conf.now.topics) outcomes.items) }
-    ensures disks { GoOn D.content D.faults (disks_in (parts_of hosts.old)) (disks_in (parts_of hosts.new)) }
+    ensures disks { GoOn D.seen (disks_in (parts_of hosts.old)) (disks_in (parts_of hosts.new)) }
     ensures open { AreOpen (parts_of hosts.new) }
     ensures stays { StaysHosted (parts_of hosts.old) (parts_of hosts.new) }
 {
@@ -94,12 +94,12 @@ pub fn expire<D: Disk>(
 /// Members that are heard of no longer are removed. It takes no memory.
 pub fn tick<D: Disk>(now: u64, hosts: &mut Hosts<D>)
     requires open { AreOpen (parts_of hosts.old) }
-    ensures ok { (s : Shards) → AreCarried D.content D.image D.starved (parts_of hosts.old) s →
-        Leads D.content D.image D.starved D.faults D.losses D.arms D.armed (parts_of hosts.old) s (parts_of hosts.new)
+    ensures ok { (s : Shards) → AreCarried D.seen (parts_of hosts.old) s →
+        Leads D.seen (parts_of hosts.old) s (parts_of hosts.new)
         (λ a call b. (call ≡ Some (CallMembers Ticks)) × StepsShards
-        (counts_in D.faults D.losses D.arms D.armed (disks_in (parts_of hosts.old)) (disks_in (parts_of hosts.new)))
+        (counts_in D.seen (disks_in (parts_of hosts.old)) (disks_in (parts_of hosts.new)))
         (ends_over (parts_of hosts.old) (parts_of hosts.new)) now a (CallMembers Ticks) b) }
-    ensures disks { GoOn D.content D.faults (disks_in (parts_of hosts.old)) (disks_in (parts_of hosts.new)) }
+    ensures disks { GoOn D.seen (disks_in (parts_of hosts.old)) (disks_in (parts_of hosts.new)) }
     ensures open { AreOpen (parts_of hosts.new) }
     ensures stays { StaysHosted (parts_of hosts.old) (parts_of hosts.new) }
 {

@@ -11,6 +11,7 @@ use Rattle.session_script.specs.declared.event.Event.{Event}
 use Rattle.session_script.specs.declared.event.Event.TheVariants.{Open, Bytes, Close, Step, Expire, Tick, Arm, Power}
 use Rattle.broker_model.specs.Hosted.{same_name}
 use Rattle.broker_model.specs.Shards.{ShardCall, calls}
+use Rattle.edge_io.specs.Views.{DiskView}
 
 -- ---- what is known of a disk
 
@@ -22,9 +23,9 @@ pub record Facts : Type 0 where
   pub arms : ℕ
   pub armed : Armed
 
--- those of a disk; its members come first
-abbrev pub facts_of : {D : Type 0} → (D → ℕ) → (D → List (ℕ × List ℕ)) → (D → ℕ) → (D → Armed) → D → Facts
-facts_of faults losses arms armed disk = record { faults = faults disk; losses = losses disk; arms = arms disk; armed = armed disk }
+-- those of a disk
+abbrev pub facts_of : {D : Type 0} → (D → DiskView) → D → Facts
+facts_of seen disk = record { faults = (seen disk).faults; losses = (seen disk).losses; arms = (seen disk).arms; armed = (seen disk).armed }
 
 -- of all disks, by their names
 abbrev pub Disks : Type 0

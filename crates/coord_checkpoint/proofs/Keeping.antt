@@ -15,6 +15,7 @@ use Rattle.share_model.specs.Pending.{WithPending, WithinWrite}
 use Rattle.coord_checkpoint.specs.declared.fault.CoordOpen.{CoordOpen}
 use Rattle.coord_checkpoint.specs.declared.fault.CoordOpen.TheVariants.{Damaged, Device, NoMemory}
 use Rattle.coord_checkpoint.specs.Lists.{IsListed, IsUnlisted, Keeps, and_pending}
+use Rattle.edge_io.specs.Views.{DiskView}
 
 -- what holds without the pending write holds with or without it
 pub without : {S : Type 0} (P : S → Type 0) (s : S) (pending : Option S) → P s → WithPending P s pending
@@ -33,8 +34,8 @@ module _ (frames : List (List ℕ)) (a b : List ℕ) (bare : StandsFor b []) whe
   within pending frame (inr (inl h)) = inl (without (IsListed a b) frames (and_pending frames pending) (record { listed = h; bare = bare }))
   within pending frame (inr (inr h)) = inr (record { listed = h; bare = bare })
 
-module _ {D : Type 0} (image : D → List ℕ → Type 0) (live : Writer D) (idle : D) (frames : List (List ℕ)) (pending : Option (List ℕ)) where
-  pub keeps_by : Stands image live frames pending → ((c : List ℕ) → image idle c → StandsFor c []) → Keeps image (record { live = live; idle = idle }) frames pending
+module _ {D : Type 0} (seen : D → DiskView) (live : Writer D) (idle : D) (frames : List (List ℕ)) (pending : Option (List ℕ)) where
+  pub keeps_by : Stands seen live frames pending → ((c : List ℕ) → (seen idle).image c → StandsFor c []) → Keeps seen (record { live = live; idle = idle }) frames pending
   keeps_by stands bare = record {
     stands = stands;
     bare = bare;
@@ -42,16 +43,16 @@ module _ {D : Type 0} (image : D → List ℕ → Type 0) (live : Writer D) (idl
   }
 
 -- at each moment of an append
-module _ {D : Type 0} (image : D → List ℕ → Type 0) (moment : D → ℕ) (since : D → ℕ → List ℕ → Type 0)
-    (only_now : (d : D) (c : List ℕ) → since d (moment d) c → image d c) where
+module _ {D : Type 0} (seen : D → DiskView)
+    (only_now : (d : D) (c : List ℕ) → (seen d).since (seen d).moment c → (seen d).image c) where
   pub pairs : (old new idle : D) (frames : List (List ℕ)) (pending : Option (List ℕ)) (frame : List ℕ)
-      → ((c : List ℕ) → image idle c → StandsFor c [])
-      → LeavesOnly moment since old new (λ c. IsWithPending frames pending c ⊎ IsBeforeOrAfter frames frame c)
-      → LeavesPairs moment since moment since old new idle idle (λ a b. WithinWrite (IsListed a b) frames (and_pending frames pending) (frames ++ frame ∷ []))
+      → ((c : List ℕ) → (seen idle).image c → StandsFor c [])
+      → LeavesOnly seen old new (λ c. IsWithPending frames pending c ⊎ IsBeforeOrAfter frames frame c)
+      → LeavesPairs seen old new idle idle (λ a b. WithinWrite (IsListed a b) frames (and_pending frames pending) (frames ++ frame ∷ []))
   pairs old new idle frames pending frame bare run =
-      paired moment since moment since old new idle idle (λ c. IsWithPending frames pending c ⊎ IsBeforeOrAfter frames frame c) (λ c. StandsFor c [])
+      paired seen old new idle idle (λ c. IsWithPending frames pending c ⊎ IsBeforeOrAfter frames frame c) (λ c. StandsFor c [])
       (λ a b. WithinWrite (IsListed a b) frames (and_pending frames pending) (frames ++ frame ∷ [])) run
-      (started moment since idle (λ c. StandsFor c []) (λ c left. bare c (only_now idle c left)))
+      (started seen idle (λ c. StandsFor c []) (λ c left. bare c (only_now idle c left)))
       (λ a b p q. within frames a b q pending frame p)
 
 -- ---- the number of frames
@@ -60,16 +61,16 @@ pub blocks_few : (frames : List (List ℕ)) → length frames ≤ length (blocks
 blocks_few [] = omega arith
 blocks_few (f ∷ fs) = omega (arith, blocks_few fs, length-append (behind_gate f) (blocks fs))
 
-end_of : {D : Type 0} (image : D → List ℕ → Type 0) (writer : Writer D) (m : Mending) (frames : List (List ℕ)) (pending : Option (List ℕ))
-    → Mends image writer m frames pending → writer.end ≡ length (blocks frames) + 1
-end_of image writer Nothing frames pending h = h.1.end
-end_of image writer Behind frames pending h = h.end
-end_of image writer Gate frames pending h = h.3.end
+end_of : {D : Type 0} (seen : D → DiskView) (writer : Writer D) (m : Mending) (frames : List (List ℕ)) (pending : Option (List ℕ))
+    → Mends seen writer m frames pending → writer.end ≡ length (blocks frames) + 1
+end_of seen writer Nothing frames pending h = h.1.end
+end_of seen writer Behind frames pending h = h.end
+end_of seen writer Gate frames pending h = h.3.end
 
-pub stands_few : {D : Type 0} (image : D → List ℕ → Type 0) (writer : Writer D) (frames : List (List ℕ)) (pending : Option (List ℕ))
-    → Stands image writer frames pending → length frames < writer.end
-stands_few image writer frames pending h =
-    omega (arith, blocks_few frames, end_of image writer writer.mending frames pending h.mends)
+pub stands_few : {D : Type 0} (seen : D → DiskView) (writer : Writer D) (frames : List (List ℕ)) (pending : Option (List ℕ))
+    → Stands seen writer frames pending → length frames < writer.end
+stands_few seen writer frames pending h =
+    omega (arith, blocks_few frames, end_of seen writer writer.mending frames pending h.mends)
 
 is_err : {T E : Type 0} → Result T E → Type 0
 is_err (Ok x) = ⊥

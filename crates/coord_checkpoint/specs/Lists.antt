@@ -8,6 +8,7 @@ use Rattle.gate_journal.specs.Frames.{StandsFor, IsDamaged}
 use Rattle.gate_journal.specs.Journals.{Stands}
 use Rattle.share_model.specs.Pending.{WithPending}
 use Rattle.coord_checkpoint.specs.declared.journal.StateJournal.{StateJournal}
+use Rattle.edge_io.specs.Views.{DiskView}
 
 -- contents of the first and the second disk that keep these frames
 pub record IsListed (first second : List ℕ) (frames : List (List ℕ)) : Type 0 where
@@ -20,11 +21,11 @@ and_pending frames pending = option_map (λ frame. frames ++ frame ∷ []) pendi
 
 -- A store of these frames, with this write pending, if one is: a crash now leaves the frames, with or without the pending one,
 -- and the next append can go on from there.
-pub record Keeps {D : Type 0} (image : D → List ℕ → Type 0) (journal : StateJournal D) (frames : List (List ℕ))
+pub record Keeps {D : Type 0} (seen : D → DiskView) (journal : StateJournal D) (frames : List (List ℕ))
     (pending : Option (List ℕ)) : Type 0 where
-  pub stands : Stands image journal.live frames pending
-  pub bare : (c : List ℕ) → image journal.idle c → StandsFor c []
-  pub images : (a b : List ℕ) → image journal.live.disk a → image journal.idle b → WithPending (IsListed a b) frames (and_pending frames pending)
+  pub stands : Stands seen journal.live frames pending
+  pub bare : (c : List ℕ) → (seen journal.idle).image c → StandsFor c []
+  pub images : (a b : List ℕ) → (seen journal.live.disk).image a → (seen journal.idle).image b → WithPending (IsListed a b) frames (and_pending frames pending)
 
 -- Not a store: the first content is no journal text, by the place of its open gate that no frame and gate follow; or it is, and the
 -- second one has an open gate at its front, and so isn't text of no frames.

@@ -10,14 +10,14 @@ use edge_io::{Disk, Failed};
 
 // Whether the text of a disk begins with an open gate. It has one byte or none where there is no gate.
 fn begins_open<D: Disk>(disk: &mut D) -> Result<bool, Failed>
-    ensures open { result ≡ Ok true → WhereTold (D.content disk.old) (λ c. StandsFor c [] → ⊥) }
-    ensures closed { result ≡ Ok false → WhereTold (D.content disk.old) (λ c. StandsFor c []) }
-    ensures stays { SameContent (D.content disk.old) (D.content disk.new) (D.size disk.old) (D.size disk.new) }
-    ensures images { Within (D.image disk.old) (D.image disk.new) }
-    ensures any_moment { LeavesOnly D.moment D.since disk.old disk.new (D.image disk.old) }
-    ensures runs { RunsOn D.content D.losses D.arms D.armed D.starved D.faults disk.old disk.new }
-    ensures memory { OnErr result (StarvesUnarmed D.content D.armed D.starved disk.old disk.new) }
-    ensures cause { HasCause (D.faults disk.old) (D.faults disk.new) result }
+    ensures open { result ≡ Ok true → WhereTold (D.seen disk.old).content (λ c. StandsFor c [] → ⊥) }
+    ensures closed { result ≡ Ok false → WhereTold (D.seen disk.old).content (λ c. StandsFor c []) }
+    ensures stays { SameContent (D.seen disk.old) (D.seen disk.new) }
+    ensures images { Within (D.seen disk.old).image (D.seen disk.new).image }
+    ensures any_moment { LeavesOnly D.seen disk.old disk.new (D.seen disk.old).image }
+    ensures runs { RunsOn D.seen disk.old disk.new }
+    ensures memory { OnErr result (StarvesUnarmed D.seen disk.old disk.new) }
+    ensures cause { HasCause (D.seen disk.old).faults (D.seen disk.new).faults result }
 {
     if disk.len() <= 1 {
         return Ok(false);
@@ -29,14 +29,14 @@ fn begins_open<D: Disk>(disk: &mut D) -> Result<bool, Failed>
 
 // Syncs a disk, and looks whether it holds frames. Its content stays as it is.
 pub fn has_frames<D: Disk>(disk: &mut D) -> Result<bool, Failed>
-    ensures open { result ≡ Ok true → WhereTold (D.content disk.old) (λ c. StandsFor c [] → ⊥) }
-    ensures closed { result ≡ Ok false → WhereTold (D.content disk.old) (λ c. StandsFor c []) }
-    ensures synced { OnOk result (Synced (D.content disk.new) (D.image disk.new)) }
-    ensures stays { SameContent (D.content disk.old) (D.content disk.new) (D.size disk.old) (D.size disk.new) }
-    ensures any_moment { LeavesOnly D.moment D.since disk.old disk.new (D.image disk.old) }
-    ensures runs { RunsOn D.content D.losses D.arms D.armed D.starved D.faults disk.old disk.new }
-    ensures memory { OnErr result (StarvesUnarmed D.content D.armed D.starved disk.old disk.new) }
-    ensures cause { HasCause (D.faults disk.old) (D.faults disk.new) result }
+    ensures open { result ≡ Ok true → WhereTold (D.seen disk.old).content (λ c. StandsFor c [] → ⊥) }
+    ensures closed { result ≡ Ok false → WhereTold (D.seen disk.old).content (λ c. StandsFor c []) }
+    ensures synced { OnOk result (Synced (D.seen disk.new).content (D.seen disk.new).image) }
+    ensures stays { SameContent (D.seen disk.old) (D.seen disk.new) }
+    ensures any_moment { LeavesOnly D.seen disk.old disk.new (D.seen disk.old).image }
+    ensures runs { RunsOn D.seen disk.old disk.new }
+    ensures memory { OnErr result (StarvesUnarmed D.seen disk.old disk.new) }
+    ensures cause { HasCause (D.seen disk.old).faults (D.seen disk.new).faults result }
 {
     disk.sync()?;
     let open = begins_open(disk)?;

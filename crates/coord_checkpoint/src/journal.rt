@@ -6,8 +6,9 @@ ghost use Rattle.edge_io.specs.declared.fault.Armed.{Armed};
 ghost use Rattle.edge_io.specs.Armed.{ArmsAlone, RunsOn};
 ghost use Rattle.edge_io.specs.Moments.{LeavesPairs};
 ghost use Rattle.gate_journal.specs.Frames.{IsFrame, frame_in};
+ghost use Rattle.gate_journal.specs.Journals.{IsQuiet};
 ghost use Rattle.share_model.specs.Pending.{WithPending, WithinWrite};
-ghost use Rattle.coord_checkpoint.specs.Disks.{HasFailed, RunsBoth};
+ghost use Rattle.coord_checkpoint.specs.Disks.{HasFailed, IsOfFirst, RunsBoth};
 ghost use Rattle.coord_checkpoint.specs.Lists.{IsListed, Keeps, IsUnlisted, and_pending};
 
 use crate::bare::has_frames;
@@ -52,21 +53,24 @@ pub fn open<D: Disk>(
     mut second: D,
 ) -> Result<(StateJournal<D>, Vec<Blob>), (D, D, CoordOpen)>
     // The frames are those that the contents keep; each image keeps them from now on, and nothing is pending.
-    ensures kept { IfOk result (λ x. Keeps D.image x.0 x.1.items None) }
-    ensures opens { IfOk result (λ x. (a b : List ℕ) → D.content first ≡ Some a → D.content second ≡ Some b → IsListed a b x.1.items) }
+    ensures kept { IfOk result (λ x. Keeps D.seen x.0 x.1.items None) }
+    ensures opens { IfOk result (λ x. (a b : List ℕ) → (D.seen first).content ≡ Some a → (D.seen second).content ≡ Some b → IsListed a b x.1.items) }
 
     // Contents that keep frames are never damaged, and give these frames.
-    ensures recovers { (a b : List ℕ) (frames : List (List ℕ)) → D.content first ≡ Some a → D.content second ≡ Some b → IsListed a b frames →
+    ensures recovers { (a b : List ℕ) (frames : List (List ℕ)) → (D.seen first).content ≡ Some a → (D.seen second).content ≡ Some b → IsListed a b frames →
         MatchResult result (λ x. x.1.items ≡ frames) (λ e. (on_second : Bool) (place : ℕ) → e.2 ≢ CoordOpen.Damaged on_second place) }
 
     // Each refusal has its cause.
     ensures damaged { IfErr result (λ e. (on_second : Bool) (place : ℕ) → e.2 ≡ CoordOpen.Damaged on_second place →
-        (a b : List ℕ) → D.content first ≡ Some a → D.content second ≡ Some b → IsUnlisted a b on_second place) }
-    ensures device { IfErr result (λ e. e.2 ≡ CoordOpen.Device false → HasFailed D.content D.armed D.starved D.faults first e.0) }
-    ensures second_device { IfErr result (λ e. e.2 ≡ CoordOpen.Device true → HasFailed D.content D.armed D.starved D.faults second e.1) }
+        (a b : List ℕ) → (D.seen first).content ≡ Some a → (D.seen second).content ≡ Some b → IsUnlisted a b on_second place) }
+    ensures device { IfErr result (λ e. e.2 ≡ CoordOpen.Device false → HasFailed D.seen first e.0) }
+    ensures second_device { IfErr result (λ e. e.2 ≡ CoordOpen.Device true → HasFailed D.seen second e.1) }
+
+    // Where the first disk is at fault, no call was made on the second: it comes back as it was handed in.
+    ensures untouched { IfErr result (λ e. IsOfFirst e.2 → e.1 ≡ second) }
     ensures both { MatchResult result
-        (λ x. RunsBoth D.content D.size D.image D.moment D.since D.losses D.arms D.armed D.starved D.faults first second x.0.live.disk x.0.idle)
-        (λ e. RunsBoth D.content D.size D.image D.moment D.since D.losses D.arms D.armed D.starved D.faults first second e.0 e.1) }
+        (λ x. RunsBoth D.seen first second x.0.live.disk x.0.idle)
+        (λ e. RunsBoth D.seen first second e.0 e.1) }
 {
     match start(alloc, first) {
         Ok((live, frames)) => match has_frames(&mut second) {
@@ -94,28 +98,31 @@ impl<D: Disk> StateJournal<D> {
         requires { IsFrame (frame_in buffer.old) }
 
         // At Ok this frame stands behind the others, and no write is pending. At Err the frames are the same.
-        ensures kept { OnOk result ((frames : List (List ℕ)) (pending : Option (List ℕ)) → Keeps D.image self.old frames pending →
-            Keeps D.image self.new (frames ++ frame_in buffer.old ∷ []) None) }
-        ensures failed { OnErr result ((frames : List (List ℕ)) (pending : Option (List ℕ)) → Keeps D.image self.old frames pending →
-            Keeps D.image self.new frames pending ⊎ Keeps D.image self.new frames (Some (frame_in buffer.old))) }
+        ensures kept { OnOk result ((frames : List (List ℕ)) (pending : Option (List ℕ)) → Keeps D.seen self.old frames pending →
+            Keeps D.seen self.new (frames ++ frame_in buffer.old ∷ []) None) }
+        ensures failed { OnErr result ((frames : List (List ℕ)) (pending : Option (List ℕ)) → Keeps D.seen self.old frames pending →
+            Keeps D.seen self.new frames pending ⊎ Keeps D.seen self.new frames (Some (frame_in buffer.old))) }
         ensures full { (end : ℕ) → (result ≡ Err (StoreFault.Full end)) ↔ ((end ≡ self.old.live.end) × (2 ^ 62 < self.old.live.end + length buffer.old)) }
         ensures untouched { (end : ℕ) → result ≡ Err (StoreFault.Full end) → self.new ≡ self.old }
-        ensures device { result ≡ Err StoreFault.Device → HasFailed D.content D.armed D.starved D.faults self.old.live.disk self.new.live.disk }
+        ensures device { result ≡ Err StoreFault.Device → HasFailed D.seen self.old.live.disk self.new.live.disk }
+
+        // At Ok no device call failed.
+        ensures quiet { OnOk result (IsQuiet D.seen self.old.live.disk self.new.live.disk) }
 
         // At each moment since the call began a crash leaves the frames, with or without the pending one, or with this one.
-        ensures any_moment { (frames : List (List ℕ)) (pending : Option (List ℕ)) → Keeps D.image self.old frames pending →
-            LeavesPairs D.moment D.since D.moment D.since self.old.live.disk self.new.live.disk self.old.idle self.new.idle
+        ensures any_moment { (frames : List (List ℕ)) (pending : Option (List ℕ)) → Keeps D.seen self.old frames pending →
+            LeavesPairs D.seen self.old.live.disk self.new.live.disk self.old.idle self.new.idle
             (λ a b. WithinWrite (IsListed a b) frames (and_pending frames pending) (frames ++ frame_in buffer.old ∷ [])) }
-        ensures runs { RunsOn D.content D.losses D.arms D.armed D.starved D.faults self.old.live.disk self.new.live.disk }
+        ensures runs { RunsOn D.seen self.old.live.disk self.new.live.disk }
         ensures idle { self.new.idle ≡ self.old.idle }
-        ensures few { OnOk result ((frames : List (List ℕ)) (pending : Option (List ℕ)) → Keeps D.image self.old frames pending → length frames < 2 ^ 62) }
+        ensures few { OnOk result ((frames : List (List ℕ)) (pending : Option (List ℕ)) → Keeps D.seen self.old frames pending → length frames < 2 ^ 62) }
     {
         self.live.append(buffer)
     }
 
     /// Whether a call of one of its disks has failed for want of memory.
     pub fn starved(&self) -> bool
-        ensures { (result ≡ true) ↔ ((D.starved self.now.live.disk ≡ true) ⊎ (D.starved self.now.idle ≡ true)) }
+        ensures { (result ≡ true) ↔ (((D.seen self.now.live.disk).starved ≡ true) ⊎ ((D.seen self.now.idle).starved ≡ true)) }
     {
         self.live.starved() || self.idle.starved()
     }
@@ -124,11 +131,11 @@ impl<D: Disk> StateJournal<D> {
     pub fn arm(&mut self, disk: DiskPlace, after: u64, mode: FaultMode)
         ensures log { disk ≡ DiskPlace.Log → self.new ≡ self.old }
         ensures first { disk ≡ DiskPlace.StateA →
-            ArmsAlone D.content D.image D.losses D.arms D.armed D.starved D.faults after mode self.old.live.disk self.new.live.disk × (self.new.idle ≡ self.old.idle) }
+            ArmsAlone D.seen after mode self.old.live.disk self.new.live.disk × (self.new.idle ≡ self.old.idle) }
         ensures second { disk ≡ DiskPlace.StateB →
-            ArmsAlone D.content D.image D.losses D.arms D.armed D.starved D.faults after mode self.old.idle self.new.idle × (self.new.live ≡ self.old.live) }
+            ArmsAlone D.seen after mode self.old.idle self.new.idle × (self.new.live ≡ self.old.live) }
         ensures end { self.new.live.end ≡ self.old.live.end }
-        ensures stays { (frames : List (List ℕ)) (pending : Option (List ℕ)) → Keeps D.image self.old frames pending → Keeps D.image self.new frames pending }
+        ensures stays { (frames : List (List ℕ)) (pending : Option (List ℕ)) → Keeps D.seen self.old frames pending → Keeps D.seen self.new frames pending }
     {
         match disk {
             DiskPlace::Log => {}

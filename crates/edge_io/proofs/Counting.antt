@@ -9,6 +9,7 @@ use Rattle.edge_io.specs.Disk.{IsTold}
 use Rattle.edge_io.specs.Armed.{breaks, spent, next_armed, RunsAsArmed, StarvesUnarmed}
 use Rattle.edge_io.specs.Counting.{LetsPass, armed_after, DoesCalls, DoesUpTo, FailsInCalls}
 use Rattle.edge_io.proofs.Runs.{clash}
+use Rattle.edge_io.specs.Views.{DiskView}
 
 -- ---- none and one
 
@@ -51,63 +52,63 @@ after_then m n Broken = refl
 unarmed_passes : (n : ℕ) (a : Armed) → a ≡ Nothing → breaks (armed_after n a) ≡ false
 unarmed_passes n a is = ap (λ (b : Armed). breaks (armed_after n b)) is
 
-module _ {D : Type 0} (content : D → Option (List ℕ)) (armed : D → Armed) (starved : D → Bool) (faults : D → ℕ) where
+module _ {D : Type 0} (seen : D → DiskView) where
   abbrev Does : ℕ → D → D → Type 0
-  Does n old new = DoesCalls content armed starved faults n old new
+  Does n old new = DoesCalls seen n old new
 
   abbrev Fails : ℕ → D → D → Type 0
-  Fails n old new = FailsInCalls content armed starved n old new
+  Fails n old new = FailsInCalls seen n old new
 
   pub calls_none : (d : D) → Does 0 d d
-  calls_none d told = record { passes = none_pass (armed d); left = sym (after_none (armed d)); same_starved = refl; same_faults = refl }
+  calls_none d told = record { passes = none_pass (seen d).armed; left = sym (after_none (seen d).armed); same_starved = refl; same_faults = refl }
 
   pub call_done : {T E : Type 0} (writes_half : Bool) (old new : D) (x : T)
-      → (IsTold (content old) → RunsAsArmed {T = T} {E = E} writes_half (armed old) (armed new) (starved old) (starved new) (faults old) (faults new) (Ok x))
+      → (IsTold (seen old).content → RunsAsArmed {T = T} {E = E} writes_half (seen old) (seen new) (Ok x))
       → Does 1 old new
   call_done writes_half old new x runs told =
       let r = runs told in
-      let not : breaks (armed old) ≡ false = false_from_ne_true (breaks (armed old)) (λ yes. absurd (search (rules, r.fails.listed yes))) in
+      let not : breaks (seen old).armed ≡ false = false_from_ne_true (breaks (seen old).armed) (λ yes. absurd (search (rules, r.fails.listed yes))) in
       record {
-        passes = one_passes (armed old) not;
-        left = r.next ∙ after_one (armed old) not;
-        same_starved = same_bool (starved old) (starved new) (λ now. ⊎_elim (λ was. was) (λ err. absurd (search (rules, err))) (r.fails.starves now)) r.fails.stays;
+        passes = one_passes (seen old).armed not;
+        left = r.next ∙ after_one (seen old).armed not;
+        same_starved = same_bool (seen old).starved (seen new).starved (λ now. ⊎_elim (λ was. was) (λ err. absurd (search (rules, err))) (r.fails.starves now)) r.fails.stays;
         same_faults = r.quiet;
       }
 
   pub call_failed : {T E : Type 0} (writes_half : Bool) (old new : D) (e : E)
-      → (IsTold (content old) → RunsAsArmed {T = T} {E = E} writes_half (armed old) (armed new) (starved old) (starved new) (faults old) (faults new) (Err e))
+      → (IsTold (seen old).content → RunsAsArmed {T = T} {E = E} writes_half (seen old) (seen new) (Err e))
       → Fails 1 old new
   call_failed writes_half old new e runs told =
       let r = runs told in
       record {
         count = 0;
         within = omega arith;
-        passes = none_pass (armed old);
-        left = r.next ∙ ap next_armed (sym (after_none (armed old)));
-        cause = ⊎_elim (λ yes. inl (ap breaks (after_none (armed old)) ∙ yes)) (λ yes. inr yes) (r.fails.only (search rules));
+        passes = none_pass (seen old).armed;
+        left = r.next ∙ ap next_armed (sym (after_none (seen old).armed));
+        cause = ⊎_elim (λ yes. inl (ap breaks (after_none (seen old).armed) ∙ yes)) (λ yes. inr yes) (r.fails.only (search rules));
       }
 
-  pub does_then : (m n : ℕ) (old mid new : D) → (IsTold (content old) → IsTold (content mid)) → Does m old mid → Does n mid new → Does (m + n) old new
+  pub does_then : (m n : ℕ) (old mid new : D) → (IsTold (seen old).content → IsTold (seen mid).content) → Does m old mid → Does n mid new → Does (m + n) old new
   does_then m n old mid new still p q told =
       let a = p told in
       let b = q (still told) in
       record {
-        passes = pass_then m n (armed old) a.passes (subst (LetsPass n) a.left b.passes);
-        left = b.left ∙ ap (armed_after n) a.left ∙ after_then m n (armed old);
+        passes = pass_then m n (seen old).armed a.passes (subst (LetsPass n) a.left b.passes);
+        left = b.left ∙ ap (armed_after n) a.left ∙ after_then m n (seen old).armed;
         same_starved = b.same_starved ∙ a.same_starved;
         same_faults = b.same_faults ∙ a.same_faults;
       }
 
-  pub does_then_fails : (m n : ℕ) (old mid new : D) → (IsTold (content old) → IsTold (content mid)) → Does m old mid → Fails n mid new
+  pub does_then_fails : (m n : ℕ) (old mid new : D) → (IsTold (seen old).content → IsTold (seen mid).content) → Does m old mid → Fails n mid new
       → Fails (m + n) old new
   does_then_fails m n old mid new still p q told =
       let a = p told in
       let b = q (still told) in
-      let both : armed_after b.count (armed mid) ≡ armed_after (m + b.count) (armed old) = ap (armed_after b.count) a.left ∙ after_then m b.count (armed old) in
+      let both : armed_after b.count (seen mid).armed ≡ armed_after (m + b.count) (seen old).armed = ap (armed_after b.count) a.left ∙ after_then m b.count (seen old).armed in
       record {
         count = m + b.count;
         within = omega (arith, b.within);
-        passes = pass_then m b.count (armed old) a.passes (subst (LetsPass b.count) a.left b.passes);
+        passes = pass_then m b.count (seen old).armed a.passes (subst (LetsPass b.count) a.left b.passes);
         left = b.left ∙ ap next_armed both;
         cause = ⊎_elim (λ yes. inl (ap breaks (sym both) ∙ yes)) (λ yes. inr yes) b.cause;
       }
@@ -119,15 +120,15 @@ module _ {D : Type 0} (content : D → Option (List ℕ)) (armed : D → Armed) 
       record { count = a.count; within = omega (arith, a.within, le); passes = a.passes; left = a.left; cause = a.cause }
 
   -- with nothing armed, it found no memory
-  pub fails_starve : (n : ℕ) (old new : D) → Fails n old new → StarvesUnarmed content armed starved old new
+  pub fails_starve : (n : ℕ) (old new : D) → Fails n old new → StarvesUnarmed seen old new
   fails_starve n old new p told none =
       let a = p told in
-      ⊎_elim (λ yes. absurd (clash (sym yes ∙ unarmed_passes a.count (armed old) none))) (λ yes. yes) a.cause
+      ⊎_elim (λ yes. absurd (clash (sym yes ∙ unarmed_passes a.count (seen old).armed none))) (λ yes. yes) a.cause
 
   -- ---- at most so many calls
 
   abbrev UpTo : ℕ → D → D → Type 0
-  UpTo most old new = DoesUpTo content armed starved faults most old new
+  UpTo most old new = DoesUpTo seen most old new
 
   pub up_to : (n most : ℕ) (old new : D) → n ≤ most → Does n old new → UpTo most old new
   up_to n most old new le p = (n, le, p)
@@ -135,11 +136,11 @@ module _ {D : Type 0} (content : D → Option (List ℕ)) (armed : D → Armed) 
   pub up_to_more : (m n : ℕ) (old new : D) → m ≤ n → UpTo m old new → UpTo n old new
   up_to_more m n old new le p = (p.0, omega (arith, le, p.1), p.2)
 
-  pub up_to_then : (m n : ℕ) (old mid new : D) → (IsTold (content old) → IsTold (content mid)) → UpTo m old mid → UpTo n mid new
+  pub up_to_then : (m n : ℕ) (old mid new : D) → (IsTold (seen old).content → IsTold (seen mid).content) → UpTo m old mid → UpTo n mid new
       → UpTo (m + n) old new
   up_to_then m n old mid new still p q = (p.0 + q.0, omega (arith, p.1, q.1), does_then p.0 q.0 old mid new still p.2 q.2)
 
-  pub up_to_then_fails : (m n : ℕ) (old mid new : D) → (IsTold (content old) → IsTold (content mid)) → UpTo m old mid → Fails n mid new
+  pub up_to_then_fails : (m n : ℕ) (old mid new : D) → (IsTold (seen old).content → IsTold (seen mid).content) → UpTo m old mid → Fails n mid new
       → Fails (m + n) old new
   up_to_then_fails m n old mid new still p q =
       fails_in_more (p.0 + n) (m + n) old new (omega (arith, p.1)) (does_then_fails p.0 n old mid new still p.2 q)

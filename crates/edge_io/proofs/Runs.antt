@@ -9,6 +9,7 @@ use Rattle.edge_io.specs.declared.fault.Armed.TheVariants.{Nothing, After, Broke
 use Rattle.edge_io.specs.Disk.{IsTold, IsUneventful}
 use Rattle.edge_io.specs.Causes.{HasCause}
 use Rattle.edge_io.specs.Armed.{breaks, spent, next_armed, RunsAsArmed, IsOneShot, Spends, RunsOn}
+use Rattle.edge_io.specs.Views.{DiskView}
 
 pub clash : true ≡ false → ⊥
 clash e = search rules
@@ -25,13 +26,12 @@ spends_then a b c f g h p q = record {
       (p.one_shot one);
 }
 
-module _ {D : Type 0} (content : D → Option (List ℕ)) (losses : D → List (ℕ × List ℕ)) (arms : D → ℕ)
-    (armed : D → Armed) (starved : D → Bool) (faults : D → ℕ) where
+module _ {D : Type 0} (seen : D → DiskView) where
   abbrev Runs : D → D → Type 0
-  Runs old new = RunsOn content losses arms armed starved faults old new
+  Runs old new = RunsOn seen old new
 
   pub runs_none : (d : D) → Runs d d
-  runs_none d = record { same_losses = refl; same_arms = refl; told = refl; later = omega arith; unarmed = λ told is. is; stays = λ told was. was; spends = λ told not. spends_none (armed d) (faults d) }
+  runs_none d = record { same_losses = refl; same_arms = refl; told = refl; later = omega arith; unarmed = λ told is. is; stays = λ told was. was; spends = λ told not. spends_none (seen d).armed (seen d).faults }
 
   pub runs_then : (old mid new : D) → Runs old mid → Runs mid new → Runs old new
   runs_then old mid new p q = record {
@@ -44,8 +44,8 @@ module _ {D : Type 0} (content : D → Option (List ℕ)) (losses : D → List (
     spends = λ told not. spends_then _ _ _ _ _ _ (p.spends told (still told not)) (q.spends (p.told ∙ told) not);
   }
     where
-      still : IsTold (content old) → starved new ≡ false → starved mid ≡ false
-      still told not = false_from_ne_true (starved mid) (λ yes. clash (sym (q.stays (p.told ∙ told) yes) ∙ not))
+      still : IsTold (seen old).content → (seen new).starved ≡ false → (seen mid).starved ≡ false
+      still told not = false_from_ne_true (seen mid).starved (λ yes. clash (sym (q.stays (p.told ∙ told) yes) ∙ not))
 
 -- ---- one call
 
@@ -94,13 +94,12 @@ done_or_broken : {T E : Type 0} (a : Armed) (f g : ℕ) (now : Bool) (r : Result
 done_or_broken a f g now (Ok x) not only quiet = inr quiet
 done_or_broken a f g now (Err e) not only quiet = ⊎_elim (λ broken. inl broken) (λ yes. absurd (clash (sym yes ∙ not))) (only refl)
 
-module _ {D : Type 0} (content : D → Option (List ℕ)) (losses : D → List (ℕ × List ℕ)) (arms : D → ℕ)
-    (armed : D → Armed) (starved : D → Bool) (faults : D → ℕ) where
-  pub call_runs : {T E : Type 0} (writes_half : Bool) (old new : D) (r : Result T E) → is_some (content new) ≡ is_some (content old)
-      → IsUneventful (losses old) (losses new) (arms old) (arms new)
-      → (IsTold (content old) → RunsAsArmed writes_half (armed old) (armed new) (starved old) (starved new) (faults old) (faults new) r)
-      → HasCause (faults old) (faults new) r
-      → RunsOn content losses arms armed starved faults old new
+module _ {D : Type 0} (seen : D → DiskView) where
+  pub call_runs : {T E : Type 0} (writes_half : Bool) (old new : D) (r : Result T E) → is_some (seen new).content ≡ is_some (seen old).content
+      → IsUneventful (seen old) (seen new)
+      → (IsTold (seen old).content → RunsAsArmed writes_half (seen old) (seen new) r)
+      → HasCause (seen old).faults (seen new).faults r
+      → RunsOn seen old new
   call_runs writes_half old new r told events runs cause = record {
     same_losses = events.losses;
     same_arms = events.arms;
@@ -108,5 +107,5 @@ module _ {D : Type 0} (content : D → Option (List ℕ)) (losses : D → List (
     later = cause.later;
     unarmed = λ is none. (runs is).next ∙ ap next_armed none;
     stays = λ is was. (runs is).fails.stays was;
-    spends = λ is not. spends_by _ _ _ _ (runs is).next (done_or_broken (armed old) _ _ _ r not (runs is).fails.only (runs is).quiet);
+    spends = λ is not. spends_by _ _ _ _ (runs is).next (done_or_broken (seen old).armed _ _ _ r not (runs is).fails.only (runs is).quiet);
   }

@@ -9,6 +9,7 @@ use Rattle.edge_io.specs.declared.fault.Armed.{Armed}
 use Rattle.edge_io.specs.declared.fault.Armed.TheVariants.{Nothing, After, Broken}
 use Rattle.edge_io.specs.Causes.{FailsBy, raised}
 use Rattle.edge_io.specs.Disk.{IsTold, SameImages}
+use Rattle.edge_io.specs.Views.{DiskView}
 
 -- the call that comes next is broken
 abbrev pub breaks : Armed → Bool
@@ -38,12 +39,11 @@ tears Broken = false
 
 -- A counted call of a disk that tells its content: it fails exactly where the armed fault breaks it or it finds no
 -- memory, and else the count of faults stays. One that is broken asks for memory only where it writes a half.
-pub record RunsAsArmed {T E : Type 0} (writes_half : Bool) (was armed : Armed) (was_starved starved : Bool) (before now : ℕ)
-    (result : Result T E) : Type 0 where
-  pub next : armed ≡ next_armed was
-  pub fails : FailsBy (breaks was ≡ true) was_starved starved result
-  pub memory : breaks was ≡ true → writes_half ≡ false → starved ≡ was_starved
-  pub quiet : OnOk result (now ≡ before)
+pub record RunsAsArmed {T E : Type 0} (writes_half : Bool) (old new : DiskView) (result : Result T E) : Type 0 where
+  pub next : new.armed ≡ next_armed old.armed
+  pub fails : FailsBy (breaks old.armed ≡ true) old.starved new.starved result
+  pub memory : breaks old.armed ≡ true → writes_half ≡ false → new.starved ≡ old.starved
+  pub quiet : OnOk result (new.faults ≡ old.faults)
 
 -- ---- over several calls
 
@@ -61,32 +61,30 @@ pub record Spends (old new : Armed) (before now : ℕ) : Type 0 where
   pub disarmed : old ≡ Nothing → (new ≡ Nothing) × (now ≡ before)
   pub one_shot : IsOneShot old → (IsOneShot new × (now ≡ before)) ⊎ (new ≡ Nothing)
 
--- What calls of a disk do to it besides its content and images. The members of the disk come first.
-pub record RunsOn {D : Type 0} (content : D → Option (List ℕ)) (losses : D → List (ℕ × List ℕ)) (arms : D → ℕ)
-    (armed : D → Armed) (starved : D → Bool) (faults : D → ℕ) (old new : D) : Type 0 where
+-- What calls of a disk do to it besides its content and images.
+pub record RunsOn {D : Type 0} (seen : D → DiskView) (old new : D) : Type 0 where
   -- no power was lost, and no fault was armed
-  pub same_losses : losses new ≡ losses old
-  pub same_arms : arms new ≡ arms old
-  pub told : is_some (content new) ≡ is_some (content old)
-  pub later : faults old ≤ faults new
+  pub same_losses : (seen new).losses ≡ (seen old).losses
+  pub same_arms : (seen new).arms ≡ (seen old).arms
+  pub told : is_some (seen new).content ≡ is_some (seen old).content
+  pub later : (seen old).faults ≤ (seen new).faults
   -- where nothing was armed, nothing is
-  pub unarmed : IsTold (content old) → armed old ≡ Nothing → armed new ≡ Nothing
+  pub unarmed : IsTold (seen old).content → (seen old).armed ≡ Nothing → (seen new).armed ≡ Nothing
   -- where it tells its content: what is starved stays so, and if it isn't, the armed fault alone makes calls fail
-  pub stays : IsTold (content old) → starved old ≡ true → starved new ≡ true
-  pub spends : IsTold (content old) → starved new ≡ false → Spends (armed old) (armed new) (faults old) (faults new)
+  pub stays : IsTold (seen old).content → (seen old).starved ≡ true → (seen new).starved ≡ true
+  pub spends : IsTold (seen old).content → (seen new).starved ≡ false → Spends (seen old).armed (seen new).armed (seen old).faults (seen new).faults
 
 -- with nothing armed, a disk that tells its content fails only where it finds no memory
-abbrev pub StarvesUnarmed : {D : Type 0} → (D → Option (List ℕ)) → (D → Armed) → (D → Bool) → D → D → Type 0
-StarvesUnarmed content armed starved old new = IsTold (content old) → armed old ≡ Nothing → starved new ≡ true
+abbrev pub StarvesUnarmed : {D : Type 0} → (D → DiskView) → D → D → Type 0
+StarvesUnarmed seen old new = IsTold (seen old).content → (seen old).armed ≡ Nothing → (seen new).starved ≡ true
 
--- A fault was armed, and nothing else of the disk has changed. The members of the disk come first.
-pub record ArmsAlone {D : Type 0} (content : D → Option (List ℕ)) (image : D → List ℕ → Type 0)
-    (losses : D → List (ℕ × List ℕ)) (arms : D → ℕ) (armed : D → Armed) (starved : D → Bool) (faults : D → ℕ)
+-- A fault was armed, and nothing else of the disk has changed.
+pub record ArmsAlone {D : Type 0} (seen : D → DiskView)
     (after : ℕ) (mode : FaultMode) (old new : D) : Type 0 where
-  pub is_armed : IsTold (content old) → armed new ≡ After after mode
-  pub counted : IsTold (content old) → arms new ≡ raised (arms old)
-  pub same_content : content new ≡ content old
-  pub same_images : SameImages (image old) (image new)
-  pub same_losses : losses new ≡ losses old
-  pub same_starved : starved new ≡ starved old
-  pub same_faults : faults new ≡ faults old
+  pub is_armed : IsTold (seen old).content → (seen new).armed ≡ After after mode
+  pub counted : IsTold (seen old).content → (seen new).arms ≡ raised (seen old).arms
+  pub same_content : (seen new).content ≡ (seen old).content
+  pub same_images : SameImages (seen old).image (seen new).image
+  pub same_losses : (seen new).losses ≡ (seen old).losses
+  pub same_starved : (seen new).starved ≡ (seen old).starved
+  pub same_faults : (seen new).faults ≡ (seen old).faults

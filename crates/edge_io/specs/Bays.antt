@@ -6,13 +6,14 @@ use Rattle.edge_io.specs.declared.fault.Armed.{Armed}
 use Rattle.edge_io.specs.declared.fault.Armed.TheVariants.{Nothing}
 use Rattle.edge_io.specs.Disk.{IsTold}
 use Rattle.edge_io.specs.Names.{IsDiskName}
+use Rattle.edge_io.specs.Views.{DiskView, BayView}
 
 -- at this name nothing has changed
-pub record SameSlot {B D : Type 0} (disk : B → List ℕ → Option D) (out : B → List ℕ → Bool) (taken : B → List ℕ → ℕ)
+pub record SameSlot {B D : Type 0} (bay_seen : B → BayView D)
     (name : List ℕ) (old new : B) : Type 0 where
-  pub same_disk : disk new name ≡ disk old name
-  pub same_out : out new name ≡ out old name
-  pub same_taken : taken new name ≡ taken old name
+  pub same_disk : (bay_seen new).disk name ≡ (bay_seen old).disk name
+  pub same_out : (bay_seen new).out name ≡ (bay_seen old).out name
+  pub same_taken : (bay_seen new).taken name ≡ (bay_seen old).taken name
 
 -- it is the disk that was told, where one was
 abbrev pub IsAsTold : {D : Type 0} → Option D → D → Type 0
@@ -22,18 +23,15 @@ IsAsTold told given = (d : _) → told ≡ Some d → given ≡ d
 abbrev pub Holds : {D : Type 0} → Option D → Option D → D → Type 0
 Holds old new given = is_some old ≡ true → new ≡ Some given
 
--- A disk that tells its content, with nothing armed, which has found memory at each call. The members of the disk come first.
-pub record IsSoundDisk {D : Type 0} (content : D → Option (List ℕ)) (armed : D → Armed) (arms : D → ℕ) (starved : D → Bool)
-    (faults : D → ℕ) (d : D) : Type 0 where
-  pub tells : IsTold (content d)
-  pub is_unarmed : armed d ≡ Nothing
-  pub is_fed : starved d ≡ false
-  pub few_faults : faults d < 2 ^ 62
-  pub few_arms : arms d < 2 ^ 62
+-- A disk that tells its content, with nothing armed, which has found memory at each call.
+pub record IsSoundDisk {D : Type 0} (seen : D → DiskView) (d : D) : Type 0 where
+  pub tells : IsTold (seen d).content
+  pub is_unarmed : (seen d).armed ≡ Nothing
+  pub is_fed : (seen d).starved ≡ false
+  pub few_faults : (seen d).faults < 2 ^ 62
+  pub few_arms : (seen d).arms < 2 ^ 62
 
--- A bay that is sound: each of its disks is, and `take` fails for want of memory alone. The members of the bay and of its
--- disks come first.
-pub record IsSound {B D : Type 0} (disk : B → List ℕ → Option D) (steady : B → Type 0) (content : D → Option (List ℕ))
-    (armed : D → Armed) (arms : D → ℕ) (starved : D → Bool) (faults : D → ℕ) (bay : B) : Type 0 where
-  pub each : (name : List ℕ) → IsDiskName name → (d : D) × (disk bay name ≡ Some d) × IsSoundDisk content armed arms starved faults d
-  pub is_steady : steady bay
+-- A bay that is sound: each of its disks is, and `take` fails for want of memory alone.
+pub record IsSound {B D : Type 0} (bay_seen : B → BayView D) (seen : D → DiskView) (bay : B) : Type 0 where
+  pub each : (name : List ℕ) → IsDiskName name → (d : D) × ((bay_seen bay).disk name ≡ Some d) × IsSoundDisk seen d
+  pub is_steady : (bay_seen bay).steady

@@ -8,6 +8,7 @@ use Rattle.edge_io.specs.declared.fault.Armed.TheVariants.{Nothing, After, Broke
 use Rattle.edge_io.specs.Armed.{breaks, next_armed, RunsOn, StarvesUnarmed}
 use Rattle.edge_io.specs.Causes.{Rose}
 use Rattle.edge_io.specs.Disk.{IsTold}
+use Rattle.edge_io.specs.Views.{DiskView}
 
 -- the armed fault breaks none of the next n calls
 abbrev pub LetsPass : ℕ → Armed → Type 0
@@ -36,35 +37,32 @@ pub record EndAtFault (n : ℕ) (was armed : Armed) (starved : Bool) : Type 0 wh
   pub left : armed ≡ next_armed (armed_after count was)
   pub cause : (breaks (armed_after count was) ≡ true) ⊎ (starved ≡ true)
 
--- n calls of a disk, each done, where it tells its content. The members of the disk come first.
-abbrev pub DoesCalls : {D : Type 0} → (D → Option (List ℕ)) → (D → Armed) → (D → Bool) → (D → ℕ) → ℕ → D → D → Type 0
-DoesCalls content armed starved faults n old new =
-    IsTold (content old) → AreDone n (armed old) (armed new) (starved old) (starved new) (faults old) (faults new)
+-- n calls of a disk, each done, where it tells its content.
+abbrev pub DoesCalls : {D : Type 0} → (D → DiskView) → ℕ → D → D → Type 0
+DoesCalls seen n old new =
+    IsTold (seen old).content → AreDone n (seen old).armed (seen new).armed (seen old).starved (seen new).starved (seen old).faults (seen new).faults
 
 -- and where one of the n failed
-abbrev pub FailsInCalls : {D : Type 0} → (D → Option (List ℕ)) → (D → Armed) → (D → Bool) → ℕ → D → D → Type 0
-FailsInCalls content armed starved n old new = IsTold (content old) → EndAtFault n (armed old) (armed new) (starved new)
+abbrev pub FailsInCalls : {D : Type 0} → (D → DiskView) → ℕ → D → D → Type 0
+FailsInCalls seen n old new = IsTold (seen old).content → EndAtFault n (seen old).armed (seen new).armed (seen new).starved
 
 -- at most so many calls, each done
-abbrev pub DoesUpTo : {D : Type 0} → (D → Option (List ℕ)) → (D → Armed) → (D → Bool) → (D → ℕ) → ℕ → D → D → Type 0
-DoesUpTo content armed starved faults most old new = (n : ℕ) × (n ≤ most) × DoesCalls content armed starved faults n old new
+abbrev pub DoesUpTo : {D : Type 0} → (D → DiskView) → ℕ → D → D → Type 0
+DoesUpTo seen most old new = (n : ℕ) × (n ≤ most) × DoesCalls seen n old new
 
 -- What a call got from its disk in n calls. At Ok each of them was done. Where the answer is this fault, one of them failed and
--- was the last, and the count of faults rose; with nothing armed that comes only where no memory was found. The members of
--- the disk come first.
-pub record MakesCalls {D T E : Type 0} (content : D → Option (List ℕ)) (losses : D → List (ℕ × List ℕ)) (arms : D → ℕ)
-    (armed : D → Armed) (starved : D → Bool) (faults : D → ℕ) (n : ℕ) (old new : D) (fault : E) (result : Result T E) : Type 0 where
-  pub runs : RunsOn content losses arms armed starved faults old new
-  pub done : OnOk result (DoesCalls content armed starved faults n old new)
-  pub fails : result ≡ Err fault → FailsInCalls content armed starved n old new
-  pub rose : result ≡ Err fault → Rose (faults old) (faults new)
-  pub memory : result ≡ Err fault → StarvesUnarmed content armed starved old new
+-- was the last, and the count of faults rose; with nothing armed that comes only where no memory was found.
+pub record MakesCalls {D T E : Type 0} (seen : D → DiskView) (n : ℕ) (old new : D) (fault : E) (result : Result T E) : Type 0 where
+  pub runs : RunsOn seen old new
+  pub done : OnOk result (DoesCalls seen n old new)
+  pub fails : result ≡ Err fault → FailsInCalls seen n old new
+  pub rose : result ≡ Err fault → Rose (seen old).faults (seen new).faults
+  pub memory : result ≡ Err fault → StarvesUnarmed seen old new
 
 -- The same of at most so many calls: each was done unless one failed, which is told apart by `failed`.
-pub record MakesUpTo {D : Type 0} (content : D → Option (List ℕ)) (losses : D → List (ℕ × List ℕ)) (arms : D → ℕ)
-    (armed : D → Armed) (starved : D → Bool) (faults : D → ℕ) (most : ℕ) (old new : D) (failed : Type 0) : Type 0 where
-  pub runs : RunsOn content losses arms armed starved faults old new
-  pub done : (failed → ⊥) → DoesUpTo content armed starved faults most old new
-  pub fails : failed → FailsInCalls content armed starved most old new
-  pub rose : failed → Rose (faults old) (faults new)
-  pub memory : failed → StarvesUnarmed content armed starved old new
+pub record MakesUpTo {D : Type 0} (seen : D → DiskView) (most : ℕ) (old new : D) (failed : Type 0) : Type 0 where
+  pub runs : RunsOn seen old new
+  pub done : (failed → ⊥) → DoesUpTo seen most old new
+  pub fails : failed → FailsInCalls seen most old new
+  pub rose : failed → Rose (seen old).faults (seen new).faults
+  pub memory : failed → StarvesUnarmed seen old new

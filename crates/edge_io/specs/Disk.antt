@@ -6,8 +6,8 @@
 use Rattle.std.specs.Prelude.{◌≡◌, ℕ, ◌+◌, ◌≤◌, min, max, List, [], ◌∷◌, ◌++◌, length, take, drop}
 use Rattle.std.specs.Prelude.{Some, is_some, true, Result, OnOk, OnErr, MatchResult}
 use Rattle.std.specs.declared.option.Option.{Option}
-use Rattle.edge_io.specs.declared.fault.Armed.{Armed}
 use Rattle.edge_io.specs.declared.fault.Armed.TheVariants.{Nothing}
+use Rattle.edge_io.specs.Views.{DiskView}
 
 -- ---- contents
 
@@ -87,14 +87,14 @@ Synced content image = (c : List ℕ) → image c → content ≡ Some c
 -- ---- what stays
 
 -- what a read gives, and the size
-pub record SameContent (old new : Option (List ℕ)) (old_size new_size : ℕ) : Type 0 where
-  pub content : new ≡ old
-  pub size : new_size ≡ old_size
+pub record SameContent (old new : DiskView) : Type 0 where
+  pub content : new.content ≡ old.content
+  pub size : new.size ≡ old.size
 
 -- no power was lost, and no fault was armed
-pub record IsUneventful (old_losses new_losses : List (ℕ × List ℕ)) (old_arms new_arms : ℕ) : Type 0 where
-  pub losses : new_losses ≡ old_losses
-  pub arms : new_arms ≡ old_arms
+pub record IsUneventful (old new : DiskView) : Type 0 where
+  pub losses : new.losses ≡ old.losses
+  pub arms : new.arms ≡ old.arms
 
 -- the size after a write that ends there; where it failed, some size between
 abbrev pub GrowsTo : {T E : Type 0} → ℕ → ℕ → ℕ → Result T E → Type 0
@@ -108,15 +108,14 @@ ShrinksTo to old new result = MatchResult result (λ _. new ≡ to) (λ _. (to �
 
 -- The content is one of the images, and the only one from now on. It joins the losses with its choice, and no fault is
 -- armed.
-pub record LosesPower (choice : ℕ) (old_image : List ℕ → Type 0) (old_losses : List (ℕ × List ℕ))
-    (content : Option (List ℕ)) (image : List ℕ → Type 0) (losses : List (ℕ × List ℕ)) (armed : Armed) : Type 0 where
-  pub left : (c : List ℕ) → content ≡ Some c → old_image c × (losses ≡ old_losses ++ (choice, c) ∷ [])
-  pub only : Synced content image
-  pub disarmed : armed ≡ Nothing
+pub record LosesPower (choice : ℕ) (old new : DiskView) : Type 0 where
+  pub left : (c : List ℕ) → new.content ≡ Some c → old.image c × (new.losses ≡ old.losses ++ (choice, c) ∷ [])
+  pub only : Synced new.content new.image
+  pub disarmed : new.armed ≡ Nothing
 
 -- A power loss that failed has changed nothing but the count of faults and whether the disk is starved.
-pub record KeepsPower (old_losses new_losses : List (ℕ × List ℕ)) (old_armed new_armed : Armed)
-    (old_image new_image : List ℕ → Type 0) : Type 0 where
-  pub losses : new_losses ≡ old_losses
-  pub armed : new_armed ≡ old_armed
-  pub images : SameImages old_image new_image
+pub record KeepsPower (old new : DiskView) : Type 0 where
+  pub losses : new.losses ≡ old.losses
+  pub armed : new.armed ≡ old.armed
+  pub images : SameImages old.image new.image
+  pub stays : SameContent old new

@@ -6,3 +6,4 @@ pub mod Disk
 pub mod Moments
 pub mod Names
 pub mod Streams
+pub mod Views

@@ -4,7 +4,7 @@ use Rattle.std.proofs.Common.{◌<◌, max, Option, None, List, [], ◌∷◌, �
 use Rattle.std.proofs.Common.{take-append-drop, length-take}
 use Rattle.std.proofs.lemmas.List.{take_all, take-append-le, drop-drop}
 use Rattle.edge_io.specs.Disk.{written, Becomes, UnfinishedWrite, UnfinishedCut, Follows, Leads, Within, Synced}
-use Rattle.edge_io.specs.Moments.{Elapses}
+use Rattle.edge_io.specs.Moments.{TimeGoesOn}
 use Rattle.edge_mem.specs.Events.{Event, Wrote, CutTo, Kept, Lost, State, done, replay, LeavesBy}
 use Rattle.edge_mem.specs.Events.{IsImage, base, content_of, image_of, loss_of, changed, next, run, first_state}
 use Rattle.edge_io.specs.declared.fault.FaultMode.{FaultMode}
@@ -20,11 +20,11 @@ use Rattle.edge_mem.proofs.Sounds.{ended}
 
 -- ---- time
 
-pub elapses_same : (h g : Past) → g ≡ h → Elapses (length h.events) (length g.events) (since h) (since g) (image g)
-elapses_same h g is = subst (λ (k : Past). Elapses (length h.events) (length k.events) (since h) (since k) (image k)) (sym is)
+pub elapses_same : (h g : Past) → g ≡ h → TimeGoesOn (length h.events) (length g.events) (since h) (since g) (image g)
+elapses_same h g is = subst (λ (k : Past). TimeGoesOn (length h.events) (length k.events) (since h) (since k) (image k)) (sym is)
     (record { later = omega arith; nothing_else = λ t c le left. inl left; keeps = λ t c le left. left })
 
-elapses_then : (h : Past) (e : Event) → Elapses (length h.events) (length (with_event h e).events) (since h) (since (with_event h e)) (image (with_event h e))
+elapses_then : (h : Past) (e : Event) → TimeGoesOn (length h.events) (length (with_event h e).events) (since h) (since (with_event h e)) (image (with_event h e))
 elapses_then h e = record {
   later = omega (arith, length-append h.events (e ∷ []));
   nothing_else = λ t c le left. ⊎_elim (old t c left) (λ gt. inr (subst
@@ -51,8 +51,8 @@ elapses_then h e = record {
           (take-append-le left.0 h.events (e ∷ []) le) left.3,
     )
 
-pub elapses_push : (h g : Past) (e : Event) → g ≡ with_event h e → Elapses (length h.events) (length g.events) (since h) (since g) (image g)
-elapses_push h g e is = subst (λ (k : Past). Elapses (length h.events) (length k.events) (since h) (since k) (image k)) (sym is) (elapses_then h e)
+pub elapses_push : (h g : Past) (e : Event) → g ≡ with_event h e → TimeGoesOn (length h.events) (length g.events) (since h) (since g) (image g)
+elapses_push h g e is = subst (λ (k : Past). TimeGoesOn (length h.events) (length k.events) (since h) (since k) (image k)) (sym is) (elapses_then h e)
 
 -- what was done to a past that is this one
 pub done_to : (h k g : Past) (e : Event) → k ≡ h → g ≡ with_event k e → g ≡ with_event h e
@@ -158,7 +158,7 @@ module _ (h g : Past) (is : (g ≡ with_event h Kept) ⊎ ((g ≡ h) × EndsKept
   pub sync_losses : (state g).losses ≡ (state h).losses
   sync_losses = ⊎_elim (λ p. ap (λ (s : State). s.losses) (kept_state p)) (λ p. ap (λ (k : Past). (state k).losses) p.0) is
 
-  pub sync_time : Elapses (length h.events) (length g.events) (since h) (since g) (image g)
+  pub sync_time : TimeGoesOn (length h.events) (length g.events) (since h) (since g) (image g)
   sync_time = ⊎_elim (λ p. elapses_push h g Kept p) (λ p. elapses_same h g p.0) is
 
 -- ---- a power loss
@@ -249,7 +249,7 @@ module _ (h g : Past) (at : ℕ) (bytes : List ℕ) (le : at ≤ length (content
   pub part_high : length (content g) ≤ max (length (content h)) (at + length bytes)
   part_high = ⊎_elim (λ same. omega (arith, ap (λ (k : Past). length (content k)) same)) (λ p. omega (arith, wrote_size h g at p.0 le p.2, p.1)) part
 
-  pub part_time : Elapses (length h.events) (length g.events) (since h) (since g) (image g)
+  pub part_time : TimeGoesOn (length h.events) (length g.events) (since h) (since g) (image g)
   part_time = ⊎_elim (λ same. elapses_same h g same) (λ p. elapses_push h g (Wrote at p.0) p.2) part
 
   pub part_losses : (state g).losses ≡ (state h).losses

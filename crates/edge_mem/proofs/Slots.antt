@@ -6,6 +6,7 @@ use Rattle.std.proofs.lemmas.Bool.{cases_Bool}
 use Rattle.std.specs.Cmp.Lexicographic.{same_text, other_text}
 use Rattle.edge_mem.specs.Bays.{same_name, slot_index, found, behind, disk_in, out_in, taken_in, is_empty, fresh, BayState, disk_at, out_at, taken_at, Taken, Put}
 use Rattle.edge_io.specs.Bays.{SameSlot}
+use Rattle.edge_mem.specs.Seen.{bay_view}
 use Rattle.edge_mem.specs.Past.{DiskState}
 use Rattle.edge_mem.specs.declared.bay.Slot.{Slot}
 
@@ -122,10 +123,11 @@ module _ (slots new : List Slot) (name : List ℕ) (n : ℕ) (at : IsAt slots na
   take_others d disk t m away = same slots new m (ap (λ (l : List Slot). found l m) t.set_out ∙ at.others _ m (at.named d) away)
 
   pub put_there : (d : Slot) (disk : DiskState) → Put slots n d disk new → (disk_in (found new name) ≡ disk) × (out_in (found new name) ≡ false)
+      × (taken_in (found new name) ≡ taken_in (found slots name))
   put_there d disk p =
       let now : found new name ≡ Some (record { name = (get_or slots n d).name; disk = Some disk; count = (get_or slots n d).count }) =
       ap (λ (l : List Slot). found l name) p.set_in ∙ at.changed _ (at.named d) in
-      (ap disk_in now, ap out_in now)
+      (ap disk_in now, ap out_in now, ap taken_in now ∙ sym (count_at d))
 
   pub put_others : (d : Slot) (disk : DiskState) → Put slots n d disk new → (m : List ℕ) → m ≢ name → Same slots new m
   put_others d disk p m away = same slots new m (ap (λ (l : List Slot). found l m) p.set_in ∙ at.others _ m (at.named d) away)
@@ -144,8 +146,8 @@ module _ (slots new : List Slot) (name : List ℕ) (s : Slot) (none : found slot
 -- ---- the bay, seen as its state
 
 pub same_slot : (old new b : BayState) (m : List ℕ) → b ≡ old → Same b.slots new.slots m
-    → SameSlot (λ k l. Some (disk_at k l)) out_at taken_at m old new
-same_slot old new b m e s = subst (λ (k : BayState). SameSlot (λ k l. Some (disk_at k l)) out_at taken_at m k new) e
+    → SameSlot bay_view m old new
+same_slot old new b m e s = subst (λ (k : BayState). SameSlot bay_view m k new) e
     (record { same_disk = ap (λ (d : DiskState). Some d) s.0; same_out = s.1; same_taken = s.2 })
 
 pub still_in : (old b : BayState) (slots : List Slot) (name : List ℕ) → b ≡ old → slots ≡ b.slots → out_at old name ≡ false

@@ -4,7 +4,7 @@ ghost use Rattle.std.specs.Prelude.{Some, None, is_some, IfSome, IfOk, OnErr, Is
 ghost use Rattle.edge_io.specs.Bays.{SameSlot, IsAsTold, Holds, IsSound};
 ghost use Rattle.edge_io.specs.Causes.{CountsFault, FailsBy, HasCause, raised};
 ghost use Rattle.edge_mem.specs.Bays.{slot_index, found, disk_at, out_at, taken_at, is_empty, fresh, Taken, Put};
-ghost use Rattle.edge_mem.specs.Past.{content};
+ghost use Rattle.edge_mem.specs.Seen.{bay_view, disk_view};
 ghost use Rattle.edge_mem.specs.declared.bay.Slot.{Slot};
 
 use crate::disk::MemDisk;
@@ -111,8 +111,7 @@ impl MemBay {
     /// A bay with no disks yet. With no call listed it is sound. The calls of `take` whose numbers, from 0 on, are in `failing` fail.
     pub fn new(alloc: Global, failing: Vec<u64>) -> MemBay
         ensures state { result ≡ record { slots = []; failing = failing.items; calls = 0; starved = false; faults = 0 } }
-        ensures sound { failing.items ≡ [] → IsSound (λ b name. Some (disk_at b name)) (λ b. b.failing ≡ [])
-            (λ d. Some (content d.past)) (λ d. d.armed) (λ d. d.arms) (λ d. d.starved) (λ d. d.faults) result }
+        ensures sound { failing.items ≡ [] → IsSound bay_view disk_view result }
     {
         MemBay {
             alloc,
@@ -132,7 +131,7 @@ impl MemBay {
         ensures given { IfOk result (λ d. d ≡ disk_at self.old name.now) }
         ensures is_out { IfOk result (λ d. (out_at self.new name.now ≡ true) × (taken_at self.new name.now ≡ d.faults)) }
         ensures err { OnErr result (self.new ≡ self.old) }
-        ensures others { (m : List ℕ) → m ≢ name.now → SameSlot (λ b k. Some (disk_at b k)) out_at taken_at m self.old self.new }
+        ensures others { (m : List ℕ) → m ≢ name.now → SameSlot bay_view m self.old self.new }
         ensures failing { self.new.failing ≡ self.old.failing }
         ensures calls { self.new.calls ≡ self.old.calls }
         ensures starved { self.new.starved ≡ self.old.starved }
@@ -151,17 +150,7 @@ impl MemBay {
 impl Bay for MemBay {
     type D = MemDisk;
 
-    ghost disk = { λ b name. Some (disk_at b name) };
-
-    ghost out = { out_at };
-
-    ghost taken = { taken_at };
-
-    ghost faults = { λ b. b.faults };
-
-    ghost starved = { λ b. b.starved };
-
-    ghost steady = { λ b. b.failing ≡ [] };
+    ghost seen = { bay_view };
 
     fn starved(&self) -> bool {
         self.starved
@@ -172,7 +161,7 @@ impl Bay for MemBay {
         ensures given { IfOk result (λ d. IsAsTold (Some (disk_at self.old name.now)) d) }
         ensures is_out { IfOk result (λ d. (out_at self.new name.now ≡ true) × (taken_at self.new name.now ≡ d.faults)) }
         ensures err { OnErr result ((Some (disk_at self.new name.now) ≡ Some (disk_at self.old name.now)) × (out_at self.new name.now ≡ false)) }
-        ensures others { (m : List ℕ) → m ≢ name.now → SameSlot (λ b k. Some (disk_at b k)) out_at taken_at m self.old self.new }
+        ensures others { (m : List ℕ) → m ≢ name.now → SameSlot bay_view m self.old self.new }
         ensures starves { self.new.starved ≡ true → (self.old.starved ≡ true) ⊎ IsErr result }
         ensures stays { self.old.starved ≡ true → self.new.starved ≡ true }
         ensures told { is_some (Some (disk_at self.new name.now)) ≡ is_some (Some (disk_at self.old name.now)) }
@@ -209,7 +198,8 @@ impl Bay for MemBay {
         requires { out_at self.old name.now ≡ true }
         ensures there { Holds (Some (disk_at self.old name.now)) (Some (disk_at self.new name.now)) given }
         ensures is_in { out_at self.new name.now ≡ false }
-        ensures others { (m : List ℕ) → m ≢ name.now → SameSlot (λ b k. Some (disk_at b k)) out_at taken_at m self.old self.new }
+        ensures taken { taken_at self.new name.now ≡ taken_at self.old name.now }
+        ensures others { (m : List ℕ) → m ≢ name.now → SameSlot bay_view m self.old self.new }
         ensures later { self.old.faults ≤ self.new.faults }
         ensures steady { self.old.failing ≡ [] → self.new.failing ≡ [] }
         ensures counts { self.new.faults ≡ min (self.old.faults + (given.faults - taken_at self.old name.now)) (2 ^ 64 - 1) }

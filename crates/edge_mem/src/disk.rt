@@ -8,7 +8,8 @@ ghost use Rattle.edge_io.specs.Disk.{SameImages, Synced, SameContent, IsUneventf
 ghost use Rattle.edge_io.specs.Moments.{Elapses};
 ghost use Rattle.edge_mem.specs.Events.{Wrote, CutTo, Kept, Lost, loss_of};
 ghost use Rattle.edge_mem.specs.Steps.{EndsKept};
-ghost use Rattle.edge_mem.specs.Past.{state, content, image, since, with_event, broken_by, failed_write};
+ghost use Rattle.edge_mem.specs.Past.{state, content, with_event, broken_by, failed_write};
+ghost use Rattle.edge_mem.specs.Seen.{disk_view};
 ghost use Rattle.edge_mem.specs.Laws.{content_is_image, counts_now, only_now};
 
 use crate::faulty::{Refusal, count_call, cut, write};
@@ -96,25 +97,7 @@ impl MemDisk {
 }
 
 impl Disk for MemDisk {
-    ghost content = { λ d. Some (content d.past) };
-
-    ghost size = { λ d. length (content d.past) };
-
-    ghost image = { λ d c. image d.past c };
-
-    ghost moment = { λ d. length d.past.events };
-
-    ghost since = { λ d t c. since d.past t c };
-
-    ghost faults = { λ d. d.faults };
-
-    ghost losses = { λ d. (state d.past).losses };
-
-    ghost arms = { λ d. d.arms };
-
-    ghost armed = { λ d. d.armed };
-
-    ghost starved = { λ d. d.starved };
+    ghost seen = { disk_view };
 
     ghost read_is_image = { λ d c told. content_is_image d.past c told };
 
@@ -135,15 +118,13 @@ impl Disk for MemDisk {
     }
 
     fn read_at(&mut self, place: u64, into: &mut [u8]) -> Result<(), Failed>
-        requires { place + length into.old ≤ length (content self.old.past) }
-        ensures bytes { OnOk result (WhereTold (Some (content self.old.past)) (λ c. into.new ≡ take (length into.old) (drop place c))) }
-        ensures stays { SameContent (Some (content self.old.past)) (Some (content self.new.past))
-            (length (content self.old.past)) (length (content self.new.past)) }
-        ensures images { SameImages (image self.old.past) (image self.new.past) }
-        ensures time { Elapses (length self.old.past.events) (length self.new.past.events) (since self.old.past) (since self.new.past) (image self.new.past) }
-        ensures events { IsUneventful (state self.old.past).losses (state self.new.past).losses self.old.arms self.new.arms }
-        ensures fails { IsTold (Some (content self.old.past)) → RunsAsArmed false self.old.armed self.new.armed
-            self.old.starved self.new.starved self.old.faults self.new.faults result }
+        requires { place + length into.old ≤ (disk_view self.old).size }
+        ensures bytes { OnOk result (WhereTold (disk_view self.old).content (λ c. into.new ≡ take (length into.old) (drop place c))) }
+        ensures stays { SameContent (disk_view self.old) (disk_view self.new) }
+        ensures images { SameImages (disk_view self.old).image (disk_view self.new).image }
+        ensures time { Elapses (disk_view self.old) (disk_view self.new) }
+        ensures events { IsUneventful (disk_view self.old) (disk_view self.new) }
+        ensures fails { IsTold (disk_view self.old).content → RunsAsArmed false (disk_view self.old) (disk_view self.new) result }
         ensures cause { HasCause self.old.faults self.new.faults result }
 
         // It fails exactly where the armed fault breaks it, and changes nothing, `into` included.
@@ -161,16 +142,15 @@ impl Disk for MemDisk {
     }
 
     fn write_at(&mut self, place: u64, bytes: &[u8]) -> Result<(), Failed>
-        requires begins { place ≤ length (content self.old.past) }
+        requires begins { place ≤ (disk_view self.old).size }
         requires ends { place + length bytes.now ≤ 2 ^ 62 }
         ensures content { Changes (written place bytes.now) (UnfinishedWrite place (length bytes.now))
-            (Some (content self.old.past)) (Some (content self.new.past)) result }
-        ensures size { GrowsTo (place + length bytes.now) (length (content self.old.past)) (length (content self.new.past)) result }
-        ensures images { StepsBy (UnfinishedWrite place (length bytes.now)) (image self.old.past) (image self.new.past) result }
-        ensures time { Elapses (length self.old.past.events) (length self.new.past.events) (since self.old.past) (since self.new.past) (image self.new.past) }
-        ensures events { IsUneventful (state self.old.past).losses (state self.new.past).losses self.old.arms self.new.arms }
-        ensures fails { IsTold (Some (content self.old.past)) → RunsAsArmed (tears self.old.armed) self.old.armed self.new.armed
-            self.old.starved self.new.starved self.old.faults self.new.faults result }
+            (disk_view self.old).content (disk_view self.new).content result }
+        ensures size { GrowsTo (place + length bytes.now) (disk_view self.old).size (disk_view self.new).size result }
+        ensures images { StepsBy (UnfinishedWrite place (length bytes.now)) (disk_view self.old).image (disk_view self.new).image result }
+        ensures time { Elapses (disk_view self.old) (disk_view self.new) }
+        ensures events { IsUneventful (disk_view self.old) (disk_view self.new) }
+        ensures fails { IsTold (disk_view self.old).content → RunsAsArmed (tears self.old.armed) (disk_view self.old) (disk_view self.new) result }
         ensures cause { HasCause self.old.faults self.new.faults result }
 
         // One that is done is the event that happened. A broken one leaves nothing, or the first half, by the mode of the
@@ -188,14 +168,13 @@ impl Disk for MemDisk {
     }
 
     fn cut(&mut self, to: u64) -> Result<(), Failed>
-        requires { to ≤ length (content self.old.past) }
-        ensures content { Changes (take to) (UnfinishedCut to) (Some (content self.old.past)) (Some (content self.new.past)) result }
-        ensures size { ShrinksTo to (length (content self.old.past)) (length (content self.new.past)) result }
-        ensures images { StepsBy (UnfinishedCut to) (image self.old.past) (image self.new.past) result }
-        ensures time { Elapses (length self.old.past.events) (length self.new.past.events) (since self.old.past) (since self.new.past) (image self.new.past) }
-        ensures events { IsUneventful (state self.old.past).losses (state self.new.past).losses self.old.arms self.new.arms }
-        ensures fails { IsTold (Some (content self.old.past)) → RunsAsArmed false self.old.armed self.new.armed
-            self.old.starved self.new.starved self.old.faults self.new.faults result }
+        requires { to ≤ (disk_view self.old).size }
+        ensures content { Changes (take to) (UnfinishedCut to) (disk_view self.old).content (disk_view self.new).content result }
+        ensures size { ShrinksTo to (disk_view self.old).size (disk_view self.new).size result }
+        ensures images { StepsBy (UnfinishedCut to) (disk_view self.old).image (disk_view self.new).image result }
+        ensures time { Elapses (disk_view self.old) (disk_view self.new) }
+        ensures events { IsUneventful (disk_view self.old) (disk_view self.new) }
+        ensures fails { IsTold (disk_view self.old).content → RunsAsArmed false (disk_view self.old) (disk_view self.new) result }
         ensures cause { HasCause self.old.faults self.new.faults result }
 
         // One that fails changes nothing.
@@ -209,14 +188,12 @@ impl Disk for MemDisk {
     }
 
     fn sync(&mut self) -> Result<(), Failed>
-        ensures synced { OnOk result (Synced (Some (content self.old.past)) (image self.new.past)) }
-        ensures stays { SameContent (Some (content self.old.past)) (Some (content self.new.past))
-            (length (content self.old.past)) (length (content self.new.past)) }
-        ensures images { Within (image self.old.past) (image self.new.past) }
-        ensures time { Elapses (length self.old.past.events) (length self.new.past.events) (since self.old.past) (since self.new.past) (image self.new.past) }
-        ensures events { IsUneventful (state self.old.past).losses (state self.new.past).losses self.old.arms self.new.arms }
-        ensures fails { IsTold (Some (content self.old.past)) → RunsAsArmed false self.old.armed self.new.armed
-            self.old.starved self.new.starved self.old.faults self.new.faults result }
+        ensures synced { OnOk result (Synced (disk_view self.old).content (disk_view self.new).image) }
+        ensures stays { SameContent (disk_view self.old) (disk_view self.new) }
+        ensures images { Within (disk_view self.old).image (disk_view self.new).image }
+        ensures time { Elapses (disk_view self.old) (disk_view self.new) }
+        ensures events { IsUneventful (disk_view self.old) (disk_view self.new) }
+        ensures fails { IsTold (disk_view self.old).content → RunsAsArmed false (disk_view self.old) (disk_view self.new) result }
         ensures cause { HasCause self.old.faults self.new.faults result }
 
         // It fails exactly where the armed fault breaks it, and then changes nothing.
@@ -235,18 +212,14 @@ impl Disk for MemDisk {
     }
 
     fn power_loss(&mut self, choice: u64) -> Result<(), Failed>
-        ensures loses { OnOk result (LosesPower choice (image self.old.past) (state self.old.past).losses
-            (Some (content self.new.past)) (image self.new.past) (state self.new.past).losses self.new.armed) }
-        ensures keeps { OnErr result (KeepsPower (state self.old.past).losses (state self.new.past).losses
-            self.old.armed self.new.armed (image self.old.past) (image self.new.past)) }
-        ensures stays { OnErr result (SameContent (Some (content self.old.past)) (Some (content self.new.past))
-            (length (content self.old.past)) (length (content self.new.past))) }
-        ensures told { is_some (Some (content self.new.past)) ≡ is_some (Some (content self.old.past)) }
-        ensures images { Within (image self.old.past) (image self.new.past) }
-        ensures time { Elapses (length self.old.past.events) (length self.new.past.events) (since self.old.past) (since self.new.past) (image self.new.past) }
+        ensures loses { OnOk result (LosesPower choice (disk_view self.old) (disk_view self.new)) }
+        ensures keeps { OnErr result (KeepsPower (disk_view self.old) (disk_view self.new)) }
+        ensures told { is_some (disk_view self.new).content ≡ is_some (disk_view self.old).content }
+        ensures images { Within (disk_view self.old).image (disk_view self.new).image }
+        ensures time { Elapses (disk_view self.old) (disk_view self.new) }
         ensures arms { self.new.arms ≡ self.old.arms }
-        ensures fails { IsTold (Some (content self.old.past)) → FailsBy ⊥ self.old.starved self.new.starved result }
-        ensures quiet { IsTold (Some (content self.old.past)) → OnOk result (self.new.faults ≡ self.old.faults) }
+        ensures fails { IsTold (disk_view self.old).content → FailsBy ⊥ self.old.starved self.new.starved result }
+        ensures quiet { IsTold (disk_view self.old).content → OnOk result (self.new.faults ≡ self.old.faults) }
         ensures cause { HasCause self.old.faults self.new.faults result }
 
         // It leaves the content at the last sync with the first changes since, as many as the choice says.
@@ -264,13 +237,12 @@ impl Disk for MemDisk {
     }
 
     fn arm(&mut self, after: u64, mode: FaultMode)
-        ensures armed { IsTold (Some (content self.old.past)) → self.new.armed ≡ After after mode }
-        ensures arms { IsTold (Some (content self.old.past)) → self.new.arms ≡ raised self.old.arms }
+        ensures armed { IsTold (disk_view self.old).content → self.new.armed ≡ After after mode }
+        ensures arms { IsTold (disk_view self.old).content → self.new.arms ≡ raised self.old.arms }
         ensures losses { (state self.new.past).losses ≡ (state self.old.past).losses }
-        ensures stays { SameContent (Some (content self.old.past)) (Some (content self.new.past))
-            (length (content self.old.past)) (length (content self.new.past)) }
-        ensures images { SameImages (image self.old.past) (image self.new.past) }
-        ensures time { Elapses (length self.old.past.events) (length self.new.past.events) (since self.old.past) (since self.new.past) (image self.new.past) }
+        ensures stays { SameContent (disk_view self.old) (disk_view self.new) }
+        ensures images { SameImages (disk_view self.old).image (disk_view self.new).image }
+        ensures time { Elapses (disk_view self.old) (disk_view self.new) }
         ensures starved { self.new.starved ≡ self.old.starved }
         ensures faults { self.new.faults ≡ self.old.faults }
 

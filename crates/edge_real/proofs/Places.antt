@@ -7,7 +7,7 @@ use Rattle.std.proofs.lemmas.List.Elements.{All-set, All-append, All-get_or}
 use Rattle.std.specs.List.{All}
 use Rattle.std.specs.Cmp.Lexicographic.{same_text, other_text}
 use Rattle.edge_real.specs.Files.{FileState}
-use Rattle.edge_real.specs.Folders.{same_name, slot_index, found, behind, out_in, taken_in, FolderState, out_at, taken_at, untold}
+use Rattle.edge_real.specs.Folders.{same_name, slot_index, found, behind, out_in, taken_in, FolderState, out_at, taken_at}
 use Rattle.edge_real.specs.Folders.{IsNamed, AreNamed, Same, Takes, Leaves, Returns}
 use Rattle.edge_io.specs.Bays.{SameSlot}
 use Rattle.edge_real.specs.declared.slots.Slot.{Slot}
@@ -163,6 +163,11 @@ module _ {F : Type 0} (slots new : List (Slot F)) (name : List ℕ) (n : ℕ) (a
   return_here r =
       let now : found new name ≡ Some (record (get_or slots n d) { is_out = false; disk = r.kept }) = changed_here _ refl r.left in
       ap out_in now
+
+  pub return_taken : Returns slots n d new → taken_in (found new name) ≡ taken_in (found slots name)
+  return_taken r =
+      let now : found new name ≡ Some (record (get_or slots n d) { is_out = false; disk = r.kept }) = changed_here _ refl r.left in
+      ap taken_in now ∙ sym (ap taken_in (at.is d))
 
   pub return_others : Returns slots n d new → (m : List ℕ) → m ≢ name → Same slots new m
   return_others r m away = changed_others _ refl r.left m away

@@ -47,10 +47,6 @@ pub record FolderState (F : Type 0) : Type 0 where
   pub starved : Bool
   pub faults : ℕ
 
--- a folder tells no disk
-abbrev pub untold : {F : Type 0} → FolderState F → List ℕ → Option FileState
-untold b name = None
-
 abbrev pub out_at : {F : Type 0} → FolderState F → List ℕ → Bool
 out_at b name = out_in (found b.slots name)
 

@@ -2,7 +2,8 @@ ghost use Rattle.std.specs.Prelude.{◌≡◌, ◌≢◌, ◌⊎◌, ◌≤◌, 
 ghost use Rattle.std.specs.Prelude.{[], min, ℕ, List, true, false, IfOk, OnErr, IsErr};
 ghost use Rattle.edge_io.specs.Bays.{SameSlot, IsAsTold, Holds};
 ghost use Rattle.edge_io.specs.Causes.{CountsFault, HasCause, Rose, raised};
-ghost use Rattle.edge_real.specs.Folders.{untold, out_at, taken_at, Same};
+ghost use Rattle.edge_real.specs.Folders.{out_at, taken_at, Same};
+ghost use Rattle.edge_real.specs.Seen.{folder_view};
 
 use crate::fault::{FolderFault, FolderPart, SystemCall, SystemFault};
 use crate::file::FileDisk;
@@ -142,17 +143,7 @@ impl<S: Folders> FolderBay<S> {
 impl<S: Folders> Bay for FolderBay<S> {
     type D = FileDisk<S::File>;
 
-    ghost disk = { untold };
-
-    ghost out = { out_at };
-
-    ghost taken = { taken_at };
-
-    ghost faults = { λ b. b.faults };
-
-    ghost starved = { λ b. b.starved };
-
-    ghost steady = { λ _. ⊥ };
+    ghost seen = { folder_view };
 
     fn starved(&self) -> bool {
         self.starved
@@ -160,10 +151,10 @@ impl<S: Folders> Bay for FolderBay<S> {
 
     fn take(&mut self, name: &DiskName) -> Result<FileDisk<S::File>, Failed>
         requires { out_at self.old name.now ≡ false }
-        ensures given { IfOk result (λ d. IsAsTold (untold self.old name.now) d) }
+        ensures given { IfOk result (λ d. IsAsTold ((folder_view self.old).disk name.now) d) }
         ensures is_out { IfOk result (λ d. (out_at self.new name.now ≡ true) × (taken_at self.new name.now ≡ d.faults)) }
-        ensures err { OnErr result ((untold self.new name.now ≡ untold self.old name.now) × (out_at self.new name.now ≡ false)) }
-        ensures others { (m : List ℕ) → m ≢ name.now → SameSlot untold out_at taken_at m self.old self.new }
+        ensures err { OnErr result (((folder_view self.new).disk name.now ≡ (folder_view self.old).disk name.now) × (out_at self.new name.now ≡ false)) }
+        ensures others { (m : List ℕ) → m ≢ name.now → SameSlot folder_view m self.old self.new }
         ensures starves { self.new.starved ≡ true → (self.old.starved ≡ true) ⊎ IsErr result }
         ensures stays { self.old.starved ≡ true → self.new.starved ≡ true }
         ensures cause { HasCause self.old.faults self.new.faults result }
@@ -183,9 +174,10 @@ impl<S: Folders> Bay for FolderBay<S> {
 
     fn put_back(&mut self, name: &DiskName, given: FileDisk<S::File>)
         requires { out_at self.old name.now ≡ true }
-        ensures there { Holds (untold self.old name.now) (untold self.new name.now) given }
+        ensures there { Holds ((folder_view self.old).disk name.now) ((folder_view self.new).disk name.now) given }
         ensures is_in { out_at self.new name.now ≡ false }
-        ensures others { (m : List ℕ) → m ≢ name.now → SameSlot untold out_at taken_at m self.old self.new }
+        ensures taken { taken_at self.new name.now ≡ taken_at self.old name.now }
+        ensures others { (m : List ℕ) → m ≢ name.now → SameSlot folder_view m self.old self.new }
         ensures later { self.old.faults ≤ self.new.faults }
         ensures counts { self.new.faults ≡ min (self.old.faults + (given.faults - taken_at self.old name.now)) (2 ^ 64 - 1) }
         ensures starved { self.new.starved ≡ self.old.starved }

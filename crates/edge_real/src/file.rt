@@ -1,8 +1,8 @@
-ghost use Rattle.std.specs.Prelude.{◌≡◌, ◌+◌, ◌≤◌, ◌^◌, None, [], false, length, IfOk, IsErr};
-ghost use Rattle.edge_io.specs.declared.fault.Armed.TheVariants.{Nothing};
+ghost use Rattle.std.specs.Prelude.{◌≡◌, ◌+◌, ◌≤◌, ◌^◌, false, length, IfOk, IsErr};
 ghost use Rattle.edge_io.specs.Causes.{HasCause, raised};
 ghost use Rattle.edge_io.specs.Disk.{GrowsTo, ShrinksTo};
 ghost use Rattle.edge_real.specs.Files.{no_content, Calls, Syncs};
+ghost use Rattle.edge_real.specs.Seen.{file_view};
 
 use crate::fault::{SystemCall, SystemFault};
 use crate::opening::open_below;
@@ -103,25 +103,7 @@ impl<F: OpenedFile> FileDisk<F> {
 }
 
 impl<F: OpenedFile> Disk for FileDisk<F> {
-    ghost content = { λ _. None };
-
-    ghost size = { λ d. d.size };
-
-    ghost image = { λ _ _. ⊥ };
-
-    ghost moment = { λ _. 0 };
-
-    ghost since = { λ _ _ _. ⊥ };
-
-    ghost faults = { λ d. d.faults };
-
-    ghost losses = { λ _. [] };
-
-    ghost arms = { λ _. 0 };
-
-    ghost armed = { λ _. Nothing };
-
-    ghost starved = { λ _. false };
+    ghost seen = { file_view };
 
     ghost read_is_image = { λ _ c told. no_content c told };
 

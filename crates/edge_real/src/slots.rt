@@ -115,6 +115,7 @@ pub fn set_out<F: Drop>(slots: &mut Vec<Slot<F>>, name: &DiskName, count: u64) -
 pub fn set_in<F: OpenedFile>(slots: &mut Vec<Slot<F>>, name: &DiskName, disk: FileDisk<F>) -> u64
     requires { out_in (found slots.old.items name.now) ≡ true }
     ensures is_in { out_in (found slots.new.items name.now) ≡ false }
+    ensures taken { taken_in (found slots.new.items name.now) ≡ taken_in (found slots.old.items name.now) }
     ensures rose { result ≡ disk.faults - taken_in (found slots.old.items name.now) }
     ensures others { (m : List ℕ) → m ≢ name.now → Same slots.old.items slots.new.items m }
     ensures named { AreNamed slots.old.items → AreNamed slots.new.items }

@@ -6,9 +6,8 @@
 use Rattle.std.specs.Prelude.{◌≡◌, ◌⊎◌, ◌<◌, ◌+◌, ◌^◌, ℕ, pos, List, length, Bool, true, false, Option, Some, None, is_some, if◌then◌else◌}
 use Rattle.std.specs.Option.{option_map}
 use Rattle.std.specs.Ordering.{int_eq}
-use Rattle.gate_journal.specs.Frames.{IsFrame}
 use Rattle.share_model.specs.ForeignRules.{code_alone}
-use Rattle.share_model.specs.ForeignRules.{ShareStates, Does, share_state_at}
+use Rattle.share_model.specs.ForeignRules.{ShareStates, Does, runs_of, share_state_at}
 use Rattle.share_model.specs.Pending.{WithPending}
 use Rattle.share_model.specs.declared.fault.StoreFault.{StoreFault}
 use Rattle.share_model.specs.declared.fault.StoreFault.TheVariants.{Device, Full}
@@ -16,10 +15,16 @@ use Rattle.share_model.specs.ErrorCodes.{NONE, KAFKA_STORAGE_ERROR}
 use Rattle.share_model.specs.declared.foreign.ForeignAnswer.{ForeignAnswer}
 use Rattle.share_model.specs.declared.foreign.ForeignOp.{ForeignOp}
 use Rattle.share_model.specs.declared.foreign.ForeignOp.TheVariants.{Init, Read, Write, Delete}
+use Rattle.share_model.specs.declared.run.Run.{Run}
+use Rattle.state_records.specs.Spelling.{record_bytes}
+use Rattle.state_records.specs.declared.record.StateRecord.{StateRecord}
+use Rattle.state_records.specs.declared.record.StateRecord.TheVariants.{Removal}
 use Rattle.share_coord.specs.Holding.{Holds}
 use Rattle.share_coord.specs.Parts.{StoreParts}
-use Rattle.share_coord.specs.Stored.{Entries, Accepts}
+use Rattle.share_coord.specs.Recorded.{IsWriteRecord, init_record}
+use Rattle.share_coord.specs.Stored.{Entries}
 use Rattle.share_coord.specs.States.{states_of, AreStates}
+use Rattle.edge_io.specs.Views.{DiskView}
 
 -- the shard of foreign state: the states, and what the pending write would leave
 pub record ForeignShardState : Type 0 where
@@ -53,16 +58,23 @@ pub record IsUnstored (op : ForeignOp) (old new : ForeignShardState) : Type 0 wh
   pub same : new.states ≡ old.states
   pub pending : (new.pending ≡ old.pending) ⊎ ((lost : ShareStates) × Grants old.states op lost × (new.pending ≡ Some lost))
 
--- the journal, whose last gate ends at `end`, has no room for this call's record below 2^62
+-- the one record that a call stores where it is granted and writes
+abbrev pub IsRecordOf : Entries → ForeignOp → StateRecord → Type 0
+IsRecordOf old (Init key state_epoch start) one = one ≡ init_record old key state_epoch start
+IsRecordOf old (Read key leader_epoch) one = ⊥
+IsRecordOf old (Write key state_epoch leader_epoch start batches) one =
+    (runs : List Run) × (runs_of batches ≡ Some runs) × IsWriteRecord old key state_epoch leader_epoch start runs one
+IsRecordOf old (Delete key) one = one ≡ Removal key
+
+-- the journal, whose last gate ends at `end`, has no room for the frame of this call's record below 2^62
 pub record IsFull (end : ℕ) (states : ShareStates) (op : ForeignOp) : Type 0 where
   pub before : Entries
-  pub after : Entries
-  pub frame : List ℕ
+  pub after : ShareStates
+  pub one : StateRecord
   pub is_before : states_of before ≡ states
-  pub granted : Grants states op (states_of after)
-  pub accepted : Accepts before frame after
-  pub fits : IsFrame frame
-  pub past : 2 ^ 62 < end + (length frame + 5)
+  pub granted : Grants states op after
+  pub is_one : IsRecordOf before op one
+  pub past : 2 ^ 62 < end + (length (record_bytes one) + 5)
 
 -- A step of the shard. `rose` says that the count of faults of its first disk rose, `end` is where its journal ends; `fault` is what
 -- the store met.
@@ -72,9 +84,9 @@ StepsForeign rose end old op answer (Some Device) new = (answer ≡ code_alone K
 StepsForeign rose end old op answer (Some (Full at)) new = (answer ≡ code_alone KAFKA_STORAGE_ERROR) × (at ≡ end) × (new ≡ old) × IsFull end old.states op
 
 -- A store in memory and its disks stand for the shard's state.
-pub record Carries {D : Type 0} (image : D → List ℕ → Type 0) (store : StoreParts D) (shard : ForeignShardState) : Type 0 where
+pub record Carries {D : Type 0} (seen : D → DiskView) (store : StoreParts D) (shard : ForeignShardState) : Type 0 where
   pub pending : Option Entries
-  pub holds : Holds image store pending
+  pub holds : Holds seen store pending
   pub states : shard.states ≡ states_of store.entries
   pub pending_is : shard.pending ≡ option_map states_of pending
 

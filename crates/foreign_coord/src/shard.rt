@@ -5,6 +5,7 @@ ghost use Rattle.std.specs.declared.option.Option.{Option};
 ghost use Rattle.edge_io.specs.Armed.{ArmsAlone, RunsOn, StarvesUnarmed};
 ghost use Rattle.edge_io.specs.Causes.{Rose};
 ghost use Rattle.edge_io.specs.Moments.{LeavesPairs};
+ghost use Rattle.gate_journal.specs.Journals.{IsQuiet};
 ghost use Rattle.share_model.specs.ForeignRules.{read_share_state};
 ghost use Rattle.share_model.specs.declared.fault.StoreFault.{StoreFault};
 ghost use Rattle.share_model.specs.declared.foreign.ForeignOp.TheVariants.{Init, Read, Write as write_call, Delete};
@@ -13,7 +14,7 @@ ghost use Rattle.share_coord.specs.Stored.{Entries, kept_at};
 ghost use Rattle.share_coord.specs.Holding.{Holds};
 ghost use Rattle.share_coord.specs.Opening.{IsOpened, IsNotOpened};
 ghost use Rattle.share_coord.specs.States.{states_of};
-ghost use Rattle.foreign_coord.specs.Once.{ActsOnce};
+ghost use Rattle.foreign_coord.specs.Once.{ActsOnce, FailsToPut, PutsRecord};
 ghost use Rattle.state_records.specs.States.{AreStoredRuns};
 ghost use Rattle.foreign_coord.specs.Shards.{ForeignShardState, StepsForeign, IsFull, Carries, IsFound, writes};
 
@@ -74,12 +75,12 @@ fn read(
 impl<D: Disk> ForeignShard<D> {
     /// Opens the states of two disks, as `Coord` does. They come back at an `Err`.
     pub fn open(alloc: Global, a: D, b: D) -> Result<ForeignShard<D>, (D, D, CoordOpen)>
-        ensures opened { IfOk result (IsOpened D.content D.image a b) }
-        ensures carries { IfOk result (λ c. Carries D.image c (record { states = states_of c.entries; pending = None })) }
-        ensures refused { IfErr result (IsNotOpened D.content D.armed D.starved D.faults a b) }
+        ensures opened { IfOk result (IsOpened D.seen a b) }
+        ensures carries { IfOk result (λ c. Carries D.seen c (record { states = states_of c.entries; pending = None })) }
+        ensures refused { IfErr result (IsNotOpened D.seen a b) }
         ensures both { MatchResult result
-            (λ c. RunsBoth D.content D.size D.image D.moment D.since D.losses D.arms D.armed D.starved D.faults a b c.journal.live.disk c.journal.idle)
-            (λ e. RunsBoth D.content D.size D.image D.moment D.since D.losses D.arms D.armed D.starved D.faults a b e.0 e.1) }
+            (λ c. RunsBoth D.seen a b c.journal.live.disk c.journal.idle)
+            (λ e. RunsBoth D.seen a b e.0 e.1) }
     {
         match Coord::open(alloc, a, b) {
             Ok(coord) => Ok(ForeignShard { coord, alloc }),
@@ -88,9 +89,9 @@ impl<D: Disk> ForeignShard<D> {
     }
 
     fn init(&mut self, key: &Key, state_epoch: i32, start: i64) -> Result<ForeignAnswer, NoMemory>
-        ensures once { ActsOnce D.content D.image D.moment D.since D.armed D.starved D.faults
+        ensures once { ActsOnce D.seen
             (Init key.now state_epoch start) self.old self.new result }
-        ensures runs { RunsOn D.content D.losses D.arms D.armed D.starved D.faults self.old.journal.live.disk self.new.journal.live.disk }
+        ensures runs { RunsOn D.seen self.old.journal.live.disk self.new.journal.live.disk }
         ensures idle { self.new.journal.idle ≡ self.old.journal.idle }
         ensures ranges { IfOk result (λ answer. AreStoredRuns answer.runs) }
     {
@@ -99,9 +100,9 @@ impl<D: Disk> ForeignShard<D> {
     }
 
     fn read(&mut self, key: &Key, leader_epoch: i32) -> Result<ForeignAnswer, NoMemory>
-        ensures once { ActsOnce D.content D.image D.moment D.since D.armed D.starved D.faults
+        ensures once { ActsOnce D.seen
             (Read key.now leader_epoch) self.old self.new result }
-        ensures runs { RunsOn D.content D.losses D.arms D.armed D.starved D.faults self.old.journal.live.disk self.new.journal.live.disk }
+        ensures runs { RunsOn D.seen self.old.journal.live.disk self.new.journal.live.disk }
         ensures idle { self.new.journal.idle ≡ self.old.journal.idle }
         ensures ranges { IfOk result (λ answer. AreStoredRuns answer.runs) }
     {
@@ -116,9 +117,9 @@ impl<D: Disk> ForeignShard<D> {
         start: i64,
         batches: &StateBatchList,
     ) -> Result<ForeignAnswer, NoMemory>
-        ensures once { ActsOnce D.content D.image D.moment D.since D.armed D.starved D.faults
+        ensures once { ActsOnce D.seen
             (write_call key.now state_epoch leader_epoch start batches.now) self.old self.new result }
-        ensures runs { RunsOn D.content D.losses D.arms D.armed D.starved D.faults self.old.journal.live.disk self.new.journal.live.disk }
+        ensures runs { RunsOn D.seen self.old.journal.live.disk self.new.journal.live.disk }
         ensures idle { self.new.journal.idle ≡ self.old.journal.idle }
         ensures ranges { IfOk result (λ answer. AreStoredRuns answer.runs) }
     {
@@ -132,9 +133,9 @@ impl<D: Disk> ForeignShard<D> {
     }
 
     fn delete(&mut self, key: &Key) -> Result<ForeignAnswer, NoMemory>
-        ensures once { ActsOnce D.content D.image D.moment D.since D.armed D.starved D.faults
+        ensures once { ActsOnce D.seen
             (Delete key.now) self.old self.new result }
-        ensures runs { RunsOn D.content D.losses D.arms D.armed D.starved D.faults self.old.journal.live.disk self.new.journal.live.disk }
+        ensures runs { RunsOn D.seen self.old.journal.live.disk self.new.journal.live.disk }
         ensures idle { self.new.journal.idle ≡ self.old.journal.idle }
         ensures ranges { IfOk result (λ answer. AreStoredRuns answer.runs) }
     {
@@ -145,8 +146,8 @@ impl<D: Disk> ForeignShard<D> {
     }
 
     fn dispatch(&mut self, op: &ForeignOp) -> Result<ForeignAnswer, NoMemory>
-        ensures once { ActsOnce D.content D.image D.moment D.since D.armed D.starved D.faults op.now self.old self.new result }
-        ensures runs { RunsOn D.content D.losses D.arms D.armed D.starved D.faults self.old.journal.live.disk self.new.journal.live.disk }
+        ensures once { ActsOnce D.seen op.now self.old self.new result }
+        ensures runs { RunsOn D.seen self.old.journal.live.disk self.new.journal.live.disk }
         ensures idle { self.new.journal.idle ≡ self.old.journal.idle }
         ensures ranges { IfOk result (λ answer. AreStoredRuns answer.runs) }
     {
@@ -174,25 +175,35 @@ impl<D: Disk> ForeignShard<D> {
     /// It takes its memory first. A call that is refused, a read, and a delete of a key that isn't there make no device call.
     pub fn act(&mut self, op: &ForeignOp) -> Result<ForeignAnswer, NoMemory>
         // Where it answers, a step of the shard was made; where it finds no memory, nothing has changed.
-        ensures ok { IfOk result (λ answer. (old : ForeignShardState) → Carries D.image self.old old → (new : ForeignShardState) × (fault : Option StoreFault)
-            × Carries D.image self.new new
-            × StepsForeign (Rose (D.faults self.old.journal.live.disk) (D.faults self.new.journal.live.disk)) self.old.journal.live.end old op.now answer fault new) }
-        ensures memory { OnErr result ((old : ForeignShardState) → Carries D.image self.old old → Carries D.image self.new old) }
+        ensures ok { IfOk result (λ answer. (old : ForeignShardState) → Carries D.seen self.old old → (new : ForeignShardState) × (fault : Option StoreFault)
+            × Carries D.seen self.new new
+            × StepsForeign (Rose (D.seen self.old.journal.live.disk).faults (D.seen self.new.journal.live.disk).faults) self.old.journal.live.end old op.now answer fault new) }
+        ensures memory { OnErr result (self.new ≡ self.old) }
 
         // With nothing armed, a store fault comes only of a full journal, or where the disk finds no memory.
         ensures sound { IfOk result (λ answer. answer.code ≡ Code.KAFKA_STORAGE_ERROR →
-            StarvesUnarmed D.content D.armed D.starved self.old.journal.live.disk self.new.journal.live.disk
+            StarvesUnarmed D.seen self.old.journal.live.disk self.new.journal.live.disk
             ⊎ IsFull self.old.journal.live.end (states_of self.old.entries) op.now) }
+
+        // Unless it is answered with a store fault, no device call failed.
+        ensures quiet { IfOk result (λ answer. answer.code ≢ Code.KAFKA_STORAGE_ERROR →
+            IsQuiet D.seen self.old.journal.live.disk self.new.journal.live.disk) }
+
+        // The record of the call, and no other, is stored. Where it couldn't be, it may be pending, or had no room.
+        ensures stored { IfOk result (λ answer. writes (states_of self.old.entries) op.now answer ≡ true →
+            answer.code ≢ Code.KAFKA_STORAGE_ERROR → PutsRecord D.seen op.now self.old self.new) }
+        ensures unstored { IfOk result (λ answer. answer.code ≡ Code.KAFKA_STORAGE_ERROR →
+            FailsToPut D.seen op.now self.old self.new) }
 
         // A call that writes no record changes nothing. The journal never ends before where it did.
         ensures unwritten { IfOk result (λ answer. writes (states_of self.old.entries) op.now answer ≡ false → answer.code ≢ Code.KAFKA_STORAGE_ERROR →
             self.new ≡ self.old) }
-        ensures ends { (old : ForeignShardState) → Carries D.image self.old old → self.old.journal.live.end ≤ self.new.journal.live.end }
+        ensures ends { (old : ForeignShardState) → Carries D.seen self.old old → self.old.journal.live.end ≤ self.new.journal.live.end }
 
         // At each moment since it began, a crash leaves what stood at entry, or what it leaves where it is granted.
-        ensures any_moment { (old : ForeignShardState) → Carries D.image self.old old → LeavesPairs D.moment D.since D.moment D.since
+        ensures any_moment { (old : ForeignShardState) → Carries D.seen self.old old → LeavesPairs D.seen
             self.old.journal.live.disk self.new.journal.live.disk self.old.journal.idle self.new.journal.idle (IsFound old op.now) }
-        ensures runs { RunsOn D.content D.losses D.arms D.armed D.starved D.faults self.old.journal.live.disk self.new.journal.live.disk }
+        ensures runs { RunsOn D.seen self.old.journal.live.disk self.new.journal.live.disk }
         ensures idle { self.new.journal.idle ≡ self.old.journal.idle }
         ensures ranges { IfOk result (λ answer. AreStoredRuns answer.runs) }
     {
@@ -215,7 +226,7 @@ impl<D: Disk> ForeignShard<D> {
 
     /// Whether a call of one of its disks has failed for want of memory.
     pub fn starved(&self) -> bool
-        ensures { (result ≡ true) ↔ ((D.starved self.now.journal.live.disk ≡ true) ⊎ (D.starved self.now.journal.idle ≡ true)) }
+        ensures { (result ≡ true) ↔ (((D.seen self.now.journal.live.disk).starved ≡ true) ⊎ ((D.seen self.now.journal.idle).starved ≡ true)) }
     {
         self.coord.starved()
     }
@@ -224,15 +235,15 @@ impl<D: Disk> ForeignShard<D> {
     pub fn arm(&mut self, disk: DiskPlace, after: u64, mode: FaultMode)
         ensures log { disk ≡ DiskPlace.Log → self.new ≡ self.old }
         ensures first { disk ≡ DiskPlace.StateA →
-            ArmsAlone D.content D.image D.losses D.arms D.armed D.starved D.faults after mode self.old.journal.live.disk self.new.journal.live.disk
+            ArmsAlone D.seen after mode self.old.journal.live.disk self.new.journal.live.disk
             × (self.new.journal.idle ≡ self.old.journal.idle) }
         ensures second { disk ≡ DiskPlace.StateB →
-            ArmsAlone D.content D.image D.losses D.arms D.armed D.starved D.faults after mode self.old.journal.idle self.new.journal.idle
+            ArmsAlone D.seen after mode self.old.journal.idle self.new.journal.idle
             × (self.new.journal.live ≡ self.old.journal.live) }
         ensures end { self.new.journal.live.end ≡ self.old.journal.live.end }
         ensures states { self.new.entries ≡ self.old.entries }
-        ensures holds { (pending : Option Entries) → Holds D.image self.old pending → Holds D.image self.new pending }
-        ensures stays { (shard : ForeignShardState) → Carries D.image self.old shard → Carries D.image self.new shard }
+        ensures holds { (pending : Option Entries) → Holds D.seen self.old pending → Holds D.seen self.new pending }
+        ensures stays { (shard : ForeignShardState) → Carries D.seen self.old shard → Carries D.seen self.new shard }
     {
         self.coord.arm(disk, after, mode);
     }

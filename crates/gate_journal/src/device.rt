@@ -10,18 +10,18 @@ use edge_io::{Disk, Failed};
 
 // Writes, and syncs.
 pub fn write_and_sync<D: Disk>(disk: &mut D, place: u64, bytes: &[u8]) -> Result<(), Failed>
-    requires begins { place ≤ D.size disk.old }
+    requires begins { place ≤ (D.seen disk.old).size }
     requires ends { place + length bytes.now ≤ 2 ^ 62 }
-    ensures ok { OnOk result (Reaches (written place bytes.now) (D.content disk.old) (D.image disk.new)) }
-    ensures images { Follows (UnfinishedWrite place (length bytes.now)) (D.image disk.old) (D.image disk.new) }
-    ensures any_moment { LeavesOnly D.moment D.since disk.old disk.new (Stepped (D.image disk.old) (UnfinishedWrite place (length bytes.now))) }
-    ensures size { D.size disk.old ≤ D.size disk.new }
-    ensures reach { OnOk result (place + length bytes.now ≤ D.size disk.new) }
-    ensures runs { RunsOn D.content D.losses D.arms D.armed D.starved D.faults disk.old disk.new }
-    ensures calls { OnOk result (DoesCalls D.content D.armed D.starved D.faults 2 disk.old disk.new) }
-    ensures fails { OnErr result (FailsInCalls D.content D.armed D.starved 2 disk.old disk.new) }
-    ensures memory { OnErr result (StarvesUnarmed D.content D.armed D.starved disk.old disk.new) }
-    ensures cause { HasCause (D.faults disk.old) (D.faults disk.new) result }
+    ensures ok { OnOk result (Reaches (written place bytes.now) (D.seen disk.old).content (D.seen disk.new).image) }
+    ensures images { Follows (UnfinishedWrite place (length bytes.now)) (D.seen disk.old).image (D.seen disk.new).image }
+    ensures any_moment { LeavesOnly D.seen disk.old disk.new (Stepped (D.seen disk.old).image (UnfinishedWrite place (length bytes.now))) }
+    ensures size { (D.seen disk.old).size ≤ (D.seen disk.new).size }
+    ensures reach { OnOk result (place + length bytes.now ≤ (D.seen disk.new).size) }
+    ensures runs { RunsOn D.seen disk.old disk.new }
+    ensures calls { OnOk result (DoesCalls D.seen 2 disk.old disk.new) }
+    ensures fails { OnErr result (FailsInCalls D.seen 2 disk.old disk.new) }
+    ensures memory { OnErr result (StarvesUnarmed D.seen disk.old disk.new) }
+    ensures cause { HasCause (D.seen disk.old).faults (D.seen disk.new).faults result }
 {
     disk.write_at(place, bytes)?;
     disk.sync() // now the write lasts
@@ -29,16 +29,16 @@ pub fn write_and_sync<D: Disk>(disk: &mut D, place: u64, bytes: &[u8]) -> Result
 
 // Cuts, and syncs.
 pub fn cut_and_sync<D: Disk>(disk: &mut D, to: u64) -> Result<(), Failed>
-    requires { to ≤ D.size disk.old }
-    ensures ok { OnOk result (Reaches (take to) (D.content disk.old) (D.image disk.new)) }
-    ensures images { Follows (UnfinishedCut to) (D.image disk.old) (D.image disk.new) }
-    ensures any_moment { LeavesOnly D.moment D.since disk.old disk.new (Stepped (D.image disk.old) (UnfinishedCut to)) }
-    ensures size { to ≤ D.size disk.new }
-    ensures runs { RunsOn D.content D.losses D.arms D.armed D.starved D.faults disk.old disk.new }
-    ensures calls { OnOk result (DoesCalls D.content D.armed D.starved D.faults 2 disk.old disk.new) }
-    ensures fails { OnErr result (FailsInCalls D.content D.armed D.starved 2 disk.old disk.new) }
-    ensures memory { OnErr result (StarvesUnarmed D.content D.armed D.starved disk.old disk.new) }
-    ensures cause { HasCause (D.faults disk.old) (D.faults disk.new) result }
+    requires { to ≤ (D.seen disk.old).size }
+    ensures ok { OnOk result (Reaches (take to) (D.seen disk.old).content (D.seen disk.new).image) }
+    ensures images { Follows (UnfinishedCut to) (D.seen disk.old).image (D.seen disk.new).image }
+    ensures any_moment { LeavesOnly D.seen disk.old disk.new (Stepped (D.seen disk.old).image (UnfinishedCut to)) }
+    ensures size { to ≤ (D.seen disk.new).size }
+    ensures runs { RunsOn D.seen disk.old disk.new }
+    ensures calls { OnOk result (DoesCalls D.seen 2 disk.old disk.new) }
+    ensures fails { OnErr result (FailsInCalls D.seen 2 disk.old disk.new) }
+    ensures memory { OnErr result (StarvesUnarmed D.seen disk.old disk.new) }
+    ensures cause { HasCause (D.seen disk.old).faults (D.seen disk.new).faults result }
 {
     disk.cut(to)?;
     disk.sync()

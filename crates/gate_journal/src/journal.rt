@@ -41,7 +41,7 @@ impl<D: Disk> Model for Journal<D> {
 
     ghost view = { λ j. j.writer };
 
-    ghost invariant = { λ j. HasRoom D.size j.writer };
+    ghost invariant = { λ j. HasRoom D.seen j.writer };
 }
 
 impl<D: Disk> Journal<D> {
@@ -49,7 +49,7 @@ impl<D: Disk> Journal<D> {
 
     // A journal of frames that were read from the disk.
     pub(crate) fn opened(disk: D, end: u64, count: u64) -> Self
-        requires { HasRoom D.size (record { disk = disk; end = end; count = count; mending = Mending.Nothing }) }
+        requires { HasRoom D.seen (record { disk = disk; end = end; count = count; mending = Mending.Nothing }) }
         ensures { result ≡ record { disk = disk; end = end; count = count; mending = Mending.Nothing } }
     {
         Journal {
@@ -77,20 +77,20 @@ impl<D: Disk> Journal<D> {
         requires { IsFrame (frame_in buffer.old) }
 
         // At Ok the frame stands behind the others, and no write is pending.
-        ensures ok { OnOk result (Adds D.image (frame_in buffer.old) self.old self.new) }
+        ensures ok { OnOk result (Adds D.seen (frame_in buffer.old) self.old self.new) }
         ensures number { IfOk result (λ n. n ≡ self.old.count) }
 
         // At Err the frames are the same. The pending write is the one from before, or this one.
-        ensures failed { OnErr result ((frames : List (List ℕ)) (pending : Option (List ℕ)) → Stands D.image self.old frames pending →
-            Stands D.image self.new frames pending ⊎ Stands D.image self.new frames (Some (frame_in buffer.old))) }
+        ensures failed { OnErr result ((frames : List (List ℕ)) (pending : Option (List ℕ)) → Stands D.seen self.old frames pending →
+            Stands D.seen self.new frames pending ⊎ Stands D.seen self.new frames (Some (frame_in buffer.old))) }
         ensures full { RefusesFull self.old self.new buffer.old buffer.new result }
 
         // At each moment since the call began a crash leaves the frames, with or without the pending one, or with this one.
-        ensures any_moment { (frames : List (List ℕ)) (pending : Option (List ℕ)) → Stands D.image self.old frames pending →
-            LeavesOnly D.moment D.since self.old.disk self.new.disk (λ c. IsWithPending frames pending c ⊎ IsBeforeOrAfter frames (frame_in buffer.old) c) }
+        ensures any_moment { (frames : List (List ℕ)) (pending : Option (List ℕ)) → Stands D.seen self.old frames pending →
+            LeavesOnly D.seen self.old.disk self.new.disk (λ c. IsWithPending frames pending c ⊎ IsBeforeOrAfter frames (frame_in buffer.old) c) }
 
         // The calls that mend, and four more.
-        ensures disk { MakesCalls D.content D.losses D.arms D.armed D.starved D.faults (calls_to_mend self.old.mending + 4)
+        ensures disk { MakesCalls D.seen (calls_to_mend self.old.mending + 4)
             self.old.disk self.new.disk StoreFault.Device result }
         ensures buffer { SetsBuffer buffer.old buffer.new result }
     {
@@ -112,19 +112,18 @@ impl<D: Disk> Journal<D> {
 
     /// Whether a call of its disk has failed for want of memory.
     pub fn starved(&self) -> bool
-        ensures { result ≡ D.starved self.now.disk }
+        ensures { result ≡ (D.seen self.now.disk).starved }
     {
         self.writer.disk.starved()
     }
 
     /// Arms a fault of its disk, and changes nothing else.
     pub fn arm(&mut self, after: u64, mode: FaultMode)
-        ensures disk { ArmsAlone D.content D.image D.losses D.arms D.armed D.starved D.faults after mode self.old.disk self.new.disk }
-        ensures time { Elapses (D.moment self.old.disk) (D.moment self.new.disk)
-            (D.since self.old.disk) (D.since self.new.disk) (D.image self.new.disk) }
+        ensures disk { ArmsAlone D.seen after mode self.old.disk self.new.disk }
+        ensures time { Elapses (D.seen self.old.disk) (D.seen self.new.disk) }
         ensures rest { self.new ≡ record self.old { disk = self.new.disk } }
-        ensures stands { (frames : List (List ℕ)) (pending : Option (List ℕ)) → Stands D.image self.old frames pending →
-            Stands D.image self.new frames pending }
+        ensures stands { (frames : List (List ℕ)) (pending : Option (List ℕ)) → Stands D.seen self.old frames pending →
+            Stands D.seen self.new frames pending }
     {
         self.writer.disk.arm(after, mode);
     }

@@ -7,6 +7,7 @@
 //! one. No checksum is trusted for that.
 #![tactic(auto)]
 
+mod buffer;
 mod device;
 mod journal;
 mod opening;
@@ -14,6 +15,7 @@ mod repair;
 mod text;
 mod writer;
 
+pub use buffer::buffer_of;
 pub use journal::Journal;
 pub use opening::{StartFault, start};
 pub use text::journal_text_is_read_one_way;

@@ -3,11 +3,11 @@ ghost use Rattle.std.specs.Prelude.{◌≡◌, ◌≢◌, ◌+◌, ◌<◌, ◌�
 ghost use Rattle.std.specs.List.{AllByRecursion};
 ghost use Rattle.edge_io.specs.Armed.{RunsOn, StarvesUnarmed};
 ghost use Rattle.edge_io.specs.Causes.{Rose};
-ghost use Rattle.edge_io.specs.Counting.{DoesUpTo, FailsInCalls, MakesUpTo};
+ghost use Rattle.edge_io.specs.Counting.{DoesCalls, DoesUpTo, FailsInCalls, MakesUpTo};
 ghost use Rattle.edge_io.specs.Disk.{Within, Synced, IsTold, WhereTold, SameContent};
 ghost use Rattle.edge_io.specs.Moments.{LeavesOnly};
 ghost use Rattle.gate_journal.specs.Frames.{IsRead, IsRest, IsFrame, blocks, IsDamaged, StandsFor, StandsAs, repaired};
-ghost use Rattle.gate_journal.specs.Journals.{IsDeviceFault, KeepsContent, Opens, disk_after};
+ghost use Rattle.gate_journal.specs.Journals.{EndsWithGate, IsDeviceFault, KeepsContent, LooksOnly, Opens, disk_after};
 
 use crate::journal::Journal;
 use crate::repair::repair;
@@ -33,19 +33,20 @@ pub enum StartFault {
 
 // The whole content.
 fn read_whole<D: Disk>(alloc: Global, disk: &mut D) -> Result<Vec<u8>, StartFault>
-    ensures bytes { IfOk result (λ v. WhereTold (D.content disk.old) (λ c. v.items ≡ c)) }
-    ensures len { IfOk result (λ v. length v.items ≡ D.size disk.old) }
-    ensures stays { SameContent (D.content disk.old) (D.content disk.new) (D.size disk.old) (D.size disk.new) }
-    ensures images { Within (D.image disk.old) (D.image disk.new) }
-    ensures any_moment { LeavesOnly D.moment D.since disk.old disk.new (D.image disk.old) }
-    ensures runs { RunsOn D.content D.losses D.arms D.armed D.starved D.faults disk.old disk.new }
-    ensures later { D.faults disk.old ≤ D.faults disk.new }
-    ensures device { result ≡ Err StartFault.Device → Rose (D.faults disk.old) (D.faults disk.new) }
-    ensures calls { result ≢ Err StartFault.Device → DoesUpTo D.content D.armed D.starved D.faults 1 disk.old disk.new }
-    ensures fails { result ≡ Err StartFault.Device → FailsInCalls D.content D.armed D.starved 1 disk.old disk.new }
-    ensures memory { result ≡ Err StartFault.Device → StarvesUnarmed D.content D.armed D.starved disk.old disk.new }
+    ensures bytes { IfOk result (λ v. WhereTold (D.seen disk.old).content (λ c. v.items ≡ c)) }
+    ensures len { IfOk result (λ v. length v.items ≡ (D.seen disk.old).size) }
+    ensures stays { SameContent (D.seen disk.old) (D.seen disk.new) }
+    ensures images { Within (D.seen disk.old).image (D.seen disk.new).image }
+    ensures any_moment { LeavesOnly D.seen disk.old disk.new (D.seen disk.old).image }
+    ensures runs { RunsOn D.seen disk.old disk.new }
+    ensures later { (D.seen disk.old).faults ≤ (D.seen disk.new).faults }
+    ensures device { result ≡ Err StartFault.Device → Rose (D.seen disk.old).faults (D.seen disk.new).faults }
+    ensures one { OnOk result (DoesCalls D.seen 1 disk.old disk.new) }
+    ensures calls { result ≢ Err StartFault.Device → DoesUpTo D.seen 1 disk.old disk.new }
+    ensures fails { result ≡ Err StartFault.Device → FailsInCalls D.seen 1 disk.old disk.new }
+    ensures memory { result ≡ Err StartFault.Device → StarvesUnarmed D.seen disk.old disk.new }
     ensures whole { (place : ℕ) → result ≢ Err (StartFault.Damaged place) }
-    ensures quiet { result ≢ Err StartFault.Device → IsTold (D.content disk.old) → D.faults disk.new ≡ D.faults disk.old }
+    ensures quiet { result ≢ Err StartFault.Device → IsTold (D.seen disk.old).content → (D.seen disk.new).faults ≡ (D.seen disk.old).faults }
 {
     let len = disk.len() as usize;
     let mut bytes = Vec::new(alloc);
@@ -60,24 +61,25 @@ fn read_whole<D: Disk>(alloc: Global, disk: &mut D) -> Result<Vec<u8>, StartFaul
 
 // Syncs, and reads the frames and the place behind the last gate.
 fn read_synced<D: Disk>(alloc: Global, disk: &mut D) -> Result<(Vec<Blob>, u64), StartFault>
-    ensures text { IfOk result (λ x. WhereTold (D.content disk.old) (IsRead x.0.items (D.size disk.old) x.1)) }
+    ensures text { IfOk result (λ x. WhereTold (D.seen disk.old).content (IsRead x.0.items (D.seen disk.old).size x.1)) }
     ensures fit { IfOk result (λ x. AllByRecursion IsFrame x.0.items) }
     ensures end { IfOk result (λ x. x.1 ≡ length (blocks x.0.items) + 1) }
     ensures some { IfOk result (λ x. 0 < x.1) }
-    ensures fits { IfOk result (λ x. D.size disk.old ≤ 1 → x.1 ≡ 1) }
-    ensures within { IfOk result (λ x. 1 < D.size disk.old → x.1 ≤ D.size disk.old) }
-    ensures synced { OnOk result (Synced (D.content disk.new) (D.image disk.new)) }
-    ensures stays { SameContent (D.content disk.old) (D.content disk.new) (D.size disk.old) (D.size disk.new) }
-    ensures images { Within (D.image disk.old) (D.image disk.new) }
-    ensures any_moment { LeavesOnly D.moment D.since disk.old disk.new (D.image disk.old) }
-    ensures runs { RunsOn D.content D.losses D.arms D.armed D.starved D.faults disk.old disk.new }
-    ensures later { D.faults disk.old ≤ D.faults disk.new }
-    ensures damaged { (place : ℕ) → result ≡ Err (StartFault.Damaged place) → WhereTold (D.content disk.old) (λ c. IsDamaged c place) }
-    ensures device { result ≡ Err StartFault.Device → Rose (D.faults disk.old) (D.faults disk.new) }
-    ensures calls { result ≢ Err StartFault.Device → DoesUpTo D.content D.armed D.starved D.faults 2 disk.old disk.new }
-    ensures fails { result ≡ Err StartFault.Device → FailsInCalls D.content D.armed D.starved 2 disk.old disk.new }
-    ensures memory { result ≡ Err StartFault.Device → StarvesUnarmed D.content D.armed D.starved disk.old disk.new }
-    ensures quiet { result ≢ Err StartFault.Device → IsTold (D.content disk.old) → D.faults disk.new ≡ D.faults disk.old }
+    ensures fits { IfOk result (λ x. (D.seen disk.old).size ≤ 1 → x.1 ≡ 1) }
+    ensures within { IfOk result (λ x. 1 < (D.seen disk.old).size → x.1 ≤ (D.seen disk.old).size) }
+    ensures synced { OnOk result (Synced (D.seen disk.new).content (D.seen disk.new).image) }
+    ensures stays { SameContent (D.seen disk.old) (D.seen disk.new) }
+    ensures images { Within (D.seen disk.old).image (D.seen disk.new).image }
+    ensures any_moment { LeavesOnly D.seen disk.old disk.new (D.seen disk.old).image }
+    ensures runs { RunsOn D.seen disk.old disk.new }
+    ensures later { (D.seen disk.old).faults ≤ (D.seen disk.new).faults }
+    ensures damaged { (place : ℕ) → result ≡ Err (StartFault.Damaged place) → WhereTold (D.seen disk.old).content (λ c. IsDamaged c place) }
+    ensures device { result ≡ Err StartFault.Device → Rose (D.seen disk.old).faults (D.seen disk.new).faults }
+    ensures two { OnOk result (DoesCalls D.seen 2 disk.old disk.new) }
+    ensures calls { result ≢ Err StartFault.Device → DoesUpTo D.seen 2 disk.old disk.new }
+    ensures fails { result ≡ Err StartFault.Device → FailsInCalls D.seen 2 disk.old disk.new }
+    ensures memory { result ≡ Err StartFault.Device → StarvesUnarmed D.seen disk.old disk.new }
+    ensures quiet { result ≢ Err StartFault.Device → IsTold (D.seen disk.old).content → (D.seen disk.new).faults ≡ (D.seen disk.old).faults }
 {
     if let Err(_) = disk.sync() {
         return Err(StartFault::Device);
@@ -91,24 +93,30 @@ fn read_synced<D: Disk>(alloc: Global, disk: &mut D) -> Result<(Vec<Blob>, u64),
 
 // Reads the frames, and repairs the end.
 fn recover<D: Disk>(alloc: Global, disk: &mut D) -> Result<(Vec<Blob>, u64), StartFault>
-    ensures text { IfOk result (λ x. WhereTold (D.content disk.old) (λ c. StandsFor c x.0.items)) }
-    ensures rest { IfOk result (λ x. (c : List ℕ) → D.image disk.new c → IsRest x.0.items c) }
-    ensures bytes { IfOk result (λ x. WhereTold (D.content disk.old) (λ c. (d : List ℕ) → D.image disk.new d → d ≡ repaired x.1 c)) }
+    ensures text { IfOk result (λ x. WhereTold (D.seen disk.old).content (λ c. StandsFor c x.0.items)) }
+    ensures rest { IfOk result (λ x. (c : List ℕ) → (D.seen disk.new).image c → IsRest x.0.items c) }
+    ensures bytes { IfOk result (λ x. WhereTold (D.seen disk.old).content (λ c. (d : List ℕ) → (D.seen disk.new).image d → d ≡ repaired x.1 c)) }
     ensures fit { IfOk result (λ x. AllByRecursion IsFrame x.0.items) }
     ensures end { IfOk result (λ x. x.1 ≡ length (blocks x.0.items) + 1) }
-    ensures some { IfOk result (λ x. (0 < x.1) × (x.1 ≤ D.size disk.new)) }
-    ensures any_moment { LeavesOnly D.moment D.since disk.old disk.new (StandsAs (D.image disk.old)) }
-    ensures runs { RunsOn D.content D.losses D.arms D.armed D.starved D.faults disk.old disk.new }
-    ensures later { D.faults disk.old ≤ D.faults disk.new }
-    ensures damaged { (place : ℕ) → result ≡ Err (StartFault.Damaged place) → WhereTold (D.content disk.old) (λ c. IsDamaged c place) }
-    ensures device { result ≡ Err StartFault.Device → Rose (D.faults disk.old) (D.faults disk.new) }
-    ensures calls { result ≢ Err StartFault.Device → DoesUpTo D.content D.armed D.starved D.faults 4 disk.old disk.new }
-    ensures fails { result ≡ Err StartFault.Device → FailsInCalls D.content D.armed D.starved 4 disk.old disk.new }
-    ensures memory { result ≡ Err StartFault.Device → StarvesUnarmed D.content D.armed D.starved disk.old disk.new }
-    ensures quiet { IfErr result (λ e. e ≢ StartFault.Device → IsTold (D.content disk.old) →
-        D.faults disk.new ≡ D.faults disk.old) }
+    ensures some { IfOk result (λ x. (0 < x.1) × (x.1 ≤ (D.seen disk.new).size)) }
+    ensures any_moment { LeavesOnly D.seen disk.old disk.new (StandsAs (D.seen disk.old).image) }
+    ensures runs { RunsOn D.seen disk.old disk.new }
+    ensures later { (D.seen disk.old).faults ≤ (D.seen disk.new).faults }
+    ensures damaged { (place : ℕ) → result ≡ Err (StartFault.Damaged place) → WhereTold (D.seen disk.old).content (λ c. IsDamaged c place) }
+    ensures device { result ≡ Err StartFault.Device → Rose (D.seen disk.old).faults (D.seen disk.new).faults }
+    ensures calls { result ≢ Err StartFault.Device → DoesUpTo D.seen 4 disk.old disk.new }
+    ensures fails { result ≡ Err StartFault.Device → FailsInCalls D.seen 4 disk.old disk.new }
+    ensures memory { result ≡ Err StartFault.Device → StarvesUnarmed D.seen disk.old disk.new }
+    ensures quiet { IfErr result (λ e. e ≢ StartFault.Device → IsTold (D.seen disk.old).content →
+        (D.seen disk.new).faults ≡ (D.seen disk.old).faults) }
     ensures stays { IfErr result (λ e. e ≢ StartFault.Device →
-        SameContent (D.content disk.old) (D.content disk.new) (D.size disk.old) (D.size disk.new)) }
+        SameContent (D.seen disk.old) (D.seen disk.new)) }
+    ensures whole { WhereTold (D.seen disk.old).content (λ c. EndsWithGate c →
+        SameContent (D.seen disk.old) (D.seen disk.new)) }
+    ensures whole_done { OnOk result (WhereTold (D.seen disk.old).content (λ c. EndsWithGate c →
+        DoesCalls D.seen 2 disk.old disk.new)) }
+    ensures whole_fails { result ≡ Err StartFault.Device →
+        WhereTold (D.seen disk.old).content (λ c. EndsWithGate c → FailsInCalls D.seen 2 disk.old disk.new) }
 {
     let (frames, end) = read_synced(alloc, disk)?;
     if let Err(_) = repair(disk, end) {
@@ -128,19 +136,23 @@ pub fn start<D: Disk>(
     mut disk: D,
 ) -> Result<(Journal<D>, Vec<Blob>), (D, StartFault)>
     // The frames are those that the content stands for, each image stands for them from now on, and nothing is pending.
-    ensures ok { IfOk result (λ x. Opens D.content D.image disk x.0 x.1.items) }
+    ensures ok { IfOk result (λ x. Opens D.seen disk x.0 x.1.items) }
 
     // A content that stands for frames is never damaged, and gives these frames.
-    ensures recovers { (c : List ℕ) (frames : List (List ℕ)) → D.content disk ≡ Some c → StandsFor c frames →
+    ensures recovers { (c : List ℕ) (frames : List (List ℕ)) → (D.seen disk).content ≡ Some c → StandsFor c frames →
         MatchResult result (λ x. x.1.items ≡ frames) (λ e. (place : ℕ) → e.1 ≢ StartFault.Damaged place) }
 
     // Each refusal has its cause. Unless the disk failed, the content is as it was.
-    ensures damaged { IfErr result (λ e. (place : ℕ) → e.1 ≡ StartFault.Damaged place → WhereTold (D.content disk) (λ c. IsDamaged c place)) }
-    ensures stays { IfErr result (λ e. e.1 ≢ StartFault.Device → KeepsContent D.content D.size D.faults disk e.0) }
+    ensures damaged { IfErr result (λ e. (place : ℕ) → e.1 ≡ StartFault.Damaged place → WhereTold (D.seen disk).content (λ c. IsDamaged c place)) }
+    ensures stays { IfErr result (λ e. e.1 ≢ StartFault.Device → KeepsContent D.seen disk e.0) }
 
     // At each moment since the call began each image is one from before it, or stands for the frames of one.
-    ensures any_moment { LeavesOnly D.moment D.since disk (disk_after result) (StandsAs (D.image disk)) }
-    ensures disk { MakesUpTo D.content D.losses D.arms D.armed D.starved D.faults 4 disk (disk_after result) (IsDeviceFault result) }
+    ensures any_moment { LeavesOnly D.seen disk (disk_after result) (StandsAs (D.seen disk).image) }
+    ensures disk { MakesUpTo D.seen 4 disk (disk_after result) (IsDeviceFault result) }
+
+    // A content that ends with its last gate stays as it is, and takes two calls.
+    ensures whole { WhereTold (D.seen disk).content (λ c. EndsWithGate c →
+        LooksOnly D.seen disk (disk_after result) (IsDeviceFault result) result) }
 {
     match recover(alloc, &mut disk) {
         Ok((frames, end)) => {

@@ -35,22 +35,22 @@ impl<D: Disk> Writer<D> {
     // Closes a gate that may be open.
     fn close_gate(&mut self) -> Result<(), Failed>
         requires gate { self.old.mending ≡ Mending.Gate }
-        requires room { HasRoom D.size self.old }
+        requires room { HasRoom D.seen self.old }
         requires ends { self.old.end ≤ 2 ^ 62 }
-        ensures ok { OnOk result ((frames : List (List ℕ)) (frame : List ℕ) → IsShaped D.image self.old frames (IsAjar frames frame) →
-            IsShaped D.image self.new frames (IsShut frames)) }
-        ensures kept { (frames : List (List ℕ)) (frame : List ℕ) → IsShaped D.image self.old frames (IsAjar frames frame) →
-            IsShaped D.image self.new frames (IsAjar frames frame) }
-        ensures any_moment { (frames : List (List ℕ)) (frame : List ℕ) → IsShaped D.image self.old frames (IsAjar frames frame) → IsFrame frame →
-            LeavesOnly D.moment D.since self.old.disk self.new.disk (IsBeforeOrAfter frames frame) }
+        ensures ok { OnOk result ((frames : List (List ℕ)) (frame : List ℕ) → IsShaped D.seen self.old frames (IsAjar frames frame) →
+            IsShaped D.seen self.new frames (IsShut frames)) }
+        ensures kept { (frames : List (List ℕ)) (frame : List ℕ) → IsShaped D.seen self.old frames (IsAjar frames frame) →
+            IsShaped D.seen self.new frames (IsAjar frames frame) }
+        ensures any_moment { (frames : List (List ℕ)) (frame : List ℕ) → IsShaped D.seen self.old frames (IsAjar frames frame) → IsFrame frame →
+            LeavesOnly D.seen self.old.disk self.new.disk (IsBeforeOrAfter frames frame) }
         ensures done { OnOk result (self.new.mending ≡ Mending.Behind) }
         ensures err { OnErr result (self.new.mending ≡ Mending.Gate) }
         ensures same { (self.new.end ≡ self.old.end) × (self.new.count ≡ self.old.count) }
-        ensures room_kept { HasRoom D.size self.new }
-        ensures runs { RunsOn D.content D.losses D.arms D.armed D.starved D.faults self.old.disk self.new.disk }
-        ensures calls { OnOk result (DoesCalls D.content D.armed D.starved D.faults 2 self.old.disk self.new.disk) }
-        ensures fails { OnErr result (FailsInCalls D.content D.armed D.starved 2 self.old.disk self.new.disk) }
-        ensures cause { HasCause (D.faults self.old.disk) (D.faults self.new.disk) result }
+        ensures room_kept { HasRoom D.seen self.new }
+        ensures runs { RunsOn D.seen self.old.disk self.new.disk }
+        ensures calls { OnOk result (DoesCalls D.seen 2 self.old.disk self.new.disk) }
+        ensures fails { OnErr result (FailsInCalls D.seen 2 self.old.disk self.new.disk) }
+        ensures cause { HasCause (D.seen self.old.disk).faults (D.seen self.new.disk).faults result }
     {
         write_and_sync(&mut self.disk, self.end - 1, &[0])?;
         self.mending = Mending::Behind;
@@ -60,20 +60,20 @@ impl<D: Disk> Writer<D> {
     // Cuts off what stands behind the closed gate.
     fn cut_behind(&mut self) -> Result<(), Failed>
         requires behind { self.old.mending ≡ Mending.Behind }
-        requires room { HasRoom D.size self.old }
-        ensures ok { OnOk result ((frames : List (List ℕ)) → IsShaped D.image self.old frames (IsShut frames) →
-            IsShaped D.image self.new frames (IsRest frames)) }
-        ensures kept { (frames : List (List ℕ)) → IsShaped D.image self.old frames (IsShut frames) → IsShaped D.image self.new frames (IsShut frames) }
-        ensures any_moment { (frames : List (List ℕ)) → IsShaped D.image self.old frames (IsShut frames) →
-            LeavesOnly D.moment D.since self.old.disk self.new.disk (λ c. StandsFor c frames) }
+        requires room { HasRoom D.seen self.old }
+        ensures ok { OnOk result ((frames : List (List ℕ)) → IsShaped D.seen self.old frames (IsShut frames) →
+            IsShaped D.seen self.new frames (IsRest frames)) }
+        ensures kept { (frames : List (List ℕ)) → IsShaped D.seen self.old frames (IsShut frames) → IsShaped D.seen self.new frames (IsShut frames) }
+        ensures any_moment { (frames : List (List ℕ)) → IsShaped D.seen self.old frames (IsShut frames) →
+            LeavesOnly D.seen self.old.disk self.new.disk (λ c. StandsFor c frames) }
         ensures done { OnOk result (self.new.mending ≡ Mending.Nothing) }
         ensures err { OnErr result (self.new.mending ≡ Mending.Behind) }
         ensures same { (self.new.end ≡ self.old.end) × (self.new.count ≡ self.old.count) }
-        ensures room_kept { HasRoom D.size self.new }
-        ensures runs { RunsOn D.content D.losses D.arms D.armed D.starved D.faults self.old.disk self.new.disk }
-        ensures calls { OnOk result (DoesCalls D.content D.armed D.starved D.faults 2 self.old.disk self.new.disk) }
-        ensures fails { OnErr result (FailsInCalls D.content D.armed D.starved 2 self.old.disk self.new.disk) }
-        ensures cause { HasCause (D.faults self.old.disk) (D.faults self.new.disk) result }
+        ensures room_kept { HasRoom D.seen self.new }
+        ensures runs { RunsOn D.seen self.old.disk self.new.disk }
+        ensures calls { OnOk result (DoesCalls D.seen 2 self.old.disk self.new.disk) }
+        ensures fails { OnErr result (FailsInCalls D.seen 2 self.old.disk self.new.disk) }
+        ensures cause { HasCause (D.seen self.old.disk).faults (D.seen self.new.disk).faults result }
     {
         cut_and_sync(&mut self.disk, self.end)?;
         self.mending = Mending::Nothing;
@@ -83,22 +83,22 @@ impl<D: Disk> Writer<D> {
     // Writes a frame behind the closed gate.
     fn stage(&mut self, bytes: &[u8]) -> Result<(), Failed>
         requires mended { self.old.mending ≡ Mending.Nothing }
-        requires room { HasRoom D.size self.old }
+        requires room { HasRoom D.seen self.old }
         requires ends { self.old.end + length bytes.now ≤ 2 ^ 62 }
-        ensures ok { OnOk result ((frames : List (List ℕ)) (frame : List ℕ) → IsShaped D.image self.old frames (IsRest frames) →
-            bytes.now ≡ framed frame → IsShaped D.image self.new frames (IsHeld frames frame)) }
-        ensures kept { (frames : List (List ℕ)) → IsShaped D.image self.old frames (IsRest frames) → IsShaped D.image self.new frames (IsShut frames) }
-        ensures any_moment { (frames : List (List ℕ)) → IsShaped D.image self.old frames (IsRest frames) →
-            LeavesOnly D.moment D.since self.old.disk self.new.disk (λ c. StandsFor c frames) }
+        ensures ok { OnOk result ((frames : List (List ℕ)) (frame : List ℕ) → IsShaped D.seen self.old frames (IsRest frames) →
+            bytes.now ≡ framed frame → IsShaped D.seen self.new frames (IsHeld frames frame)) }
+        ensures kept { (frames : List (List ℕ)) → IsShaped D.seen self.old frames (IsRest frames) → IsShaped D.seen self.new frames (IsShut frames) }
+        ensures any_moment { (frames : List (List ℕ)) → IsShaped D.seen self.old frames (IsRest frames) →
+            LeavesOnly D.seen self.old.disk self.new.disk (λ c. StandsFor c frames) }
         ensures done { OnOk result (self.new.mending ≡ Mending.Nothing) }
         ensures err { OnErr result (self.new.mending ≡ Mending.Behind) }
         ensures same { (self.new.end ≡ self.old.end) × (self.new.count ≡ self.old.count) }
-        ensures room_kept { HasRoom D.size self.new }
-        ensures reach { OnOk result (self.old.end + length bytes.now ≤ D.size self.new.disk) }
-        ensures runs { RunsOn D.content D.losses D.arms D.armed D.starved D.faults self.old.disk self.new.disk }
-        ensures calls { OnOk result (DoesCalls D.content D.armed D.starved D.faults 2 self.old.disk self.new.disk) }
-        ensures fails { OnErr result (FailsInCalls D.content D.armed D.starved 2 self.old.disk self.new.disk) }
-        ensures cause { HasCause (D.faults self.old.disk) (D.faults self.new.disk) result }
+        ensures room_kept { HasRoom D.seen self.new }
+        ensures reach { OnOk result (self.old.end + length bytes.now ≤ (D.seen self.new.disk).size) }
+        ensures runs { RunsOn D.seen self.old.disk self.new.disk }
+        ensures calls { OnOk result (DoesCalls D.seen 2 self.old.disk self.new.disk) }
+        ensures fails { OnErr result (FailsInCalls D.seen 2 self.old.disk self.new.disk) }
+        ensures cause { HasCause (D.seen self.old.disk).faults (D.seen self.new.disk).faults result }
     {
         if let Err(failed) = write_and_sync(&mut self.disk, self.end, bytes) {
             self.mending = Mending::Behind;
@@ -110,26 +110,26 @@ impl<D: Disk> Writer<D> {
     // Opens the gate before a frame that was written with its gate, `len` bytes in all.
     fn open_gate(&mut self, len: u64) -> Result<(), Failed>
         requires mended { self.old.mending ≡ Mending.Nothing }
-        requires room { HasRoom D.size self.old }
+        requires room { HasRoom D.seen self.old }
         requires ends { self.old.end + len ≤ 2 ^ 62 }
-        requires reach { self.old.end + len ≤ D.size self.old.disk }
+        requires reach { self.old.end + len ≤ (D.seen self.old.disk).size }
         requires some { 0 < len }
-        ensures ok { OnOk result ((frames : List (List ℕ)) (frame : List ℕ) → IsShaped D.image self.old frames (IsHeld frames frame) →
+        ensures ok { OnOk result ((frames : List (List ℕ)) (frame : List ℕ) → IsShaped D.seen self.old frames (IsHeld frames frame) →
             IsFrame frame → len ≡ length (framed frame) →
-            IsShaped D.image self.new (frames ++ frame ∷ []) (λ c. c ≡ text_of (frames ++ frame ∷ []))) }
-        ensures kept { OnErr result ((frames : List (List ℕ)) (frame : List ℕ) → IsShaped D.image self.old frames (IsHeld frames frame) →
-            IsShaped D.image self.new frames (IsAjar frames frame)) }
-        ensures any_moment { (frames : List (List ℕ)) (frame : List ℕ) → IsShaped D.image self.old frames (IsHeld frames frame) → IsFrame frame →
-            LeavesOnly D.moment D.since self.old.disk self.new.disk (IsBeforeOrAfter frames frame) }
+            IsShaped D.seen self.new (frames ++ frame ∷ []) (λ c. c ≡ text_of (frames ++ frame ∷ []))) }
+        ensures kept { OnErr result ((frames : List (List ℕ)) (frame : List ℕ) → IsShaped D.seen self.old frames (IsHeld frames frame) →
+            IsShaped D.seen self.new frames (IsAjar frames frame)) }
+        ensures any_moment { (frames : List (List ℕ)) (frame : List ℕ) → IsShaped D.seen self.old frames (IsHeld frames frame) → IsFrame frame →
+            LeavesOnly D.seen self.old.disk self.new.disk (IsBeforeOrAfter frames frame) }
         ensures done { OnOk result ((self.new.mending ≡ Mending.Nothing) ×
             (self.new.end ≡ self.old.end + len) × (self.new.count ≡ self.old.count + 1)) }
         ensures err { OnErr result ((self.new.mending ≡ Mending.Gate) ×
             (self.new.end ≡ self.old.end) × (self.new.count ≡ self.old.count)) }
-        ensures room_kept { HasRoom D.size self.new }
-        ensures runs { RunsOn D.content D.losses D.arms D.armed D.starved D.faults self.old.disk self.new.disk }
-        ensures calls { OnOk result (DoesCalls D.content D.armed D.starved D.faults 2 self.old.disk self.new.disk) }
-        ensures fails { OnErr result (FailsInCalls D.content D.armed D.starved 2 self.old.disk self.new.disk) }
-        ensures cause { HasCause (D.faults self.old.disk) (D.faults self.new.disk) result }
+        ensures room_kept { HasRoom D.seen self.new }
+        ensures runs { RunsOn D.seen self.old.disk self.new.disk }
+        ensures calls { OnOk result (DoesCalls D.seen 2 self.old.disk self.new.disk) }
+        ensures fails { OnErr result (FailsInCalls D.seen 2 self.old.disk self.new.disk) }
+        ensures cause { HasCause (D.seen self.old.disk).faults (D.seen self.new.disk).faults result }
     {
         if let Err(failed) = write_and_sync(&mut self.disk, self.end - 1, &[1]) {
             self.mending = Mending::Gate;
@@ -142,21 +142,21 @@ impl<D: Disk> Writer<D> {
 
     // Mends what a write that failed has left.
     pub fn mend(&mut self) -> Result<(), Failed>
-        requires room { HasRoom D.size self.old }
+        requires room { HasRoom D.seen self.old }
         requires ends { self.old.end ≤ 2 ^ 62 }
-        ensures ok { OnOk result ((frames : List (List ℕ)) (pending : Option (List ℕ)) → Mends D.image self.old self.old.mending frames pending →
-            IsShaped D.image self.new frames (IsRest frames)) }
-        ensures kept { OnErr result ((frames : List (List ℕ)) (pending : Option (List ℕ)) → Mends D.image self.old self.old.mending frames pending →
-            Mends D.image self.new self.new.mending frames pending) }
-        ensures any_moment { (frames : List (List ℕ)) (pending : Option (List ℕ)) → Mends D.image self.old self.old.mending frames pending →
-            LeavesOnly D.moment D.since self.old.disk self.new.disk (IsWithPending frames pending) }
+        ensures ok { OnOk result ((frames : List (List ℕ)) (pending : Option (List ℕ)) → Mends D.seen self.old self.old.mending frames pending →
+            IsShaped D.seen self.new frames (IsRest frames)) }
+        ensures kept { OnErr result ((frames : List (List ℕ)) (pending : Option (List ℕ)) → Mends D.seen self.old self.old.mending frames pending →
+            Mends D.seen self.new self.new.mending frames pending) }
+        ensures any_moment { (frames : List (List ℕ)) (pending : Option (List ℕ)) → Mends D.seen self.old self.old.mending frames pending →
+            LeavesOnly D.seen self.old.disk self.new.disk (IsWithPending frames pending) }
         ensures done { OnOk result (self.new.mending ≡ Mending.Nothing) }
         ensures same { (self.new.end ≡ self.old.end) × (self.new.count ≡ self.old.count) }
-        ensures room_kept { HasRoom D.size self.new }
-        ensures runs { RunsOn D.content D.losses D.arms D.armed D.starved D.faults self.old.disk self.new.disk }
-        ensures calls { OnOk result (DoesCalls D.content D.armed D.starved D.faults (calls_to_mend self.old.mending) self.old.disk self.new.disk) }
-        ensures fails { OnErr result (FailsInCalls D.content D.armed D.starved (calls_to_mend self.old.mending) self.old.disk self.new.disk) }
-        ensures cause { HasCause (D.faults self.old.disk) (D.faults self.new.disk) result }
+        ensures room_kept { HasRoom D.seen self.new }
+        ensures runs { RunsOn D.seen self.old.disk self.new.disk }
+        ensures calls { OnOk result (DoesCalls D.seen (calls_to_mend self.old.mending) self.old.disk self.new.disk) }
+        ensures fails { OnErr result (FailsInCalls D.seen (calls_to_mend self.old.mending) self.old.disk self.new.disk) }
+        ensures cause { HasCause (D.seen self.old.disk).faults (D.seen self.new.disk).faults result }
     {
         match self.mending {
             Mending::Nothing => Ok(()),
@@ -171,26 +171,26 @@ impl<D: Disk> Writer<D> {
     // Adds a frame, which the bytes have with its length and its gate.
     pub fn add(&mut self, bytes: &[u8]) -> Result<(), Failed>
         requires mended { self.old.mending ≡ Mending.Nothing }
-        requires room { HasRoom D.size self.old }
+        requires room { HasRoom D.seen self.old }
         requires ends { self.old.end + length bytes.now ≤ 2 ^ 62 }
         requires some { 0 < length bytes.now }
         ensures ok { OnOk result ((frames : List (List ℕ)) (frame : List ℕ) →
-            IsShaped D.image self.old frames (IsRest frames) → IsFrame frame → bytes.now ≡ framed frame →
-            IsShaped D.image self.new (frames ++ frame ∷ []) (λ c. c ≡ text_of (frames ++ frame ∷ []))) }
+            IsShaped D.seen self.old frames (IsRest frames) → IsFrame frame → bytes.now ≡ framed frame →
+            IsShaped D.seen self.new (frames ++ frame ∷ []) (λ c. c ≡ text_of (frames ++ frame ∷ []))) }
         ensures kept { OnErr result ((frames : List (List ℕ)) (frame : List ℕ) →
-            IsShaped D.image self.old frames (IsRest frames) → IsFrame frame → bytes.now ≡ framed frame →
-            Mends D.image self.new self.new.mending frames (Some frame)) }
-        ensures any_moment { (frames : List (List ℕ)) (frame : List ℕ) → IsShaped D.image self.old frames (IsRest frames) →
+            IsShaped D.seen self.old frames (IsRest frames) → IsFrame frame → bytes.now ≡ framed frame →
+            Mends D.seen self.new self.new.mending frames (Some frame)) }
+        ensures any_moment { (frames : List (List ℕ)) (frame : List ℕ) → IsShaped D.seen self.old frames (IsRest frames) →
             IsFrame frame → bytes.now ≡ framed frame →
-            LeavesOnly D.moment D.since self.old.disk self.new.disk (IsBeforeOrAfter frames frame) }
+            LeavesOnly D.seen self.old.disk self.new.disk (IsBeforeOrAfter frames frame) }
         ensures done { OnOk result ((self.new.mending ≡ Mending.Nothing) ×
             (self.new.end ≡ self.old.end + length bytes.now) × (self.new.count ≡ self.old.count + 1)) }
         ensures err { OnErr result ((self.new.end ≡ self.old.end) × (self.new.count ≡ self.old.count)) }
-        ensures room_kept { HasRoom D.size self.new }
-        ensures runs { RunsOn D.content D.losses D.arms D.armed D.starved D.faults self.old.disk self.new.disk }
-        ensures calls { OnOk result (DoesCalls D.content D.armed D.starved D.faults 4 self.old.disk self.new.disk) }
-        ensures fails { OnErr result (FailsInCalls D.content D.armed D.starved 4 self.old.disk self.new.disk) }
-        ensures cause { HasCause (D.faults self.old.disk) (D.faults self.new.disk) result }
+        ensures room_kept { HasRoom D.seen self.new }
+        ensures runs { RunsOn D.seen self.old.disk self.new.disk }
+        ensures calls { OnOk result (DoesCalls D.seen 4 self.old.disk self.new.disk) }
+        ensures fails { OnErr result (FailsInCalls D.seen 4 self.old.disk self.new.disk) }
+        ensures cause { HasCause (D.seen self.old.disk).faults (D.seen self.new.disk).faults result }
     {
         self.stage(bytes)?;
         self.open_gate(bytes.len() as u64)

@@ -17,6 +17,7 @@ use Rattle.share_model.specs.Logs.{Batch}
 use Rattle.share_model.specs.Pending.{WithPending}
 use Rattle.part_log.specs.Logs.{IsAdded, IsLogText, IsStoredLog, IsUnwritten, IsWithin, Keeps, LogParts, MayFollow, and_pending, frames_of}
 use Rattle.part_log.proofs.Rising.{frames_more, same_log, sound_more}
+use Rattle.edge_io.specs.Views.{DiskView}
 
 -- the frame of a batch, if there is one
 abbrev pub frame_of : Option Batch → Option (List ℕ)
@@ -45,9 +46,9 @@ module _ (log : List Batch) (sound : IsStoredLog log) (c : List ℕ) where
   within pending b f m (inr (inl h)) = inl (without pending (text h))
   within pending b f m (inr (inr h)) = inr (text_more b m h)
 
-pub keeps_by : {D : Type 0} (image : D → List ℕ → Type 0) (parts : LogParts D) (pending : Option Batch) → IsStoredLog parts.batches → IfSome pending (MayFollow parts.batches)
-    → Stands image parts.journal (frames_of parts.batches) (option_map (λ (b : Batch). b.bytes) pending) → Keeps image parts pending
-keeps_by image parts pending sound follows stands = record {
+pub keeps_by : {D : Type 0} (seen : D → DiskView) (parts : LogParts D) (pending : Option Batch) → IsStoredLog parts.batches → IfSome pending (MayFollow parts.batches)
+    → Stands seen parts.journal (frames_of parts.batches) (option_map (λ (b : Batch). b.bytes) pending) → Keeps seen parts pending
+keeps_by seen parts pending sound follows stands = record {
   stands = stands;
   sound = sound;
   follows = follows;
@@ -59,27 +60,27 @@ logs_once c log other h k = same_log log other h.sound k.sound (once c (frames_o
 
 -- ---- what a write leaves
 
-module _ {D : Type 0} (image : D → List ℕ → Type 0) (old new : LogParts D) (b : Batch) (follows : MayFollow old.batches b) where
+module _ {D : Type 0} (seen : D → DiskView) (old new : LogParts D) (b : Batch) (follows : MayFollow old.batches b) where
   pub added : new.batches ≡ old.batches ++ b ∷ []
-      → ((frames : List (List ℕ)) (pending : Option (List ℕ)) → Stands image old.journal frames pending → IsAtRest image new.journal (frames ++ b.bytes ∷ []))
-      → IsAdded image old new b
+      → ((frames : List (List ℕ)) (pending : Option (List ℕ)) → Stands seen old.journal frames pending → IsAtRest seen new.journal (frames ++ b.bytes ∷ []))
+      → IsAdded seen old new b
   added e kept = record {
     batches = e;
     follows = follows;
     kept = λ pending k.
-        keeps_by image new None (subst IsStoredLog (sym e) (sound_more old.batches b k.sound follows)) tt
-        (subst (λ fs. Stands image new.journal fs None) (sym (ap frames_of e ∙ frames_more old.batches b)) (kept (frames_of old.batches) (frame_of pending) k.stands).stands);
+        keeps_by seen new None (subst IsStoredLog (sym e) (sound_more old.batches b k.sound follows)) tt
+        (subst (λ fs. Stands seen new.journal fs None) (sym (ap frames_of e ∙ frames_more old.batches b)) (kept (frames_of old.batches) (frame_of pending) k.stands).stands);
   }
 
   module _ (e : new.batches ≡ old.batches) where
     there_still : (pending : Option Batch) → IsStoredLog old.batches → IfSome pending (MayFollow old.batches)
-        → Stands image new.journal (frames_of old.batches) (frame_of pending) → Keeps image new pending
+        → Stands seen new.journal (frames_of old.batches) (frame_of pending) → Keeps seen new pending
     there_still pending sound f s =
-        keeps_by image new pending (subst IsStoredLog (sym e) sound) (subst (λ l. IfSome pending (MayFollow l)) (sym e) f)
-        (subst (λ l. Stands image new.journal (frames_of l) (frame_of pending)) (sym e) s)
+        keeps_by seen new pending (subst IsStoredLog (sym e) sound) (subst (λ l. IfSome pending (MayFollow l)) (sym e) f)
+        (subst (λ l. Stands seen new.journal (frames_of l) (frame_of pending)) (sym e) s)
 
-    pub unwritten : ((frames : List (List ℕ)) (pending : Option (List ℕ)) → Stands image old.journal frames pending
-        → Stands image new.journal frames pending ⊎ Stands image new.journal frames (Some b.bytes)) → IsUnwritten image old new b
+    pub unwritten : ((frames : List (List ℕ)) (pending : Option (List ℕ)) → Stands seen old.journal frames pending
+        → Stands seen new.journal frames pending ⊎ Stands seen new.journal frames (Some b.bytes)) → IsUnwritten seen old new b
     unwritten failed = record {
       batches = e;
       follows = follows;
@@ -89,16 +90,16 @@ module _ {D : Type 0} (image : D → List ℕ → Type 0) (old new : LogParts D)
     }
 
 -- at each moment of a write
-module _ {D : Type 0} (image : D → List ℕ → Type 0) (moment : D → ℕ) (since : D → ℕ → List ℕ → Type 0)
-    (only_now : (d : D) (c : List ℕ) → since d (moment d) c → image d c) (log : LogParts D) (b : Batch) (pending : Option Batch) (k : Keeps image log pending) where
-  pub unmoved : LeavesOnly moment since log.journal.disk log.journal.disk (IsWithin log.batches pending b)
-  unmoved = started moment since log.journal.disk (IsWithin log.batches pending b) (λ c left. inl (k.images c (only_now log.journal.disk c left)))
+module _ {D : Type 0} (seen : D → DiskView)
+    (only_now : (d : D) (c : List ℕ) → (seen d).since (seen d).moment c → (seen d).image c) (log : LogParts D) (b : Batch) (pending : Option Batch) (k : Keeps seen log pending) where
+  pub unmoved : LeavesOnly seen log.journal.disk log.journal.disk (IsWithin log.batches pending b)
+  unmoved = started seen log.journal.disk (IsWithin log.batches pending b) (λ c left. inl (k.images c (only_now log.journal.disk c left)))
 
   pub moved : (new : D) → MayFollow log.batches b
-      → LeavesOnly moment since log.journal.disk new (λ c. IsWithPending (frames_of log.batches) (frame_of pending) c ⊎ IsBeforeOrAfter (frames_of log.batches) b.bytes c)
-      → LeavesOnly moment since log.journal.disk new (IsWithin log.batches pending b)
+      → LeavesOnly seen log.journal.disk new (λ c. IsWithPending (frames_of log.batches) (frame_of pending) c ⊎ IsBeforeOrAfter (frames_of log.batches) b.bytes c)
+      → LeavesOnly seen log.journal.disk new (IsWithin log.batches pending b)
   moved new follows run =
-      weakened moment since log.journal.disk new _ (IsWithin log.batches pending b) run (λ c h. within log.batches k.sound c pending b k.follows follows h)
+      weakened seen log.journal.disk new _ (IsWithin log.batches pending b) run (λ c h. within log.batches k.sound c pending b k.follows follows h)
 
 -- ---- answers
 

@@ -1,8 +1,7 @@
 -- A batch that is added is a step of the log's shard.
-use Rattle.std.proofs.Common.{◌≡◌, ◌≢◌, ◌⊎◌, ◌↔◌, inl, inr, ℕ, List, refl, sym, subst, Bool, Option, None, Some}
+use Rattle.std.proofs.Common.{◌≡◌, ◌≢◌, ◌⊎◌, ◌↔◌, inl, inr, ℕ, List, refl, sym, subst, None, Some}
 use Rattle.std.specs.Prelude.{Result, Ok, Err, IfOk}
 use Rattle.edge_io.specs.Causes.{Rose}
-use Rattle.edge_io.specs.declared.fault.Armed.{Armed}
 use Rattle.share_model.specs.Logs.{Batch, end_of}
 use Rattle.share_model.specs.declared.fault.BatchFault.{BatchFault}
 use Rattle.share_model.specs.declared.fault.LogFault.{LogFault}
@@ -12,11 +11,11 @@ use Rattle.rec_batch.specs.declared.form.Form.TheVariants.{Produced}
 use Rattle.rec_batch.specs.Batches.{IsFirstFault}
 use Rattle.part_log.specs.Logs.{AddsOnce, HasRoomFor, IsUnwritten, Keeps, LogParts}
 use Rattle.part_log.specs.Shards.{LogShardState, CarriesLog, HasNoFault, IsFullAt, StepsLog, at_end}
+use Rattle.edge_io.specs.Views.{DiskView}
 
-module _ {D : Type 0} (content : D → Option (List ℕ)) (image : D → List ℕ → Type 0) (moment : D → ℕ) (since : D → ℕ → List ℕ → Type 0)
-    (armed : D → Armed) (starved : D → Bool) (faults : D → ℕ) (old new : LogParts D) (bytes : List ℕ) where
+module _ {D : Type 0} (seen : D → DiskView) (old new : LogParts D) (bytes : List ℕ) where
   abbrev Rises : Type 0
-  Rises = Rose (faults old.journal.disk) (faults new.journal.disk)
+  Rises = Rose (seen old.journal.disk).faults (seen new.journal.disk).faults
 
   -- the shard's step, where it has the batches of the log
   abbrev At : LogShardState → Result ℕ LogFault → LogShardState → List Batch → Type 0
@@ -27,19 +26,19 @@ module _ {D : Type 0} (content : D → Option (List ℕ)) (image : D → List �
   none_at result judged other fault first = other fault ((judged fault).1 first)
 
   abbrev Steps : Result ℕ LogFault → LogShardState → Type 0
-  Steps result shard = (after : LogShardState) × CarriesLog image new after × StepsLog Rises old.journal.end shard bytes result after
+  Steps result shard = (after : LogShardState) × CarriesLog seen new after × StepsLog Rises old.journal.end shard bytes result after
 
-  still : (shard : LogShardState) → CarriesLog image old shard → new ≡ old → CarriesLog image new shard
-  still shard k same = subst (λ (l : LogParts D). CarriesLog image l shard) (sym same) k
+  still : (shard : LogShardState) → CarriesLog seen old shard → new ≡ old → CarriesLog seen new shard
+  still shard k same = subst (λ (l : LogParts D). CarriesLog seen l shard) (sym same) k
 
-  unstored : (shard : LogShardState) (k : CarriesLog image old shard) → HasNoFault bytes → AddsOnce content image moment since armed starved faults old new (at_end old.batches bytes) (Err (Store Device))
+  unstored : (shard : LogShardState) (k : CarriesLog seen old shard) → HasNoFault bytes → AddsOnce seen old new (at_end old.batches bytes) (Err (Store Device))
       → Steps (Err (Store Device)) shard
   unstored shard k form once =
       let d = once.device refl in
       go d.0 d.1 d.2 (d.0.kept shard.pending k.keeps)
     where
-      go : (u : IsUnwritten image old new (at_end old.batches bytes)) → HasRoomFor old (at_end old.batches bytes) → Rises
-          → Keeps image new shard.pending ⊎ Keeps image new (Some (at_end old.batches bytes)) → Steps (Err (Store Device)) shard
+      go : (u : IsUnwritten seen old new (at_end old.batches bytes)) → HasRoomFor old (at_end old.batches bytes) → Rises
+          → Keeps seen new shard.pending ⊎ Keeps seen new (Some (at_end old.batches bytes)) → Steps (Err (Store Device)) shard
       go u room rose (inl keeps) =
           let after : LogShardState = record { batches = new.batches; pending = shard.pending } in (
             after,
@@ -57,8 +56,8 @@ module _ {D : Type 0} (content : D → Option (List ℕ)) (image : D → List �
 
   pub steps : (result : Result ℕ LogFault) → ((fault : BatchFault) → (result ≡ Err (BadBatch fault)) ↔ IsFirstFault Produced bytes fault)
       → ((end : ℕ) → result ≢ Err (Behind end)) → IfOk result (λ base. base ≡ end_of old.batches)
-      → AddsOnce content image moment since armed starved faults old new (at_end old.batches bytes) result → result ≢ Err NoMemory
-      → (shard : LogShardState) → CarriesLog image old shard → Steps result shard
+      → AddsOnce seen old new (at_end old.batches bytes) result → result ≢ Err NoMemory
+      → (shard : LogShardState) → CarriesLog seen old shard → Steps result shard
   steps (Ok base) judged no_behind is_base once fed shard k =
       let after : LogShardState = record { batches = new.batches; pending = None } in
       let added = once.ok.1 in

@@ -3,16 +3,16 @@
 -- project's own.
 -- For example two batches of 85 bytes stand in frames behind the gates at 0 and 90; with a byte of the second one changed, the
 -- content is no log text, by the place 90.
-use Rattle.std.specs.Prelude.{◌≡◌, ◌≢◌, ◌⊎◌, ◌+◌, ◌<◌, ◌≤◌, ◌^◌, ℕ, Bool, List, [], ◌∷◌, ◌++◌, length, map, Some, None, IfSome, Result, Err, IfOk}
+use Rattle.std.specs.Prelude.{◌≡◌, ◌≢◌, ◌⊎◌, ◌+◌, ◌<◌, ◌≤◌, ◌^◌, ℕ, List, [], ◌∷◌, ◌++◌, length, map}
+use Rattle.std.specs.Prelude.{Some, None, IfSome, Result, Err, IfOk, OnOk}
 use Rattle.std.specs.declared.option.Option.{Option}
 use Rattle.std.specs.Option.{option_map}
 use Rattle.std.specs.List.{AllByRecursion}
 use Rattle.edge_io.specs.Armed.{StarvesUnarmed}
 use Rattle.edge_io.specs.Causes.{Rose}
 use Rattle.edge_io.specs.Moments.{LeavesOnly}
-use Rattle.edge_io.specs.declared.fault.Armed.{Armed}
 use Rattle.gate_journal.specs.Frames.{StandsFor, IsDamaged, blocks}
-use Rattle.gate_journal.specs.Journals.{Stands}
+use Rattle.gate_journal.specs.Journals.{IsQuiet, Stands}
 use Rattle.gate_journal.specs.declared.writer.Writer.{Writer}
 use Rattle.share_model.specs.Logs.{Batch, Covers, IsAt, IsLog, end_of}
 use Rattle.share_model.specs.Pending.{WithPending, WithinWrite}
@@ -21,6 +21,7 @@ use Rattle.share_model.specs.declared.fault.LogFault.TheVariants.{Store}
 use Rattle.share_model.specs.declared.fault.StoreFault.TheVariants.{Device, Full}
 use Rattle.part_log.specs.declared.place.BatchPlace.{BatchPlace}
 use Rattle.part_log.specs.Batches.{IsStored}
+use Rattle.edge_io.specs.Views.{DiskView}
 
 -- a log, each of whose batches is as a log keeps it
 pub record IsStoredLog (log : List Batch) : Type 0 where
@@ -67,11 +68,11 @@ pub record MayFollow (log : List Batch) (b : Batch) : Type 0 where
 
 -- A log with this batch pending, if one is: a crash now leaves the log, with or without the pending batch, and the next write
 -- can go on from there.
-pub record Keeps {D : Type 0} (image : D → List ℕ → Type 0) (log : LogParts D) (pending : Option Batch) : Type 0 where
-  pub stands : Stands image log.journal (frames_of log.batches) (option_map (λ (b : Batch). b.bytes) pending)
+pub record Keeps {D : Type 0} (seen : D → DiskView) (log : LogParts D) (pending : Option Batch) : Type 0 where
+  pub stands : Stands seen log.journal (frames_of log.batches) (option_map (λ (b : Batch). b.bytes) pending)
   pub sound : IsStoredLog log.batches
   pub follows : IfSome pending (MayFollow log.batches)
-  pub images : (c : List ℕ) → image log.journal.disk c → WithPending (IsLogText c) log.batches (and_pending log.batches pending)
+  pub images : (c : List ℕ) → (seen log.journal.disk).image c → WithPending (IsLogText c) log.batches (and_pending log.batches pending)
 
 -- The batch has no room: its last offset is 2^62 or more, and `end` is the log's end; or the journal, whose last gate ends at `end`,
 -- would end past 2^62 bytes.
@@ -99,29 +100,30 @@ pub record HasRoomFor {D : Type 0} (log : LogParts D) (b : Batch) : Type 0 where
   pub journal : log.journal.end + (length b.bytes + 5) ≤ 2 ^ 62
 
 -- The batch stands behind the others, and nothing else has changed in the log; no write is pending any more.
-pub record IsAdded {D : Type 0} (image : D → List ℕ → Type 0) (old new : LogParts D) (b : Batch) : Type 0 where
+pub record IsAdded {D : Type 0} (seen : D → DiskView) (old new : LogParts D) (b : Batch) : Type 0 where
   pub batches : new.batches ≡ old.batches ++ b ∷ []
   pub follows : MayFollow old.batches b
-  pub kept : (pending : Option Batch) → Keeps image old pending → Keeps image new None
+  pub kept : (pending : Option Batch) → Keeps seen old pending → Keeps seen new None
 
 -- The batches are the same, and the pending write is the one from before, or this one.
-pub record IsUnwritten {D : Type 0} (image : D → List ℕ → Type 0) (old new : LogParts D) (b : Batch) : Type 0 where
+pub record IsUnwritten {D : Type 0} (seen : D → DiskView) (old new : LogParts D) (b : Batch) : Type 0 where
   pub batches : new.batches ≡ old.batches
   pub follows : MayFollow old.batches b
-  pub kept : (pending : Option Batch) → Keeps image old pending → Keeps image new pending ⊎ Keeps image new (Some b)
+  pub kept : (pending : Option Batch) → Keeps seen old pending → Keeps seen new pending ⊎ Keeps seen new (Some b)
 
--- A call that adds this batch, and what it leaves. The members of the disk come first.
-pub record AddsOnce {D : Type 0} (content : D → Option (List ℕ)) (image : D → List ℕ → Type 0) (moment : D → ℕ) (since : D → ℕ → List ℕ → Type 0)
-    (armed : D → Armed) (starved : D → Bool) (faults : D → ℕ) (old new : LogParts D) (b : Batch) (result : Result ℕ LogFault) : Type 0 where
+-- A call that adds this batch, and what it leaves.
+pub record AddsOnce {D : Type 0} (seen : D → DiskView) (old new : LogParts D) (b : Batch) (result : Result ℕ LogFault) : Type 0 where
   -- where it answers with the base, the batch is added, and there was room for it
-  pub ok : IfOk result (λ base. (base ≡ b.base) × IsAdded image old new b × HasRoomFor old b)
+  pub ok : IfOk result (λ base. (base ≡ b.base) × IsAdded seen old new b × HasRoomFor old b)
+  -- and no device call failed
+  pub quiet : OnOk result (IsQuiet seen old.journal.disk new.journal.disk)
   -- where the device fails, the batch isn't written or is pending, and there was room for it; the count of faults rose, and a disk with
   -- nothing armed found no memory
-  pub device : result ≡ Err (Store Device) → IsUnwritten image old new b × HasRoomFor old b
-      × Rose (faults old.journal.disk) (faults new.journal.disk) × StarvesUnarmed content armed starved old.journal.disk new.journal.disk
+  pub device : result ≡ Err (Store Device) → IsUnwritten seen old new b × HasRoomFor old b
+      × Rose (seen old.journal.disk).faults (seen new.journal.disk).faults × StarvesUnarmed seen old.journal.disk new.journal.disk
   -- it is full only where there is no room, and each other refusal changes nothing
   pub full : (end : ℕ) → result ≡ Err (Store (Full end)) → IsFull old b end
   pub unchanged : (fault : LogFault) → result ≡ Err fault → fault ≢ Store Device → new ≡ old
   -- at each moment since it began a crash leaves the log at entry, with or without the pending batch, or with this one
-  pub any_moment : (pending : Option Batch) → Keeps image old pending →
-      LeavesOnly moment since old.journal.disk new.journal.disk (IsWithin old.batches pending b)
+  pub any_moment : (pending : Option Batch) → Keeps seen old pending →
+      LeavesOnly seen old.journal.disk new.journal.disk (IsWithin old.batches pending b)

@@ -15,6 +15,7 @@ use Rattle.rec_batch.specs.Batches.{IsFirstFault}
 use Rattle.rec_batch.specs.Placing.{placed}
 use Rattle.part_log.specs.Batches.{batch_in}
 use Rattle.part_log.specs.Logs.{IsLogText, Keeps, LogParts, MayFollow, and_pending}
+use Rattle.edge_io.specs.Views.{DiskView}
 
 -- the log of a partition: its batches, and the one whose write is pending
 pub record LogShardState : Type 0 where
@@ -66,9 +67,9 @@ StepsLog rose end old bytes (Err (Behind at)) new = ⊥
 StepsLog rose end old bytes (Err NoMemory) new = ⊥
 
 -- A log in memory and its disk stand for the shard's state.
-pub record CarriesLog {D : Type 0} (image : D → List ℕ → Type 0) (log : LogParts D) (shard : LogShardState) : Type 0 where
+pub record CarriesLog {D : Type 0} (seen : D → DiskView) (log : LogParts D) (shard : LogShardState) : Type 0 where
   pub batches : shard.batches ≡ log.batches
-  pub keeps : Keeps image log shard.pending
+  pub keeps : Keeps seen log shard.pending
 
 -- the content stands for the shard, with or without its pending write
 abbrev pub IsLogOf : LogShardState → List ℕ → Type 0

@@ -6,6 +6,7 @@ ghost use Rattle.share_model.specs.Logs.{Batch};
 ghost use Rattle.part_log.specs.Batches.{IsStored};
 ghost use Rattle.part_log.specs.Entries.{bytes_of, seen};
 
+use gate_journal::buffer_of;
 use rec_batch::{Form, place_batch, read_batch};
 use share_model::Blob;
 use std::alloc::{AllocError, Global};
@@ -66,18 +67,6 @@ pub fn next_entry(frame: Blob, end: u64) -> Option<Entry>
     })
 }
 
-/// A buffer with this frame, with room for what a journal sets before and behind it.
-pub fn framed_copy(alloc: Global, frame: &[u8]) -> Result<Vec<u8>, AllocError>
-    requires { length frame.now < 2 ^ 32 }
-    ensures { IfOk result (λ v. (frame_in v.items ≡ frame.now) × (length v.items ≡ length frame.now + 5)) }
-{
-    let mut buffer = Vec::with_capacity(alloc, frame.len() + 5)?;
-    buffer.extend_from_slice(&[0; 4])?;
-    buffer.extend_from_slice(frame)?;
-    buffer.push(0)?;
-    Ok(buffer)
-}
-
 // Gives the batch in a buffer its place in a log.
 fn place_inner(buffer: &mut [u8], base: u64)
     requires size { 66 ≤ length buffer.old }
@@ -91,14 +80,14 @@ fn place_inner(buffer: &mut [u8], base: u64)
     place_batch(frame, base);
 }
 
-/// The same with the frame, which is a batch, at its place in a log.
+/// The buffer of an append of this batch, at its place in a log.
 pub fn placed_copy(alloc: Global, frame: &[u8], base: u64) -> Result<Vec<u8>, AllocError>
     requires few { length frame.now < 2 ^ 32 }
     requires size { 61 ≤ length frame.now }
     requires below { base < 2 ^ 62 }
     ensures { IfOk result (λ v. (frame_in v.items ≡ placed base frame.now) × (length v.items ≡ length frame.now + 5)) }
 {
-    let mut buffer = framed_copy(alloc, frame)?;
+    let mut buffer = buffer_of(alloc, frame)?;
     place_inner(&mut buffer, base);
     Ok(buffer)
 }

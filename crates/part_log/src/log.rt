@@ -8,6 +8,7 @@ ghost use Rattle.edge_io.specs.Causes.{Rose};
 ghost use Rattle.edge_io.specs.Disk.{SameContent};
 ghost use Rattle.edge_io.specs.Moments.{Elapses, LeavesOnly};
 ghost use Rattle.gate_journal.specs.Frames.{StandsAs, frame_in};
+ghost use Rattle.gate_journal.specs.Journals.{IsQuiet};
 ghost use Rattle.rec_batch.specs.Batches.{IsFirstFault};
 ghost use Rattle.rec_batch.specs.Placing.{placed};
 ghost use Rattle.share_model.specs.Logs.{Batch, IsAt, IsNextSlot, IsSlot, end_of};
@@ -16,13 +17,13 @@ ghost use Rattle.part_log.specs.Batches.{IsStored, batch_in};
 ghost use Rattle.part_log.specs.Logs.{IsLogText, IsNoLogText, Keeps};
 ghost use Rattle.part_log.specs.Shards.{CarriesLog, LogShardState, StepsLog};
 
-use crate::entry::{Entry, Kept, bytes_of, framed_copy, placed_copy};
+use crate::entry::{Entry, Kept, bytes_of, placed_copy};
 use crate::fault::{BatchRead, OpenFault};
 use crate::place::BatchPlace;
 use crate::reading::read_frames;
 use crate::search::{end_of, next_slot, place_of};
 use edge_io::{Disk, FaultMode};
-use gate_journal::{Journal, StartFault, start};
+use gate_journal::{Journal, StartFault, buffer_of, start};
 use rec_batch::{Form, read_batch};
 use share_model::{LogFault, Room, StoreFault};
 use std::alloc::Global;
@@ -83,24 +84,24 @@ impl<D: Disk> PartLog<D> {
     /// comes back.
     pub fn open(alloc: Global, disk: D) -> Result<PartLog<D>, (D, OpenFault)>
         // The log is the one that the content stands for; each image stands for it from now on, and nothing is pending.
-        ensures kept { IfOk result (λ log. Keeps D.image log None) }
-        ensures opens { IfOk result (λ log. (c : List ℕ) → D.content disk ≡ Some c → IsLogText c log.batches) }
+        ensures kept { IfOk result (λ log. Keeps D.seen log None) }
+        ensures opens { IfOk result (λ log. (c : List ℕ) → (D.seen disk).content ≡ Some c → IsLogText c log.batches) }
 
         // A content that stands for a log is never damaged, and gives this log.
-        ensures recovers { (c : List ℕ) (batches : List Batch) → D.content disk ≡ Some c → IsLogText c batches →
+        ensures recovers { (c : List ℕ) (batches : List Batch) → (D.seen disk).content ≡ Some c → IsLogText c batches →
             MatchResult result (λ log. log.batches ≡ batches) (λ e. (place : ℕ) → e.1 ≢ OpenFault.Damaged place) }
 
         // Each refusal has its cause.
         ensures damaged { IfErr result (λ e. (place : ℕ) → e.1 ≡ OpenFault.Damaged place →
-            (c : List ℕ) → D.content disk ≡ Some c → IsNoLogText c place) }
+            (c : List ℕ) → (D.seen disk).content ≡ Some c → IsNoLogText c place) }
         ensures device { IfErr result (λ e. e.1 ≡ OpenFault.Device →
-            Rose (D.faults disk) (D.faults e.0) × StarvesUnarmed D.content D.armed D.starved disk e.0) }
+            Rose (D.seen disk).faults (D.seen e.0).faults × StarvesUnarmed D.seen disk e.0) }
 
         // At each moment since the call began each image is one from before it, or stands for the frames of one.
-        ensures any_moment { MatchResult result (λ log. LeavesOnly D.moment D.since disk log.journal.disk (StandsAs (D.image disk)))
-            (λ e. LeavesOnly D.moment D.since disk e.0 (StandsAs (D.image disk))) }
-        ensures runs { MatchResult result (λ log. RunsOn D.content D.losses D.arms D.armed D.starved D.faults disk log.journal.disk)
-            (λ e. RunsOn D.content D.losses D.arms D.armed D.starved D.faults disk e.0) }
+        ensures any_moment { MatchResult result (λ log. LeavesOnly D.seen disk log.journal.disk (StandsAs (D.seen disk).image))
+            (λ e. LeavesOnly D.seen disk e.0 (StandsAs (D.seen disk).image)) }
+        ensures runs { MatchResult result (λ log. RunsOn D.seen disk log.journal.disk)
+            (λ e. RunsOn D.seen disk e.0) }
     {
         match start(alloc, disk) {
             Ok((journal, frames)) => match read_frames(alloc, frames) {
@@ -117,12 +118,13 @@ impl<D: Disk> PartLog<D> {
         requires follows { MayFollow self.old.batches (batch_in (frame_in buffer.items)) }
         requires base { base ≡ (batch_in (frame_in buffer.items)).base }
         requires last { last ≡ (batch_in (frame_in buffer.items)).last }
-        ensures ok { OnOk result (IsAdded D.image self.old self.new (batch_in (frame_in buffer.items))) }
+        ensures ok { OnOk result (IsAdded D.seen self.old self.new (batch_in (frame_in buffer.items))) }
+        ensures quiet { OnOk result (IsQuiet D.seen self.old.journal.disk self.new.journal.disk) }
         ensures base { IfOk result (λ n. n ≡ base) }
         ensures device { result ≡ Err (LogFault.Store StoreFault.Device) →
-            IsUnwritten D.image self.old self.new (batch_in (frame_in buffer.items))
-            × Rose (D.faults self.old.journal.disk) (D.faults self.new.journal.disk)
-            × StarvesUnarmed D.content D.armed D.starved self.old.journal.disk self.new.journal.disk }
+            IsUnwritten D.seen self.old self.new (batch_in (frame_in buffer.items))
+            × Rose (D.seen self.old.journal.disk).faults (D.seen self.new.journal.disk).faults
+            × StarvesUnarmed D.seen self.old.journal.disk self.new.journal.disk }
         ensures unchanged { (fault : LogFault) → result ≡ Err fault → fault ≢ LogFault.Store StoreFault.Device → self.new ≡ self.old }
         ensures full { (end : ℕ) → result ≡ Err (LogFault.Store (StoreFault.Full end)) →
             (2 ^ 62 < self.old.journal.end + length buffer.items) × (end ≡ self.old.journal.end) }
@@ -130,9 +132,9 @@ impl<D: Disk> PartLog<D> {
             ⊎ (result ≡ Err (LogFault.Store (StoreFault.Full self.old.journal.end)))) }
         ensures no_batch { (fault : BatchFault) → result ≢ Err (LogFault.Batch fault) }
         ensures no_behind { (end : ℕ) → result ≢ Err (LogFault.Behind end) }
-        ensures any_moment { (pending : Option Batch) → Keeps D.image self.old pending →
-            LeavesOnly D.moment D.since self.old.journal.disk self.new.journal.disk (IsWithin self.old.batches pending (batch_in (frame_in buffer.items))) }
-        ensures runs { RunsOn D.content D.losses D.arms D.armed D.starved D.faults self.old.journal.disk self.new.journal.disk }
+        ensures any_moment { (pending : Option Batch) → Keeps D.seen self.old pending →
+            LeavesOnly D.seen self.old.journal.disk self.new.journal.disk (IsWithin self.old.batches pending (batch_in (frame_in buffer.items))) }
+        ensures runs { RunsOn D.seen self.old.journal.disk self.new.journal.disk }
     {
         if let Err(_) = self.entries.reserve(1) {
             return Err(LogFault::NoMemory);
@@ -158,9 +160,9 @@ impl<D: Disk> PartLog<D> {
         // Any other is added at the log's end, or refused with its cause.
         ensures base { IfOk result (λ base. base ≡ end_of self.old.batches) }
         ensures below { IfOk result (λ base. base ≤ 2 ^ 62) }
-        ensures once { AddsOnce D.content D.image D.moment D.since D.armed D.starved D.faults self.old self.new
+        ensures once { AddsOnce D.seen self.old self.new
             (batch_in (placed (end_of self.old.batches) batch.now)) result }
-        ensures runs { RunsOn D.content D.losses D.arms D.armed D.starved D.faults self.old.journal.disk self.new.journal.disk }
+        ensures runs { RunsOn D.seen self.old.journal.disk self.new.journal.disk }
     {
         let view = match read_batch(batch, Form::Produced) {
             Ok(view) => view,
@@ -190,14 +192,14 @@ impl<D: Disk> PartLog<D> {
         // Any other is added at the log's end, or refused with its cause.
         ensures base { IfOk result (λ base. base ≡ end_of self.old.batches) }
         ensures below { IfOk result (λ base. base ≤ 2 ^ 62) }
-        ensures once { AddsOnce D.content D.image D.moment D.since D.armed D.starved D.faults self.old self.new
+        ensures once { AddsOnce D.seen self.old self.new
             (batch_in (placed (end_of self.old.batches) batch.now)) result }
-        ensures runs { RunsOn D.content D.losses D.arms D.armed D.starved D.faults self.old.journal.disk self.new.journal.disk }
+        ensures runs { RunsOn D.seen self.old.journal.disk self.new.journal.disk }
 
         // It is a step of the log's shard, where memory is found.
-        ensures steps { result ≢ Err LogFault.NoMemory → (shard : LogShardState) → CarriesLog D.image self.old shard → (after : LogShardState)
-            × CarriesLog D.image self.new after
-            × StepsLog (Rose (D.faults self.old.journal.disk) (D.faults self.new.journal.disk)) self.old.journal.end shard batch.now result after }
+        ensures steps { result ≢ Err LogFault.NoMemory → (shard : LogShardState) → CarriesLog D.seen self.old shard → (after : LogShardState)
+            × CarriesLog D.seen self.new after
+            × StepsLog (Rose (D.seen self.old.journal.disk).faults (D.seen self.new.journal.disk).faults) self.old.journal.end shard batch.now result after }
     {
         self.add(batch)
     }
@@ -213,9 +215,9 @@ impl<D: Disk> PartLog<D> {
             × IsStored (batch_in batch.now) × ((batch_in batch.now).base < end_of self.old.batches)) }
 
         // Any other is added as it is, or refused with its cause.
-        ensures once { AddsOnce D.content D.image D.moment D.since D.armed D.starved D.faults self.old self.new (batch_in batch.now) result }
+        ensures once { AddsOnce D.seen self.old self.new (batch_in batch.now) result }
         ensures fits { (end : ℕ) → result ≡ Err (LogFault.Store (StoreFault.Full end)) → MayFollow self.old.batches (batch_in batch.now) }
-        ensures runs { RunsOn D.content D.losses D.arms D.armed D.starved D.faults self.old.journal.disk self.new.journal.disk }
+        ensures runs { RunsOn D.seen self.old.journal.disk self.new.journal.disk }
     {
         let view = match read_batch(batch, Form::Stored) {
             Ok(view) => view,
@@ -225,7 +227,7 @@ impl<D: Disk> PartLog<D> {
         if view.base < end {
             return Err(LogFault::Behind { end });
         }
-        let Ok(buffer) = framed_copy(*self.entries.allocator(), batch) else {
+        let Ok(buffer) = buffer_of(*self.entries.allocator(), batch) else {
             return Err(LogFault::NoMemory);
         };
         self.store(view.base, view.base + u64::from(view.last_delta), buffer)
@@ -279,18 +281,17 @@ impl<D: Disk> PartLog<D> {
 
     /// Whether a call of its disk has failed for want of memory.
     pub fn starved(&self) -> bool
-        ensures { result ≡ D.starved self.now.journal.disk }
+        ensures { result ≡ (D.seen self.now.journal.disk).starved }
     {
         self.journal.starved()
     }
 
     /// Arms a fault of its disk, and changes nothing else.
     pub fn arm(&mut self, after: u64, mode: FaultMode)
-        ensures disk { ArmsAlone D.content D.image D.losses D.arms D.armed D.starved D.faults after mode self.old.journal.disk self.new.journal.disk }
-        ensures time { Elapses (D.moment self.old.journal.disk) (D.moment self.new.journal.disk)
-            (D.since self.old.journal.disk) (D.since self.new.journal.disk) (D.image self.new.journal.disk) }
+        ensures disk { ArmsAlone D.seen after mode self.old.journal.disk self.new.journal.disk }
+        ensures time { Elapses (D.seen self.old.journal.disk) (D.seen self.new.journal.disk) }
         ensures rest { self.new ≡ record self.old { journal = record self.old.journal { disk = self.new.journal.disk } } }
-        ensures stays { (pending : Option Batch) → Keeps D.image self.old pending → Keeps D.image self.new pending }
+        ensures stays { (pending : Option Batch) → Keeps D.seen self.old pending → Keeps D.seen self.new pending }
     {
         self.journal.arm(after, mode);
     }

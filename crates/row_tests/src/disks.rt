@@ -1,6 +1,6 @@
 // The disks of a case: what they have before it, and what they are left with.
 ghost use Rattle.std.specs.Prelude.{IfOk};
-ghost use Rattle.edge_mem.specs.Bays.{out_at};
+ghost use Rattle.edge_mem.specs.Seen.{bay_view};
 ghost use Rattle.share_top.specs.Loading.{NoneIsOut};
 
 use crate::case::{ArmLine, Case, DiskLine};
@@ -12,8 +12,8 @@ use std::io;
 
 /// Gives a disk this content.
 fn fill(alloc: Global, bay: &mut MemBay, line: &DiskLine) -> io::Result<()>
-    requires { NoneIsOut out_at bay.old }
-    ensures { NoneIsOut out_at bay.new }
+    requires { NoneIsOut bay_view bay.old }
+    ensures { NoneIsOut bay_view bay.new }
 {
     let name = &line.name;
     let Ok(disk) = MemDisk::new(alloc, line.bytes.as_slice().to_vec(alloc)?) else {
@@ -28,8 +28,8 @@ fn fill(alloc: Global, bay: &mut MemBay, line: &DiskLine) -> io::Result<()>
 
 /// Arms a fault of a disk.
 fn arm(bay: &mut MemBay, line: &ArmLine)
-    requires { NoneIsOut out_at bay.old }
-    ensures { NoneIsOut out_at bay.new }
+    requires { NoneIsOut bay_view bay.old }
+    ensures { NoneIsOut bay_view bay.new }
 {
     let Ok(mut disk) = bay.take(&line.name) else {
         return;
@@ -40,7 +40,7 @@ fn arm(bay: &mut MemBay, line: &ArmLine)
 
 /// The bay of a case.
 pub fn bay_of(alloc: Global, case: &Case) -> io::Result<MemBay>
-    ensures { IfOk result (λ bay. NoneIsOut out_at bay) }
+    ensures { IfOk result (λ bay. NoneIsOut bay_view bay) }
 {
     let taken = (case.disks.len() as u64).saturating_add(case.arms.len() as u64);
     let mut failing = Vec::new(alloc);
@@ -59,8 +59,8 @@ pub fn bay_of(alloc: Global, case: &Case) -> io::Result<MemBay>
 
 /// What differs between the content of a disk and the one that is wanted.
 fn compared_disk(alloc: Global, bay: &mut MemBay, line: &DiskLine) -> io::Result<Option<String>>
-    requires { NoneIsOut out_at bay.old }
-    ensures { NoneIsOut out_at bay.new }
+    requires { NoneIsOut bay_view bay.old }
+    ensures { NoneIsOut bay_view bay.new }
 {
     let Ok(disk) = bay.take(&line.name) else {
         return Ok(Some(String::from_str(alloc, "the disk isn't there")?));
@@ -73,7 +73,7 @@ fn compared_disk(alloc: Global, bay: &mut MemBay, line: &DiskLine) -> io::Result
 
 /// What differs between the disks of a case behind it, and what they are to be left with.
 pub fn compared_disks(alloc: Global, bay: &mut MemBay, case: &Case) -> io::Result<Option<String>>
-    requires { NoneIsOut out_at bay.old }
+    requires { NoneIsOut bay_view bay.old }
 {
     for line in &case.left {
         if let Some(why) = compared_disk(alloc, bay, line)? {

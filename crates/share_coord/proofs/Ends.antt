@@ -10,17 +10,18 @@ use Rattle.share_coord.specs.Holding.{Holds, WritesOnce}
 use Rattle.share_coord.specs.Parts.{StoreParts}
 use Rattle.share_coord.specs.Stored.{Entries}
 use Rattle.share_coord.specs.declared.fault.CoordFault.{CoordFault}
+use Rattle.edge_io.specs.Views.{DiskView}
 
-module _ {D : Type 0} (image : D → List ℕ → Type 0) (writer : Writer D) (frames : List (List ℕ)) (pending : Option (List ℕ)) where
-  end_by : (m : Mending) → Mends image writer m frames pending → writer.end ≡ length (blocks frames) + 1
+module _ {D : Type 0} (seen : D → DiskView) (writer : Writer D) (frames : List (List ℕ)) (pending : Option (List ℕ)) where
+  end_by : (m : Mending) → Mends seen writer m frames pending → writer.end ≡ length (blocks frames) + 1
   end_by Nothing h = h.1.end
   end_by Behind h = h.end
   end_by Gate h = h.3.end
 
-  pub end_of_stands : Stands image writer frames pending → writer.end ≡ length (blocks frames) + 1
+  pub end_of_stands : Stands seen writer frames pending → writer.end ≡ length (blocks frames) + 1
   end_of_stands stands = end_by writer.mending stands.mends
 
-  long_by : (m : Mending) → Mends image writer m frames pending → (c : List ℕ) → image writer.disk c → writer.end ≤ length c
+  long_by : (m : Mending) → Mends seen writer m frames pending → (c : List ℕ) → (seen writer.disk).image c → writer.end ≤ length c
   long_by Nothing h c now =
       let s = h.1.each c now in omega (arith, h.1.end, ap length s.2, length-append (blocks frames) (s.0 ∷ []))
   long_by Behind h c now =
@@ -29,41 +30,41 @@ module _ {D : Type 0} (image : D → List ℕ → Type 0) (writer : Writer D) (f
       let s = h.3.each c now in omega (arith, h.3.end, ap length s.1, length-append (blocks frames) (s.0 ∷ framed h.0))
 
   -- each image of the disk reaches to where the journal ends
-  pub long : Stands image writer frames pending → (c : List ℕ) → image writer.disk c → writer.end ≤ length c
+  pub long : Stands seen writer frames pending → (c : List ℕ) → (seen writer.disk).image c → writer.end ≤ length c
   long stands = long_by writer.mending stands.mends
 
-module _ {D : Type 0} (image : D → List ℕ → Type 0) (old new : Writer D) (frames : List (List ℕ)) (p q : Option (List ℕ)) where
+module _ {D : Type 0} (seen : D → DiskView) (old new : Writer D) (frames : List (List ℕ)) (p q : Option (List ℕ)) where
   -- where the frames are the same, the journal ends where it did
-  pub same_end : Stands image old frames p → Stands image new frames q → new.end ≡ old.end
-  same_end before after = end_of_stands image new frames q after ∙ sym (end_of_stands image old frames p before)
+  pub same_end : Stands seen old frames p → Stands seen new frames q → new.end ≡ old.end
+  same_end before after = end_of_stands seen new frames q after ∙ sym (end_of_stands seen old frames p before)
 
   -- one frame more moves the end on
-  pub later_end : (frame : List ℕ) → Stands image old frames p → Stands image new (frames ++ frame ∷ []) q → old.end ≤ new.end
+  pub later_end : (frame : List ℕ) → Stands seen old frames p → Stands seen new (frames ++ frame ∷ []) q → old.end ≤ new.end
   later_end frame before after = omega (
     arith,
-    end_of_stands image old frames p before,
-    end_of_stands image new (frames ++ frame ∷ []) q after,
+    end_of_stands seen old frames p before,
+    end_of_stands seen new (frames ++ frame ∷ []) q after,
     ap length (blocks_push frames frame []),
     length-append (blocks (frames ++ frame ∷ [])) [],
     length-append (blocks frames) (1 ∷ (behind_gate frame ++ [])),
   )
 
 -- each image of the first disk reaches to where the journal of the states ends
-pub held_long : {D : Type 0} (image : D → List ℕ → Type 0) (store : StoreParts D) (pending : Option Entries) → Holds image store pending
-    → (c : List ℕ) → image store.journal.live.disk c → store.journal.live.end ≤ length c
-held_long image store pending holds = long image store.journal.live holds.frames holds.unwritten holds.keeps.stands
+pub held_long : {D : Type 0} (seen : D → DiskView) (store : StoreParts D) (pending : Option Entries) → Holds seen store pending
+    → (c : List ℕ) → (seen store.journal.live.disk).image c → store.journal.live.end ≤ length c
+held_long seen store pending holds = long seen store.journal.live holds.frames holds.unwritten holds.keeps.stands
 
 -- the journal of a store doesn't end before where that of another one did
-abbrev pub EndsLater : {D : Type 0} → (D → List ℕ → Type 0) → StoreParts D → StoreParts D → Type 0
-EndsLater image old new = (pending : Option Entries) → Holds image old pending → old.journal.live.end ≤ new.journal.live.end
+abbrev pub EndsLater : {D : Type 0} → (D → DiskView) → StoreParts D → StoreParts D → Type 0
+EndsLater seen old new = (pending : Option Entries) → Holds seen old pending → old.journal.live.end ≤ new.journal.live.end
 
-pub later_same : {D : Type 0} (image : D → List ℕ → Type 0) (old new : StoreParts D) → new ≡ old → EndsLater image old new
-later_same image old new same pending held =
+pub later_same : {D : Type 0} (seen : D → DiskView) (old new : StoreParts D) → new ≡ old → EndsLater seen old new
+later_same seen old new same pending held =
     let ends : new.journal.live.end ≡ old.journal.live.end = λ i. (same i).journal.live.end in omega (arith, ends)
 
 -- a call that writes once never moves the end back
-pub later_once : {D T : Type 0} (image : D → List ℕ → Type 0) (moment : D → ℕ) (since : D → ℕ → List ℕ → Type 0) (Failed : D → D → Type 0)
-    (Written : Entries → Type 0) (old new : StoreParts D) (r : Result T CoordFault) → WritesOnce image moment since Failed Written old new r
-    → EndsLater image old new
-later_once image moment since Failed Written old new (Ok x) once pending held = once.ends pending held
-later_once image moment since Failed Written old new (Err e) once pending held = omega (arith, once.ends pending held)
+pub later_once : {D T : Type 0} (seen : D → DiskView) (Failed : D → D → Type 0)
+    (Written : Entries → Type 0) (old new : StoreParts D) (r : Result T CoordFault) → WritesOnce seen Failed Written old new r
+    → EndsLater seen old new
+later_once seen Failed Written old new (Ok x) once pending held = once.ends pending held
+later_once seen Failed Written old new (Err e) once pending held = omega (arith, once.ends pending held)

@@ -9,6 +9,7 @@ use Rattle.state_records.specs.Spelling.{IsRecord, record_bytes}
 use Rattle.state_records.specs.declared.record.StateRecord.{StateRecord}
 use Rattle.share_coord.specs.Stored.{Entries, Follows, Accepts, AreAccepted, AreStored}
 use Rattle.share_coord.specs.Holding.{Holds, Leaves, IsWithin}
+use Rattle.edge_io.specs.Views.{DiskView}
 
 pub accepted_then : (old mid new : Entries) (frames : List (List ℕ)) (frame : List ℕ) → AreAccepted old frames mid → Accepts mid frame new
     → AreAccepted old (frames ++ frame ∷ []) new
@@ -26,10 +27,10 @@ stored_with a b entries frames (Some frame) pending accepted h listed =
     (⊎_elim (λ l. inl (record { frames = frames; listed = l; accepted = accepted }))
     (λ l. inr (record { frames = frames ++ frame ∷ []; listed = l; accepted = accepted_then [] entries h.0 frames frame accepted h.2 })) listed)
 
-pub holds_by : {D : Type 0} (image : D → List ℕ → Type 0) (journal : StateJournal D) (entries : Entries) (frames : List (List ℕ))
-    (unwritten : Option (List ℕ)) (pending : Option Entries) → Keeps image journal frames unwritten → AreAccepted [] frames entries
-    → length frames < 2 ^ 63 → Leaves entries unwritten pending → Holds image (record { journal = journal; entries = entries }) pending
-holds_by image journal entries frames unwritten pending keeps accepted few leaves = record {
+pub holds_by : {D : Type 0} (seen : D → DiskView) (journal : StateJournal D) (entries : Entries) (frames : List (List ℕ))
+    (unwritten : Option (List ℕ)) (pending : Option Entries) → Keeps seen journal frames unwritten → AreAccepted [] frames entries
+    → length frames < 2 ^ 63 → Leaves entries unwritten pending → Holds seen (record { journal = journal; entries = entries }) pending
+holds_by seen journal entries frames unwritten pending keeps accepted few leaves = record {
   frames = frames;
   unwritten = unwritten;
   keeps = keeps;
@@ -39,45 +40,45 @@ holds_by image journal entries frames unwritten pending keeps accepted few leave
   images = λ a b on_a on_b. stored_with a b entries frames unwritten pending accepted leaves (keeps.images a b on_a on_b);
 }
 
-module _ {D : Type 0} (image : D → List ℕ → Type 0) (written : StateRecord) (old new : StateJournal D) (entries next : Entries)
+module _ {D : Type 0} (seen : D → DiskView) (written : StateRecord) (old new : StateJournal D) (entries next : Entries)
     (valid : IsRecord written) (follows : Follows entries written next) where
   pub accepts : Accepts entries (record_bytes written) next
   accepts = record { written = written; valid = valid; bytes = refl; follows = follows }
 
   -- the record is written
-  pub done : ((frames : List (List ℕ)) (pending : Option (List ℕ)) → Keeps image old frames pending
-      → Keeps image new (frames ++ record_bytes written ∷ []) None × (length frames < 2 ^ 62))
-      → (pending : Option Entries) → Holds image (record { journal = old; entries = entries }) pending → Holds image (record { journal = new; entries = next }) None
+  pub done : ((frames : List (List ℕ)) (pending : Option (List ℕ)) → Keeps seen old frames pending
+      → Keeps seen new (frames ++ record_bytes written ∷ []) None × (length frames < 2 ^ 62))
+      → (pending : Option Entries) → Holds seen (record { journal = old; entries = entries }) pending → Holds seen (record { journal = new; entries = next }) None
   done keeps pending held =
       let after = keeps held.frames held.unwritten held.keeps in
-      holds_by image new next (held.frames ++ record_bytes written ∷ []) None None after.0
+      holds_by seen new next (held.frames ++ record_bytes written ∷ []) None None after.0
       (accepted_then [] entries next held.frames (record_bytes written) held.accepted accepts)
       (omega (arith, after.1, length-append held.frames (record_bytes written ∷ []))) refl
 
-module _ {D : Type 0} (image : D → List ℕ → Type 0) (written : StateRecord) (old new : StateJournal D) (entries next : Entries)
+module _ {D : Type 0} (seen : D → DiskView) (written : StateRecord) (old new : StateJournal D) (entries next : Entries)
     (Written : Entries → Type 0) (follows : Follows entries written next) (is : Written next) where
   -- the record is pending, or the one from before
-  pub lost : ((frames : List (List ℕ)) (pending : Option (List ℕ)) → Keeps image old frames pending
-      → Keeps image new frames pending ⊎ (IsRecord written × Keeps image new frames (Some (record_bytes written))))
-      → (pending : Option Entries) → Holds image (record { journal = old; entries = entries }) pending
-      → Holds image (record { journal = new; entries = entries }) pending
-      ⊎ ((left : Entries) × Written left × Holds image (record { journal = new; entries = entries }) (Some left))
+  pub lost : ((frames : List (List ℕ)) (pending : Option (List ℕ)) → Keeps seen old frames pending
+      → Keeps seen new frames pending ⊎ (IsRecord written × Keeps seen new frames (Some (record_bytes written))))
+      → (pending : Option Entries) → Holds seen (record { journal = old; entries = entries }) pending
+      → Holds seen (record { journal = new; entries = entries }) pending
+      ⊎ ((left : Entries) × Written left × Holds seen (record { journal = new; entries = entries }) (Some left))
   lost keeps pending held = ⊎_elim
-      (λ k. inl (holds_by image new entries held.frames held.unwritten pending k held.accepted held.few held.leaves))
+      (λ k. inl (holds_by seen new entries held.frames held.unwritten pending k held.accepted held.few held.leaves))
       (λ k. inr (
         next,
         is,
-        holds_by image new entries held.frames (Some (record_bytes written)) (Some next) k.1 held.accepted held.few
-            (next, refl, accepts image written old new entries next k.0 follows),
+        holds_by seen new entries held.frames (Some (record_bytes written)) (Some next) k.1 held.accepted held.few
+            (next, refl, accepts seen written old new entries next k.0 follows),
       ))
       (keeps held.frames held.unwritten held.keeps)
 
-  pub moments : (moment : D → ℕ) (since : D → ℕ → List ℕ → Type 0) (first later second last : D)
-      → ((frames : List (List ℕ)) (pending : Option (List ℕ)) → Keeps image old frames pending → LeavesPairs moment since moment since first later second last
+  pub moments : (first later second last : D)
+      → ((frames : List (List ℕ)) (pending : Option (List ℕ)) → Keeps seen old frames pending → LeavesPairs seen first later second last
       (λ a b. WithPending (IsListed a b) frames (and_pending frames pending) ⊎ (IsRecord written × IsListed a b (frames ++ record_bytes written ∷ []))))
-      → (pending : Option Entries) → Holds image (record { journal = old; entries = entries }) pending
-      → LeavesPairs moment since moment since first later second last (IsWithin Written entries pending)
-  moments moment since first later second last run pending held =
+      → (pending : Option Entries) → Holds seen (record { journal = old; entries = entries }) pending
+      → LeavesPairs seen first later second last (IsWithin Written entries pending)
+  moments first later second last run pending held =
       let pairs = run held.frames held.unwritten held.keeps in
       record {
         later_a = pairs.later_a;
@@ -90,7 +91,7 @@ module _ {D : Type 0} (image : D → List ℕ → Type 0) (written : StateRecord
               record {
                 frames = held.frames ++ record_bytes written ∷ [];
                 listed = l.1;
-                accepted = accepted_then [] entries next held.frames (record_bytes written) held.accepted (accepts image written old new entries next l.0 follows);
+                accepted = accepted_then [] entries next held.frames (record_bytes written) held.accepted (accepts seen written old new entries next l.0 follows);
               },
             ))
             (pairs.each a b left right);

@@ -9,5 +9,6 @@ pub mod Seen
 pub mod Signed
 pub mod Sizes
 pub mod Spans
+pub mod Storing
 pub mod Taken
 pub mod Written

@@ -10,43 +10,73 @@ use Rattle.share_coord.specs.Parts.{StoreParts}
 use Rattle.share_coord.specs.Stored.{Entries, kept_at}
 use Rattle.share_coord.specs.Calls.{IsInitialised, IsWritten, IsForgotten}
 use Rattle.share_coord.specs.Holding.{Holds, WritesOnce}
+use Rattle.share_coord.specs.Recorded.{IsWriteRecord, StoresOne, init_record}
+use Rattle.state_records.specs.declared.record.StateRecord.TheVariants.{Removal}
 use Rattle.share_coord.specs.declared.fault.CoordFault.{CoordFault}
 use Rattle.share_coord.specs.declared.view.Kept.{Kept}
 use Rattle.share_coord.proofs.Held.{holds_by}
 use Rattle.share_coord.proofs.Once.{rewritten}
 use Rattle.share_coord.proofs.Signed.{written_as}
+use Rattle.share_coord.proofs.Storing.{as_this, write_stored}
+use Rattle.edge_io.specs.Views.{DiskView}
 
-module _ {D T : Type 0} (image : D → List ℕ → Type 0) (moment : D → ℕ) (since : D → ℕ → List ℕ → Type 0) (Failed : D → D → Type 0)
-    (seen now new : StoreParts D) (r : Result T CoordFault) (key : KeyParts) (same : seen ≡ now) where
+module _ {D T : Type 0} (seen : D → DiskView) (Failed : D → D → Type 0)
+    (shown now new : StoreParts D) (r : Result T CoordFault) (key : KeyParts) (same : shown ≡ now) where
   pub seen_init : (state start : ℤ) → FitsSigned w32 state → FitsSigned w64 start
-      → WritesOnce image moment since Failed (IsInitialised seen.entries key (to_z w32 (of_z w32 state)) (to_z w64 (of_z w64 start))) seen new r
-      → WritesOnce image moment since Failed (IsInitialised now.entries key state start) now new r
+      → WritesOnce seen Failed (IsInitialised shown.entries key (to_z w32 (of_z w32 state)) (to_z w64 (of_z w64 start))) shown new r
+      → WritesOnce seen Failed (IsInitialised now.entries key state start) now new r
   seen_init state start f g once =
-      subst (λ (p : StoreParts D). WritesOnce image moment since Failed (IsInitialised p.entries key state start) p new r) same
-      (subst (λ (z : ℤ). WritesOnce image moment since Failed (IsInitialised seen.entries key state z) seen new r) (to_z-of_z w64 start g)
-      (subst (λ (z : ℤ). WritesOnce image moment since Failed (IsInitialised seen.entries key z (to_z w64 (of_z w64 start))) seen new r) (to_z-of_z w32 state f) once))
+      subst (λ (p : StoreParts D). WritesOnce seen Failed (IsInitialised p.entries key state start) p new r) same
+      (subst (λ (z : ℤ). WritesOnce seen Failed (IsInitialised shown.entries key state z) shown new r) (to_z-of_z w64 start g)
+      (subst (λ (z : ℤ). WritesOnce seen Failed (IsInitialised shown.entries key z (to_z w64 (of_z w64 start))) shown new r) (to_z-of_z w32 state f) once))
 
   pub seen_write : (state leader start : ℤ) (runs : List Run) → FitsSigned w32 state → FitsSigned w32 leader → FitsSigned w64 start
-      → WritesOnce image moment since Failed (IsWritten seen.entries key (to_z w32 (of_z w32 state)) (to_z w32 (of_z w32 leader)) (to_z w64 (of_z w64 start)) runs) seen new r
-      → WritesOnce image moment since Failed (IsWritten now.entries key state leader start runs) now new r
+      → WritesOnce seen Failed (IsWritten shown.entries key (to_z w32 (of_z w32 state)) (to_z w32 (of_z w32 leader)) (to_z w64 (of_z w64 start)) runs) shown new r
+      → WritesOnce seen Failed (IsWritten now.entries key state leader start runs) now new r
   seen_write state leader start runs f g h once =
-      subst (λ (p : StoreParts D). WritesOnce image moment since Failed (IsWritten p.entries key state leader start runs) p new r) same
-      (rewritten image moment since Failed (IsWritten seen.entries key (to_z w32 (of_z w32 state)) (to_z w32 (of_z w32 leader)) (to_z w64 (of_z w64 start)) runs)
-      (IsWritten seen.entries key state leader start runs) seen new r
-      (λ es is. written_as seen.entries key state leader start runs es es f g h is refl) once)
+      subst (λ (p : StoreParts D). WritesOnce seen Failed (IsWritten p.entries key state leader start runs) p new r) same
+      (rewritten seen Failed (IsWritten shown.entries key (to_z w32 (of_z w32 state)) (to_z w32 (of_z w32 leader)) (to_z w64 (of_z w64 start)) runs)
+      (IsWritten shown.entries key state leader start runs) shown new r
+      (λ es is. written_as shown.entries key state leader start runs es es f g h is refl) once)
 
-  pub seen_remove : (IsSome (kept_at seen.entries key) → WritesOnce image moment since Failed (IsForgotten seen.entries key) seen new r)
-      → IsSome (kept_at now.entries key) → WritesOnce image moment since Failed (IsForgotten now.entries key) now new r
+  pub seen_remove : (IsSome (kept_at shown.entries key) → WritesOnce seen Failed (IsForgotten shown.entries key) shown new r)
+      → IsSome (kept_at now.entries key) → WritesOnce seen Failed (IsForgotten now.entries key) now new r
   seen_remove once =
-      subst (λ (p : StoreParts D). IsSome (kept_at p.entries key) → WritesOnce image moment since Failed (IsForgotten p.entries key) p new r) same once
+      subst (λ (p : StoreParts D). IsSome (kept_at p.entries key) → WritesOnce seen Failed (IsForgotten p.entries key) p new r) same once
+
+-- and the record that it stores
+module _ {D T : Type 0} (seen : D → DiskView) (shown now new : StoreParts D) (r : Result T CoordFault) (key : KeyParts) (same : shown ≡ now) where
+  pub stored_init : (state start : ℤ) → FitsSigned w32 state → FitsSigned w64 start
+      → StoresOne seen (λ one. one ≡ init_record shown.entries key (to_z w32 (of_z w32 state)) (to_z w64 (of_z w64 start))) shown.journal new.journal r
+      → StoresOne seen (λ one. one ≡ init_record now.entries key state start) now.journal new.journal r
+  stored_init state start f g h =
+      subst (λ (p : StoreParts D). StoresOne seen (λ one. one ≡ init_record p.entries key state start) p.journal new.journal r) same
+      (subst (λ (z : ℤ). StoresOne seen (λ one. one ≡ init_record shown.entries key state z) shown.journal new.journal r) (to_z-of_z w64 start g)
+      (subst (λ (z : ℤ). StoresOne seen (λ one. one ≡ init_record shown.entries key z (to_z w64 (of_z w64 start))) shown.journal new.journal r)
+      (to_z-of_z w32 state f) h))
+
+  pub stored_write : (state leader start : ℤ) (runs : List Run) → FitsSigned w32 state → FitsSigned w32 leader → FitsSigned w64 start
+      → StoresOne seen (IsWriteRecord shown.entries key (to_z w32 (of_z w32 state)) (to_z w32 (of_z w32 leader)) (to_z w64 (of_z w64 start)) runs)
+      shown.journal new.journal r
+      → StoresOne seen (IsWriteRecord now.entries key state leader start runs) now.journal new.journal r
+  stored_write state leader start runs f g i h =
+      subst (λ (p : StoreParts D). StoresOne seen (IsWriteRecord p.entries key state leader start runs) p.journal new.journal r) same
+      (as_this seen (IsWriteRecord shown.entries key (to_z w32 (of_z w32 state)) (to_z w32 (of_z w32 leader)) (to_z w64 (of_z w64 start)) runs)
+      (IsWriteRecord shown.entries key state leader start runs) shown.journal new.journal
+      (λ one is. write_stored shown.entries key state leader start runs one f g i is) r h)
+
+  pub stored_remove : (IsSome (kept_at shown.entries key) → StoresOne seen (λ one. one ≡ Removal key) shown.journal new.journal r)
+      → IsSome (kept_at now.entries key) → StoresOne seen (λ one. one ≡ Removal key) now.journal new.journal r
+  stored_remove h =
+      subst (λ (p : StoreParts D). IsSome (kept_at p.entries key) → StoresOne seen (λ one. one ≡ Removal key) p.journal new.journal r) same h
 
 pub either_there : (o : Option Kept) → (o ≡ None) ⊎ IsSome o
 either_there None = inl refl
 either_there (Some kept) = inr refl
 
 -- a fault was armed
-pub rearmed : {D : Type 0} (image : D → List ℕ → Type 0) (old new : StateJournal D) (entries : Entries)
-    → ((frames : List (List ℕ)) (pending : Option (List ℕ)) → Keeps image old frames pending → Keeps image new frames pending)
-    → (pending : Option Entries) → Holds image (record { journal = old; entries = entries }) pending → Holds image (record { journal = new; entries = entries }) pending
-rearmed image old new entries stays pending held =
-    holds_by image new entries held.frames held.unwritten pending (stays held.frames held.unwritten held.keeps) held.accepted held.few held.leaves
+pub rearmed : {D : Type 0} (seen : D → DiskView) (old new : StateJournal D) (entries : Entries)
+    → ((frames : List (List ℕ)) (pending : Option (List ℕ)) → Keeps seen old frames pending → Keeps seen new frames pending)
+    → (pending : Option Entries) → Holds seen (record { journal = old; entries = entries }) pending → Holds seen (record { journal = new; entries = entries }) pending
+rearmed seen old new entries stays pending held =
+    holds_by seen new entries held.frames held.unwritten pending (stays held.frames held.unwritten held.keeps) held.accepted held.few held.leaves

@@ -106,8 +106,8 @@ pub initialised_as : (old : Entries) (key : KeyParts) (state start : ℤ) (runs 
     → runs ≡ [] → n ≡ next_snapshot (kept_at old key)
     → kept ≡ record { view = record { state_epoch = to_z w32 (of_z w32 state); leader_epoch = pos 0; start = to_z w64 (of_z w64 start); runs = runs }; snapshot = n; updates = 0 }
     → es ≡ with_kept old key kept → IsInitialised old key state start es
-initialised_as old key state start runs n kept es known f g seen granted none next is e = record {
-  granted = ap (λ (o : Option Kept). init_refusal o state start) (sym seen) ∙ (init_refusal_as known state start f g ∙ granted);
+initialised_as old key state start runs n kept es known f g shown granted none next is e = record {
+  granted = ap (λ (o : Option Kept). init_refusal o state start) (sym shown) ∙ (init_refusal_as known state start f g ∙ granted);
   is = initialised_by old key state start runs n kept es f g none next is e;
 }
 

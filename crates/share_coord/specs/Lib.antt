@@ -4,4 +4,5 @@ pub mod Stored
 pub mod States
 pub mod Calls
 pub mod Holding
+pub mod Recorded
 pub mod Opening

@@ -10,7 +10,9 @@ ghost use Rattle.share_coord.specs.Stored.{Entries, kept_at};
 ghost use Rattle.share_coord.specs.Calls.{Causes, IsInitialised, IsWritten, IsTooMany, IsForgotten, init_refusal, write_refusal};
 ghost use Rattle.share_coord.specs.Holding.{Holds, WritesOnce};
 ghost use Rattle.share_coord.specs.Opening.{IsOpened, IsNotOpened};
+ghost use Rattle.share_coord.specs.Recorded.{IsWriteRecord, StoresOne, init_record};
 ghost use Rattle.share_coord.specs.States.{states_of};
+ghost use Rattle.state_records.specs.declared.record.StateRecord.TheVariants.{Removal};
 
 use crate::fault::CoordFault;
 use crate::replay::{ReplayFault, replay};
@@ -42,7 +44,7 @@ impl<D: Disk> Model for Coord<D> {
 
     ghost view = { λ c. record { journal = c.store.journal; entries = c.store.map.entries } };
 
-    ghost invariant = { λ c. IsHeld D.image (record { journal = c.store.journal; entries = c.store.map.entries }) };
+    ghost invariant = { λ c. IsHeld D.seen (record { journal = c.store.journal; entries = c.store.map.entries }) };
 }
 
 impl<D: Disk> Coord<D> {
@@ -51,11 +53,11 @@ impl<D: Disk> Coord<D> {
     /// It syncs each disk before it reads it, repairs the end of the journal on `a`, and leaves the content of `b` as it is, in which
     /// no frame may stand. It is linear in the journal.
     pub fn open(alloc: Global, a: D, b: D) -> Result<Coord<D>, (D, D, CoordOpen)>
-        ensures opened { IfOk result (IsOpened D.content D.image a b) }
-        ensures refused { IfErr result (IsNotOpened D.content D.armed D.starved D.faults a b) }
+        ensures opened { IfOk result (IsOpened D.seen a b) }
+        ensures refused { IfErr result (IsNotOpened D.seen a b) }
         ensures both { MatchResult result
-            (λ c. RunsBoth D.content D.size D.image D.moment D.since D.losses D.arms D.armed D.starved D.faults a b c.journal.live.disk c.journal.idle)
-            (λ e. RunsBoth D.content D.size D.image D.moment D.since D.losses D.arms D.armed D.starved D.faults a b e.0 e.1) }
+            (λ c. RunsBoth D.seen a b c.journal.live.disk c.journal.idle)
+            (λ e. RunsBoth D.seen a b e.0 e.1) }
     {
         let _len = a.len(); // places are those of a u64
         let (journal, frames) = match coord_checkpoint::open(alloc, a, b) {
@@ -93,9 +95,11 @@ impl<D: Disk> Coord<D> {
     pub fn init(&mut self, key: &Key, state_epoch: i32, start: i64) -> Result<(), CoordFault>
         ensures refused { (fault : CoordFault) → init_refusal (kept_at self.old.entries key.now) state_epoch start ≡ Some fault → result ≡ Err fault }
         ensures causes { IfErr result (Causes (init_refusal (kept_at self.old.entries key.now) state_epoch start) (λ _. ⊥)) }
-        ensures once { WritesOnce D.image D.moment D.since (HasFailed D.content D.armed D.starved D.faults)
+        ensures once { WritesOnce D.seen (HasFailed D.seen)
             (IsInitialised self.old.entries key.now state_epoch start) self.old self.new result }
-        ensures runs { RunsOn D.content D.losses D.arms D.armed D.starved D.faults self.old.journal.live.disk self.new.journal.live.disk }
+        ensures stored { StoresOne D.seen (λ one. one ≡ init_record self.old.entries key.now state_epoch start)
+            self.old.journal self.new.journal result }
+        ensures runs { RunsOn D.seen self.old.journal.live.disk self.new.journal.live.disk }
         ensures idle { self.new.journal.idle ≡ self.old.journal.idle }
     {
         self.store.init(key, state_epoch, start)
@@ -120,9 +124,12 @@ impl<D: Disk> Coord<D> {
             result ≡ Err fault }
         ensures causes { IfErr result (Causes (write_refusal (kept_at self.old.entries key.now) state_epoch leader_epoch start runs.now)
             (IsTooMany self.old.entries key.now start runs.now)) }
-        ensures once { WritesOnce D.image D.moment D.since (HasFailed D.content D.armed D.starved D.faults)
+        ensures once { WritesOnce D.seen (HasFailed D.seen)
             (IsWritten self.old.entries key.now state_epoch leader_epoch start runs.now) self.old self.new result }
-        ensures runs { RunsOn D.content D.losses D.arms D.armed D.starved D.faults self.old.journal.live.disk self.new.journal.live.disk }
+        ensures stored { StoresOne D.seen
+            (IsWriteRecord self.old.entries key.now state_epoch leader_epoch start runs.now)
+            self.old.journal self.new.journal result }
+        ensures runs { RunsOn D.seen self.old.journal.live.disk self.new.journal.live.disk }
         ensures idle { self.new.journal.idle ≡ self.old.journal.idle }
     {
         self.store
@@ -135,8 +142,10 @@ impl<D: Disk> Coord<D> {
         ensures present { IsSome (kept_at self.old.entries key.now) → IfOk result (λ there. there ≡ true) }
         ensures causes { IfErr result (Causes None (λ _. ⊥)) }
         ensures once { IsSome (kept_at self.old.entries key.now) →
-            WritesOnce D.image D.moment D.since (HasFailed D.content D.armed D.starved D.faults) (IsForgotten self.old.entries key.now) self.old self.new result }
-        ensures runs { RunsOn D.content D.losses D.arms D.armed D.starved D.faults self.old.journal.live.disk self.new.journal.live.disk }
+            WritesOnce D.seen (HasFailed D.seen) (IsForgotten self.old.entries key.now) self.old self.new result }
+        ensures stored { IsSome (kept_at self.old.entries key.now) →
+            StoresOne D.seen (λ one. one ≡ Removal key.now) self.old.journal self.new.journal result }
+        ensures runs { RunsOn D.seen self.old.journal.live.disk self.new.journal.live.disk }
         ensures idle { self.new.journal.idle ≡ self.old.journal.idle }
     {
         self.store.remove(key)
@@ -173,7 +182,7 @@ impl<D: Disk> Coord<D> {
 
     /// Whether a call of one of its disks has failed for want of memory.
     pub fn starved(&self) -> bool
-        ensures { (result ≡ true) ↔ ((D.starved self.now.journal.live.disk ≡ true) ⊎ (D.starved self.now.journal.idle ≡ true)) }
+        ensures { (result ≡ true) ↔ (((D.seen self.now.journal.live.disk).starved ≡ true) ⊎ ((D.seen self.now.journal.idle).starved ≡ true)) }
     {
         self.store.journal.starved()
     }
@@ -182,14 +191,14 @@ impl<D: Disk> Coord<D> {
     pub fn arm(&mut self, disk: DiskPlace, after: u64, mode: FaultMode)
         ensures log { disk ≡ DiskPlace.Log → self.new ≡ self.old }
         ensures first { disk ≡ DiskPlace.StateA →
-            ArmsAlone D.content D.image D.losses D.arms D.armed D.starved D.faults after mode self.old.journal.live.disk self.new.journal.live.disk
+            ArmsAlone D.seen after mode self.old.journal.live.disk self.new.journal.live.disk
             × (self.new.journal.idle ≡ self.old.journal.idle) }
         ensures second { disk ≡ DiskPlace.StateB →
-            ArmsAlone D.content D.image D.losses D.arms D.armed D.starved D.faults after mode self.old.journal.idle self.new.journal.idle
+            ArmsAlone D.seen after mode self.old.journal.idle self.new.journal.idle
             × (self.new.journal.live ≡ self.old.journal.live) }
         ensures end { self.new.journal.live.end ≡ self.old.journal.live.end }
         ensures states { self.new.entries ≡ self.old.entries }
-        ensures stays { (pending : Option Entries) → Holds D.image self.old pending → Holds D.image self.new pending }
+        ensures stays { (pending : Option Entries) → Holds D.seen self.old pending → Holds D.seen self.new pending }
     {
         self.store.journal.arm(disk, after, mode);
     }

@@ -3,6 +3,7 @@
 
 mod coord;
 mod fault;
+mod laws;
 mod plan;
 mod records;
 mod refusals;
@@ -15,6 +16,7 @@ mod view;
 pub use coord::Coord;
 pub use coord_checkpoint::CoordOpen;
 pub use fault::CoordFault;
+pub use laws::a_write_stores_one_record;
 pub use states::States;
 pub use store::Store;
 pub use view::{Kept, StateView};

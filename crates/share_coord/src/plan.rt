@@ -8,6 +8,7 @@ ghost use Rattle.state_records.specs.States.{IsKey, IsEpoch, IsStart, AreStoredR
 ghost use Rattle.state_records.specs.declared.record.StateRecord.TheVariants.{Snapshot as snapshot_record, Update as update_record};
 ghost use Rattle.share_coord.specs.Stored.{Entries, Follows, kept_at, with_kept};
 ghost use Rattle.share_coord.specs.Calls.{IsWritten, IsTooMany, write_refusal};
+ghost use Rattle.share_coord.specs.Recorded.{IsWriteRecord};
 
 use crate::fault::CoordFault;
 use crate::rows::{laid, start_after, written};
@@ -167,6 +168,9 @@ pub(crate) fn planned(
         IsWritten old numbers.now.key numbers.now.state_epoch numbers.now.leader_epoch numbers.now.start runs.now (with_kept old numbers.now.key c.kept)) }
     ensures follows { IfOk result (λ c. (old : Entries) → kept_at old numbers.now.key ≡ Some kept.now →
         Follows old c.written (with_kept old numbers.now.key c.kept)) }
+    ensures one { IfOk result (λ c. (old : Entries) → kept_at old numbers.now.key ≡ Some kept.now →
+        IsWriteRecord old numbers.now.key numbers.now.state_epoch numbers.now.leader_epoch numbers.now.start
+        runs.now c.written) }
     ensures frame { IfOk result (λ c. IsFrame (record_bytes c.written)) }
     ensures many { IfErr result (λ e. (n : ℕ) → e ≡ CoordFault.TooMany n → (old : Entries) → kept_at old numbers.now.key ≡ Some kept.now →
         IsTooMany old numbers.now.key numbers.now.start runs.now n) }

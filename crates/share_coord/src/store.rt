@@ -8,6 +8,8 @@ ghost use Rattle.state_records.specs.Spelling.{record_bytes};
 ghost use Rattle.share_coord.specs.Stored.{Entries, Follows, kept_at, with_kept, next_snapshot};
 ghost use Rattle.share_coord.specs.Calls.{Causes, IsInitialised, IsWritten, IsTooMany, IsForgotten, init_refusal, write_refusal};
 ghost use Rattle.share_coord.specs.Holding.{IsHeld, WritesOnce, parts_of};
+ghost use Rattle.share_coord.specs.Recorded.{IsWriteRecord, StoresOne, init_record};
+ghost use Rattle.state_records.specs.declared.record.StateRecord.TheVariants.{Removal};
 
 use crate::fault::CoordFault;
 use crate::plan::{Change, Numbers, key_fits, planned, snapshot};
@@ -47,10 +49,11 @@ impl<D: Disk> Store<D> {
         requires known { IsSome (kept_at self.old.map.entries key.now) }
         requires frame { IsFrame (record_bytes change.written) }
         requires follows { Follows self.old.map.entries change.written (with_kept self.old.map.entries key.now change.kept) }
-        ensures once { WritesOnce D.image D.moment D.since (HasFailed D.content D.armed D.starved D.faults)
+        ensures once { WritesOnce D.seen (HasFailed D.seen)
             (λ new. new ≡ with_kept self.old.map.entries key.now change.kept) (parts_of self.old) (parts_of self.new) result }
+        ensures stored { StoresOne D.seen (λ one. one ≡ change.written) self.old.journal self.new.journal result }
         ensures causes { IfErr result (Causes None (λ _. ⊥)) }
-        ensures runs { RunsOn D.content D.losses D.arms D.armed D.starved D.faults self.old.journal.live.disk self.new.journal.live.disk }
+        ensures runs { RunsOn D.seen self.old.journal.live.disk self.new.journal.live.disk }
         ensures idle { self.new.journal.idle ≡ self.old.journal.idle }
     {
         let Change { kept, written } = change;
@@ -68,10 +71,11 @@ impl<D: Disk> Store<D> {
         requires absent { kept_at self.old.map.entries key.now ≡ None }
         requires frame { IsFrame (record_bytes change.written) }
         requires follows { Follows self.old.map.entries change.written (with_kept self.old.map.entries key.now change.kept) }
-        ensures once { WritesOnce D.image D.moment D.since (HasFailed D.content D.armed D.starved D.faults)
+        ensures once { WritesOnce D.seen (HasFailed D.seen)
             (λ new. new ≡ with_kept self.old.map.entries key.now change.kept) (parts_of self.old) (parts_of self.new) result }
+        ensures stored { StoresOne D.seen (λ one. one ≡ change.written) self.old.journal self.new.journal result }
         ensures causes { IfErr result (Causes None (λ _. ⊥)) }
-        ensures runs { RunsOn D.content D.losses D.arms D.armed D.starved D.faults self.old.journal.live.disk self.new.journal.live.disk }
+        ensures runs { RunsOn D.seen self.old.journal.live.disk self.new.journal.live.disk }
         ensures idle { self.new.journal.idle ≡ self.old.journal.idle }
     {
         let Change { kept, written } = change;
@@ -86,12 +90,14 @@ impl<D: Disk> Store<D> {
     }
 
     pub(crate) fn init(&mut self, key: &Key, state_epoch: i32, start: i64) -> Result<(), CoordFault>
-        requires held { IsHeld D.image (parts_of self.old) }
+        requires held { IsHeld D.seen (parts_of self.old) }
         ensures refused { (fault : CoordFault) → init_refusal (kept_at self.old.map.entries key.now) state_epoch start ≡ Some fault → result ≡ Err fault }
         ensures causes { IfErr result (Causes (init_refusal (kept_at self.old.map.entries key.now) state_epoch start) (λ _. ⊥)) }
-        ensures once { WritesOnce D.image D.moment D.since (HasFailed D.content D.armed D.starved D.faults)
+        ensures once { WritesOnce D.seen (HasFailed D.seen)
             (IsInitialised self.old.map.entries key.now state_epoch start) (parts_of self.old) (parts_of self.new) result }
-        ensures runs { RunsOn D.content D.losses D.arms D.armed D.starved D.faults self.old.journal.live.disk self.new.journal.live.disk }
+        ensures stored { StoresOne D.seen (λ one. one ≡ init_record self.old.map.entries key.now state_epoch start)
+            self.old.journal self.new.journal result }
+        ensures runs { RunsOn D.seen self.old.journal.live.disk self.new.journal.live.disk }
         ensures idle { self.new.journal.idle ≡ self.old.journal.idle }
     {
         key_fits(key);
@@ -125,14 +131,17 @@ impl<D: Disk> Store<D> {
         start: i64,
         runs: &[Run],
     ) -> Result<(), CoordFault>
-        requires held { IsHeld D.image (parts_of self.old) }
+        requires held { IsHeld D.seen (parts_of self.old) }
         ensures refused { (fault : CoordFault) → write_refusal (kept_at self.old.map.entries key.now) state_epoch leader_epoch start runs.now ≡ Some fault →
             result ≡ Err fault }
         ensures causes { IfErr result (Causes (write_refusal (kept_at self.old.map.entries key.now) state_epoch leader_epoch start runs.now)
             (IsTooMany self.old.map.entries key.now start runs.now)) }
-        ensures once { WritesOnce D.image D.moment D.since (HasFailed D.content D.armed D.starved D.faults)
+        ensures once { WritesOnce D.seen (HasFailed D.seen)
             (IsWritten self.old.map.entries key.now state_epoch leader_epoch start runs.now) (parts_of self.old) (parts_of self.new) result }
-        ensures runs { RunsOn D.content D.losses D.arms D.armed D.starved D.faults self.old.journal.live.disk self.new.journal.live.disk }
+        ensures stored { StoresOne D.seen
+            (IsWriteRecord self.old.map.entries key.now state_epoch leader_epoch start runs.now)
+            self.old.journal self.new.journal result }
+        ensures runs { RunsOn D.seen self.old.journal.live.disk self.new.journal.live.disk }
         ensures idle { self.new.journal.idle ≡ self.old.journal.idle }
     {
         let known = self.map.get(key);
@@ -160,9 +169,11 @@ impl<D: Disk> Store<D> {
         ensures present { IsSome (kept_at self.old.map.entries key.now) → IfOk result (λ there. there ≡ true) }
         ensures causes { IfErr result (Causes None (λ _. ⊥)) }
         ensures once { IsSome (kept_at self.old.map.entries key.now) →
-            WritesOnce D.image D.moment D.since (HasFailed D.content D.armed D.starved D.faults)
+            WritesOnce D.seen (HasFailed D.seen)
             (IsForgotten self.old.map.entries key.now) (parts_of self.old) (parts_of self.new) result }
-        ensures runs { RunsOn D.content D.losses D.arms D.armed D.starved D.faults self.old.journal.live.disk self.new.journal.live.disk }
+        ensures stored { IsSome (kept_at self.old.map.entries key.now) →
+            StoresOne D.seen (λ one. one ≡ Removal key.now) self.old.journal self.new.journal result }
+        ensures runs { RunsOn D.seen self.old.journal.live.disk self.new.journal.live.disk }
         ensures idle { self.new.journal.idle ≡ self.old.journal.idle }
     {
         if !self.map.contains_key(key) {

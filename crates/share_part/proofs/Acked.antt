@@ -38,6 +38,7 @@ use Rattle.share_part.specs.declared.limits.Limits.{Limits}
 use Rattle.share_part.proofs.Holding.{AreKept}
 use Rattle.share_part.proofs.Storage.{behind, stands_same, stands_stored, still, stored_device, stored_later, stored_steps, unstored_carries}
 use Rattle.share_part.proofs.Visiting.{carried, shard_of}
+use Rattle.edge_io.specs.Views.{DiskView}
 
 -- ---- an answer with another outcome of the acknowledgements
 
@@ -74,8 +75,7 @@ not_ok e b h = let clash : ⊥ = cc in clash
 none_some : (o : Option AckKind) → o ≡ None → IsSome {T = AckKind} o → ⊥
 none_some o is some = let clash : IsSome {T = AckKind} None = subst (λ (o : Option AckKind). IsSome {T = AckKind} o) is some in let never : ⊥ = cc in never
 
-module _ {D W : Type 0} (content : D → Option (List ℕ)) (image : D → List ℕ → Type 0) (moment : D → ℕ) (since : D → ℕ → List ℕ → Type 0)
-    (armed : D → Armed) (starved : D → Bool) (faults : D → ℕ) (holding : W → Held) (visit : Visit) (old : PartParts D W) (states : StoreParts D)
+module _ {D W : Type 0} (seen : D → DiskView) (holding : W → Held) (visit : Visit) (old : PartParts D W) (states : StoreParts D)
     (windows : List (List ℕ × W)) (sound : IsStoredLog old.log.batches) (few : old.conf.limit ≤ 10)
     (hosted : AreHosted old.conf old.log.batches (states_of old.states.entries))
     (kept : AreKept old.conf old.log.batches (states_of old.states.entries) (held_in holding old.windows)) where
@@ -86,10 +86,10 @@ module _ {D W : Type 0} (content : D → Option (List ℕ)) (image : D → List 
   was = held_in holding old.windows visit.group
 
   abbrev pub mid : PartParts D W
-  mid = behind content image moment since armed starved faults holding visit.group acts old states windows old.clock sound few hosted kept
+  mid = behind seen holding visit.group acts old states windows old.clock sound few hosted kept
 
   abbrev Rises : Type 0
-  Rises = Rose (faults old.states.journal.live.disk) (faults states.journal.live.disk)
+  Rises = Rose (seen old.states.journal.live.disk).faults (seen states.journal.live.disk).faults
 
   abbrev Same : Type 0
   Same = (other : List ℕ) → held_in holding windows other ≡ held_in holding old.windows other
@@ -98,10 +98,10 @@ module _ {D W : Type 0} (content : D → Option (List ℕ)) (image : D → List 
   Ends = (other : List ℕ) → held_in holding windows other ≡ with_held (held_in holding old.windows) visit.group (held_after acts was) other
 
   abbrev Failed : D → D → Type 0
-  Failed = HasFailed content armed starved faults
+  Failed = HasFailed seen
 
   abbrev Settles : Result AckOutcome want → Type 0
-  Settles result = SettlesGroup image moment since Failed old.conf old.log.batches visit.group visit.member acts was old.states states Same Ends result
+  Settles result = SettlesGroup seen Failed old.conf old.log.batches visit.group visit.member acts was old.states states Same Ends result
 
   abbrev pub Acked : Result AckOutcome want → Type 0
   Acked result = AcksOnce visit.acks ((states ≡ old.states) × (windows ≡ old.windows)) Settles result
@@ -115,16 +115,16 @@ module _ {D W : Type 0} (content : D → Option (List ℕ)) (image : D → List 
   Stands = AreHosted old.conf old.log.batches (states_of states.entries) × AreKept old.conf old.log.batches (states_of states.entries) (held_in holding windows)
 
   same_stand : states ≡ old.states → Same → Stands
-  same_stand is same = stands_same content image moment since armed starved faults holding visit.group acts old states windows old.clock sound few hosted kept
+  same_stand is same = stands_same seen holding visit.group acts old states windows old.clock sound few hosted kept
       (ap (λ (s : StoreParts D). states_of s.entries) is) same
 
   stored_stand : (r : Result (Option StoreFault) want)
-      → StoresGroup image moment since Failed old.conf old.log.batches visit.group acts was old.states states Same Ends r → Stands
-  stored_stand r h = stands_stored content image moment since armed starved faults holding visit.group acts old states windows old.clock sound few hosted kept r h
+      → StoresGroup seen Failed old.conf old.log.batches visit.group acts was old.states states Same Ends r → Stands
+  stored_stand r h = stands_stored seen holding visit.group acts old states windows old.clock sound few hosted kept r h
 
   later_stored : (r : Result (Option StoreFault) want)
-      → StoresGroup image moment since Failed old.conf old.log.batches visit.group acts was old.states states Same Ends r → EndsLater image old.states states
-  later_stored r h = stored_later content image moment since armed starved faults holding visit.group acts old states windows old.clock sound few hosted kept r h
+      → StoresGroup seen Failed old.conf old.log.batches visit.group acts was old.states states Same Ends r → EndsLater seen old.states states
+  later_stored r h = stored_later seen holding visit.group acts old states windows old.clock sound few hosted kept r h
 
   stands_settled : (r : Result AckOutcome want) → Settles r → Stands
   stands_settled (Ok (NotHeld o)) h = same_stand h.1 h.2
@@ -144,28 +144,28 @@ module _ {D W : Type 0} (content : D → Option (List ℕ)) (image : D → List 
   DoesAcks ack s t = Acknowledges old.conf Rises old.states.journal.live.end s visit t ack
 
   abbrev Steps : AckOutcome → PartShardState → Type 0
-  Steps ack s = (t : PartShardState) × Carries image holding mid t × StepsAcks old.conf Rises old.states.journal.live.end s visit ack t
+  Steps ack s = (t : PartShardState) × Carries seen holding mid t × StepsAcks old.conf Rises old.states.journal.live.end s visit ack t
 
   abbrev pub AllSteps : AckOutcome → Type 0
-  AllSteps ack = (s : PartShardState) → Carries image holding old s → Steps ack s
+  AllSteps ack = (s : PartShardState) → Carries seen holding old s → Steps ack s
 
   -- the clock stays
-  clock_is : (s : PartShardState) → Carries image holding old s → s.clock ≡ old.clock
+  clock_is : (s : PartShardState) → Carries seen holding old s → s.clock ≡ old.clock
   clock_is s c = c.clock
 
   unmoved : (ack : AckOutcome) → states ≡ old.states → Same
-      → ((batch : Option Batch) (pending : Option Entries) → Acknowledges old.conf Rises old.states.journal.live.end (shard_of image holding old batch pending) visit (shard_of image holding old batch pending) ack)
+      → ((batch : Option Batch) (pending : Option Entries) → Acknowledges old.conf Rises old.states.journal.live.end (shard_of seen holding old batch pending) visit (shard_of seen holding old batch pending) ack)
       → AllSteps ack
   unmoved ack is same does s c =
-      let st = still content image moment since armed starved faults holding visit.group acts old states windows old.clock sound few hosted kept (DoesAcks ack) is same does s c in
+      let st = still seen holding visit.group acts old states windows old.clock sound few hosted kept (DoesAcks ack) is same does s c in
       (st.then, st.carries, record { log = st.log; clock = st.clock_is ∙ sym (clock_is s c); does = st.does })
 
   -- the acts are stored, or aren't
   acts_steps : (ack : AckOutcome) (fault : Option StoreFault) → IsWellFormed visit.acks → AreHeldBy visit.member acts was
       → ((s t : PartShardState) → AreTheirs s visit → StoresActs old.conf Rises old.states.journal.live.end s visit.group acts t fault → DoesAcks ack s t)
-      → StoresGroup image moment since Failed old.conf old.log.batches visit.group acts was old.states states Same Ends (Ok fault) → AllSteps ack
+      → StoresGroup seen Failed old.conf old.log.batches visit.group acts was old.states states Same Ends (Ok fault) → AllSteps ack
   acts_steps ack fault formed theirs does h s c =
-      let st = stored_steps content image moment since armed starved faults holding visit.group acts old states windows old.clock sound few hosted kept fault h s c in
+      let st = stored_steps seen holding visit.group acts old states windows old.clock sound few hosted kept fault h s c in
       let held : AreHeldBy visit.member acts (s.held visit.group) = subst (AreHeldBy visit.member acts) (sym (c.held visit.group)) theirs in
       (st.then, st.carries, record { log = st.log; clock = st.clock_is ∙ sym (clock_is s c); does = does s st.then (formed, held) st.does })
 
@@ -188,7 +188,7 @@ module _ {D W : Type 0} (content : D → Option (List ℕ)) (image : D → List 
 
   -- where nothing is to be written, nothing is
   none_settled : (r : Result AckOutcome want) → IsWellFormed visit.acks → NameOne acts → Settles r → (batch : Option Batch) (pending : Option Entries)
-      → (AreToWrite (shard_of image holding old batch pending) visit → ⊥) → states ≡ old.states
+      → (AreToWrite (shard_of seen holding old batch pending) visit → ⊥) → states ≡ old.states
   none_settled (Ok (NotHeld o)) formed named h batch pending nothing = h.1
   none_settled (Ok (Malformed f)) formed named h batch pending nothing = absurd h
   none_settled (Ok Done) formed named h batch pending nothing = absurd (nothing ((formed, h.0), named))
@@ -196,13 +196,13 @@ module _ {D W : Type 0} (content : D → Option (List ℕ)) (image : D → List 
   none_settled (Err e) formed named h batch pending nothing = h.0
 
   none_written : (r : Result AckOutcome want) → Acked r → (batch : Option Batch) (pending : Option Entries)
-      → (AreToWrite (shard_of image holding old batch pending) visit → ⊥) → states ≡ old.states
+      → (AreToWrite (shard_of seen holding old batch pending) visit → ⊥) → states ≡ old.states
   none_written r (inl m) batch pending nothing = m.3.0
   none_written r (inr (inl n)) batch pending nothing = n.3.0
   none_written r (inr (inr g)) batch pending nothing = none_settled r g.0 g.1 g.2 batch pending nothing
 
-  pub unwritten : (r : Result AckOutcome want) → Acked r → (s : PartShardState) → Carries image holding old s → (AreToWrite s visit → ⊥) → states ≡ old.states
-  unwritten r h = carried image holding old (λ s. (AreToWrite s visit → ⊥) → states ≡ old.states) (λ batch pending k nothing. none_written r h batch pending nothing)
+  pub unwritten : (r : Result AckOutcome want) → Acked r → (s : PartShardState) → Carries seen holding old s → (AreToWrite s visit → ⊥) → states ≡ old.states
+  unwritten r h = carried seen holding old (λ s. (AreToWrite s visit → ⊥) → states ≡ old.states) (λ batch pending k nothing. none_written r h batch pending nothing)
 
   -- nor does the shard change then
   acts_still : (s t : PartShardState) (fault : Option StoreFault) → StoresActs old.conf Rises old.states.journal.live.end s visit.group acts t fault
@@ -219,27 +219,27 @@ module _ {D W : Type 0} (content : D → Option (List ℕ)) (image : D → List 
   acks_still (Store fault) s t h nothing = acts_still s t (Some fault) h.1 (λ named. nothing (h.0, named))
 
   -- the journal never ends before where it did
-  later_settled : (r : Result AckOutcome want) → Settles r → EndsLater image old.states states
-  later_settled (Ok (NotHeld o)) h = later_same image old.states states h.1
+  later_settled : (r : Result AckOutcome want) → Settles r → EndsLater seen old.states states
+  later_settled (Ok (NotHeld o)) h = later_same seen old.states states h.1
   later_settled (Ok (Malformed f)) h = absurd h
   later_settled (Ok Done) h = later_stored (Ok None) h.1
   later_settled (Ok (Store fault)) h = later_stored (Ok (Some fault)) h.1
   later_settled (Err e) h = later_stored (Err e) h
 
-  later : (r : Result AckOutcome want) → Acked r → EndsLater image old.states states
-  later r (inl m) = later_same image old.states states m.3.0
-  later r (inr (inl n)) = later_same image old.states states n.3.0
+  later : (r : Result AckOutcome want) → Acked r → EndsLater seen old.states states
+  later r (inl m) = later_same seen old.states states m.3.0
+  later r (inr (inl n)) = later_same seen old.states states n.3.0
   later r (inr (inr g)) = later_settled r g.2
 
   -- a device fault
   abbrev Starves : Type 0
-  Starves = StarvesUnarmed content armed starved old.states.journal.live.disk states.journal.live.disk
+  Starves = StarvesUnarmed seen old.states.journal.live.disk states.journal.live.disk
 
   device_settled : (ack : AckOutcome) → Settles (Ok ack) → ack ≡ Store Device → Starves
   device_settled (NotHeld o) h is = absurd (let clash : ⊥ = cc in clash)
   device_settled (Malformed f) h is = absurd h
   device_settled Done h is = absurd (let clash : ⊥ = cc in clash)
-  device_settled (Store fault) h is = stored_device content image moment since armed starved faults holding visit.group acts old states windows old.clock sound few hosted kept (Some fault) h.1
+  device_settled (Store fault) h is = stored_device seen holding visit.group acts old states windows old.clock sound few hosted kept (Some fault) h.1
       (ap (λ (f : StoreFault). Some f) (let same : fault ≡ Device = cc in same))
 
   pub device_sound : (ack : AckOutcome) → Acked (Ok ack) → ack ≡ Store Device → Starves
@@ -248,14 +248,14 @@ module _ {D W : Type 0} (content : D → Option (List ℕ)) (image : D → List 
   device_sound ack (inr (inr g)) is = device_settled ack g.2 is
 
   -- no memory was found for them
-  pub unanswered : (e : want) → Acked (Err e) → (s : PartShardState) → Carries image holding old s → Carries image holding mid s
+  pub unanswered : (e : want) → Acked (Err e) → (s : PartShardState) → Carries seen holding old s → Carries seen holding mid s
   unanswered e (inl m) = absurd (not_ok e (Malformed m.0) m.1)
   unanswered e (inr (inl n)) = absurd (not_ok e Done n.2)
   unanswered e (inr (inr g)) =
-      unstored_carries content image moment since armed starved faults holding visit.group acts old states windows old.clock sound few hosted kept e g.2 refl
+      unstored_carries seen holding visit.group acts old states windows old.clock sound few hosted kept e g.2 refl
 
   pub none_acked : (now : ℕ) (r : Result AckOutcome want) (e : want) → r ≡ Err e → Acked r → states.journal.idle ≡ old.states.journal.idle → (result : Result VisitAnswer want) → IsErr result
-      → VisitsOnce content image armed starved faults holding now visit old mid result
+      → VisitsOnce seen holding now visit old mid result
   none_acked now r e is h idle (Ok answer) none = absurd (let clash : ⊥ = cc in clash)
   none_acked now r e is h idle (Err f) none = record {
     steps = tt;
@@ -271,12 +271,12 @@ module _ {D W : Type 0} (content : D → Option (List ℕ)) (image : D → List 
 
   -- ---- what follows
 
-  module _ (losses : D → List (ℕ × List ℕ)) (arms : D → ℕ) (now : ℕ) (new : PartParts D W) (r : Result AckOutcome want) (ack : AckOutcome) (r_is : r ≡ Ok ack) (r_acked : Acked r)
+  module _ (now : ℕ) (new : PartParts D W) (r : Result AckOutcome want) (ack : AckOutcome) (r_is : r ≡ Ok ack) (r_acked : Acked r)
       (idle : states.journal.idle ≡ old.states.journal.idle)
-      (runs : RunsOn content losses arms armed starved faults old.states.journal.live.disk states.journal.live.disk)
-      (more : RunsOn content losses arms armed starved faults states.journal.live.disk new.states.journal.live.disk) where
+      (runs : RunsOn seen old.states.journal.live.disk states.journal.live.disk)
+      (more : RunsOn seen states.journal.live.disk new.states.journal.live.disk) where
     abbrev Risen : Type 0
-    Risen = Rose (faults old.states.journal.live.disk) (faults new.states.journal.live.disk)
+    Risen = Rose (seen old.states.journal.live.disk).faults (seen new.states.journal.live.disk).faults
 
     acked : Acked (Ok ack)
     acked = subst Acked r_is r_acked
@@ -295,7 +295,7 @@ module _ {D W : Type 0} (content : D → Option (List ℕ)) (image : D → List 
     steps_as s t h = record { log = h.log; clock = h.clock; does = acks_as s t ack h.does }
 
     abbrev Unarmed : Type 0
-    Unarmed = StarvesUnarmed content armed starved old.states.journal.live.disk new.states.journal.live.disk
+    Unarmed = StarvesUnarmed seen old.states.journal.live.disk new.states.journal.live.disk
 
     -- the acknowledgements write nothing, and what follows them neither
     nothing_so : (s t : PartShardState) → IsStill s t → (u : Then) → HasNothingToWrite old.conf s visit u → HasNothingToWrite old.conf t visit u
@@ -304,16 +304,16 @@ module _ {D W : Type 0} (content : D → Option (List ℕ)) (image : D → List 
     nothing_so s t still (Fetch records bytes first) h =
         subst (λ (states : ShareStates). IsSome (share_state_at states (key_of old.conf visit.group))) (sym still.states) h
 
-    nothing_at_all : ((t : PartShardState) → Carries image holding mid t → HasNothingToWrite old.conf t visit visit.then → new.states ≡ states)
-        → (s : PartShardState) → Carries image holding old s → (AreToWrite s visit → ⊥) → HasNothingToWrite old.conf s visit visit.then → new.states ≡ old.states
+    nothing_at_all : ((t : PartShardState) → Carries seen holding mid t → HasNothingToWrite old.conf t visit visit.then → new.states ≡ states)
+        → (s : PartShardState) → Carries seen holding old s → (AreToWrite s visit → ⊥) → HasNothingToWrite old.conf s visit visit.then → new.states ≡ old.states
     nothing_at_all stays s c nothing behind =
         let first = steps ack acked s c in
         stays first.0 first.1 (nothing_so s first.0 (acks_still ack s first.0 first.2.does nothing) visit.then behind) ∙ unwritten r r_acked s c nothing
 
-    pub visited : (inner : VisitAnswer) (done : Result VisitAnswer want) → done ≡ Ok inner → FollowsOnce content image armed starved faults holding now visit mid new done
-        → VisitsOnce content image armed starved faults holding now visit old new (Ok (with_ack ack inner))
+    pub visited : (inner : VisitAnswer) (done : Result VisitAnswer want) → done ≡ Ok inner → FollowsOnce seen holding now visit mid new done
+        → VisitsOnce seen holding now visit old new (Ok (with_ack ack inner))
     visited inner done is once =
-        let o = subst (FollowsOnce content image armed starved faults holding now visit mid new) is once in
+        let o = subst (FollowsOnce seen holding now visit mid new) is once in
         record {
           steps = λ s c.
               let first = steps ack acked s c in
@@ -322,14 +322,14 @@ module _ {D W : Type 0} (content : D → Option (List ℕ)) (image : D → List 
                 then.1,
                 record {
                   between = first.0;
-                  counted = faults states.journal.live.disk;
+                  counted = (seen states.journal.live.disk).faults;
                   at = states.journal.live.end;
                   acks = first.2;
                   counts = (runs.later, more.later);
                   ends = (later r r_acked c.pending c.holds, o.ends first.0 first.1);
                   unwritten = λ nothing. ap (λ (p : StoreParts D). p.journal.live.end) (unwritten r r_acked s c nothing);
                   still = λ nothing. ap (λ (p : StoreParts D). p.journal.live.end) (o.unwritten first.0 first.1 nothing);
-                  does = does_as old.conf (Rose (faults states.journal.live.disk) (faults new.states.journal.live.disk)) states.journal.live.end first.0 visit ack inner then.0 visit.then then.2.does;
+                  does = does_as old.conf (Rose (seen states.journal.live.disk).faults (seen new.states.journal.live.disk).faults) states.journal.live.end first.0 visit ack inner then.0 visit.then then.2.does;
                   clock = then.2.clock ∙ ap (λ (n : ℕ). max n now) first.2.clock;
                   log = then.2.log ∙ first.2.log;
                 },
@@ -348,11 +348,11 @@ module _ {D W : Type 0} (content : D → Option (List ℕ)) (image : D → List 
           conf = o.conf;
         }
 
-    pub unfollowed : (e : want) (done result : Result VisitAnswer want) → done ≡ Err e → IsErr result → FollowsOnce content image armed starved faults holding now visit mid new done
-        → VisitsOnce content image armed starved faults holding now visit old new result
+    pub unfollowed : (e : want) (done result : Result VisitAnswer want) → done ≡ Err e → IsErr result → FollowsOnce seen holding now visit mid new done
+        → VisitsOnce seen holding now visit old new result
     unfollowed e done (Ok answer) is none once = absurd (let clash : ⊥ = cc in clash)
     unfollowed e done (Err f) is none once =
-        let o = subst (FollowsOnce content image armed starved faults holding now visit mid new) is once in
+        let o = subst (FollowsOnce seen holding now visit mid new) is once in
         record {
           steps = tt;
           memory = λ s c. let first = steps ack acked s c in inr (ack, first.0, o.memory first.0 first.1, steps_as s first.0 first.2);

@@ -31,9 +31,9 @@ use Rattle.share_part.proofs.Expiries.{NextIn, StepsTo, all_done, all_pass, apar
 use Rattle.share_part.proofs.Holding.{AreKept}
 use Rattle.share_part.proofs.Ordered.{IsIn, InOrder, due_is_filter, entries_sorted, found_all, groups_order, none_due}
 use Rattle.window_rows.specs.Windows.{IsRising}
+use Rattle.edge_io.specs.Views.{DiskView}
 
-module _ {D W : Type 0} (content : D → Option (List ℕ)) (image : D → List ℕ → Type 0) (losses : D → List (ℕ × List ℕ)) (arms : D → ℕ)
-    (armed : D → Armed) (starved : D → Bool) (faults : D → ℕ) (holding : W → Held) (now : ℕ) (entry : PartParts D W) (due : List (List ℕ)) where
+module _ {D W : Type 0} (seen : D → DiskView) (holding : W → Held) (now : ℕ) (entry : PartParts D W) (due : List (List ℕ)) where
   abbrev clock : ℕ
   clock = max entry.clock now
 
@@ -50,12 +50,12 @@ module _ {D W : Type 0} (content : D → Option (List ℕ)) (image : D → List 
   end parts = parts.states.journal.live.end
 
   abbrev Runs : D → D → Type 0
-  Runs a b = RunsOn content losses arms armed starved faults a b
+  Runs a b = RunsOn seen a b
 
   -- a shard that was carried has come so far
   pub record Far (s : PartShardState) (current : PartParts D W) (i freed : ℕ) : Type 0 where
     pub shard : PartShardState
-    pub carries : Carries image holding current shard
+    pub carries : Carries seen holding current shard
     pub clock_is : max shard.clock now ≡ clock
     pub log : shard.log ≡ s.log
     pub ends : end entry ≤ end current
@@ -66,7 +66,7 @@ module _ {D W : Type 0} (content : D → Option (List ℕ)) (image : D → List 
     pub left : filter IsDue rest ≡ drop i due
     pub order : InOrder rest
     pub fresh : (g : List ℕ) → IsIn rest g → shard.held g ≡ held_in holding entry.windows g
-    pub to : StepsTo entry.conf (faults (disk entry)) (end entry) done 0 (raised_to now s) (faults (disk current)) (end current) freed (raised_to now shard)
+    pub to : StepsTo entry.conf (seen (disk entry)).faults (end entry) done 0 (raised_to now s) (seen (disk current)).faults (end current) freed (raised_to now shard)
 
   pub record SoFar (current : PartParts D W) (i freed : ℕ) : Type 0 where
     pub conf : current.conf ≡ entry.conf
@@ -76,7 +76,7 @@ module _ {D W : Type 0} (content : D → Option (List ℕ)) (image : D → List 
     pub none : i ≡ 0 → (current ≡ entry) × (freed ≡ 0)
     pub within : i ≤ length due
     pub few : freed ≤ 2 ^ 64 - 1
-    pub steps : (s : PartShardState) → Carries image holding entry s → Far s current i freed
+    pub steps : (s : PartShardState) → Carries seen holding entry s → Far s current i freed
 
   pub begins : InOrder (keys_of entry.windows) → AreHosted entry.conf entry.log.batches (states_of entry.states.entries)
       → AreKept entry.conf entry.log.batches (states_of entry.states.entries) (held_in holding entry.windows) → due ≡ due_groups holding (max entry.clock now) entry.windows → SoFar entry 0 0
@@ -84,7 +84,7 @@ module _ {D W : Type 0} (content : D → Option (List ℕ)) (image : D → List 
     conf = refl;
     log = refl;
     idle = refl;
-    runs = runs_none content losses arms armed starved faults (disk entry);
+    runs = runs_none seen (disk entry);
     none = λ is. (refl, refl);
     within = omega arith;
     few = omega arith;
@@ -115,7 +115,7 @@ module _ {D W : Type 0} (content : D → Option (List ℕ)) (image : D → List 
     next_is = let split : drop i due ≡ get_or due i d ∷ drop (i + 1) due = rw (add-one, drop-cons due i d) in split ∙ ap (λ (g : List ℕ). g ∷ drop (i + 1) due) at
 
     abbrev Once : Result Released want → Type 0
-    Once result = ReleasesOnce content image armed starved faults holding clock group (Due clock) current after result
+    Once result = ReleasesOnce seen holding clock group (Due clock) current after result
 
     module _ (s : PartShardState) (f : Far s current i freed) where
       pub next : NextIn IsDue f.rest group (drop (i + 1) due)
@@ -131,8 +131,8 @@ module _ {D W : Type 0} (content : D → Option (List ℕ)) (image : D → List 
       group_held = f.fresh group (subst (λ (l : List (List ℕ)). IsIn l group) (sym next.is) (in_back next.passed (group ∷ next.behind) group (inl refl)))
 
       -- the groups up to this one are passed
-      to_here : StepsTo entry.conf (faults (disk entry)) (end entry) (f.done ++ next.passed) 0 (raised_to now s) (faults (disk current)) (end current) freed (raised_to now f.shard)
-      to_here = all_pass entry.conf (faults (disk entry)) (end entry) f.done 0 (raised_to now s) (faults (disk current)) (end current) freed (raised_to now f.shard) f.to h.few next.passed
+      to_here : StepsTo entry.conf (seen (disk entry)).faults (end entry) (f.done ++ next.passed) 0 (raised_to now s) (seen (disk current)).faults (end current) freed (raised_to now f.shard)
+      to_here = all_pass entry.conf (seen (disk entry)).faults (end entry) f.done 0 (raised_to now s) (seen (disk current)).faults (end current) freed (raised_to now f.shard) f.to h.few next.passed
           (λ g there.
           ap (λ (n : ℕ). due_count n (f.shard.held g)) f.clock_is
           ∙ ap (due_count clock) (f.fresh g (in_rest g there))
@@ -142,16 +142,16 @@ module _ {D W : Type 0} (content : D → Option (List ℕ)) (image : D → List 
       parts_are = f.parted ∙ ap (λ (l : List (List ℕ)). f.done ++ l) next.is ∙ sym (append_assoc f.done next.passed (group ∷ next.behind))
 
       one_group : (fault : Option StoreFault) (t : PartShardState) → end current ≤ end after → t.log ≡ f.shard.log → t.clock ≡ clock
-          → StoresActs current.conf (Rose (faults (disk current)) (faults (disk after))) (end current) f.shard group (releasing (is_chosen (Due clock)) (f.shard.held group)) t fault
-          → StepsGroup entry.conf (faults (disk current)) (faults (disk after)) (end current) (end after) (raised_to now f.shard) group fault t
+          → StoresActs current.conf (Rose (seen (disk current)).faults (seen (disk after)).faults) (end current) f.shard group (releasing (is_chosen (Due clock)) (f.shard.held group)) t fault
+          → StepsGroup entry.conf (seen (disk current)).faults (seen (disk after)).faults (end current) (end after) (raised_to now f.shard) group fault t
       one_group fault t ends log clock_is stores = record {
         counts = runs.later;
         ends = ends;
         log = log;
         clock = clock_is ∙ sym f.clock_is;
-        stores = stores_as entry.conf (Rose (faults (disk current)) (faults (disk after))) (end current) f.shard t group _ now fault
-            (subst (λ (n : ℕ). StoresActs entry.conf (Rose (faults (disk current)) (faults (disk after))) (end current) f.shard group (releasing (is_chosen (Due n)) (f.shard.held group)) t fault) (sym f.clock_is)
-            (subst (λ (c : PartConfParts). StoresActs c (Rose (faults (disk current)) (faults (disk after))) (end current) f.shard group (releasing (is_chosen (Due clock)) (f.shard.held group)) t fault) h.conf stores));
+        stores = stores_as entry.conf (Rose (seen (disk current)).faults (seen (disk after)).faults) (end current) f.shard t group _ now fault
+            (subst (λ (n : ℕ). StoresActs entry.conf (Rose (seen (disk current)).faults (seen (disk after)).faults) (end current) f.shard group (releasing (is_chosen (Due n)) (f.shard.held group)) t fault) (sym f.clock_is)
+            (subst (λ (c : PartConfParts). StoresActs c (Rose (seen (disk current)).faults (seen (disk after)).faults) (end current) f.shard group (releasing (is_chosen (Due clock)) (f.shard.held group)) t fault) h.conf stores));
       }
 
       raised_same : (t : PartShardState) → t.clock ≡ clock → t ≡ raised_to now t
@@ -160,7 +160,7 @@ module _ {D W : Type 0} (content : D → Option (List ℕ)) (image : D → List 
           λ j. record { log = t.log; states = t.states; pending = t.pending; held = t.held; clock = same j }
 
       -- what other groups hold stays
-      held_same : (t : PartShardState) → StoresActs current.conf (Rose (faults (disk current)) (faults (disk after))) (end current) f.shard group (releasing (is_chosen (Due clock)) (f.shard.held group)) t None
+      held_same : (t : PartShardState) → StoresActs current.conf (Rose (seen (disk current)).faults (seen (disk after)).faults) (end current) f.shard group (releasing (is_chosen (Due clock)) (f.shard.held group)) t None
           → (g : List ℕ) → is_at (slice_cmp nat_cmp group) g ≡ false → t.held g ≡ f.shard.held g
       held_same t (inl x) g apart = ap (λ (held : List ℕ → Held). held g) x.1.held
       held_same t (inr x) g apart = ap (λ (held : List ℕ → Held). held g) x.1.held
@@ -173,7 +173,7 @@ module _ {D W : Type 0} (content : D → Option (List ℕ)) (image : D → List 
           conf = o.conf ∙ h.conf;
           log = o.log ∙ h.log;
           idle = o.idle ∙ h.idle;
-          runs = runs_then content losses arms armed starved faults (disk entry) (disk current) (disk after) h.runs runs;
+          runs = runs_then seen (disk entry) (disk current) (disk after) h.runs runs;
           none = λ e. absurd (omega (arith, e));
           within = omega (arith, lt);
           few = (let bound : min (freed + count) (2 ^ 64 - 1) ≤ 2 ^ 64 - 1 = omega arith in bound);
@@ -184,8 +184,8 @@ module _ {D W : Type 0} (content : D → Option (List ℕ)) (image : D → List 
               let counted : count ≡ due_count clock (f.shard.held group) = r.2.counts in
               let behind = order_behind n.passed group n.behind (subst InOrder n.is f.order) in
               let some : 0 < due_count clock (f.shard.held group) = subst (λ (l : Held). 0 < due_count clock l) (sym (group_held s f)) (some_due_of clock (held_in holding entry.windows group) n.pass) in
-              let to = one_more entry.conf (faults (disk entry)) (end entry) (f.done ++ n.passed) 0 (raised_to now s) (faults (disk current)) (end current) freed (raised_to now f.shard) (to_here s f)
-              group (faults (disk after)) (end after) r.0 (one_group s f None r.0 (o.ends f.shard f.carries) r.2.log r.2.clock_is r.2.stores)
+              let to = one_more entry.conf (seen (disk entry)).faults (end entry) (f.done ++ n.passed) 0 (raised_to now s) (seen (disk current)).faults (end current) freed (raised_to now f.shard) (to_here s f)
+              group (seen (disk after)).faults (end after) r.0 (one_group s f None r.0 (o.ends f.shard f.carries) r.2.log r.2.clock_is r.2.stores)
               (λ none. ap (λ (p : StoreParts D). p.journal.live.end) (o.unwritten
               (subst (λ (l : Held). NameNone (ending clock l)) (f.carries.held group) (subst (λ (n : ℕ). NameNone (ending n (f.shard.held group))) f.clock_is none)))) in
               record {
@@ -201,8 +201,8 @@ module _ {D W : Type 0} (content : D → Option (List ℕ)) (image : D → List 
                 left = n.left;
                 order = behind.0;
                 fresh = λ g there. held_same s f r.0 r.2.stores g (apart_from group n.behind g behind.1 there) ∙ f.fresh g (behind_rest s f g there);
-                to = subst (StepsTo entry.conf (faults (disk entry)) (end entry) ((f.done ++ n.passed) ++ group ∷ []) 0 (raised_to now s) (faults (disk after)) (end after) (more_freed freed count)) (raised_same s f r.0 r.2.clock_is)
-                    (subst (λ (m : ℕ). StepsTo entry.conf (faults (disk entry)) (end entry) ((f.done ++ n.passed) ++ group ∷ []) 0 (raised_to now s) (faults (disk after)) (end after) (more_freed freed m) r.0)
+                to = subst (StepsTo entry.conf (seen (disk entry)).faults (end entry) ((f.done ++ n.passed) ++ group ∷ []) 0 (raised_to now s) (seen (disk after)).faults (end after) (more_freed freed count)) (raised_same s f r.0 r.2.clock_is)
+                    (subst (λ (m : ℕ). StepsTo entry.conf (seen (disk entry)).faults (end entry) ((f.done ++ n.passed) ++ group ∷ []) 0 (raised_to now s) (seen (disk after)).faults (end after) (more_freed freed m) r.0)
                     (ap (λ (n : ℕ). due_count n (f.shard.held group)) f.clock_is ∙ sym counted) to);
               };
         }
@@ -216,7 +216,7 @@ module _ {D W : Type 0} (content : D → Option (List ℕ)) (image : D → List 
         let empty : length due ≡ 0 = ap (λ (l : List (List ℕ)). length l) none in
         omega (arith, empty, lt)
 
-    ends_so : {result : Result Released want} → Once result → (s : PartShardState) → Carries image holding entry s → end entry ≤ end after
+    ends_so : {result : Result Released want} → Once result → (s : PartShardState) → Carries seen holding entry s → end entry ≤ end after
     ends_so o s c =
         let f = h.steps s c in
         let before = f.ends in
@@ -231,7 +231,7 @@ module _ {D W : Type 0} (content : D → Option (List ℕ)) (image : D → List 
     module _ (by_group : InOrder (keys_of entry.windows)) (due_is : due ≡ due_groups holding (max entry.clock now) entry.windows)
         (rising : AllByRecursion (λ (e : List ℕ × W). IsRising (holding e.1)) entry.windows) where
       pub one_stays : (result : Result Released want) (fault : StoreFault) → result ≡ Ok (unreleased fault) → Once result
-          → ExpiresOnce content image armed starved faults holding now entry after (Ok (Store freed group fault))
+          → ExpiresOnce seen holding now entry after (Ok (Store freed group fault))
       one_stays result fault is once =
           let o = subst Once is once in
           record {
@@ -239,14 +239,14 @@ module _ {D W : Type 0} (content : D → Option (List ℕ)) (image : D → List 
                 let f = h.steps s c in
                 let r = o.steps f.shard f.carries in
                 let n = next s f in
-                let steps = one_fails entry.conf (faults (disk entry)) (end entry) (f.done ++ n.passed) 0 (raised_to now s) (faults (disk current)) (end current) freed (raised_to now f.shard) (to_here s f)
-                group n.behind (faults (disk after)) (end after) fault r.0 (one_group s f (Some fault) r.0 (o.ends f.shard f.carries) r.2.log r.2.clock_is r.2.stores) in (
+                let steps = one_fails entry.conf (seen (disk entry)).faults (end entry) (f.done ++ n.passed) 0 (raised_to now s) (seen (disk current)).faults (end current) freed (raised_to now f.shard) (to_here s f)
+                group n.behind (seen (disk after)).faults (end after) fault r.0 (one_group s f (Some fault) r.0 (o.ends f.shard f.carries) r.2.log r.2.clock_is r.2.stores) in (
                   r.0,
                   r.1,
                   record {
                     clock = r.2.clock_is ∙ ap (λ (n : ℕ). max n now) (sym c.clock);
                     log = r.2.log ∙ f.log;
-                    groups = subst (λ (l : List (List ℕ)). StepsGroups entry.conf (faults (disk entry)) (faults (disk after)) (end entry) (end after) l 0 (raised_to now s) (Store freed group fault) r.0)
+                    groups = subst (λ (l : List (List ℕ)). StepsGroups entry.conf (seen (disk entry)).faults (seen (disk after)).faults (end entry) (end after) l 0 (raised_to now s) (Store freed group fault) r.0)
                         (sym (ap groups_of c.states ∙ parts_are s f)) steps;
                   },
                 );
@@ -262,7 +262,7 @@ module _ {D W : Type 0} (content : D → Option (List ℕ)) (image : D → List 
       -- ---- no memory is found for it
 
       pub one_starves : (result : Result Released want) (e : want) → result ≡ Err e → Once result → (answer : Result ExpireAnswer want) → IsErr answer
-          → ExpiresOnce content image armed starved faults holding now entry after answer
+          → ExpiresOnce seen holding now entry after answer
       one_starves result e is once (Ok answer) none = absurd (let clash : ⊥ = cc in clash)
       one_starves result e is once (Err x) none =
           let o = subst Once is once in
@@ -271,7 +271,7 @@ module _ {D W : Type 0} (content : D → Option (List ℕ)) (image : D → List 
             memory = λ s c.
                 let f = h.steps s c in
                 ⊎_elim
-                (λ first. inl (o.memory s (subst (λ (p : PartParts D W). Carries image holding p s) (sym (h.none first).0) c)))
+                (λ first. inl (o.memory s (subst (λ (p : PartParts D W). Carries seen holding p s) (sym (h.none first).0) c)))
                 (λ more. inr (
                   f.shard,
                   o.memory f.shard f.carries,
@@ -283,8 +283,8 @@ module _ {D W : Type 0} (content : D → Option (List ℕ)) (image : D → List 
                     parted = ap groups_of c.states ∙ f.parted;
                     freed = freed;
                     some = more.0;
-                    groups = subst (StepsGroups entry.conf (faults (disk entry)) (faults (disk after)) (end entry) (end after) f.done 0 (raised_to now s) (Done freed)) (sym (raised_same s f f.shard more.1))
-                        (all_done entry.conf (faults (disk entry)) (end entry) f.done 0 (raised_to now s) (faults (disk current)) (end current) freed (raised_to now f.shard) f.to (faults (disk after)) (end after) runs.later
+                    groups = subst (StepsGroups entry.conf (seen (disk entry)).faults (seen (disk after)).faults (end entry) (end after) f.done 0 (raised_to now s) (Done freed)) (sym (raised_same s f f.shard more.1))
+                        (all_done entry.conf (seen (disk entry)).faults (end entry) f.done 0 (raised_to now s) (seen (disk current)).faults (end current) freed (raised_to now f.shard) f.to (seen (disk after)).faults (end after) runs.later
                         (o.ends f.shard f.carries));
                   },
                 ))
@@ -311,11 +311,11 @@ module _ {D W : Type 0} (content : D → Option (List ℕ)) (image : D → List 
     drop_none (x ∷ l) zero le = absurd (omega (arith, le))
     drop_none (x ∷ l) (suc n) le = drop_none l n (omega (arith, le))
 
-    pub all_ended : ExpiresOnce content image armed starved faults holding now entry ended (Ok (Done freed))
+    pub all_ended : ExpiresOnce seen holding now entry ended (Ok (Done freed))
     all_ended = record {
       steps = λ s c.
           let f = h.steps s c in
-          let to = all_pass entry.conf (faults (disk entry)) (end entry) f.done 0 (raised_to now s) (faults (disk current)) (end current) freed (raised_to now f.shard) f.to h.few f.rest
+          let to = all_pass entry.conf (seen (disk entry)).faults (end entry) f.done 0 (raised_to now s) (seen (disk current)).faults (end current) freed (raised_to now f.shard) f.to h.few f.rest
           (λ g there.
           ap (λ (n : ℕ). due_count n (f.shard.held g)) f.clock_is
           ∙ ap (due_count clock) (f.fresh g there)
@@ -335,9 +335,9 @@ module _ {D W : Type 0} (content : D → Option (List ℕ)) (image : D → List 
             record {
               clock = f.clock_is ∙ ap (λ (n : ℕ). max n now) (sym c.clock);
               log = f.log;
-              groups = subst (λ (l : List (List ℕ)). StepsGroups entry.conf (faults (disk entry)) (faults (disk current)) (end entry) (end current) l 0 (raised_to now s) (Done freed) (raised_to now f.shard))
+              groups = subst (λ (l : List (List ℕ)). StepsGroups entry.conf (seen (disk entry)).faults (seen (disk current)).faults (end entry) (end current) l 0 (raised_to now s) (Done freed) (raised_to now f.shard))
                   (sym (ap groups_of c.states ∙ f.parted))
-                  (all_done entry.conf (faults (disk entry)) (end entry) (f.done ++ f.rest) 0 (raised_to now s) (faults (disk current)) (end current) freed (raised_to now f.shard) to (faults (disk current)) (end current) (omega arith)
+                  (all_done entry.conf (seen (disk entry)).faults (end entry) (f.done ++ f.rest) 0 (raised_to now s) (seen (disk current)).faults (end current) freed (raised_to now f.shard) to (seen (disk current)).faults (end current) (omega arith)
                   (omega arith));
             },
           );
@@ -356,6 +356,6 @@ module _ {D W : Type 0} (content : D → Option (List ℕ)) (image : D → List 
     }
 
   -- no memory is found for the list of the groups
-  pub none_begins : (answer : Result ExpireAnswer want) → IsErr answer → (IsNothingDue holding entry.windows clock → ⊥) → ExpiresOnce content image armed starved faults holding now entry entry answer
+  pub none_begins : (answer : Result ExpireAnswer want) → IsErr answer → (IsNothingDue holding entry.windows clock → ⊥) → ExpiresOnce seen holding now entry entry answer
   none_begins (Ok answer) none some = absurd (let clash : ⊥ = cc in clash)
   none_begins (Err e) none some = record { steps = tt; memory = λ s c. inl c; quiet = λ nothing. absurd (some nothing); sound = tt; ends = λ s c. omega arith; log = refl; idle = refl; conf = refl }

@@ -27,13 +27,13 @@ use Rattle.share_part.specs.declared.settle.Whose.{Whose}
 use Rattle.share_part.specs.declared.settle.Whose.TheVariants.{Member}
 use Rattle.share_part.proofs.Holding.{AreKept}
 use Rattle.share_part.proofs.Storage.{Stores, stands_stored, stored_device, stored_later, stored_none, stored_steps, unstored_carries}
+use Rattle.edge_io.specs.Views.{DiskView}
 
 is_store : (r : Released) (fault : StoreFault) → fault_in r ≡ Some fault → r ≡ Store fault
 is_store (Done count) fault e = absurd (let clash : ⊥ = cc in clash)
 is_store (Store its) fault e = ap (λ (f : StoreFault). Store f) (let same : its ≡ fault = cc in same)
 
-module _ {D W : Type 0} (content : D → Option (List ℕ)) (image : D → List ℕ → Type 0) (moment : D → ℕ) (since : D → ℕ → List ℕ → Type 0)
-    (armed : D → Armed) (starved : D → Bool) (faults : D → ℕ) (holding : W → Held) (group : List ℕ) (whose : Whose) (old : PartParts D W) (states : StoreParts D)
+module _ {D W : Type 0} (seen : D → DiskView) (holding : W → Held) (group : List ℕ) (whose : Whose) (old : PartParts D W) (states : StoreParts D)
     (windows : List (List ℕ × W)) (sound : IsStoredLog old.log.batches) (few : old.conf.limit ≤ 10)
     (hosted : AreHosted old.conf old.log.batches (states_of old.states.entries))
     (kept : AreKept old.conf old.log.batches (states_of old.states.entries) (held_in holding old.windows)) where
@@ -48,23 +48,23 @@ module _ {D W : Type 0} (content : D → Option (List ℕ)) (image : D → List 
   then clock = record { conf = old.conf; log = old.log; states = states; windows = windows; clock = clock }
 
   abbrev pub Told : Result Released want → Type 0
-  Told r = Stores content image moment since armed starved faults holding group acts old states windows old.clock sound few hosted kept (told_in r)
+  Told r = Stores seen holding group acts old states windows old.clock sound few hosted kept (told_in r)
 
   pub released_stand : (r : Result Released want) → Told r
       → AreHosted old.conf old.log.batches (states_of states.entries) × AreKept old.conf old.log.batches (states_of states.entries) (held_in holding windows)
-  released_stand r h = stands_stored content image moment since armed starved faults holding group acts old states windows old.clock sound few hosted kept (told_in r) h
+  released_stand r h = stands_stored seen holding group acts old states windows old.clock sound few hosted kept (told_in r) h
 
   module _ (idle : states.journal.idle ≡ old.states.journal.idle) where
     abbrev Rises : Type 0
-    Rises = Rose (faults old.states.journal.live.disk) (faults states.journal.live.disk)
+    Rises = Rose (seen old.states.journal.live.disk).faults (seen states.journal.live.disk).faults
 
     pub released : (clock : ℕ) (result : Result Released want) (r : Released) → result ≡ Ok r → Told result → Counts whose was r
-        → ReleasesOnce content image armed starved faults holding clock group whose old (then clock) (Ok r)
+        → ReleasesOnce seen holding clock group whose old (then clock) (Ok r)
     released clock result r is told counts =
         let h = subst Told is told in
         record {
           steps = λ s c.
-              let st = stored_steps content image moment since armed starved faults holding group acts old states windows clock sound few hosted kept (fault_in r) h s c in (
+              let st = stored_steps seen holding group acts old states windows clock sound few hosted kept (fault_in r) h s c in (
                 st.then,
                 st.carries,
                 record {
@@ -74,10 +74,10 @@ module _ {D W : Type 0} (content : D → Option (List ℕ)) (image : D → List 
                   counts = subst (λ (h : Held). Counts whose h r) (sym (c.held group)) counts;
                 },
               );
-          unwritten = stored_none content image moment since armed starved faults holding group acts old states windows clock sound few hosted kept (told_in (Ok r)) h;
+          unwritten = stored_none seen holding group acts old states windows clock sound few hosted kept (told_in (Ok r)) h;
           memory = tt;
-          sound = λ fault. stored_device content image moment since armed starved faults holding group acts old states windows clock sound few hosted kept (fault_in r) h (ap fault_in fault);
-          ends = λ s c. stored_later content image moment since armed starved faults holding group acts old states windows clock sound few hosted kept (told_in (Ok r)) h
+          sound = λ fault. stored_device seen holding group acts old states windows clock sound few hosted kept (fault_in r) h (ap fault_in fault);
+          ends = λ s c. stored_later seen holding group acts old states windows clock sound few hosted kept (told_in (Ok r)) h
               c.pending c.holds;
           log = refl;
           idle = idle;
@@ -85,16 +85,16 @@ module _ {D W : Type 0} (content : D → Option (List ℕ)) (image : D → List 
         }
 
     pub unreleased : (clock : ℕ) (result : Result Released want) (e : want) → result ≡ Err e → Told result → (answer : Result Released want) → IsErr answer
-        → ReleasesOnce content image armed starved faults holding clock group whose old (then old.clock) answer
+        → ReleasesOnce seen holding clock group whose old (then old.clock) answer
     unreleased clock result e is told (Ok r) none = absurd (let clash : ⊥ = cc in clash)
     unreleased clock result e is told (Err f) none =
         let h = subst Told is told in
         record {
           steps = tt;
           unwritten = λ none. h.0;
-          memory = unstored_carries content image moment since armed starved faults holding group acts old states windows old.clock sound few hosted kept e h refl;
+          memory = unstored_carries seen holding group acts old states windows old.clock sound few hosted kept e h refl;
           sound = tt;
-          ends = λ s c. stored_later content image moment since armed starved faults holding group acts old states windows old.clock sound few hosted kept (told_in (Err f)) h
+          ends = λ s c. stored_later seen holding group acts old states windows old.clock sound few hosted kept (told_in (Err f)) h
               c.pending c.holds;
           log = refl;
           idle = idle;
@@ -103,13 +103,13 @@ module _ {D W : Type 0} (content : D → Option (List ℕ)) (image : D → List 
 
 -- ---- as what follows acknowledgements
 
-module _ {D W : Type 0} (content : D → Option (List ℕ)) (image : D → List ℕ → Type 0) (armed : D → Armed) (starved : D → Bool) (faults : D → ℕ) (holding : W → Held)
+module _ {D W : Type 0} (seen : D → DiskView) (holding : W → Held)
     (now clock : ℕ) (visit : Visit) (old new : PartParts D W) (is : visit.then ≡ Release) where
   abbrev Rising : Type 0
-  Rising = Rose (faults old.states.journal.live.disk) (faults new.states.journal.live.disk)
+  Rising = Rose (seen old.states.journal.live.disk).faults (seen new.states.journal.live.disk).faults
 
   abbrev Once : Result Released want → Type 0
-  Once result = ReleasesOnce content image armed starved faults holding clock visit.group (Member visit.member) old new result
+  Once result = ReleasesOnce seen holding clock visit.group (Member visit.member) old new result
 
   told_as : (s t : PartShardState) (answer : VisitAnswer) (outcome : ThenOutcome) (r : Released) → IsEmptyAnswer outcome answer → fault_of outcome ≡ fault_in r
       → StoresActs old.conf Rising old.states.journal.live.end s visit.group (releases_of visit.member (s.held visit.group)) t (fault_in r)
@@ -120,7 +120,7 @@ module _ {D W : Type 0} (content : D → Option (List ℕ)) (image : D → List 
         (sym (ap fault_of empty.outcome_is ∙ same)) stores,
   )
 
-  none_let_go : (s : PartShardState) → Carries image holding old s
+  none_let_go : (s : PartShardState) → Carries seen holding old s
       → (NameNone (releasing (is_chosen (Member visit.member)) (held_in holding old.windows visit.group)) → new.states ≡ old.states)
       → HasNothingToWrite old.conf s visit visit.then → new.states ≡ old.states
   none_let_go s c stays nothing =
@@ -128,7 +128,7 @@ module _ {D W : Type 0} (content : D → Option (List ℕ)) (image : D → List 
 
   pub let_go : (result : Result Released want) (r : Released) → result ≡ Ok r → clock ≡ max old.clock now → Once result → (answer : VisitAnswer) (outcome : ThenOutcome)
       → answer.ack ≡ acknowledged → IsEmptyAnswer outcome answer → fault_of outcome ≡ fault_in r
-      → FollowsOnce content image armed starved faults holding now visit old new (Ok answer)
+      → FollowsOnce seen holding now visit old new (Ok answer)
   let_go result r done at once answer outcome ack empty same =
       let o = subst Once done once in
       record {
@@ -153,7 +153,7 @@ module _ {D W : Type 0} (content : D → Option (List ℕ)) (image : D → List 
       }
 
   pub kept_back : (result : Result Released want) (e : want) → result ≡ Err e → Once result → (answer : Result VisitAnswer want) → IsErr answer
-      → FollowsOnce content image armed starved faults holding now visit old new answer
+      → FollowsOnce seen holding now visit old new answer
   kept_back result e none once (Ok answer) failed = absurd (let clash : ⊥ = cc in clash)
   kept_back result e none once (Err f) failed =
       let o = subst Once none once in

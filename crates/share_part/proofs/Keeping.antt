@@ -12,6 +12,7 @@ use Rattle.share_coord.specs.Stored.{Entries, kept_at}
 use Rattle.share_coord.specs.declared.fault.CoordFault.{CoordFault}
 use Rattle.share_coord.specs.declared.fault.CoordFault.TheVariants.{Invalid, Unknown, FencedLeader, FencedState, TooMany, Store, NoMemory}
 use Rattle.share_part.specs.Storing.{IsStored, StoresOnce, TellsStored, start_number}
+use Rattle.edge_io.specs.Views.{DiskView}
 
 -- a write that is granted fails at the store alone
 pub store_alone : (refusal : Option CoordFault) (Many : ℕ → Type 0) (e : CoordFault) → refusal ≡ None → ((count : ℕ) → Many count → ⊥) → Causes refusal Many e → Causes None (λ count. ⊥) e
@@ -30,13 +31,13 @@ granted_alone es key start number runs is granted few e causes =
     store_alone (write_refusal (kept_at es key) (pos 0) (pos 0) (start_number start) runs) (IsTooMany es key (start_number start) runs) e granted few
     (subst (λ (n : ℤ). Causes (write_refusal (kept_at es key) (pos 0) (pos 0) n runs) (IsTooMany es key n runs) e) is causes)
 
-pub stored_by : {D : Type 0} (image : D → List ℕ → Type 0) (moment : D → ℕ) (since : D → ℕ → List ℕ → Type 0) (Failed : D → D → Type 0)
+pub stored_by : {D : Type 0} (seen : D → DiskView) (Failed : D → D → Type 0)
     (es : Entries) (key : KeyParts) (start : Option ℕ) (number : ℤ) (runs : List Run) → number ≡ start_number start
     → (old new : StoreParts D) (result : Result (Option StoreFault) want) (done : Result (Unit {0}) CoordFault) → TellsStored done result
-    → WritesOnce image moment since Failed (IsWritten es key (pos 0) (pos 0) number runs) old new done
-    → StoresOnce image moment since Failed (IsStored es key start runs) old new result
-stored_by {D} image moment since Failed es key start number runs is old new result done tells once = record {
+    → WritesOnce seen Failed (IsWritten es key (pos 0) (pos 0) number runs) old new done
+    → StoresOnce seen Failed (IsStored es key start runs) old new result
+stored_by {D} seen Failed es key start number runs is old new result done tells once = record {
   done = done;
   tells = tells;
-  once = subst (λ (n : ℤ). WritesOnce image moment since Failed (IsWritten es key (pos 0) (pos 0) n runs) old new done) is once;
+  once = subst (λ (n : ℤ). WritesOnce seen Failed (IsWritten es key (pos 0) (pos 0) n runs) old new done) is once;
 }

@@ -13,6 +13,7 @@ use Rattle.share_part.specs.Leaving.{IsLeftOf, IsOneOf}
 use Rattle.share_part.specs.Shards.{PartParts, PartShardState, Carries, IsPendingHosted}
 use Rattle.share_part.proofs.Producing.{hosted_later}
 use Rattle.share_part.proofs.Visiting.{carried}
+use Rattle.edge_io.specs.Views.{DiskView}
 
 -- a log that is left: it is one of the two, and the states stay ones that the partition may have
 record LeftLog (conf : PartConfParts) (log : List Batch) (pending : Option Batch) (content : List ℕ) : Type 0 where
@@ -43,10 +44,10 @@ states_left conf log entries (Some lost) first second h p w = ⊎_elim
     (λ (s : AreStored first second entries). record { its = states_of entries; is = inl refl; text = record { entries = entries; stored = s; is = refl }; hosted = h })
     (λ (s : AreStored first second lost). record { its = states_of lost; is = inr refl; text = record { entries = lost; stored = s; is = refl }; hosted = p }) w
 
-module _ {D W : Type 0} (image : D → List ℕ → Type 0) (holding : W → Held) (parts : PartParts D W) (log first second : List ℕ)
-    (at_log : image parts.log.journal.disk log) (at_first : image parts.states.journal.live.disk first) (at_second : image parts.states.journal.idle second) where
-  pub left_of : (shard : PartShardState) → Carries image holding parts shard → IsLeftOf parts.conf shard log first second
-  left_of = carried image holding parts (λ shard. IsLeftOf parts.conf shard log first second) (λ batch pending k.
+module _ {D W : Type 0} (seen : D → DiskView) (holding : W → Held) (parts : PartParts D W) (log first second : List ℕ)
+    (at_log : (seen parts.log.journal.disk).image log) (at_first : (seen parts.states.journal.live.disk).image first) (at_second : (seen parts.states.journal.idle).image second) where
+  pub left_of : (shard : PartShardState) → Carries seen holding parts shard → IsLeftOf parts.conf shard log first second
+  left_of = carried seen holding parts (λ shard. IsLeftOf parts.conf shard log first second) (λ batch pending k.
       let l = log_left parts.conf parts.log.batches batch log k.log.keeps.follows (k.log.keeps.images log at_log) in
       let s = states_left parts.conf parts.log.batches parts.states.entries pending first second k.hosted k.pending_hosted (k.holds.images first second at_first at_second) in
       record {

@@ -20,16 +20,17 @@ use Rattle.share_part.specs.Opening.{IsOpened, IsNotOpened, AreDamagedAt, Stands
 use Rattle.share_part.specs.Shards.{PartParts, held_in}
 use Rattle.share_part.specs.declared.opening.PartFault.{PartFault}
 use Rattle.share_part.specs.declared.opening.PartFault.TheVariants.{Damaged, Device}
+use Rattle.edge_io.specs.Views.{DiskView}
 
-module _ {D W : Type 0} (content : D → Option (List ℕ)) (image : D → List ℕ → Type 0) (holding : W → Held) (armed : D → Armed) (starved : D → Bool) (faults : D → ℕ)
+module _ {D W : Type 0} (seen : D → DiskView) (holding : W → Held)
     (conf : PartConfParts) (disk a b : D) where
   -- ---- opened
 
-  pub opened : (parts : PartParts D W) → parts.conf ≡ conf → parts.windows ≡ [] → parts.clock ≡ 0 → Keeps image parts.log None
-      → ((c : List ℕ) → content disk ≡ Some c → IsLogText c parts.log.batches)
-      → ((c : List ℕ) (batches : List Batch) → content disk ≡ Some c → IsLogText c batches → parts.log.batches ≡ batches)
-      → states_opened content image a b parts.states → AreHosted conf parts.log.batches (states_of parts.states.entries)
-      → IsOpened content image holding conf disk a b parts
+  pub opened : (parts : PartParts D W) → parts.conf ≡ conf → parts.windows ≡ [] → parts.clock ≡ 0 → Keeps seen parts.log None
+      → ((c : List ℕ) → (seen disk).content ≡ Some c → IsLogText c parts.log.batches)
+      → ((c : List ℕ) (batches : List Batch) → (seen disk).content ≡ Some c → IsLogText c batches → parts.log.batches ≡ batches)
+      → states_opened seen a b parts.states → AreHosted conf parts.log.batches (states_of parts.states.entries)
+      → IsOpened seen holding conf disk a b parts
   opened parts is windows clock keeps opens only states hosted = record {
     conf_is = is;
     carries = record {
@@ -57,12 +58,12 @@ module _ {D W : Type 0} (content : D → Option (List ℕ)) (image : D → List 
   -- ---- not opened
 
   abbrev Not : D → D → D → PartFault → Type 0
-  Not disk_now a_now b_now fault = IsNotOpened content armed starved faults conf disk a b disk_now a_now b_now fault
+  Not disk_now a_now b_now fault = IsNotOpened seen conf disk a b disk_now a_now b_now fault
 
   pub by_log : (disk_now : D) (fault : OpenFault)
-      → ((place : ℕ) → fault ≡ log_damaged place → (c : List ℕ) → content disk ≡ Some c → IsNoLogText c place)
-      → ((c : List ℕ) (batches : List Batch) → content disk ≡ Some c → IsLogText c batches → (place : ℕ) → fault ≢ log_damaged place)
-      → (fault ≡ log_device → HasFailed content armed starved faults disk disk_now) → Not disk_now a b (fault_of_log fault)
+      → ((place : ℕ) → fault ≡ log_damaged place → (c : List ℕ) → (seen disk).content ≡ Some c → IsNoLogText c place)
+      → ((c : List ℕ) (batches : List Batch) → (seen disk).content ≡ Some c → IsLogText c batches → (place : ℕ) → fault ≢ log_damaged place)
+      → (fault ≡ log_device → HasFailed seen disk disk_now) → Not disk_now a b (fault_of_log fault)
   by_log disk_now (log_damaged at) damaged sound device = record {
     damaged = λ place_disk place is l x y at_l at_x at_y.
         let d : Log ≡ place_disk = cc in let p : at ≡ place = cc in
@@ -91,15 +92,15 @@ module _ {D W : Type 0} (content : D → Option (List ℕ)) (image : D → List 
   damaged_by false l x y place log d = (log, inl d)
   damaged_by true l x y place log d = (log, d)
 
-  device_by : (second : Bool) (a_now b_now : D) → states_not_opened content armed starved faults a b (a_now, b_now, states_device second)
-      → (Device (state_disk second) ≡ Device StateA → HasFailed content armed starved faults a a_now)
-      × (Device (state_disk second) ≡ Device StateB → HasFailed content armed starved faults b b_now)
+  device_by : (second : Bool) (a_now b_now : D) → states_not_opened seen a b (a_now, b_now, states_device second)
+      → (Device (state_disk second) ≡ Device StateA → HasFailed seen a a_now)
+      × (Device (state_disk second) ≡ Device StateB → HasFailed seen b b_now)
       × (Device (state_disk second) ≡ Device Log → ⊥)
   device_by false a_now b_now n = (λ is. n.device refl, λ is. absurd (let clash : ⊥ = cc in clash), λ is. let clash : ⊥ = cc in clash)
   device_by true a_now b_now n = (λ is. absurd (let clash : ⊥ = cc in clash), λ is. n.second_device refl, λ is. let clash : ⊥ = cc in clash)
 
-  pub by_states : (disk_now a_now b_now : D) (fault : CoordOpen) (batches : List Batch) → ((c : List ℕ) → content disk ≡ Some c → IsLogText c batches)
-      → states_not_opened content armed starved faults a b (a_now, b_now, fault)
+  pub by_states : (disk_now a_now b_now : D) (fault : CoordOpen) (batches : List Batch) → ((c : List ℕ) → (seen disk).content ≡ Some c → IsLogText c batches)
+      → states_not_opened seen a b (a_now, b_now, fault)
       → Not disk_now a_now b_now (fault_of_states fault)
   by_states disk_now a_now b_now (states_damaged second at) its_log opens n = record {
     damaged = λ place_disk place is l x y at_l at_x at_y.
@@ -128,9 +129,9 @@ module _ {D W : Type 0} (content : D → Option (List ℕ)) (image : D → List 
   }
 
   pub misplaced : (disk_now a_now b_now : D) (log : LogParts D) (store : StoreParts D)
-      → ((c : List ℕ) → content disk ≡ Some c → IsLogText c log.batches)
-      → ((c : List ℕ) (batches : List Batch) → content disk ≡ Some c → IsLogText c batches → log.batches ≡ batches)
-      → states_opened content image a b store → (AreHosted conf log.batches (states_of store.entries) → ⊥)
+      → ((c : List ℕ) → (seen disk).content ≡ Some c → IsLogText c log.batches)
+      → ((c : List ℕ) (batches : List Batch) → (seen disk).content ≡ Some c → IsLogText c batches → log.batches ≡ batches)
+      → states_opened seen a b store → (AreHosted conf log.batches (states_of store.entries) → ⊥)
       → Not disk_now a_now b_now (Damaged StateA 0)
   misplaced disk_now a_now b_now log store opens only states broken = record {
     damaged = λ place_disk place is l x y at_l at_x at_y.

@@ -23,6 +23,7 @@ use Rattle.share_part.specs.Making.{MakesOnce, MakesTableOnce, state_for}
 use Rattle.share_part.specs.Shards.{first_start, held_in, held_of, new_state}
 use Rattle.share_part.specs.Tables.{MayGoOut, Table, table_of}
 use Rattle.share_part.proofs.Seeing.{goes_out, state_seen, view_of}
+use Rattle.edge_io.specs.Views.{DiskView}
 
 module _ {W : Type 0} (holding : W → Held) (conf : PartConfParts) (log : List Batch) (entries : Entries) (windows : List (List ℕ × W)) (group : List ℕ) where
   pub rows_go_out : (state : ShareState) → Some state ≡ option_map view_of (kept_at entries (key_of conf group)) → AreHosted conf log (states_of entries) → MayGoOut state.runs
@@ -53,14 +54,14 @@ module _ {W : Type 0} (holding : W → Held) (conf : PartConfParts) (log : List 
       → ◌≡◌ {A = Table} (record { start = start; rows = rows; held = holding w }) (table_of (state_for conf log entries group) (held_in holding windows group))
   table_new is w there start rows at are = table_by (new_state conf (end_of log)) w start rows (state_by None is) there at are
 
-pub made_table : {D : Type 0} (image : D → List ℕ → Type 0) (moment : D → ℕ) (since : D → ℕ → List ℕ → Type 0) (Failed : D → D → Type 0)
+pub made_table : {D : Type 0} (seen : D → DiskView) (Failed : D → D → Type 0)
     (conf : PartConfParts) (group : List ℕ) (end : ℕ) (old new : StoreParts D) (result : Result ThenOutcome want) (key : KeyParts) (start : ℕ)
     → key ≡ key_of conf group → start ≡ first_start conf.reset end
     → (IsSome (kept_at old.entries key) → (new ≡ old) × (result ≡ Ok Done))
-    → (kept_at old.entries key ≡ None → MakesOnce image moment since Failed (IsInitialised old.entries key (pos 0) (pos start)) old new result)
-    → MakesTableOnce image moment since Failed conf group end old new result
-made_table image moment since Failed conf group end old new result key start is at there absent = record {
+    → (kept_at old.entries key ≡ None → MakesOnce seen Failed (IsInitialised old.entries key (pos 0) (pos start)) old new result)
+    → MakesTableOnce seen Failed conf group end old new result
+made_table seen Failed conf group end old new result key start is at there absent = record {
   there = subst (λ (k : KeyParts). IsSome (kept_at old.entries k) → (new ≡ old) × (result ≡ Ok Done)) is there;
-  absent = subst (λ (k : KeyParts). kept_at old.entries k ≡ None → MakesOnce image moment since Failed (IsInitialised old.entries k (pos 0) (pos (first_start conf.reset end))) old new result) is
-      (subst (λ (s : ℕ). kept_at old.entries key ≡ None → MakesOnce image moment since Failed (IsInitialised old.entries key (pos 0) (pos s)) old new result) at absent);
+  absent = subst (λ (k : KeyParts). kept_at old.entries k ≡ None → MakesOnce seen Failed (IsInitialised old.entries k (pos 0) (pos (first_start conf.reset end))) old new result) is
+      (subst (λ (s : ℕ). kept_at old.entries key ≡ None → MakesOnce seen Failed (IsInitialised old.entries key (pos 0) (pos s)) old new result) at absent);
 }

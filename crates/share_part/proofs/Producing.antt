@@ -23,6 +23,7 @@ use Rattle.share_part.specs.Hosting.{PartConfParts, AreHosted}
 use Rattle.share_part.specs.Once.{ProducesOnce}
 use Rattle.share_part.specs.Shards.{PartShardState, PartParts, Carries, IsPendingHosted}
 use Rattle.share_part.specs.Slots.{and_more, next_slot, slots_from}
+use Rattle.edge_io.specs.Views.{DiskView}
 
 abbrev bytes_of : Batch → List ℕ
 bytes_of b = b.bytes
@@ -114,14 +115,13 @@ step_grows rose end old new bytes (Err (Store (Full at))) s = inl (ap (λ (l : L
 step_grows rose end old new bytes (Err (Behind at)) s = absurd s
 step_grows rose end old new bytes (Err NoMemory) s = absurd s
 
-module _ {D W : Type 0} (content : D → Option (List ℕ)) (image : D → List ℕ → Type 0) (moment : D → ℕ) (since : D → ℕ → List ℕ → Type 0)
-    (armed : D → Armed) (starved : D → Bool) (faults : D → ℕ) (holding : W → Held) (now : ℕ) (bytes : List ℕ) (old : PartParts D W)
+module _ {D W : Type 0} (seen : D → DiskView) (holding : W → Held) (now : ℕ) (bytes : List ℕ) (old : PartParts D W)
     (log : LogParts D) (clock : ℕ) (result : Result ℕ LogFault)
-    (once : AddsOnce content image moment since armed starved faults old.log log (at_end old.log.batches bytes) result) where
+    (once : AddsOnce seen old.log log (at_end old.log.batches bytes) result) where
   abbrev after : PartParts D W
   after = record { conf = old.conf; log = log; states = old.states; windows = old.windows; clock = clock }
 
-  added_grows : (r : Result ℕ LogFault) → AddsOnce content image moment since armed starved faults old.log log (at_end old.log.batches bytes) r → Grows old.log.batches log.batches
+  added_grows : (r : Result ℕ LogFault) → AddsOnce seen old.log log (at_end old.log.batches bytes) r → Grows old.log.batches log.batches
   added_grows (Ok base) o = inr (at_end old.log.batches bytes, o.ok.1.follows, o.ok.1.batches)
   added_grows (Err (Store Device)) o = inl (o.device refl).0.batches
   added_grows (Err (BadBatch fault)) o = inl (ap (λ (l : LogParts D). l.batches) (o.unchanged (BadBatch fault) refl (λ e. let clash : ⊥ = cc in clash)))
@@ -139,14 +139,14 @@ module _ {D W : Type 0} (content : D → Option (List ℕ)) (image : D → List 
   stays_hosted states h = grows_hosted old.conf old.log.batches log.batches states (added_grows result once) h
 
   abbrev Moments : LogShardState → Type 0
-  Moments shard = LeavesOnly moment since old.log.journal.disk log.journal.disk
+  Moments shard = LeavesOnly seen old.log.journal.disk log.journal.disk
       (λ c. IsLogOf shard c ⊎ IsLogOf (record { batches = shard.batches; pending = Some (at_end shard.batches bytes) }) c)
 
   found : (batches : List Batch) (pending : Option Batch) (c : List ℕ) → IsWithin batches pending (at_end batches bytes) c
       → IsLogOf (record { batches = batches; pending = pending }) c ⊎ IsLogOf (record { batches = batches; pending = Some (at_end batches bytes) }) c
   found batches pending c h = ⊎_elim (λ w. inl w) (λ w. inr (inr w)) h
 
-  moments_at : (pending : Option Batch) → Keeps image old.log pending → Moments (record { batches = old.log.batches; pending = pending })
+  moments_at : (pending : Option Batch) → Keeps seen old.log pending → Moments (record { batches = old.log.batches; pending = pending })
   moments_at pending keeps =
       let m = once.any_moment pending keeps in
       record {
@@ -155,32 +155,32 @@ module _ {D W : Type 0} (content : D → Option (List ℕ)) (image : D → List 
         before = λ t c le at. ⊎_elim (λ was. inl was) (λ w. inr (found old.log.batches pending c w)) (m.before t c le at);
       }
 
-  moments : (shard : PartShardState) → Carries image holding old shard → Moments shard.log
+  moments : (shard : PartShardState) → Carries seen holding old shard → Moments shard.log
   moments shard c =
       let is : record { batches = old.log.batches; pending = shard.log.pending } ≡ shard.log = λ i. record { batches = sym c.log.batches i; pending = shard.log.pending } in
       subst Moments is (moments_at shard.log.pending c.log.keeps)
 
   -- the journal never ends before where it did
   abbrev Later : Type 0
-  Later = (pending : Option Batch) → Keeps image old.log pending → old.log.journal.end ≤ log.journal.end
+  Later = (pending : Option Batch) → Keeps seen old.log pending → old.log.journal.end ≤ log.journal.end
 
-  later_kept : (pending after : Option Batch) → log.batches ≡ old.log.batches → Keeps image old.log pending → Keeps image log after → old.log.journal.end ≤ log.journal.end
+  later_kept : (pending after : Option Batch) → log.batches ≡ old.log.batches → Keeps seen old.log pending → Keeps seen log after → old.log.journal.end ≤ log.journal.end
   later_kept pending after same was is =
-      let ends : log.journal.end ≡ old.log.journal.end = same_end image old.log.journal log.journal (frames_of old.log.batches) (option_map bytes_of pending)
+      let ends : log.journal.end ≡ old.log.journal.end = same_end seen old.log.journal log.journal (frames_of old.log.batches) (option_map bytes_of pending)
       (option_map bytes_of after) was.stands
-      (subst (λ (l : List Batch). Stands image log.journal (frames_of l) (option_map bytes_of after)) same is.stands) in
+      (subst (λ (l : List Batch). Stands seen log.journal (frames_of l) (option_map bytes_of after)) same is.stands) in
       omega (arith, ends)
 
   later_same : log ≡ old.log → Later
   later_same same pending keeps = let ends : log.journal.end ≡ old.log.journal.end = λ i. (same i).journal.end in omega (arith, ends)
 
-  later_added : IsAdded image old.log log (at_end old.log.batches bytes) → Later
-  later_added added pending keeps = later_end image old.log.journal log.journal (frames_of old.log.batches) (option_map bytes_of pending) None
+  later_added : IsAdded seen old.log log (at_end old.log.batches bytes) → Later
+  later_added added pending keeps = later_end seen old.log.journal log.journal (frames_of old.log.batches) (option_map bytes_of pending) None
       (at_end old.log.batches bytes).bytes keeps.stands
-      (subst (λ (fs : List (List ℕ)). Stands image log.journal fs None) (ap frames_of added.batches ∙ frames_more old.log.batches (at_end old.log.batches bytes))
+      (subst (λ (fs : List (List ℕ)). Stands seen log.journal fs None) (ap frames_of added.batches ∙ frames_more old.log.batches (at_end old.log.batches bytes))
       (added.kept pending keeps).stands)
 
-  later_by : (r : Result ℕ LogFault) → AddsOnce content image moment since armed starved faults old.log log (at_end old.log.batches bytes) r → Later
+  later_by : (r : Result ℕ LogFault) → AddsOnce seen old.log log (at_end old.log.batches bytes) r → Later
   later_by (Ok base) o = later_added o.ok.1
   later_by (Err (Store Device)) o = λ pending keeps. let u = (o.device refl).0 in ⊎_elim
       (λ k. later_kept pending pending u.batches keeps k) (λ k. later_kept pending (Some (at_end old.log.batches bytes)) u.batches keeps k) (u.kept pending keeps)
@@ -189,14 +189,14 @@ module _ {D W : Type 0} (content : D → Option (List ℕ)) (image : D → List 
   later_by (Err (Store (Full at))) o = later_same (o.unchanged (Store (Full at)) refl (λ e. let clash : ⊥ = cc in clash))
   later_by (Err NoMemory) o = later_same (o.unchanged NoMemory refl (λ e. let clash : ⊥ = cc in clash))
 
-  ends : (shard : PartShardState) → Carries image holding old shard → old.log.journal.end ≤ log.journal.end
+  ends : (shard : PartShardState) → Carries seen holding old shard → old.log.journal.end ≤ log.journal.end
   ends shard c = later_by result once shard.log.pending c.log.keeps
 
-  sound : result ≡ Err (Store Device) → StarvesUnarmed content armed starved old.log.journal.disk log.journal.disk
+  sound : result ≡ Err (Store Device) → StarvesUnarmed seen old.log.journal.disk log.journal.disk
   sound is = (once.device is).3
 
   -- no memory was found
-  pub hungry : result ≡ Err NoMemory → clock ≡ old.clock → ProducesOnce content image moment since armed starved faults holding now bytes old after result
+  pub hungry : result ≡ Err NoMemory → clock ≡ old.clock → ProducesOnce seen holding now bytes old after result
   hungry is same = record {
     steps = λ fed. absurd (fed is);
     memory = λ e.
@@ -211,13 +211,13 @@ module _ {D W : Type 0} (content : D → Option (List ℕ)) (image : D → List 
 
   -- a step was made
   pub produced : result ≢ Err NoMemory → clock ≡ max old.clock now
-      → (result ≢ Err NoMemory → (shard : LogShardState) → CarriesLog image old.log shard → (next : LogShardState) × CarriesLog image log next
-      × StepsLog (Rose (faults old.log.journal.disk) (faults log.journal.disk)) old.log.journal.end shard bytes result next)
-      → ProducesOnce content image moment since armed starved faults holding now bytes old after result
+      → (result ≢ Err NoMemory → (shard : LogShardState) → CarriesLog seen old.log shard → (next : LogShardState) × CarriesLog seen log next
+      × StepsLog (Rose (seen old.log.journal.disk).faults (seen log.journal.disk).faults) old.log.journal.end shard bytes result next)
+      → ProducesOnce seen holding now bytes old after result
   produced fed at steps = record {
     steps = λ same shard c.
         let s = steps fed shard.log c.log in
-        let grows = step_grows (Rose (faults old.log.journal.disk) (faults log.journal.disk)) old.log.journal.end shard.log s.0 bytes result s.2 in (
+        let grows = step_grows (Rose (seen old.log.journal.disk).faults (seen log.journal.disk).faults) old.log.journal.end shard.log s.0 bytes result s.2 in (
           record { log = s.0; states = shard.states; pending = shard.pending; held = shard.held; clock = clock },
           record {
             log = s.1;

@@ -29,6 +29,7 @@ use Rattle.share_part.specs.declared.settle.Judged.{Judged}
 use Rattle.share_part.specs.declared.settle.Judged.TheVariants.{NotHeld, Changes}
 use Rattle.share_part.proofs.Visiting.{err_is}
 use Rattle.share_part.proofs.Writing.{start_bound, granted, not_many}
+use Rattle.edge_io.specs.Views.{DiskView}
 
 -- the state that acts change, and what is to be stored of it
 abbrev pub HasChange : ℕ → Acts → List Batch → Held → Option ShareState → Change → Type 0
@@ -68,10 +69,10 @@ told_fault (Err NoMemory) fault tells = absurd (let clash : ⊥ = cc in clash)
 
 -- ---- no memory was found for the write
 
-module _ {D : Type 0} (image : D → List ℕ → Type 0) (moment : D → ℕ) (since : D → ℕ → List ℕ → Type 0) (Failed : D → D → Type 0) (old new : StoreParts D) where
+module _ {D : Type 0} (seen : D → DiskView) (Failed : D → D → Type 0) (old new : StoreParts D) where
   module _ (Written : Entries → Type 0) where
     by_memory : (done : Result (Unit {0}) CoordFault) (result : Result (Option StoreFault) want) → IsErr result → TellsStored done result
-        → WritesOnce image moment since Failed Written old new done → new ≡ old
+        → WritesOnce seen Failed Written old new done → new ≡ old
     by_memory (Ok u) result none tells once = absurd (let clash : ⊥ = cc in clash)
     by_memory (Err Invalid) result none tells once = absurd tells
     by_memory (Err Unknown) result none tells once = absurd tells
@@ -81,16 +82,16 @@ module _ {D : Type 0} (image : D → List ℕ → Type 0) (moment : D → ℕ) (
     by_memory (Err (Store fault)) result none tells once = absurd (let clash : ⊥ = cc in clash)
     by_memory (Err NoMemory) result none tells once = once.unchanged (λ e. let clash : ⊥ = cc in clash)
 
-    pub unstored : (result : Result (Option StoreFault) want) (e : want) → result ≡ Err e → StoresOnce image moment since Failed Written old new result → new ≡ old
+    pub unstored : (result : Result (Option StoreFault) want) (e : want) → result ≡ Err e → StoresOnce seen Failed Written old new result → new ≡ old
     unstored result e is once = by_memory once.done result (err_is result e is) once.tells once.once
 
   module _ (conf : PartConfParts) (log : List Batch) (group : List ℕ) (acts : Acts) (was : Held) (same ends : Type 0) (stays : new ≡ old) (is_same : same) where
-    pub unreleased : (answer : Result Released want) → IsErr answer → StoresGroup image moment since Failed conf log group acts was old new same ends (told_in answer)
+    pub unreleased : (answer : Result Released want) → IsErr answer → StoresGroup seen Failed conf log group acts was old new same ends (told_in answer)
     unreleased (Ok released) none = absurd (let clash : ⊥ = cc in clash)
     unreleased (Err e) none = (stays, is_same)
 
     pub unsettled : (member : List ℕ) (answer : Result AckOutcome want) → IsErr answer
-        → SettlesGroup image moment since Failed conf log group member acts was old new same ends answer
+        → SettlesGroup seen Failed conf log group member acts was old new same ends answer
     unsettled member (Ok outcome) none = absurd (let clash : ⊥ = cc in clash)
     unsettled member (Err e) none = (stays, is_same)
 
@@ -118,23 +119,23 @@ module _ {D : Type 0} (conf : PartConfParts) (log : List Batch) (group : List �
         (subst (λ (r : List Run). IsTooMany old.entries (key_of conf group) (start_number change.start) r count) runs_are
         (subst (λ (k : KeyParts). IsTooMany old.entries k (start_number change.start) runs count) key_is many))
 
-    module _ (image : D → List ℕ → Type 0) (moment : D → ℕ) (since : D → ℕ → List ℕ → Type 0) (Failed : D → D → Type 0) (new : StoreParts D) where
+    module _ (seen : D → DiskView) (Failed : D → D → Type 0) (new : StoreParts D) where
       abbrev Stored : Result (Unit {0}) CoordFault → Type 0
-      Stored done = IsActsStored image moment since Failed conf log group acts held old new done
+      Stored done = IsActsStored seen Failed conf log group acts held old new done
 
-      by_done : (done wanted : Result (Unit {0}) CoordFault) → done ≡ wanted → WritesOnce image moment since Failed (IsStored old.entries key change.start runs) old new done → Stored wanted
+      by_done : (done wanted : Result (Unit {0}) CoordFault) → done ≡ wanted → WritesOnce seen Failed (IsStored old.entries key change.start runs) old new done → Stored wanted
       by_done done wanted same once = record {
         state = found.0;
         change = change;
         known = found.1;
         is = found.2;
-        once = subst (WritesOnce image moment since Failed (IsStored old.entries (key_of conf group) change.start change.runs.items) old new) same
-            (subst (λ (r : List Run). WritesOnce image moment since Failed (IsStored old.entries (key_of conf group) change.start r) old new done) runs_are
-            (subst (λ (k : KeyParts). WritesOnce image moment since Failed (IsStored old.entries k change.start runs) old new done) key_is once));
+        once = subst (WritesOnce seen Failed (IsStored old.entries (key_of conf group) change.start change.runs.items) old new) same
+            (subst (λ (r : List Run). WritesOnce seen Failed (IsStored old.entries (key_of conf group) change.start r) old new done) runs_are
+            (subst (λ (k : KeyParts). WritesOnce seen Failed (IsStored old.entries k change.start runs) old new done) key_is once));
       }
 
       abbrev Once : Option StoreFault → Type 0
-      Once fault = StoresOnce image moment since Failed (IsStored old.entries key change.start runs) old new (Ok fault)
+      Once fault = StoresOnce seen Failed (IsStored old.entries key change.start runs) old new (Ok fault)
 
       pub all_stored : (fault : Option StoreFault) → fault ≡ None → Once fault → Stored (Ok tt)
       all_stored fault none once = let o = subst Once none once in by_done o.done (Ok tt) (told_done o.done o.tells) o.once

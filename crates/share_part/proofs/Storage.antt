@@ -34,9 +34,9 @@ use Rattle.share_part.proofs.Seeing.{hosted_more}
 use Rattle.share_part.proofs.Staying.{settled_hosted}
 use Rattle.share_part.proofs.Stepping.{next, now_settled, now_states}
 use Rattle.share_part.proofs.Visiting.{Keeping, carried, carries_with, shard_of}
+use Rattle.edge_io.specs.Views.{DiskView}
 
-module _ {D W : Type 0} (content : D → Option (List ℕ)) (image : D → List ℕ → Type 0) (moment : D → ℕ) (since : D → ℕ → List ℕ → Type 0)
-    (armed : D → Armed) (starved : D → Bool) (faults : D → ℕ) (holding : W → Held) (group : List ℕ) (acts : Acts) (old : PartParts D W) (states : StoreParts D)
+module _ {D W : Type 0} (seen : D → DiskView) (holding : W → Held) (group : List ℕ) (acts : Acts) (old : PartParts D W) (states : StoreParts D)
     (windows : List (List ℕ × W)) (clock : ℕ) (sound : IsStoredLog old.log.batches) (few : old.conf.limit ≤ 10)
     (hosted : AreHosted old.conf old.log.batches (states_of old.states.entries))
     (kept : AreKept old.conf old.log.batches (states_of old.states.entries) (held_in holding old.windows)) where
@@ -51,7 +51,7 @@ module _ {D W : Type 0} (content : D → Option (List ℕ)) (image : D → List 
   key = key_of old.conf group
 
   abbrev pub Rises : Type 0
-  Rises = Rose (faults old.states.journal.live.disk) (faults states.journal.live.disk)
+  Rises = Rose (seen old.states.journal.live.disk).faults (seen states.journal.live.disk).faults
 
   abbrev pub Same : Type 0
   Same = (other : List ℕ) → held_in holding windows other ≡ held_in holding old.windows other
@@ -60,13 +60,13 @@ module _ {D W : Type 0} (content : D → Option (List ℕ)) (image : D → List 
   Ends = (other : List ℕ) → held_in holding windows other ≡ with_held (held_in holding old.windows) group (held_after acts was) other
 
   abbrev Failed : D → D → Type 0
-  Failed = HasFailed content armed starved faults
+  Failed = HasFailed seen
 
   abbrev pub Stores : Result (Option StoreFault) want → Type 0
-  Stores result = StoresGroup image moment since Failed old.conf old.log.batches group acts was old.states states Same Ends result
+  Stores result = StoresGroup seen Failed old.conf old.log.batches group acts was old.states states Same Ends result
 
   abbrev Stored : Result (Unit {0}) CoordFault → Type 0
-  Stored done = IsActsStored image moment since Failed old.conf old.log.batches group acts was old.states states done
+  Stored done = IsActsStored seen Failed old.conf old.log.batches group acts was old.states states done
 
   -- ---- what is stored
 
@@ -86,7 +86,7 @@ module _ {D W : Type 0} (content : D → Option (List ℕ)) (image : D → List 
     its_states : states_of es ≡ insert_entry key_cmp (states_of old.states.entries) key its_next
     its_states = now_states old.conf old.log.batches old.states.entries es group st.state was acts st.change its_hosted st.known st.is w
 
-    are_settled : (batch : Option Batch) (pending : Option Entries) → AreSettled old.conf (shard_of image holding old batch pending) group acts (states_of es)
+    are_settled : (batch : Option Batch) (pending : Option Entries) → AreSettled old.conf (shard_of seen holding old batch pending) group acts (states_of es)
     are_settled batch pending = record { state = st.state; next = its_next; known = st.known; settled = its_settled; is = its_states }
 
     set_hosted : AreHosted old.conf old.log.batches (states_of es)
@@ -125,13 +125,13 @@ module _ {D W : Type 0} (content : D → Option (List ℕ)) (image : D → List 
   -- a step of the shard that leaves the log, and has this clock
   pub record Steps (Does : PartShardState → PartShardState → Type 0) (s : PartShardState) : Type 0 where
     pub then : PartShardState
-    pub carries : Carries image holding behind then
+    pub carries : Carries seen holding behind then
     pub log : then.log ≡ s.log
     pub clock_is : then.clock ≡ clock
     pub does : Does s then
 
   abbrev pub AllSteps : (PartShardState → PartShardState → Type 0) → Type 0
-  AllSteps Does = (s : PartShardState) → Carries image holding old s → Steps Does s
+  AllSteps Does = (s : PartShardState) → Carries seen holding old s → Steps Does s
 
   -- the same states and holds
   abbrev shard_same : Option Batch → Option Entries → PartShardState
@@ -143,16 +143,16 @@ module _ {D W : Type 0} (content : D → Option (List ℕ)) (image : D → List 
     clock = clock;
   }
 
-  pub same_carried : (batch : Option Batch) (was_pending pending : Option Entries) → Keeping image holding old batch was_pending → states.entries ≡ old.states.entries
-      → Holds image states pending → IsPendingHosted old.conf old.log.batches (option_map states_of pending) → Same → Carries image holding behind (shard_same batch pending)
+  pub same_carried : (batch : Option Batch) (was_pending pending : Option Entries) → Keeping seen holding old batch was_pending → states.entries ≡ old.states.entries
+      → Holds seen states pending → IsPendingHosted old.conf old.log.batches (option_map states_of pending) → Same → Carries seen holding behind (shard_same batch pending)
   same_carried batch was_pending pending k entries holds fine same =
-      carries_with image holding old behind batch was_pending pending (held_in holding old.windows) k refl refl entries holds fine (λ group. sym (same group))
+      carries_with seen holding old behind batch was_pending pending (held_in holding old.windows) k refl refl entries holds fine (λ group. sym (same group))
 
   pub still : (Does : PartShardState → PartShardState → Type 0) → states ≡ old.states → Same
-      → ((batch : Option Batch) (pending : Option Entries) → Does (shard_of image holding old batch pending) (shard_same batch pending)) → AllSteps Does
-  still Does is same does = carried image holding old (Steps Does) (λ batch pending k. record {
+      → ((batch : Option Batch) (pending : Option Entries) → Does (shard_of seen holding old batch pending) (shard_same batch pending)) → AllSteps Does
+  still Does is same does = carried seen holding old (Steps Does) (λ batch pending k. record {
     then = shard_same batch pending;
-    carries = same_carried batch pending pending k (ap (λ (s : StoreParts D). s.entries) is) (subst (λ (s : StoreParts D). Holds image s pending) (sym is) k.holds) k.pending_hosted same;
+    carries = same_carried batch pending pending k (ap (λ (s : StoreParts D). s.entries) is) (subst (λ (s : StoreParts D). Holds seen s pending) (sym is) k.holds) k.pending_hosted same;
     log = refl;
     clock_is = refl;
     does = does batch pending;
@@ -163,7 +163,7 @@ module _ {D W : Type 0} (content : D → Option (List ℕ)) (image : D → List 
 
   pub stored_steps : (fault : Option StoreFault) → Stores (Ok fault) → AllSteps (DoesActs fault)
   stored_steps None (inl n) = still (DoesActs None) n.1 n.2 (λ batch pending. inl (n.0, record { states = refl; pending = refl; held = refl }))
-  stored_steps None (inr h) = carried image holding old (Steps (DoesActs None)) (λ batch pending k. record {
+  stored_steps None (inr h) = carried seen holding old (Steps (DoesActs None)) (λ batch pending k. record {
     then = record {
       log = record { batches = old.log.batches; pending = batch };
       states = states_of states.entries;
@@ -186,7 +186,7 @@ module _ {D W : Type 0} (content : D → Option (List ℕ)) (image : D → List 
     clock_is = refl;
     does = inr (h.0, record { states = are_settled (Ok tt) h.1 states.entries h.1.once.written batch pending; nothing = refl; held = refl });
   })
-  stored_steps (Some Device) h = carried image holding old (Steps (DoesActs (Some Device))) (λ batch pending k.
+  stored_steps (Some Device) h = carried seen holding old (Steps (DoesActs (Some Device))) (λ batch pending k.
       let rises : Rises = (h.1.once.device refl).0.0 in
       ⊎_elim
       (λ holds. record {
@@ -204,10 +204,10 @@ module _ {D W : Type 0} (content : D → Option (List ℕ)) (image : D → List 
         does = (h.0, rises, record { states = refl; held = refl; pending = inr (states_of lost.0, refl, are_settled (Err (coord_store Device)) h.1 lost.0 lost.1 batch pending) });
       })
       (h.1.once.failed pending k.holds))
-  stored_steps (Some (Full at)) h = carried image holding old (Steps (DoesActs (Some (Full at)))) (λ batch pending k.
+  stored_steps (Some (Full at)) h = carried seen holding old (Steps (DoesActs (Some (Full at)))) (λ batch pending k.
       let full = h.1.once.full at refl in record {
         then = shard_same batch pending;
-        carries = same_carried batch pending pending k h.1.once.same (held_still image old.states states (h.1.once.unchanged (λ e. let never : ⊥ = cc in never)) pending k.holds) k.pending_hosted h.2;
+        carries = same_carried batch pending pending k h.1.once.same (held_still seen old.states states (h.1.once.unchanged (λ e. let never : ⊥ = cc in never)) pending k.holds) k.pending_hosted h.2;
         log = refl;
         clock_is = refl;
         does = (
@@ -238,26 +238,26 @@ module _ {D W : Type 0} (content : D → Option (List ℕ)) (image : D → List 
   stored_none (Err e) h nothing = h.0
 
   -- where no memory was found, the shard is as it was
-  pub unstored_carries : (e : want) → Stores (Err e) → clock ≡ old.clock → (s : PartShardState) → Carries image holding old s → Carries image holding behind s
-  unstored_carries e h same = carried image holding old (λ s. Carries image holding behind s) (λ batch pending k.
-      subst (λ (n : ℕ). Carries image holding behind (record {
+  pub unstored_carries : (e : want) → Stores (Err e) → clock ≡ old.clock → (s : PartShardState) → Carries seen holding old s → Carries seen holding behind s
+  unstored_carries e h same = carried seen holding old (λ s. Carries seen holding behind s) (λ batch pending k.
+      subst (λ (n : ℕ). Carries seen holding behind (record {
         log = record { batches = old.log.batches; pending = batch };
         states = states_of old.states.entries;
         pending = option_map states_of pending;
         held = held_in holding old.windows;
         clock = n;
       })) same
-      (same_carried batch pending pending k (ap (λ (s : StoreParts D). s.entries) h.0) (held_still image old.states states h.0 pending k.holds) k.pending_hosted h.1))
+      (same_carried batch pending pending k (ap (λ (s : StoreParts D). s.entries) h.0) (held_still seen old.states states h.0 pending k.holds) k.pending_hosted h.1))
 
   -- the journal never ends before where it did
-  pub stored_later : (r : Result (Option StoreFault) want) → Stores r → EndsLater image old.states states
-  stored_later (Ok None) (inl n) = later_same image old.states states n.1
-  stored_later (Ok None) (inr h) = later_once image moment since Failed _ old.states states (Ok tt) h.1.once
-  stored_later (Ok (Some fault)) h = later_once image moment since Failed _ old.states states (Err (coord_store fault)) h.1.once
-  stored_later (Err e) h = later_same image old.states states h.0
+  pub stored_later : (r : Result (Option StoreFault) want) → Stores r → EndsLater seen old.states states
+  stored_later (Ok None) (inl n) = later_same seen old.states states n.1
+  stored_later (Ok None) (inr h) = later_once seen Failed _ old.states states (Ok tt) h.1.once
+  stored_later (Ok (Some fault)) h = later_once seen Failed _ old.states states (Err (coord_store fault)) h.1.once
+  stored_later (Err e) h = later_same seen old.states states h.0
 
   -- a device fault
-  pub stored_device : (fault : Option StoreFault) → Stores (Ok fault) → fault ≡ Some Device → StarvesUnarmed content armed starved old.states.journal.live.disk states.journal.live.disk
+  pub stored_device : (fault : Option StoreFault) → Stores (Ok fault) → fault ≡ Some Device → StarvesUnarmed seen old.states.journal.live.disk states.journal.live.disk
   stored_device None h is = absurd (let clash : ⊥ = cc in clash)
   stored_device (Some Device) h is = (h.1.once.device refl).0.1
   stored_device (Some (Full at)) h is = absurd (let clash : ⊥ = cc in clash)

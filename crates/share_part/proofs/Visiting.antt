@@ -46,8 +46,9 @@ use Rattle.share_part.proofs.Appending.{numbered_is}
 use Rattle.share_part.proofs.Holding.{AreKept, kept_taken, none_kept, one_kept, same_kept, table_kept}
 use Rattle.share_part.proofs.Mapping.{keys_exact, keys_total, set_found}
 use Rattle.share_part.proofs.Seeing.{state_seen, view_of, hosted_more, new_hosted, made_is, goes_out}
+use Rattle.edge_io.specs.Views.{DiskView}
 
-module _ {D W : Type 0} (image : D → List ℕ → Type 0) (holding : W → Held) where
+module _ {D W : Type 0} (seen : D → DiskView) (holding : W → Held) where
   -- what a shard in memory carries, with these writes pending
   abbrev pub shard_of : PartParts D W → Option Batch → Option Entries → PartShardState
   shard_of parts batch pending = record {
@@ -59,14 +60,14 @@ module _ {D W : Type 0} (image : D → List ℕ → Type 0) (holding : W → Hel
   }
 
   pub record Keeping (parts : PartParts D W) (batch : Option Batch) (pending : Option Entries) : Type 0 where
-    pub log : CarriesLog image parts.log (record { batches = parts.log.batches; pending = batch })
-    pub holds : Holds image parts.states pending
+    pub log : CarriesLog seen parts.log (record { batches = parts.log.batches; pending = batch })
+    pub holds : Holds seen parts.states pending
     pub hosted : AreHosted parts.conf parts.log.batches (states_of parts.states.entries)
     pub pending_hosted : IsPendingHosted parts.conf parts.log.batches (option_map states_of pending)
 
   -- what holds of that holds of each shard that is carried
   pub carried : (parts : PartParts D W) (P : PartShardState → Type 0) → ((batch : Option Batch) (pending : Option Entries) → Keeping parts batch pending → P (shard_of parts batch pending))
-      → (shard : PartShardState) → Carries image holding parts shard → P shard
+      → (shard : PartShardState) → Carries seen holding parts shard → P shard
   carried parts P f shard c =
       let log : shard.log ≡ record { batches = parts.log.batches; pending = shard.log.pending } = λ i. record { batches = c.log.batches i; pending = shard.log.pending } in
       let is : shard_of parts shard.log.pending c.pending ≡ shard = λ i. record {
@@ -77,25 +78,25 @@ module _ {D W : Type 0} (image : D → List ℕ → Type 0) (holding : W → Hel
         clock = sym c.clock i;
       } in
       subst P is (f shard.log.pending c.pending (record {
-        log = subst (CarriesLog image parts.log) log c.log;
+        log = subst (CarriesLog seen parts.log) log c.log;
         holds = c.holds;
         hosted = hosted_as c;
         pending_hosted = pending_as c;
       }))
     where
-      hosted_as : Carries image holding parts shard → AreHosted parts.conf parts.log.batches (states_of parts.states.entries)
+      hosted_as : Carries seen holding parts shard → AreHosted parts.conf parts.log.batches (states_of parts.states.entries)
       hosted_as c = subst (λ (l : List Batch). AreHosted parts.conf l (states_of parts.states.entries)) c.log.batches
           (subst (AreHosted parts.conf shard.log.batches) c.states c.hosted)
 
-      pending_as : (c : Carries image holding parts shard) → IsPendingHosted parts.conf parts.log.batches (option_map states_of c.pending)
+      pending_as : (c : Carries seen holding parts shard) → IsPendingHosted parts.conf parts.log.batches (option_map states_of c.pending)
       pending_as c = subst (λ (l : List Batch). IsPendingHosted parts.conf l (option_map states_of c.pending)) c.log.batches
           (subst (IsPendingHosted parts.conf shard.log.batches) c.pending_is c.pending_hosted)
 
   -- with other holds, another clock, and a store of the same states
   pub carries_with : (parts after : PartParts D W) (batch : Option Batch) (was pending : Option Entries) (held : List ℕ → Held) → Keeping parts batch was
-      → after.conf ≡ parts.conf → after.log ≡ parts.log → after.states.entries ≡ parts.states.entries → Holds image after.states pending
+      → after.conf ≡ parts.conf → after.log ≡ parts.log → after.states.entries ≡ parts.states.entries → Holds seen after.states pending
       → IsPendingHosted parts.conf parts.log.batches (option_map states_of pending) → ((group : List ℕ) → held group ≡ held_in holding after.windows group)
-      → Carries image holding after (record {
+      → Carries seen holding after (record {
         log = record { batches = parts.log.batches; pending = batch };
         states = states_of parts.states.entries;
         pending = option_map states_of pending;
@@ -103,7 +104,7 @@ module _ {D W : Type 0} (image : D → List ℕ → Type 0) (holding : W → Hel
         clock = after.clock;
       })
   carries_with parts after batch was pending held k conf log entries holds hosted same = record {
-    log = subst (λ (l : LogParts D). CarriesLog image l (record { batches = parts.log.batches; pending = batch })) (sym log) k.log;
+    log = subst (λ (l : LogParts D). CarriesLog seen l (record { batches = parts.log.batches; pending = batch })) (sym log) k.log;
     pending = pending;
     holds = holds;
     states = ap states_of (sym entries);
@@ -115,10 +116,10 @@ module _ {D W : Type 0} (image : D → List ℕ → Type 0) (holding : W → Hel
   }
 
   -- with other devices that stand for the same
-  pub carries_armed : (old new : PartParts D W) (shard : PartShardState) → Carries image holding old shard → new.conf ≡ old.conf → new.log.batches ≡ old.log.batches
-      → ((pending : Option Batch) → Keeps image old.log pending → Keeps image new.log pending) → new.states.entries ≡ old.states.entries
-      → ((pending : Option Entries) → Holds image old.states pending → Holds image new.states pending) → new.windows ≡ old.windows → new.clock ≡ old.clock
-      → Carries image holding new shard
+  pub carries_armed : (old new : PartParts D W) (shard : PartShardState) → Carries seen holding old shard → new.conf ≡ old.conf → new.log.batches ≡ old.log.batches
+      → ((pending : Option Batch) → Keeps seen old.log pending → Keeps seen new.log pending) → new.states.entries ≡ old.states.entries
+      → ((pending : Option Entries) → Holds seen old.states pending → Holds seen new.states pending) → new.windows ≡ old.windows → new.clock ≡ old.clock
+      → Carries seen holding new shard
   carries_armed old new shard c conf batches log entries states windows clock = record {
     log = record { batches = c.log.batches ∙ sym batches; keeps = log shard.log.pending c.log.keeps };
     pending = c.pending;
@@ -136,33 +137,32 @@ module _ {D W : Type 0} (image : D → List ℕ → Type 0) (holding : W → Hel
 pub err_is : {T E : Type 0} (r : Result T E) (e : E) → r ≡ Err e → IsErr r
 err_is {T} {E} r e is = subst (λ (x : Result T E). IsErr x) (sym is) refl
 
-module _ {D W : Type 0} (content : D → Option (List ℕ)) (image : D → List ℕ → Type 0) (moment : D → ℕ) (since : D → ℕ → List ℕ → Type 0)
-    (armed : D → Armed) (starved : D → Bool) (faults : D → ℕ) (holding : W → Held) (now : ℕ) (visit : Visit) (old new : PartParts D W)
+module _ {D W : Type 0} (seen : D → DiskView) (holding : W → Held) (now : ℕ) (visit : Visit) (old new : PartParts D W)
     (conf : new.conf ≡ old.conf) (log : new.log ≡ old.log) (idle : new.states.journal.idle ≡ old.states.journal.idle) where
   abbrev Rises : Type 0
-  Rises = Rose (faults old.states.journal.live.disk) (faults new.states.journal.live.disk)
+  Rises = Rose (seen old.states.journal.live.disk).faults (seen new.states.journal.live.disk).faults
 
   abbrev Once : Result VisitAnswer want → Type 0
-  Once result = FollowsOnce content image armed starved faults holding now visit old new result
+  Once result = FollowsOnce seen holding now visit old new result
 
   abbrev Leads : VisitAnswer → PartShardState → Type 0
-  Leads answer s = (t : PartShardState) × Carries image holding new t × StepsThen old.conf Rises old.states.journal.live.end s now visit answer t
+  Leads answer s = (t : PartShardState) × Carries seen holding new t × StepsThen old.conf Rises old.states.journal.live.end s now visit answer t
 
   abbrev Starves : Type 0
-  Starves = StarvesUnarmed content armed starved old.states.journal.live.disk new.states.journal.live.disk
+  Starves = StarvesUnarmed seen old.states.journal.live.disk new.states.journal.live.disk
 
   abbrev key : KeyParts
   key = key_of old.conf visit.group
 
   -- what is written
   record Writes : Type 0 where
-    later : EndsLater image old.states new.states
-    unwritten : (s : PartShardState) → Carries image holding old s → HasNothingToWrite old.conf s visit visit.then → new.states ≡ old.states
+    later : EndsLater seen old.states new.states
+    unwritten : (s : PartShardState) → Carries seen holding old s → HasNothingToWrite old.conf s visit visit.then → new.states ≡ old.states
 
   writes_none : new.states ≡ old.states → Writes
-  writes_none same = record { later = later_same image old.states new.states same; unwritten = λ s c nothing. same }
+  writes_none same = record { later = later_same seen old.states new.states same; unwritten = λ s c nothing. same }
 
-  answered : (answer : VisitAnswer) → Writes → Followed image faults holding now visit old new answer → (answer.then ≡ store_outcome Device → Starves) → Once (Ok answer)
+  answered : (answer : VisitAnswer) → Writes → Followed seen holding now visit old new answer → (answer.then ≡ store_outcome Device → Starves) → Once (Ok answer)
   answered answer writes visited sound = record {
     steps = visited;
     memory = tt;
@@ -179,19 +179,19 @@ module _ {D W : Type 0} (content : D → Option (List ℕ)) (image : D → List 
       → ((group : List ℕ) → held_in holding new.windows group ≡ held_in holding old.windows group) → new.clock ≡ old.clock → Once (Err e)
   hungry e states held clock = record {
     steps = tt;
-    memory = carried image holding old (λ s. Carries image holding new s) (λ batch pending k.
-        subst (λ (c : ℕ). Carries image holding new (record {
+    memory = carried seen holding old (λ s. Carries seen holding new s) (λ batch pending k.
+        subst (λ (c : ℕ). Carries seen holding new (record {
           log = record { batches = old.log.batches; pending = batch };
           states = states_of old.states.entries;
           pending = option_map states_of pending;
           held = held_in holding old.windows;
           clock = c;
         })) clock
-        (carries_with image holding old new batch pending pending (held_in holding old.windows) k conf log (ap (λ (s : StoreParts D). s.entries) states)
-        (held_still image old.states new.states states pending k.holds) k.pending_hosted (λ group. sym (held group))));
+        (carries_with seen holding old new batch pending pending (held_in holding old.windows) k conf log (ap (λ (s : StoreParts D). s.entries) states)
+        (held_still seen old.states new.states states pending k.holds) k.pending_hosted (λ group. sym (held group))));
     sound = tt;
     unwritten = λ s c nothing. states;
-    ends = λ s c. later_same image old.states new.states states c.pending c.holds;
+    ends = λ s c. later_same seen old.states new.states states c.pending c.holds;
     log = log;
     idle = idle;
     conf = conf;
@@ -206,7 +206,7 @@ module _ {D W : Type 0} (content : D → Option (List ℕ)) (image : D → List 
   pub idly : (answer : VisitAnswer) → answer.ack ≡ acknowledged → IsEmptyAnswer Done answer → visit.then ≡ Nothing
       → new.states ≡ old.states → new.windows ≡ old.windows → new.clock ≡ max old.clock now → Once (Ok answer)
   idly answer ack empty what states windows clock = answered answer (writes_none states)
-      (carried image holding old (Leads answer) (λ batch pending k.
+      (carried seen holding old (Leads answer) (λ batch pending k.
       let t : PartShardState = record {
         log = record { batches = old.log.batches; pending = batch };
         states = states_of old.states.entries;
@@ -215,10 +215,10 @@ module _ {D W : Type 0} (content : D → Option (List ℕ)) (image : D → List 
         clock = new.clock;
       } in (
         t,
-        carries_with image holding old new batch pending pending (held_in holding old.windows) k conf log (ap (λ (s : StoreParts D). s.entries) states)
-            (subst (λ (s : StoreParts D). Holds image s pending) (sym states) k.holds) k.pending_hosted
+        carries_with seen holding old new batch pending pending (held_in holding old.windows) k conf log (ap (λ (s : StoreParts D). s.entries) states)
+            (subst (λ (s : StoreParts D). Holds seen s pending) (sym states) k.holds) k.pending_hosted
             (λ group. ap (λ (w : List (List ℕ × W)). held_in holding w group) (sym windows)),
-        record { clock = clock; log = refl; ack = ack; does = by_kind (shard_of image holding old batch pending) t (record { states = refl; pending = refl; held = refl }) },
+        record { clock = clock; log = refl; ack = ack; does = by_kind (shard_of seen holding old batch pending) t (record { states = refl; pending = refl; held = refl }) },
       )))
       (λ is. absurd (let never : Done ≡ store_outcome Device = sym empty.outcome_is ∙ is in let clash : ⊥ = cc in clash))
     where
@@ -262,22 +262,22 @@ module _ {D W : Type 0} (content : D → Option (List ℕ)) (image : D → List 
     }
 
     acquires : (batch : Option Batch) (pending : Option Entries) (states : ShareStates) (now_pending : Option ShareStates) (answer : VisitAnswer) (state : ShareState) → Took answer state
-        → Acquires old.conf (shard_of image holding old batch pending) state visit limits answer (shard_then batch states now_pending state)
+        → Acquires old.conf (shard_of seen holding old batch pending) state visit limits answer (shard_then batch states now_pending state)
     acquires batch pending states now_pending answer state took =
         record { outcome_is = took.outcome_is; grants = took.grants; batches = took.batches; held = refl }
 
     -- the table was there
     pub acquired_there : (answer : VisitAnswer) (kept : Kept) → kept_at old.states.entries key ≡ Some kept → new.states ≡ old.states → Took answer kept.view → Once (Ok answer)
     acquired_there answer kept is states took = answered answer (writes_none states)
-        (carried image holding old (Leads answer) (λ batch pending k. (
+        (carried seen holding old (Leads answer) (λ batch pending k. (
           shard_then batch (states_of old.states.entries) (option_map states_of pending) kept.view,
-          carries_with image holding old new batch pending pending (held_then kept.view) k conf log (ap (λ (s : StoreParts D). s.entries) states)
-              (subst (λ (s : StoreParts D). Holds image s pending) (sym states) k.holds) k.pending_hosted (λ group. sym (took.held group)),
+          carries_with seen holding old new batch pending pending (held_then kept.view) k conf log (ap (λ (s : StoreParts D). s.entries) states)
+              (subst (λ (s : StoreParts D). Holds seen s pending) (sym states) k.holds) k.pending_hosted (λ group. sym (took.held group)),
           record {
             clock = took.clock;
             log = refl;
             ack = took.ack;
-            does = does_fetch (shard_of image holding old batch pending) _ answer (Some kept.view) (state_seen old.states.entries key ∙ ap (option_map view_of) is)
+            does = does_fetch (shard_of seen holding old batch pending) _ answer (Some kept.view) (state_seen old.states.entries key ∙ ap (option_map view_of) is)
                 (record { acquires = acquires batch pending _ _ answer kept.view took; states = refl; pending = refl });
           },
         ))) (not_fault answer kept.view took)
@@ -289,7 +289,7 @@ module _ {D W : Type 0} (content : D → Option (List ℕ)) (image : D → List 
     Written = IsInitialised old.states.entries key (pos 0) (pos (first_start old.conf.reset (end_of old.log.batches)))
 
     abbrev Wrote : Result (Unit {0}) CoordFault → Type 0
-    Wrote done = WritesOnce image moment since (HasFailed content armed starved faults) Written old.states new.states done
+    Wrote done = WritesOnce seen (HasFailed seen) Written old.states new.states done
 
     made_states : (es : Entries) → Written es → states_of es ≡ insert_entry key_cmp (states_of old.states.entries) key made
     made_states es is = made_is old.conf (end_of old.log.batches) old.states.entries es visit.group is
@@ -304,7 +304,7 @@ module _ {D W : Type 0} (content : D → Option (List ℕ)) (image : D → List 
     -- the group has no table, and so there is one to write
     writes_one : kept_at old.states.entries key ≡ None → (done : Result (Unit {0}) CoordFault) → Wrote done → Writes
     writes_one none done once = record {
-      later = later_once image moment since (HasFailed content armed starved faults) Written old.states new.states done once;
+      later = later_once seen (HasFailed seen) Written old.states new.states done once;
       unwritten = λ s c nothing.
           let there : IsSome (share_state_at s.states key) = subst (HasNothingToWrite old.conf s visit) is_fetch nothing in
           let gone : share_state_at s.states key ≡ None = ap (λ (states : ShareStates). share_state_at states key) c.states ∙ none_there none in
@@ -315,10 +315,10 @@ module _ {D W : Type 0} (content : D → Option (List ℕ)) (image : D → List 
     -- the table was made
     pub acquired_first : (answer : VisitAnswer) (done : Unit {0}) → kept_at old.states.entries key ≡ None → Wrote (Ok done) → Took answer made → Once (Ok answer)
     acquired_first answer done none once took = answered answer (writes_one none (Ok done) once)
-        (carried image holding old (Leads answer) (λ batch pending k. (
+        (carried seen holding old (Leads answer) (λ batch pending k. (
           shard_then batch (states_of new.states.entries) None made,
           record {
-            log = subst (λ (l : LogParts D). CarriesLog image l (record { batches = old.log.batches; pending = batch })) (sym log) k.log;
+            log = subst (λ (l : LogParts D). CarriesLog seen l (record { batches = old.log.batches; pending = batch })) (sym log) k.log;
             pending = None;
             holds = once.kept pending k.holds;
             states = refl;
@@ -332,8 +332,8 @@ module _ {D W : Type 0} (content : D → Option (List ℕ)) (image : D → List 
             clock = took.clock;
             log = refl;
             ack = took.ack;
-            does = does_fetch (shard_of image holding old batch pending) _ answer None (none_there none)
-                (subst (MakesTable old.conf Rises old.states.journal.live.end (shard_of image holding old batch pending) visit limits answer (shard_then batch (states_of new.states.entries) None made)) (sym took.outcome_is)
+            does = does_fetch (shard_of seen holding old batch pending) _ answer None (none_there none)
+                (subst (MakesTable old.conf Rises old.states.journal.live.end (shard_of seen holding old batch pending) visit limits answer (shard_then batch (states_of new.states.entries) None made)) (sym took.outcome_is)
                 (record { acquires = acquires batch pending _ _ answer made took; states = made_states new.states.entries once.written; nothing = refl }));
           },
         ))) (not_fault answer made took)
@@ -358,20 +358,20 @@ module _ {D W : Type 0} (content : D → Option (List ℕ)) (image : D → List 
       clock = new.clock;
     }
 
-    unmade : (answer : VisitAnswer) (fault : StoreFault) (batch : Option Batch) (was pending : Option Entries) → Keeping image holding old batch was → Refused answer fault
-        → new.states.entries ≡ old.states.entries → Holds image new.states pending → IsPendingHosted old.conf old.log.batches (option_map states_of pending)
+    unmade : (answer : VisitAnswer) (fault : StoreFault) (batch : Option Batch) (was pending : Option Entries) → Keeping seen holding old batch was → Refused answer fault
+        → new.states.entries ≡ old.states.entries → Holds seen new.states pending → IsPendingHosted old.conf old.log.batches (option_map states_of pending)
         → kept_at old.states.entries key ≡ None
-        → MakesTable old.conf Rises old.states.journal.live.end (shard_of image holding old batch was) visit limits answer (shard_same batch pending) (store_outcome fault)
-        → Leads answer (shard_of image holding old batch was)
+        → MakesTable old.conf Rises old.states.journal.live.end (shard_of seen holding old batch was) visit limits answer (shard_same batch pending) (store_outcome fault)
+        → Leads answer (shard_of seen holding old batch was)
     unmade answer fault batch was pending k refused entries holds hosted none makes = (
       shard_same batch pending,
-      carries_with image holding old new batch was pending (held_in holding old.windows) k conf log entries holds hosted (λ group. sym (refused.held group)),
+      carries_with seen holding old new batch was pending (held_in holding old.windows) k conf log entries holds hosted (λ group. sym (refused.held group)),
       record {
         clock = refused.clock;
         log = refl;
         ack = refused.ack;
-        does = does_fetch (shard_of image holding old batch was) _ answer None (none_there none)
-            (subst (MakesTable old.conf Rises old.states.journal.live.end (shard_of image holding old batch was) visit limits answer (shard_same batch pending)) (sym refused.empty.outcome_is) makes);
+        does = does_fetch (shard_of seen holding old batch was) _ answer None (none_there none)
+            (subst (MakesTable old.conf Rises old.states.journal.live.end (shard_of seen holding old batch was) visit limits answer (shard_same batch pending)) (sym refused.empty.outcome_is) makes);
       },
     )
 
@@ -379,7 +379,7 @@ module _ {D W : Type 0} (content : D → Option (List ℕ)) (image : D → List 
     unstored answer Device none once refused =
         let failed = once.device refl in
         answered answer (writes_one none (Err (Store Device)) once)
-        (carried image holding old (Leads answer) (λ batch pending k.
+        (carried seen holding old (Leads answer) (λ batch pending k.
         ⊎_elim
         (λ holds. unmade answer Device batch pending pending k refused once.same holds k.pending_hosted none
         (failed.0.0, refused.empty, record { states = refl; pending = inl refl; held = refl }))
@@ -390,8 +390,8 @@ module _ {D W : Type 0} (content : D → Option (List ℕ)) (image : D → List 
     unstored answer (Full at) none once refused =
         let full = once.full at refl in
         answered answer (writes_one none (Err (Store (Full at))) once)
-        (carried image holding old (Leads answer) (λ batch pending k.
-        unmade answer (Full at) batch pending pending k refused once.same (held_still image old.states new.states (once.unchanged (λ e. let never : ⊥ = cc in never)) pending k.holds) k.pending_hosted none (
+        (carried seen holding old (Leads answer) (λ batch pending k.
+        unmade answer (Full at) batch pending pending k refused once.same (held_still seen old.states new.states (once.unchanged (λ e. let never : ⊥ = cc in never)) pending k.holds) k.pending_hosted none (
           full.0,
           refused.empty,
           record { states = refl; pending = refl; held = refl },
@@ -411,15 +411,15 @@ module _ {D W : Type 0} (content : D → Option (List ℕ)) (image : D → List 
     -- ---- by what became of the table
 
     abbrev Failed : D → D → Type 0
-    Failed = HasFailed content armed starved faults
+    Failed = HasFailed seen
 
     abbrev Made : ℕ → Result ThenOutcome want → Type 0
-    Made end result = MakesTableOnce image moment since Failed old.conf visit.group end old.states new.states result
+    Made end result = MakesTableOnce seen Failed old.conf visit.group end old.states new.states result
 
     -- what the store has answered
     abbrev Told : Option Kept → Result ThenOutcome want → Type 0
     Told (Some kept) result = (new.states ≡ old.states) × (result ≡ Ok Done)
-    Told None result = MakesOnce image moment since Failed Written old.states new.states result
+    Told None result = MakesOnce seen Failed Written old.states new.states result
 
     told : (result : Result ThenOutcome want) (end : ℕ) → end ≡ end_of old.log.batches → Made end result → (o : Option Kept) → kept_at old.states.entries key ≡ o → Told o result
     told result end at made None is = (subst (λ (n : ℕ). Made n result) at made).absent is

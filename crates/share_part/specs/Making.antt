@@ -15,6 +15,7 @@ use Rattle.share_coord.specs.declared.fault.CoordFault.{CoordFault}
 use Rattle.share_coord.specs.declared.fault.CoordFault.TheVariants.{Invalid, Unknown, FencedLeader, FencedState, TooMany, Store, NoMemory}
 use Rattle.share_part.specs.Hosting.{PartConfParts, key_of, states_of}
 use Rattle.share_part.specs.Shards.{new_state, first_start}
+use Rattle.edge_io.specs.Views.{DiskView}
 
 -- the state of a group's table, or of the one that it would get
 abbrev pub state_for : PartConfParts → List Batch → Entries → List ℕ → ShareState
@@ -31,19 +32,19 @@ Tells (Err (TooMany runs)) result = ⊥
 Tells (Err (Store fault)) result = result ≡ Ok (store_outcome fault)
 Tells (Err NoMemory) result = IsErr result
 
--- A table that is stored, or isn't. The members of the disk come first.
-pub record MakesOnce {D : Type 0} (image : D → List ℕ → Type 0) (moment : D → ℕ) (since : D → ℕ → List ℕ → Type 0) (Failed : D → D → Type 0)
+-- A table that is stored, or isn't.
+pub record MakesOnce {D : Type 0} (seen : D → DiskView) (Failed : D → D → Type 0)
     (Written : Entries → Type 0) (old new : StoreParts D) (result : Result ThenOutcome want) : Type 0 where
   pub done : Result (Unit {0}) CoordFault
   pub tells : Tells done result
-  pub once : WritesOnce image moment since Failed Written old new done
+  pub once : WritesOnce seen Failed Written old new done
 
 -- The table of a group is there, or is made where the log ends at `end`.
-pub record MakesTableOnce {D : Type 0} (image : D → List ℕ → Type 0) (moment : D → ℕ) (since : D → ℕ → List ℕ → Type 0) (Failed : D → D → Type 0)
+pub record MakesTableOnce {D : Type 0} (seen : D → DiskView) (Failed : D → D → Type 0)
     (conf : PartConfParts) (group : List ℕ) (end : ℕ) (old new : StoreParts D) (result : Result ThenOutcome want) : Type 0 where
   pub there : IsSome (kept_at old.entries (key_of conf group)) → (new ≡ old) × (result ≡ Ok Done)
   pub absent : kept_at old.entries (key_of conf group) ≡ None →
-      MakesOnce image moment since Failed (IsInitialised old.entries (key_of conf group) (pos 0) (pos (first_start conf.reset end))) old new result
+      MakesOnce seen Failed (IsInitialised old.entries (key_of conf group) (pos 0) (pos (first_start conf.reset end))) old new result
 
 -- the bytes of the batch with this number
 abbrev pub bytes_at : List Batch → ℕ → List ℕ

@@ -23,128 +23,125 @@ use Rattle.share_part.specs.Expiring.{ExpiresPart, StepsExpire, ending}
 use Rattle.share_part.specs.Following.{HasNothingToWrite, StepsThen}
 use Rattle.share_part.specs.Shards.{PartShardState, PartParts, Carries, StepsProduce, held_in}
 use Rattle.share_part.specs.Visits.{AreToWrite, StepsAcks, StepsVisit}
+use Rattle.edge_io.specs.Views.{DiskView}
 
 -- a shard that carried a state carries one that what follows the acknowledgements leads to
-abbrev pub Followed : {D W : Type 0} → (D → List ℕ → Type 0) → (D → ℕ) → (W → Held) → ℕ → Visit → PartParts D W → PartParts D W → VisitAnswer → Type 0
-Followed image faults holding now visit before after answer = (old : PartShardState) → Carries image holding before old → (new : PartShardState)
-    × Carries image holding after new
-    × StepsThen before.conf (Rose (faults before.states.journal.live.disk) (faults after.states.journal.live.disk)) before.states.journal.live.end
+abbrev pub Followed : {D W : Type 0} → (D → DiskView) → (W → Held) → ℕ → Visit → PartParts D W → PartParts D W → VisitAnswer → Type 0
+Followed seen holding now visit before after answer = (old : PartShardState) → Carries seen holding before old → (new : PartShardState)
+    × Carries seen holding after new
+    × StepsThen before.conf (Rose (seen before.states.journal.live.disk).faults (seen after.states.journal.live.disk).faults) before.states.journal.live.end
     old now visit answer new
 
--- What follows the acknowledgements. The members of the disk come first.
-pub record FollowsOnce {D W : Type 0} (content : D → Option (List ℕ)) (image : D → List ℕ → Type 0) (armed : D → Armed) (starved : D → Bool)
-    (faults : D → ℕ) (holding : W → Held) (now : ℕ) (visit : Visit) (before after : PartParts D W) (result : Result VisitAnswer NoMemory)
+-- What follows the acknowledgements.
+pub record FollowsOnce {D W : Type 0} (seen : D → DiskView) (holding : W → Held) (now : ℕ) (visit : Visit) (before after : PartParts D W) (result : Result VisitAnswer NoMemory)
     : Type 0 where
   -- where it answers, a step was made; where it finds no memory, the shard stands for what it stood for
-  pub steps : IfOk result (Followed image faults holding now visit before after)
-  pub memory : OnErr result ((old : PartShardState) → Carries image holding before old → Carries image holding after old)
+  pub steps : IfOk result (Followed seen holding now visit before after)
+  pub memory : OnErr result ((old : PartShardState) → Carries seen holding before old → Carries seen holding after old)
   -- with nothing armed, a device fault comes only where the disk finds no memory
   pub sound : IfOk result (λ answer. answer.then ≡ Store Device →
-      StarvesUnarmed content armed starved before.states.journal.live.disk after.states.journal.live.disk)
+      StarvesUnarmed seen before.states.journal.live.disk after.states.journal.live.disk)
   -- where there is nothing to write, the states and their disks stay
-  pub unwritten : (old : PartShardState) → Carries image holding before old → HasNothingToWrite before.conf old visit visit.then →
+  pub unwritten : (old : PartShardState) → Carries seen holding before old → HasNothingToWrite before.conf old visit visit.then →
       after.states ≡ before.states
   -- the journal of the states never ends before where it did
-  pub ends : (old : PartShardState) → Carries image holding before old → before.states.journal.live.end ≤ after.states.journal.live.end
+  pub ends : (old : PartShardState) → Carries seen holding before old → before.states.journal.live.end ≤ after.states.journal.live.end
   -- the log, its disk and the second state disk stay
   pub log : after.log ≡ before.log
   pub idle : after.states.journal.idle ≡ before.states.journal.idle
   pub conf : after.conf ≡ before.conf
 
 -- a shard that carried a state carries one that a visit leads to
-abbrev pub Visited : {D W : Type 0} → (D → List ℕ → Type 0) → (D → ℕ) → (W → Held) → ℕ → Visit → PartParts D W → PartParts D W → VisitAnswer → Type 0
-Visited image faults holding now visit before after answer = (old : PartShardState) → Carries image holding before old → (new : PartShardState)
-    × Carries image holding after new
-    × StepsVisit before.conf (faults before.states.journal.live.disk) (faults after.states.journal.live.disk) before.states.journal.live.end
+abbrev pub Visited : {D W : Type 0} → (D → DiskView) → (W → Held) → ℕ → Visit → PartParts D W → PartParts D W → VisitAnswer → Type 0
+Visited seen holding now visit before after answer = (old : PartShardState) → Carries seen holding before old → (new : PartShardState)
+    × Carries seen holding after new
+    × StepsVisit before.conf (seen before.states.journal.live.disk).faults (seen after.states.journal.live.disk).faults before.states.journal.live.end
     after.states.journal.live.end old now visit answer new
 
 -- the acknowledgements were done alone
-abbrev pub AcksStand : {D W : Type 0} → (D → List ℕ → Type 0) → (D → ℕ) → (W → Held) → Visit → PartParts D W → PartParts D W → PartShardState → Type 0
-AcksStand image faults holding visit before after old = (ack : AckOutcome) × (new : PartShardState) × Carries image holding after new
-    × StepsAcks before.conf (Rose (faults before.states.journal.live.disk) (faults after.states.journal.live.disk)) before.states.journal.live.end
+abbrev pub AcksStand : {D W : Type 0} → (D → DiskView) → (W → Held) → Visit → PartParts D W → PartParts D W → PartShardState → Type 0
+AcksStand seen holding visit before after old = (ack : AckOutcome) × (new : PartShardState) × Carries seen holding after new
+    × StepsAcks before.conf (Rose (seen before.states.journal.live.disk).faults (seen after.states.journal.live.disk).faults) before.states.journal.live.end
     old visit ack new
 
--- A visit. The members of the disk come first.
-pub record VisitsOnce {D W : Type 0} (content : D → Option (List ℕ)) (image : D → List ℕ → Type 0) (armed : D → Armed) (starved : D → Bool)
-    (faults : D → ℕ) (holding : W → Held) (now : ℕ) (visit : Visit) (before after : PartParts D W) (result : Result VisitAnswer NoMemory)
+-- A visit.
+pub record VisitsOnce {D W : Type 0} (seen : D → DiskView) (holding : W → Held) (now : ℕ) (visit : Visit) (before after : PartParts D W) (result : Result VisitAnswer NoMemory)
     : Type 0 where
   -- where it answers, a step was made
-  pub steps : IfOk result (Visited image faults holding now visit before after)
+  pub steps : IfOk result (Visited seen holding now visit before after)
   -- where it finds no memory, the shard stands for what it stood for, or for what the acknowledgements left
-  pub memory : OnErr result ((old : PartShardState) → Carries image holding before old →
-      Carries image holding after old ⊎ AcksStand image faults holding visit before after old)
+  pub memory : OnErr result ((old : PartShardState) → Carries seen holding before old →
+      Carries seen holding after old ⊎ AcksStand seen holding visit before after old)
   pub ack_sound : IfOk result (λ answer. answer.ack ≡ ack_store Device →
-      StarvesUnarmed content armed starved before.states.journal.live.disk after.states.journal.live.disk)
+      StarvesUnarmed seen before.states.journal.live.disk after.states.journal.live.disk)
   -- with nothing armed, a device fault comes only where the disk finds no memory
   pub sound : IfOk result (λ answer. answer.then ≡ Store Device →
-      StarvesUnarmed content armed starved before.states.journal.live.disk after.states.journal.live.disk)
+      StarvesUnarmed seen before.states.journal.live.disk after.states.journal.live.disk)
   -- where there is nothing to write, of acknowledgements or behind them, the states and their disks stay
-  pub unwritten : (old : PartShardState) → Carries image holding before old → (AreToWrite old visit → ⊥) →
+  pub unwritten : (old : PartShardState) → Carries seen holding before old → (AreToWrite old visit → ⊥) →
       HasNothingToWrite before.conf old visit visit.then → after.states ≡ before.states
   -- the journal of the states never ends before where it did
-  pub ends : (old : PartShardState) → Carries image holding before old → before.states.journal.live.end ≤ after.states.journal.live.end
+  pub ends : (old : PartShardState) → Carries seen holding before old → before.states.journal.live.end ≤ after.states.journal.live.end
   -- the log, its disk and the second state disk stay
   pub log : after.log ≡ before.log
   pub idle : after.states.journal.idle ≡ before.states.journal.idle
   pub conf : after.conf ≡ before.conf
 
 -- a shard that carried a state carries one that an expiry leads to
-abbrev pub Expired : {D W : Type 0} → (D → List ℕ → Type 0) → (D → ℕ) → (W → Held) → ℕ → PartParts D W → PartParts D W → ExpireAnswer → Type 0
-Expired image faults holding now before after answer = (old : PartShardState) → Carries image holding before old → (new : PartShardState)
-    × Carries image holding after new
-    × StepsExpire before.conf (faults before.states.journal.live.disk) (faults after.states.journal.live.disk) before.states.journal.live.end
+abbrev pub Expired : {D W : Type 0} → (D → DiskView) → (W → Held) → ℕ → PartParts D W → PartParts D W → ExpireAnswer → Type 0
+Expired seen holding now before after answer = (old : PartShardState) → Carries seen holding before old → (new : PartShardState)
+    × Carries seen holding after new
+    × StepsExpire before.conf (seen before.states.journal.live.disk).faults (seen after.states.journal.live.disk).faults before.states.journal.live.end
     after.states.journal.live.end old now answer new
 
 -- some groups were done alone
-abbrev pub PartStands : {D W : Type 0} → (D → List ℕ → Type 0) → (D → ℕ) → (W → Held) → ℕ → PartParts D W → PartParts D W → PartShardState → Type 0
-PartStands image faults holding now before after old = (new : PartShardState) × Carries image holding after new
-    × ExpiresPart before.conf (faults before.states.journal.live.disk) (faults after.states.journal.live.disk) before.states.journal.live.end
+abbrev pub PartStands : {D W : Type 0} → (D → DiskView) → (W → Held) → ℕ → PartParts D W → PartParts D W → PartShardState → Type 0
+PartStands seen holding now before after old = (new : PartShardState) × Carries seen holding after new
+    × ExpiresPart before.conf (seen before.states.journal.live.disk).faults (seen after.states.journal.live.disk).faults before.states.journal.live.end
     after.states.journal.live.end old now new
 
 -- nothing that any group holds has ended by a moment
 abbrev pub IsNothingDue : {W : Type 0} → (W → Held) → List (List ℕ × W) → (clock : ℕ) → Type 0
 IsNothingDue holding windows clock = (group : List ℕ) → NameNone (ending clock (held_in holding windows group))
 
--- An expiry. The members of the disk come first.
-pub record ExpiresOnce {D W : Type 0} (content : D → Option (List ℕ)) (image : D → List ℕ → Type 0) (armed : D → Armed) (starved : D → Bool)
-    (faults : D → ℕ) (holding : W → Held) (now : ℕ) (before after : PartParts D W) (result : Result ExpireAnswer NoMemory) : Type 0 where
+-- An expiry.
+pub record ExpiresOnce {D W : Type 0} (seen : D → DiskView) (holding : W → Held) (now : ℕ) (before after : PartParts D W) (result : Result ExpireAnswer NoMemory) : Type 0 where
   -- where it answers, a step was made
-  pub steps : IfOk result (Expired image faults holding now before after)
+  pub steps : IfOk result (Expired seen holding now before after)
   -- where it finds no memory, the shard stands for what it stood for, or for what the groups left that were done
-  pub memory : OnErr result ((old : PartShardState) → Carries image holding before old →
-      Carries image holding after old ⊎ PartStands image faults holding now before after old)
+  pub memory : OnErr result ((old : PartShardState) → Carries seen holding before old →
+      Carries seen holding after old ⊎ PartStands seen holding now before after old)
   -- where nothing is due it takes no memory, and raises the clock alone
   pub quiet : IsNothingDue holding before.windows (max before.clock now) →
       (result ≡ Ok (Done 0))
       × (after ≡ record { conf = before.conf; log = before.log; states = before.states; windows = before.windows; clock = max before.clock now })
   -- with nothing armed, a device fault comes only where the disk finds no memory
   pub sound : IfOk result (λ answer. (freed : ℕ) (group : List ℕ) → answer ≡ expire_store freed group Device →
-      StarvesUnarmed content armed starved before.states.journal.live.disk after.states.journal.live.disk)
+      StarvesUnarmed seen before.states.journal.live.disk after.states.journal.live.disk)
   -- the journal of the states never ends before where it did
-  pub ends : (old : PartShardState) → Carries image holding before old → before.states.journal.live.end ≤ after.states.journal.live.end
+  pub ends : (old : PartShardState) → Carries seen holding before old → before.states.journal.live.end ≤ after.states.journal.live.end
   -- the log, its disk and the second state disk stay
   pub log : after.log ≡ before.log
   pub idle : after.states.journal.idle ≡ before.states.journal.idle
   pub conf : after.conf ≡ before.conf
 
-abbrev pub Produced : {D W : Type 0} → (D → List ℕ → Type 0) → (D → ℕ) → (W → Held) → ℕ → List ℕ → PartParts D W → PartParts D W
+abbrev pub Produced : {D W : Type 0} → (D → DiskView) → (W → Held) → ℕ → List ℕ → PartParts D W → PartParts D W
     → Result ℕ LogFault → Type 0
-Produced image faults holding now bytes before after result = (old : PartShardState) → Carries image holding before old → (new : PartShardState)
-    × Carries image holding after new
-    × StepsProduce (Rose (faults before.log.journal.disk) (faults after.log.journal.disk)) before.log.journal.end old now bytes result new
+Produced seen holding now bytes before after result = (old : PartShardState) → Carries seen holding before old → (new : PartShardState)
+    × Carries seen holding after new
+    × StepsProduce (Rose (seen before.log.journal.disk).faults (seen after.log.journal.disk).faults) before.log.journal.end old now bytes result new
 
--- A produced batch. The members of the disk come first.
-pub record ProducesOnce {D W : Type 0} (content : D → Option (List ℕ)) (image : D → List ℕ → Type 0) (moment : D → ℕ)
-    (since : D → ℕ → List ℕ → Type 0) (armed : D → Armed) (starved : D → Bool) (faults : D → ℕ) (holding : W → Held) (now : ℕ) (bytes : List ℕ)
+-- A produced batch.
+pub record ProducesOnce {D W : Type 0} (seen : D → DiskView) (holding : W → Held) (now : ℕ) (bytes : List ℕ)
     (before after : PartParts D W) (result : Result ℕ LogFault) : Type 0 where
-  pub steps : result ≢ Err log_memory → Produced image faults holding now bytes before after result
+  pub steps : result ≢ Err log_memory → Produced seen holding now bytes before after result
   pub memory : result ≡ Err log_memory → after ≡ before
-  pub sound : result ≡ Err (log_store Device) → StarvesUnarmed content armed starved before.log.journal.disk after.log.journal.disk
+  pub sound : result ≡ Err (log_store Device) → StarvesUnarmed seen before.log.journal.disk after.log.journal.disk
   -- at each moment since it began a crash leaves the log at entry, with or without its pending batch, or with this one
-  pub any_moment : (old : PartShardState) → Carries image holding before old → LeavesOnly moment since before.log.journal.disk after.log.journal.disk
+  pub any_moment : (old : PartShardState) → Carries seen holding before old → LeavesOnly seen before.log.journal.disk after.log.journal.disk
       (λ c. IsLogOf old.log c ⊎ IsLogOf (record { batches = old.log.batches; pending = Some (at_end old.log.batches bytes) }) c)
   -- its journal never ends before where it did
-  pub ends : (old : PartShardState) → Carries image holding before old → before.log.journal.end ≤ after.log.journal.end
+  pub ends : (old : PartShardState) → Carries seen holding before old → before.log.journal.end ≤ after.log.journal.end
   -- the states and their disks stay
   pub states : after.states ≡ before.states
   pub conf : after.conf ≡ before.conf

@@ -15,17 +15,18 @@ use Rattle.share_part.specs.Hosting.{PartConfParts, AreHosted, AreStates, ArePar
 use Rattle.share_part.specs.Shards.{PartParts, Carries, shard_with}
 use Rattle.share_part.specs.declared.opening.PartFault.{PartFault}
 use Rattle.share_part.specs.declared.opening.PartFault.TheVariants.{Damaged, Device}
+use Rattle.edge_io.specs.Views.{DiskView}
 
--- A shard that was opened of a log disk and two state disks. The members of the disk come first.
-pub record IsOpened {D W : Type 0} (content : D → Option (List ℕ)) (image : D → List ℕ → Type 0) (holding : W → Held) (conf : PartConfParts)
+-- A shard that was opened of a log disk and two state disks.
+pub record IsOpened {D W : Type 0} (seen : D → DiskView) (holding : W → Held) (conf : PartConfParts)
     (log a b : D) (parts : PartParts D W) : Type 0 where
   pub conf_is : parts.conf ≡ conf
   -- it stands for the log and the states that it has: nothing is held or pending, and the clock is 0
-  pub carries : Carries image holding parts (shard_with parts.log.batches (states_of parts.states.entries))
+  pub carries : Carries seen holding parts (shard_with parts.log.batches (states_of parts.states.entries))
   -- the contents stood for these, and for no others
-  pub opens : (l x y : List ℕ) → content log ≡ Some l → content a ≡ Some x → content b ≡ Some y →
+  pub opens : (l x y : List ℕ) → (seen log).content ≡ Some l → (seen a).content ≡ Some x → (seen b).content ≡ Some y →
       ArePartText conf l x y parts.log.batches (states_of parts.states.entries)
-  pub only : (l x y : List ℕ) (batches : List Batch) (states : ShareStates) → content log ≡ Some l → content a ≡ Some x → content b ≡ Some y →
+  pub only : (l x y : List ℕ) (batches : List Batch) (states : ShareStates) → (seen log).content ≡ Some l → (seen a).content ≡ Some x → (seen b).content ≡ Some y →
       ArePartText conf l x y batches states → (batches ≡ parts.log.batches) × (states ≡ states_of parts.states.entries)
 
 -- The states break the rules on a hosted partition.
@@ -47,15 +48,15 @@ AreDamagedAt conf log first second StateA place =
     StandsForLog log × (AreDamaged first second false place ⊎ ((place ≡ 0) × AreMisplaced conf log first second))
 AreDamagedAt conf log first second StateB place = StandsForLog log × AreDamaged first second true place
 
--- The disks that come back where none was opened, and why. The members of the disk come first.
-pub record IsNotOpened {D : Type 0} (content : D → Option (List ℕ)) (armed : D → Armed) (starved : D → Bool) (faults : D → ℕ)
+-- The disks that come back where none was opened, and why.
+pub record IsNotOpened {D : Type 0} (seen : D → DiskView)
     (conf : PartConfParts) (log a b log_now a_now b_now : D) (fault : PartFault) : Type 0 where
   -- contents are damaged at that place, and stand for no log and states
   pub damaged : (disk : DiskPlace) (place : ℕ) → fault ≡ Damaged disk place →
-      (l x y : List ℕ) → content log ≡ Some l → content a ≡ Some x → content b ≡ Some y → AreDamagedAt conf l x y disk place
-  pub sound : (l x y : List ℕ) (batches : List Batch) (states : ShareStates) → content log ≡ Some l → content a ≡ Some x → content b ≡ Some y →
+      (l x y : List ℕ) → (seen log).content ≡ Some l → (seen a).content ≡ Some x → (seen b).content ≡ Some y → AreDamagedAt conf l x y disk place
+  pub sound : (l x y : List ℕ) (batches : List Batch) (states : ShareStates) → (seen log).content ≡ Some l → (seen a).content ≡ Some x → (seen b).content ≡ Some y →
       ArePartText conf l x y batches states → (disk : DiskPlace) (place : ℕ) → fault ≢ Damaged disk place
   -- a disk failed
-  pub log_device : fault ≡ Device Log → HasFailed content armed starved faults log log_now
-  pub first_device : fault ≡ Device StateA → HasFailed content armed starved faults a a_now
-  pub second_device : fault ≡ Device StateB → HasFailed content armed starved faults b b_now
+  pub log_device : fault ≡ Device Log → HasFailed seen log log_now
+  pub first_device : fault ≡ Device StateA → HasFailed seen a a_now
+  pub second_device : fault ≡ Device StateB → HasFailed seen b b_now

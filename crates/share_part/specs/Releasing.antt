@@ -22,6 +22,7 @@ use Rattle.share_part.specs.declared.release.Released.{Released}
 use Rattle.share_part.specs.declared.release.Released.TheVariants.{Done, Store}
 use Rattle.share_part.specs.declared.settle.Change.{Change}
 use Rattle.share_part.specs.declared.settle.Whose.{Whose}
+use Rattle.edge_io.specs.Views.{DiskView}
 
 -- ---- what is stored
 
@@ -81,23 +82,22 @@ pub record StepsRelease (conf : PartConfParts) (rose : Type 0) (end : ℕ) (old 
   pub stores : StoresActs conf rose end old group (releasing (is_chosen whose) (old.held group)) new (fault_in released)
   pub counts : Counts whose (old.held group) released
 
-abbrev pub ReleasedSo : {D W : Type 0} → (D → List ℕ → Type 0) → (D → ℕ) → (W → Held) → ℕ → List ℕ → Whose → PartParts D W → PartParts D W
+abbrev pub ReleasedSo : {D W : Type 0} → (D → DiskView) → (W → Held) → ℕ → List ℕ → Whose → PartParts D W → PartParts D W
     → Released → Type 0
-ReleasedSo image faults holding clock group whose before after released = (old : PartShardState) → Carries image holding before old →
-    (new : PartShardState) × Carries image holding after new
-    × StepsRelease before.conf (Rose (faults before.states.journal.live.disk) (faults after.states.journal.live.disk)) before.states.journal.live.end
+ReleasedSo seen holding clock group whose before after released = (old : PartShardState) → Carries seen holding before old →
+    (new : PartShardState) × Carries seen holding after new
+    × StepsRelease before.conf (Rose (seen before.states.journal.live.disk).faults (seen after.states.journal.live.disk).faults) before.states.journal.live.end
     old clock group whose released new
 
--- The releases of a group on a shard in memory. The members of the disk come first.
-pub record ReleasesOnce {D W : Type 0} (content : D → Option (List ℕ)) (image : D → List ℕ → Type 0) (armed : D → Armed) (starved : D → Bool)
-    (faults : D → ℕ) (holding : W → Held) (clock : ℕ) (group : List ℕ) (whose : Whose) (before after : PartParts D W)
+-- The releases of a group on a shard in memory.
+pub record ReleasesOnce {D W : Type 0} (seen : D → DiskView) (holding : W → Held) (clock : ℕ) (group : List ℕ) (whose : Whose) (before after : PartParts D W)
     (result : Result Released NoMemory) : Type 0 where
-  pub steps : IfOk result (ReleasedSo image faults holding clock group whose before after)
+  pub steps : IfOk result (ReleasedSo seen holding clock group whose before after)
   pub unwritten : NameNone (releasing (is_chosen whose) (held_in holding before.windows group)) → after.states ≡ before.states
-  pub memory : OnErr result ((old : PartShardState) → Carries image holding before old → Carries image holding after old)
+  pub memory : OnErr result ((old : PartShardState) → Carries seen holding before old → Carries seen holding after old)
   pub sound : IfOk result (λ released. released ≡ Store Device →
-      StarvesUnarmed content armed starved before.states.journal.live.disk after.states.journal.live.disk)
-  pub ends : (old : PartShardState) → Carries image holding before old → before.states.journal.live.end ≤ after.states.journal.live.end
+      StarvesUnarmed seen before.states.journal.live.disk after.states.journal.live.disk)
+  pub ends : (old : PartShardState) → Carries seen holding before old → before.states.journal.live.end ≤ after.states.journal.live.end
   pub log : after.log ≡ before.log
   pub idle : after.states.journal.idle ≡ before.states.journal.idle
   pub conf : after.conf ≡ before.conf

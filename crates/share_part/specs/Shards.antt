@@ -23,6 +23,7 @@ use Rattle.share_coord.specs.Holding.{Holds}
 use Rattle.share_coord.specs.Parts.{StoreParts}
 use Rattle.share_coord.specs.Stored.{Entries}
 use Rattle.share_part.specs.Hosting.{PartConfParts, AreHosted, key_of, states_of}
+use Rattle.edge_io.specs.Views.{DiskView}
 
 -- ---- the machine
 
@@ -105,10 +106,10 @@ IsPendingHosted conf log None = Unit {0}
 IsPendingHosted conf log (Some states) = AreHosted conf log states
 
 -- A shard in memory and its disks stand for the shard's state.
-pub record Carries {D W : Type 0} (image : D → List ℕ → Type 0) (holding : W → Held) (parts : PartParts D W) (shard : PartShardState) : Type 0 where
-  pub log : CarriesLog image parts.log shard.log
+pub record Carries {D W : Type 0} (seen : D → DiskView) (holding : W → Held) (parts : PartParts D W) (shard : PartShardState) : Type 0 where
+  pub log : CarriesLog seen parts.log shard.log
   pub pending : Option Entries
-  pub holds : Holds image parts.states pending
+  pub holds : Holds seen parts.states pending
   pub states : shard.states ≡ states_of parts.states.entries
   pub pending_is : shard.pending ≡ option_map states_of pending
   pub held : (group : List ℕ) → shard.held group ≡ held_in holding parts.windows group

@@ -26,6 +26,7 @@ use Rattle.share_coord.specs.Parts.{StoreParts}
 use Rattle.share_coord.specs.Stored.{Entries}
 use Rattle.share_coord.specs.declared.fault.CoordFault.{CoordFault}
 use Rattle.share_coord.specs.declared.fault.CoordFault.TheVariants.{Invalid, Unknown, FencedLeader, FencedState, TooMany, Store, NoMemory}
+use Rattle.edge_io.specs.Views.{DiskView}
 
 -- a start as a write carries it: -1 where it doesn't move
 abbrev pub start_number : Option ℕ → ℤ
@@ -50,51 +51,51 @@ abbrev pub TellsStored : {T : Type 0} → Result T CoordFault → Result (Option
 TellsStored (Ok done) result = result ≡ Ok None
 TellsStored (Err fault) result = TellsFault fault result
 
--- Acts that are stored, or aren't. The members of the disk come first.
-pub record StoresOnce {D : Type 0} (image : D → List ℕ → Type 0) (moment : D → ℕ) (since : D → ℕ → List ℕ → Type 0) (Failed : D → D → Type 0)
+-- Acts that are stored, or aren't.
+pub record StoresOnce {D : Type 0} (seen : D → DiskView) (Failed : D → D → Type 0)
     (Written : Entries → Type 0) (old new : StoreParts D) (result : Result (Option StoreFault) want) : Type 0 where
   pub done : Result (Unit {0}) CoordFault
   pub tells : TellsStored done result
-  pub once : WritesOnce image moment since Failed Written old new done
+  pub once : WritesOnce seen Failed Written old new done
 
 -- ---- acts on the table of a group
 
 -- the group has a table, and this came of the write of what acts change of it
-pub record IsActsStored {D : Type 0} (image : D → List ℕ → Type 0) (moment : D → ℕ) (since : D → ℕ → List ℕ → Type 0) (Failed : D → D → Type 0)
+pub record IsActsStored {D : Type 0} (seen : D → DiskView) (Failed : D → D → Type 0)
     (conf : PartConfParts) (log : List Batch) (group : List ℕ) (acts : Acts) (held : Held) (old new : StoreParts D)
     (done : Result (Unit {0}) CoordFault) : Type 0 where
   pub state : ShareState
   pub change : Change
   pub known : share_state_at (states_of old.entries) (key_of conf group) ≡ Some state
   pub is : IsChange conf.limit acts log (table_of state held) change
-  pub once : WritesOnce image moment since Failed (IsStored old.entries (key_of conf group) change.start change.runs.items) old new done
+  pub once : WritesOnce seen Failed (IsStored old.entries (key_of conf group) change.start change.runs.items) old new done
 
 -- Acts on the table of a group, by the fault that is told: `was` is what the group held, `same` says that all groups hold what they did, and
--- `ends` that the named offsets aren't held any more. The members of the disk come first.
-abbrev pub StoresGroup : {D : Type 0} (image : D → List ℕ → Type 0) (moment : D → ℕ) (since : D → ℕ → List ℕ → Type 0) (Failed : D → D → Type 0)
+-- `ends` that the named offsets aren't held any more.
+abbrev pub StoresGroup : {D : Type 0} (seen : D → DiskView) (Failed : D → D → Type 0)
     (conf : PartConfParts) (log : List Batch) (group : List ℕ) (acts : Acts) (was : Held) (old new : StoreParts D) (same ends : Type 0)
     → Result (Option StoreFault) want → Type 0
-StoresGroup image moment since Failed conf log group acts was old new same ends (Ok None) =
-    (NameNone acts × (new ≡ old) × same) ⊎ (NameOne acts × IsActsStored image moment since Failed conf log group acts was old new (Ok tt) × ends)
-StoresGroup image moment since Failed conf log group acts was old new same ends (Ok (Some fault)) =
-    NameOne acts × IsActsStored image moment since Failed conf log group acts was old new (Err (Store fault)) × same
-StoresGroup image moment since Failed conf log group acts was old new same ends (Err e) = (new ≡ old) × same
+StoresGroup seen Failed conf log group acts was old new same ends (Ok None) =
+    (NameNone acts × (new ≡ old) × same) ⊎ (NameOne acts × IsActsStored seen Failed conf log group acts was old new (Ok tt) × ends)
+StoresGroup seen Failed conf log group acts was old new same ends (Ok (Some fault)) =
+    NameOne acts × IsActsStored seen Failed conf log group acts was old new (Err (Store fault)) × same
+StoresGroup seen Failed conf log group acts was old new same ends (Err e) = (new ≡ old) × same
 
 -- ---- the acknowledgements of a group
 
 -- the acknowledgements of a group, by their answer
-abbrev pub SettlesGroup : {D : Type 0} (image : D → List ℕ → Type 0) (moment : D → ℕ) (since : D → ℕ → List ℕ → Type 0) (Failed : D → D → Type 0)
+abbrev pub SettlesGroup : {D : Type 0} (seen : D → DiskView) (Failed : D → D → Type 0)
     (conf : PartConfParts) (log : List Batch) (group member : List ℕ) (acts : Acts) (was : Held) (old new : StoreParts D) (same ends : Type 0)
     → Result AckOutcome want → Type 0
-SettlesGroup image moment since Failed conf log group member acts was old new same ends (Ok (NotHeld offset)) =
+SettlesGroup seen Failed conf log group member acts was old new same ends (Ok (NotHeld offset)) =
     IsLeastMissing member acts was offset × (new ≡ old) × same
-SettlesGroup image moment since Failed conf log group member acts was old new same ends (Ok (Malformed fault)) = ⊥
-SettlesGroup image moment since Failed conf log group member acts was old new same ends (Ok Done) =
-    AreHeldBy member acts was × StoresGroup image moment since Failed conf log group acts was old new same ends (Ok None)
-SettlesGroup image moment since Failed conf log group member acts was old new same ends (Ok (refused fault)) =
-    AreHeldBy member acts was × StoresGroup image moment since Failed conf log group acts was old new same ends (Ok (Some fault))
-SettlesGroup image moment since Failed conf log group member acts was old new same ends (Err e) =
-    StoresGroup image moment since Failed conf log group acts was old new same ends (Err e)
+SettlesGroup seen Failed conf log group member acts was old new same ends (Ok (Malformed fault)) = ⊥
+SettlesGroup seen Failed conf log group member acts was old new same ends (Ok Done) =
+    AreHeldBy member acts was × StoresGroup seen Failed conf log group acts was old new same ends (Ok None)
+SettlesGroup seen Failed conf log group member acts was old new same ends (Ok (refused fault)) =
+    AreHeldBy member acts was × StoresGroup seen Failed conf log group acts was old new same ends (Ok (Some fault))
+SettlesGroup seen Failed conf log group member acts was old new same ends (Err e) =
+    StoresGroup seen Failed conf log group acts was old new same ends (Err e)
 
 -- The acknowledgements of a visit: they aren't well formed, or name no offset, or are done for the group. `still` says that nothing changed,
 -- and `Settles` what is done for the group.

@@ -92,12 +92,12 @@ fn settle_group<D: Disk, W: Window>(
     requires hosted { AreHosted conf.now log.now.batches (states_of states.old.entries) }
     requires well { HoldsWell log.now.batches (share_state_at (states_of states.old.entries) (key_of conf.now visit.now.group))
         (held_in W.held windows.old.entries visit.now.group) }
-    ensures settles { SettlesGroup D.image D.moment D.since (HasFailed D.content D.armed D.starved D.faults) conf.now log.now.batches
+    ensures settles { SettlesGroup D.seen (HasFailed D.seen) conf.now log.now.batches
         visit.now.group visit.now.member (kind_at visit.now.acks) (held_in W.held windows.old.entries visit.now.group) states.old states.new
         ((other : List ℕ) → held_in W.held windows.new.entries other ≡ held_in W.held windows.old.entries other)
         ((other : List ℕ) → held_in W.held windows.new.entries other ≡ with_held (held_in W.held windows.old.entries) visit.now.group
         (held_after (kind_at visit.now.acks) (held_in W.held windows.old.entries visit.now.group)) other) result }
-    ensures runs { RunsOn D.content D.losses D.arms D.armed D.starved D.faults states.old.journal.live.disk states.new.journal.live.disk }
+    ensures runs { RunsOn D.seen states.old.journal.live.disk states.new.journal.live.disk }
     ensures idle { states.new.journal.idle ≡ states.old.journal.idle }
 {
     let judged = judge_group(alloc, conf, log, states, windows, visit, first)?;
@@ -132,12 +132,12 @@ pub fn acknowledge_visit<D: Disk, W: Window>(
     requires well { HoldsWell log.now.batches (share_state_at (states_of states.old.entries) (key_of conf.now visit.now.group))
         (held_in W.held windows.old.entries visit.now.group) }
     ensures once { AcksOnce visit.now.acks ((states.new ≡ states.old) × (windows.new.entries ≡ windows.old.entries))
-        (SettlesGroup D.image D.moment D.since (HasFailed D.content D.armed D.starved D.faults) conf.now log.now.batches
+        (SettlesGroup D.seen (HasFailed D.seen) conf.now log.now.batches
         visit.now.group visit.now.member (kind_at visit.now.acks) (held_in W.held windows.old.entries visit.now.group) states.old states.new
         ((other : List ℕ) → held_in W.held windows.new.entries other ≡ held_in W.held windows.old.entries other)
         ((other : List ℕ) → held_in W.held windows.new.entries other ≡ with_held (held_in W.held windows.old.entries) visit.now.group
         (held_after (kind_at visit.now.acks) (held_in W.held windows.old.entries visit.now.group)) other)) result }
-    ensures runs { RunsOn D.content D.losses D.arms D.armed D.starved D.faults states.old.journal.live.disk states.new.journal.live.disk }
+    ensures runs { RunsOn D.seen states.old.journal.live.disk states.new.journal.live.disk }
     ensures idle { states.new.journal.idle ≡ states.old.journal.idle }
     ensures range { IsLimit conf.now.limit }
 {

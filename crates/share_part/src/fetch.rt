@@ -94,9 +94,9 @@ fn store_state<D: Disk>(
 ) -> Result<ThenOutcome, NoMemory>
     requires { start ≤ 2 ^ 62 }
     ensures there { IsSome (kept_at states.old.entries key.now) → (states.new ≡ states.old) × (result ≡ Ok ThenOutcome.Done) }
-    ensures absent { kept_at states.old.entries key.now ≡ None → MakesOnce D.image D.moment D.since
-        (HasFailed D.content D.armed D.starved D.faults) (IsInitialised states.old.entries key.now (pos 0) (pos start)) states.old states.new result }
-    ensures runs { RunsOn D.content D.losses D.arms D.armed D.starved D.faults states.old.journal.live.disk states.new.journal.live.disk }
+    ensures absent { kept_at states.old.entries key.now ≡ None → MakesOnce D.seen
+        (HasFailed D.seen) (IsInitialised states.old.entries key.now (pos 0) (pos start)) states.old states.new result }
+    ensures runs { RunsOn D.seen states.old.journal.live.disk states.new.journal.live.disk }
     ensures idle { states.new.journal.idle ≡ states.old.journal.idle }
 {
     if states.look(key).is_some() {
@@ -118,9 +118,9 @@ pub fn make_table<D: Disk>(
     end: u64,
 ) -> Result<ThenOutcome, NoMemory>
     requires { end ≤ 2 ^ 62 }
-    ensures made { MakesTableOnce D.image D.moment D.since (HasFailed D.content D.armed D.starved D.faults)
+    ensures made { MakesTableOnce D.seen (HasFailed D.seen)
         conf.now group.now end states.old states.new result }
-    ensures runs { RunsOn D.content D.losses D.arms D.armed D.starved D.faults states.old.journal.live.disk states.new.journal.live.disk }
+    ensures runs { RunsOn D.seen states.old.journal.live.disk states.new.journal.live.disk }
     ensures idle { states.new.journal.idle ≡ states.old.journal.idle }
 {
     let key = conf.key(group);

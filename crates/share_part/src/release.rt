@@ -169,7 +169,7 @@ pub fn release_held<D: Disk, W: Window>(
     requires hosted { AreHosted conf.now log.now.batches (states_of states.old.entries) }
     requires well { HoldsWell log.now.batches (share_state_at (states_of states.old.entries) (key_of conf.now group.now))
         (held_in W.held windows.old.entries group.now) }
-    ensures once { StoresGroup D.image D.moment D.since (HasFailed D.content D.armed D.starved D.faults) conf.now log.now.batches
+    ensures once { StoresGroup D.seen (HasFailed D.seen) conf.now log.now.batches
         group.now (releasing (is_chosen whose.now) (held_in W.held windows.old.entries group.now)) (held_in W.held windows.old.entries group.now)
         states.old states.new
         ((other : List ℕ) → held_in W.held windows.new.entries other ≡ held_in W.held windows.old.entries other)
@@ -177,7 +177,7 @@ pub fn release_held<D: Disk, W: Window>(
         (held_after (releasing (is_chosen whose.now) (held_in W.held windows.old.entries group.now)) (held_in W.held windows.old.entries group.now))
         other) (told_in result) }
     ensures count { IfOk result (Counts whose.now (held_in W.held windows.old.entries group.now)) }
-    ensures runs { RunsOn D.content D.losses D.arms D.armed D.starved D.faults states.old.journal.live.disk states.new.journal.live.disk }
+    ensures runs { RunsOn D.seen states.old.journal.live.disk states.new.journal.live.disk }
     ensures idle { states.new.journal.idle ≡ states.old.journal.idle }
     ensures range { IsLimit conf.now.limit }
 {

@@ -96,19 +96,19 @@ impl<D: Disk, W: Window> PartShard<D, W> {
         disks: (D, D, D),
         conf: PartConf,
     ) -> Result<PartShard<D, W>, PartOpen<D>>
-        ensures opened { IfOk result (IsOpened D.content D.image W.held conf disks.0 disks.1 disks.2) }
-        ensures refused { IfErr result (λ e. IsNotOpened D.content D.armed D.starved D.faults conf disks.0 disks.1 disks.2
+        ensures opened { IfOk result (IsOpened D.seen W.held conf disks.0 disks.1 disks.2) }
+        ensures refused { IfErr result (λ e. IsNotOpened D.seen conf disks.0 disks.1 disks.2
             e.disks.0 e.disks.1 e.disks.2 e.fault) }
         ensures log { MatchResult result
-            (λ s. LeavesOnly D.moment D.since disks.0 s.log.journal.disk (StandsAs (D.image disks.0)))
-            (λ e. LeavesOnly D.moment D.since disks.0 e.disks.0 (StandsAs (D.image disks.0))) }
+            (λ s. LeavesOnly D.seen disks.0 s.log.journal.disk (StandsAs (D.seen disks.0).image))
+            (λ e. LeavesOnly D.seen disks.0 e.disks.0 (StandsAs (D.seen disks.0).image)) }
         ensures runs { MatchResult result
-            (λ s. RunsOn D.content D.losses D.arms D.armed D.starved D.faults disks.0 s.log.journal.disk)
-            (λ e. RunsOn D.content D.losses D.arms D.armed D.starved D.faults disks.0 e.disks.0) }
+            (λ s. RunsOn D.seen disks.0 s.log.journal.disk)
+            (λ e. RunsOn D.seen disks.0 e.disks.0) }
         ensures both { MatchResult result
-            (λ s. RunsBoth D.content D.size D.image D.moment D.since D.losses D.arms D.armed D.starved D.faults disks.1 disks.2
+            (λ s. RunsBoth D.seen disks.1 disks.2
             s.states.journal.live.disk s.states.journal.idle)
-            (λ e. RunsBoth D.content D.size D.image D.moment D.since D.losses D.arms D.armed D.starved D.faults disks.1 disks.2
+            (λ e. RunsBoth D.seen disks.1 disks.2
             e.disks.1 e.disks.2) }
     {
         let (disk, a, b) = disks;
@@ -164,8 +164,8 @@ impl<D: Disk, W: Window> PartShard<D, W> {
     fn fetch(&mut self, now: u64, visit: &Visit, limits: Limits) -> Result<VisitAnswer, NoMemory>
         requires now { now ≤ 2 ^ 62 }
         requires fetch { visit.now.then ≡ Then.Fetch limits.records limits.bytes limits.first }
-        ensures once { FollowsOnce D.content D.image D.armed D.starved D.faults W.held now visit.now self.old self.new result }
-        ensures runs { RunsOn D.content D.losses D.arms D.armed D.starved D.faults
+        ensures once { FollowsOnce D.seen W.held now visit.now self.old self.new result }
+        ensures runs { RunsOn D.seen
             self.old.states.journal.live.disk self.new.states.journal.live.disk }
         ensures ranges { IfOk result (λ answer. AllByRecursion IsSmallGrant answer.grants) }
     {
@@ -202,8 +202,8 @@ impl<D: Disk, W: Window> PartShard<D, W> {
     // Releases what a group holds, and raises the clock to a moment that isn't before it. After want of memory the clock is as it was.
     fn release(&mut self, clock: u64, group: &Name, whose: &Whose) -> Result<Released, NoMemory>
         requires clock { clock ≤ 2 ^ 62 }
-        ensures once { ReleasesOnce D.content D.image D.armed D.starved D.faults W.held clock group.now whose.now self.old self.new result }
-        ensures runs { RunsOn D.content D.losses D.arms D.armed D.starved D.faults
+        ensures once { ReleasesOnce D.seen W.held clock group.now whose.now self.old self.new result }
+        ensures runs { RunsOn D.seen
             self.old.states.journal.live.disk self.new.states.journal.live.disk }
     {
         let released = release_held(
@@ -223,8 +223,8 @@ impl<D: Disk, W: Window> PartShard<D, W> {
     fn let_go(&mut self, now: u64, visit: &Visit) -> Result<VisitAnswer, NoMemory>
         requires now { now ≤ 2 ^ 62 }
         requires release { visit.now.then ≡ Then.Release }
-        ensures once { FollowsOnce D.content D.image D.armed D.starved D.faults W.held now visit.now self.old self.new result }
-        ensures runs { RunsOn D.content D.losses D.arms D.armed D.starved D.faults
+        ensures once { FollowsOnce D.seen W.held now visit.now self.old self.new result }
+        ensures runs { RunsOn D.seen
             self.old.states.journal.live.disk self.new.states.journal.live.disk }
         ensures ranges { IfOk result (λ answer. AllByRecursion IsSmallGrant answer.grants) }
     {
@@ -236,8 +236,8 @@ impl<D: Disk, W: Window> PartShard<D, W> {
     // Does what follows the acknowledgements of a visit.
     fn follow(&mut self, now: u64, visit: &Visit) -> Result<VisitAnswer, NoMemory>
         requires now { now ≤ 2 ^ 62 }
-        ensures once { FollowsOnce D.content D.image D.armed D.starved D.faults W.held now visit.now self.old self.new result }
-        ensures runs { RunsOn D.content D.losses D.arms D.armed D.starved D.faults
+        ensures once { FollowsOnce D.seen W.held now visit.now self.old self.new result }
+        ensures runs { RunsOn D.seen
             self.old.states.journal.live.disk self.new.states.journal.live.disk }
         ensures ranges { IfOk result (λ answer. AllByRecursion IsSmallGrant answer.grants) }
     {
@@ -271,8 +271,8 @@ impl<D: Disk, W: Window> PartShard<D, W> {
     /// change anything, or behind them, and then nothing else changes.
     pub fn visit(&mut self, now: u64, visit: &Visit) -> Result<VisitAnswer, NoMemory>
         requires now { now ≤ 2 ^ 62 }
-        ensures once { VisitsOnce D.content D.image D.armed D.starved D.faults W.held now visit.now self.old self.new result }
-        ensures runs { RunsOn D.content D.losses D.arms D.armed D.starved D.faults
+        ensures once { VisitsOnce D.seen W.held now visit.now self.old self.new result }
+        ensures runs { RunsOn D.seen
             self.old.states.journal.live.disk self.new.states.journal.live.disk }
         ensures ranges { IfOk result (λ answer. AllByRecursion IsSmallGrant answer.grants) }
     {
@@ -306,8 +306,8 @@ impl<D: Disk, W: Window> PartShard<D, W> {
     /// is written and no window is walked. Where it finds no memory, the groups before are done, and no other has changed.
     pub fn expire(&mut self, now: u64) -> Result<ExpireAnswer, NoMemory>
         requires { now ≤ 2 ^ 62 }
-        ensures once { ExpiresOnce D.content D.image D.armed D.starved D.faults W.held now self.old self.new result }
-        ensures runs { RunsOn D.content D.losses D.arms D.armed D.starved D.faults
+        ensures once { ExpiresOnce D.seen W.held now self.old self.new result }
+        ensures runs { RunsOn D.seen
             self.old.states.journal.live.disk self.new.states.journal.live.disk }
     {
         let clock = self.clock.max(now);
@@ -332,10 +332,10 @@ impl<D: Disk, W: Window> PartShard<D, W> {
     /// Adds a batch as a producer sends it, as `PartLog::append` does. The shard's clock is raised to `now`.
     pub fn produce(&mut self, now: u64, batch: &[u8]) -> Result<u64, LogFault>
         requires { now ≤ 2 ^ 62 }
-        ensures once { ProducesOnce D.content D.image D.moment D.since D.armed D.starved D.faults W.held now batch.now self.old self.new result }
+        ensures once { ProducesOnce D.seen W.held now batch.now self.old self.new result }
         ensures below { IfOk result (λ base. base ≤ 2 ^ 62) }
         ensures behind { (end : ℕ) → result ≢ Err (LogFault.Behind end) }
-        ensures runs { RunsOn D.content D.losses D.arms D.armed D.starved D.faults self.old.log.journal.disk self.new.log.journal.disk }
+        ensures runs { RunsOn D.seen self.old.log.journal.disk self.new.log.journal.disk }
     {
         let result = self.log.append(batch);
         if has_no_memory(&result) {
@@ -364,8 +364,8 @@ impl<D: Disk, W: Window> PartShard<D, W> {
 
     /// Whether a call of one of its disks has failed for want of memory.
     pub fn starved(&self) -> bool
-        ensures { (result ≡ true) ↔ ((D.starved self.now.log.journal.disk ≡ true) ⊎ ((D.starved self.now.states.journal.live.disk ≡ true)
-            ⊎ (D.starved self.now.states.journal.idle ≡ true))) }
+        ensures { (result ≡ true) ↔ (((D.seen self.now.log.journal.disk).starved ≡ true) ⊎ (((D.seen self.now.states.journal.live.disk).starved ≡ true)
+            ⊎ ((D.seen self.now.states.journal.idle).starved ≡ true))) }
     {
         self.log.starved() || self.states.starved()
     }
@@ -382,19 +382,19 @@ impl<D: Disk, W: Window> PartShard<D, W> {
     /// Arms a fault of one of its disks, and changes nothing else.
     pub fn arm(&mut self, disk: DiskPlace, after: u64, mode: FaultMode)
         ensures log { disk ≡ DiskPlace.Log →
-            ArmsAlone D.content D.image D.losses D.arms D.armed D.starved D.faults after mode self.old.log.journal.disk self.new.log.journal.disk
+            ArmsAlone D.seen after mode self.old.log.journal.disk self.new.log.journal.disk
             × (self.new.states ≡ self.old.states) }
         ensures first { disk ≡ DiskPlace.StateA →
-            ArmsAlone D.content D.image D.losses D.arms D.armed D.starved D.faults after mode
+            ArmsAlone D.seen after mode
             self.old.states.journal.live.disk self.new.states.journal.live.disk
             × (self.new.states.journal.idle ≡ self.old.states.journal.idle) × (self.new.log ≡ self.old.log) }
         ensures second { disk ≡ DiskPlace.StateB →
-            ArmsAlone D.content D.image D.losses D.arms D.armed D.starved D.faults after mode
+            ArmsAlone D.seen after mode
             self.old.states.journal.idle self.new.states.journal.idle
             × (self.new.states.journal.live ≡ self.old.states.journal.live) × (self.new.log ≡ self.old.log) }
         ensures conf { self.new.conf ≡ self.old.conf }
         ensures ends { (self.new.log.journal.end ≡ self.old.log.journal.end) × (self.new.states.journal.live.end ≡ self.old.states.journal.live.end) }
-        ensures stays { (shard : PartShardState) → Carries D.image W.held self.old shard → Carries D.image W.held self.new shard }
+        ensures stays { (shard : PartShardState) → Carries D.seen W.held self.old shard → Carries D.seen W.held self.new shard }
     {
         match disk {
             DiskPlace::Log => self.log.arm(after, mode),

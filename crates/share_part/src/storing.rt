@@ -47,9 +47,9 @@ pub fn store_change<D: Disk>(
     requires start { IfSome start (λ start. start ≤ 2 ^ 62) }
     requires granted { write_refusal (kept_at states.old.entries key.now) (pos 0) (pos 0) (start_number start) runs.now ≡ None }
     requires few { (count : ℕ) → IsTooMany states.old.entries key.now (start_number start) runs.now count → ⊥ }
-    ensures once { StoresOnce D.image D.moment D.since (HasFailed D.content D.armed D.starved D.faults)
+    ensures once { StoresOnce D.seen (HasFailed D.seen)
         (IsStored states.old.entries key.now start runs.now) states.old states.new result }
-    ensures runs { RunsOn D.content D.losses D.arms D.armed D.starved D.faults states.old.journal.live.disk states.new.journal.live.disk }
+    ensures runs { RunsOn D.seen states.old.journal.live.disk states.new.journal.live.disk }
     ensures idle { states.new.journal.idle ≡ states.old.journal.idle }
 {
     match states.write(key, 0, 0, start_number(start), runs) {

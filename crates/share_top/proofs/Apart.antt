@@ -6,35 +6,35 @@ use Rattle.edge_io.specs.Armed.{RunsOn}
 use Rattle.edge_io.specs.Bays.{IsAsTold, Holds, SameSlot}
 use Rattle.edge_io.proofs.Runs.{runs_none}
 use Rattle.share_top.specs.Apart.{RunsDisk}
+use Rattle.edge_io.specs.Views.{DiskView, BayView}
 
-module _ {B D : Type 0} (disk : B → List ℕ → Option D) (out : B → List ℕ → Bool) (taken : B → List ℕ → ℕ) (name : List ℕ) where
-  pub same_slot : (bay : B) → SameSlot disk out taken name bay bay
+module _ {B D : Type 0} (bay_seen : B → BayView D) (name : List ℕ) where
+  pub same_slot : (bay : B) → SameSlot bay_seen name bay bay
   same_slot bay = record { same_disk = refl; same_out = refl; same_taken = refl }
 
-  pub slot_then : (a b c : B) → SameSlot disk out taken name a b → SameSlot disk out taken name b c → SameSlot disk out taken name a c
+  pub slot_then : (a b c : B) → SameSlot bay_seen name a b → SameSlot bay_seen name b c → SameSlot bay_seen name a c
   slot_then a b c p q = record {
     same_disk = q.same_disk ∙ p.same_disk;
     same_out = q.same_out ∙ p.same_out;
     same_taken = q.same_taken ∙ p.same_taken;
   }
 
-module _ {B D : Type 0} (disk : B → List ℕ → Option D) (content : D → Option (List ℕ)) (losses : D → List (ℕ × List ℕ)) (arms : D → ℕ)
-    (armed : D → Armed) (starved : D → Bool) (faults : D → ℕ) (name : List ℕ) (old new : B) where
+module _ {B D : Type 0} (bay_seen : B → BayView D) (seen : D → DiskView) (name : List ℕ) (old new : B) where
   abbrev Runs : D → D → Type 0
-  Runs d e = RunsOn content losses arms armed starved faults d e
+  Runs d e = RunsOn seen d e
 
   some_one : (d e : D) → Some d ≡ Some e → d ≡ e
   some_one d e is = cc
 
   -- the disk was used and put back
-  pub runs_back : (mid : B) (given last : D) → IsAsTold (disk old name) given → is_some (disk mid name) ≡ is_some (disk old name)
-      → Holds (disk mid name) (disk new name) last → Runs given last → RunsDisk disk content losses arms armed starved faults name old new
+  pub runs_back : (mid : B) (given last : D) → IsAsTold ((bay_seen old).disk name) given → is_some ((bay_seen mid).disk name) ≡ is_some ((bay_seen old).disk name)
+      → Holds ((bay_seen mid).disk name) ((bay_seen new).disk name) last → Runs given last → RunsDisk bay_seen seen name old new
   runs_back mid given last as_told told there runs d e was is =
       let begun : given ≡ d = as_told d was in
       let ended : last ≡ e = some_one last e (sym (there (told ∙ ap is_some was)) ∙ is) in
       subst (λ (x : D). Runs x e) begun (subst (λ (y : D). Runs given y) ended runs)
 
   -- nothing was done to it
-  pub runs_same : disk new name ≡ disk old name → RunsDisk disk content losses arms armed starved faults name old new
+  pub runs_same : (bay_seen new).disk name ≡ (bay_seen old).disk name → RunsDisk bay_seen seen name old new
   runs_same same d e was is =
-      subst (λ (y : D). Runs d y) (some_one d e (sym was ∙ sym same ∙ is)) (runs_none content losses arms armed starved faults d)
+      subst (λ (y : D). Runs d y) (some_one d e (sym was ∙ sym same ∙ is)) (runs_none seen d)

@@ -12,6 +12,7 @@ use Rattle.share_top.specs.declared.status.Status.TheVariants.{Done, Usage, Malf
 use Rattle.share_top.specs.Changes.{InputChange, OutputChange}
 use Rattle.share_top.specs.Sessions.{Ending, IsSession, OfBay, OverBay, HoldsStates, CountRose}
 use Rattle.share_top.specs.Statuses.{DisksStay, IsPlayed, IsNotOpened, IsRefusedScript, IsReplay, status_number}
+use Rattle.edge_io.specs.Views.{DiskView, BayView}
 
 some_each : (o : Option (List ℕ)) (P Q : List ℕ → Type 0) → ((x : List ℕ) → P x → Q x) → IfSome o P → IfSome o Q
 some_each None P Q f h = tt
@@ -67,29 +68,28 @@ not_seven Damaged not is = absurd cc
 not_seven Device not is = absurd (not refl)
 not_seven NoMemory not is = absurd cc
 
--- the same over a bay; the members of the bay and of its disks come first
-module _ {B D : Type 0} (disk : B → List ℕ → Option D) (content : D → Option (List ℕ)) (image : D → List ℕ → Type 0) (faults : D → ℕ) (losses : D → List (ℕ × List ℕ)) (arms : D → ℕ)
-    (armed : D → Armed) (bay_faults : B → ℕ) (old new : B) (conf : ConfigParts) (input : InputChange) (output : OutputChange) where
+-- the same over a bay
+module _ {B D : Type 0} (bay_seen : B → BayView D) (seen : D → DiskView) (old new : B) (conf : ConfigParts) (input : InputChange) (output : OutputChange) where
   abbrev Replay : Status → Type 0
-  Replay status = IsReplay disk content image faults losses arms armed bay_faults old new conf input output status
+  Replay status = IsReplay bay_seen seen old new conf input output status
 
   abbrev Session : List Event → (List Outcome → Type 0) → Ending → Type 0
-  Session events Tells Ends = OverBay disk content faults losses arms armed conf old new (IsSession conf events Tells Ends)
+  Session events Tells Ends = OverBay bay_seen seen conf old new (IsSession conf events Tells Ends)
 
   abbrev Untold : Type 0
-  Untold = OfBay disk content faults losses arms armed conf old (λ contents was. ⊥)
+  Untold = OfBay bay_seen seen conf old (λ contents was. ⊥)
 
   abbrev AtEntry : ((List ℕ → List ℕ) → Disks → Type 0) → Type 0
-  AtEntry P = OfBay disk content faults losses arms armed conf old P
+  AtEntry P = OfBay bay_seen seen conf old P
 
   abbrev Rises : Type 0
-  Rises = CountRose disk faults bay_faults conf old new
+  Rises = CountRose bay_seen seen conf old new
 
   pub completes_on : (number : ℕ) (status : Status) → number ≡ status_number status → Replay status → status ≢ Damaged → status ≢ Device
       → (Rose input.faults input.faults_after → ⊥) → (Rose output.faults output.faults_after → ⊥)
       → IfSome input.left (λ text. (events : List Event) → IsScript text events → (number ≡ 0) ⊎ (number ≡ 8))
-  completes_on number status is e whole fed read write = completes conf input output Session Untold input.Same (DisksStay disk image old new) AtEntry Rises number status is e whole fed read write
+  completes_on number status is e whole fed read write = completes conf input output Session Untold input.Same (DisksStay bay_seen seen old new) AtEntry Rises number status is e whole fed read write
 
-  pub not_device_on : (status : Status) → Replay status → HoldsStates disk content faults losses arms armed conf old → (Rises → ⊥) → status ≢ Device
+  pub not_device_on : (status : Status) → Replay status → HoldsStates bay_seen seen conf old → (Rises → ⊥) → status ≢ Device
   not_device_on status e told still =
-      not_device conf input output Session Untold input.Same (DisksStay disk image old new) AtEntry Rises status e (λ untold. untold told.0 told.1 told.2) still
+      not_device conf input output Session Untold input.Same (DisksStay bay_seen seen old new) AtEntry Rises status e (λ untold. untold told.0 told.1 told.2) still

@@ -39,6 +39,7 @@ use Rattle.share_top.specs.Changes.{InputChange, OutputChange}
 use Rattle.share_top.specs.Sessions.{Ending, Leaves, LeavesWithin, Ran, IsSession, OfBay, OverBay, CountRose, Writes, WritesThen, WritesFront, WritesPart}
 use Rattle.share_top.specs.Statuses.{ComesNext, IsPlayed, IsNotOpened, IsRefusedScript, IsBegun}
 use Rattle.share_top.specs.Going.{FromCore, NeverFrom, IsRefusal}
+use Rattle.edge_io.specs.Views.{DiskView, BayView}
 
 -- ---- how a run may end
 
@@ -145,11 +146,11 @@ module _ {D : Type 0} where
   one_of_has (e ∷ es) name (inr has) = inr (one_of_has es name has)
 
   -- the disks go on under their names
-  pub names_go_on : (content : D → Option (List ℕ)) (faults : D → ℕ) (old new : List (List ℕ × Option D)) → AllZip (DiskGoesOn content faults) old new → names_in new ≡ names_in old
-  names_go_on content faults [] [] z = refl
-  names_go_on content faults [] (f ∷ new) z = absurd z
-  names_go_on content faults (e ∷ old) [] z = absurd z
-  names_go_on content faults (e ∷ old) (f ∷ new) z = λ i. z.0.name i ∷ names_go_on content faults old new z.1 i
+  pub names_go_on : (seen : D → DiskView) (old new : List (List ℕ × Option D)) → AllZip (DiskGoesOn seen) old new → names_in new ≡ names_in old
+  names_go_on seen [] [] z = refl
+  names_go_on seen [] (f ∷ new) z = absurd z
+  names_go_on seen (e ∷ old) [] z = absurd z
+  names_go_on seen (e ∷ old) (f ∷ new) z = λ i. z.0.name i ∷ names_go_on seen old new z.1 i
 
   -- those of a broker are those of its partitions
   pub names_of_slots : (slots : List (PartSlot D)) → names_in (slots_disks slots) ≡ part_disks (hosted_slots slots)
@@ -157,31 +158,31 @@ module _ {D : Type 0} where
   names_of_slots (s ∷ slots) =
       ap (λ (l : List (List ℕ)). log_of (hosted_slot s) ∷ first_of (hosted_slot s) ∷ second_of (hosted_slot s) ∷ l) (names_of_slots slots)
 
-  pub hosts_of_slots : (content : D → Option (List ℕ)) (image : D → List ℕ → Type 0) (starved : D → Bool) (slots : List (PartSlot D)) (parts : List HostedPart)
-      → AllZip (IsPartSlot content image starved) slots parts → hosted_by parts ≡ hosted_slots slots
-  hosts_of_slots content image starved [] [] z = refl
-  hosts_of_slots content image starved [] (p ∷ parts) z = absurd z
-  hosts_of_slots content image starved (s ∷ slots) [] z = absurd z
-  hosts_of_slots content image starved (s ∷ slots) (p ∷ parts) z = λ i. z.0.hosted i ∷ hosts_of_slots content image starved slots parts z.1 i
+  pub hosts_of_slots : (seen : D → DiskView) (slots : List (PartSlot D)) (parts : List HostedPart)
+      → AllZip (IsPartSlot seen) slots parts → hosted_by parts ≡ hosted_slots slots
+  hosts_of_slots seen [] [] z = refl
+  hosts_of_slots seen [] (p ∷ parts) z = absurd z
+  hosts_of_slots seen (s ∷ slots) [] z = absurd z
+  hosts_of_slots seen (s ∷ slots) (p ∷ parts) z = λ i. z.0.hosted i ∷ hosts_of_slots seen slots parts z.1 i
 
-  pub names_still : (content : D → Option (List ℕ)) (image : D → List ℕ → Type 0) (es : List (List ℕ × Option D)) (parts : List HostedPart)
-      → PartsStill content image es parts → names_in es ≡ part_disks (hosted_by parts)
-  names_still content image [] [] still = refl
-  names_still content image [] (p ∷ parts) still = absurd still
-  names_still content image (x ∷ []) parts still = absurd still
-  names_still content image (x ∷ y ∷ []) parts still = absurd still
-  names_still content image (x ∷ y ∷ z ∷ es) [] still = absurd still
-  names_still content image (x ∷ y ∷ z ∷ es) (p ∷ parts) still =
-      λ i. (still.0.log_is i).0 ∷ (still.0.first_is i).0 ∷ (still.0.second_is i).0 ∷ names_still content image es parts still.1 i
+  pub names_still : (seen : D → DiskView) (es : List (List ℕ × Option D)) (parts : List HostedPart)
+      → PartsStill seen es parts → names_in es ≡ part_disks (hosted_by parts)
+  names_still seen [] [] still = refl
+  names_still seen [] (p ∷ parts) still = absurd still
+  names_still seen (x ∷ []) parts still = absurd still
+  names_still seen (x ∷ y ∷ []) parts still = absurd still
+  names_still seen (x ∷ y ∷ z ∷ es) [] still = absurd still
+  names_still seen (x ∷ y ∷ z ∷ es) (p ∷ parts) still =
+      λ i. (still.0.log_is i).0 ∷ (still.0.first_is i).0 ∷ (still.0.second_is i).0 ∷ names_still seen es parts still.1 i
 
-  pub names_stay : (content : D → Option (List ℕ)) (faults : D → ℕ) (old new : List (PartSlot D))
-      → AllZip (DiskGoesOn content faults) (slots_disks old) (slots_disks new) → part_disks (hosted_slots new) ≡ part_disks (hosted_slots old)
-  names_stay content faults old new z = sym (names_of_slots new) ∙ names_go_on content faults (slots_disks old) (slots_disks new) z ∙ names_of_slots old
+  pub names_stay : (seen : D → DiskView) (old new : List (PartSlot D))
+      → AllZip (DiskGoesOn seen) (slots_disks old) (slots_disks new) → part_disks (hosted_slots new) ≡ part_disks (hosted_slots old)
+  names_stay seen old new z = sym (names_of_slots new) ∙ names_go_on seen (slots_disks old) (slots_disks new) z ∙ names_of_slots old
 
 -- what is known of a disk is that of the one that is found under its name
-module _ {D : Type 0} (faults : D → ℕ) (losses : D → List (ℕ × List ℕ)) (arms : D → ℕ) (armed : D → Armed) where
+module _ {D : Type 0} (seen : D → DiskView) where
   abbrev facts_at_disk : Option D → Facts
-  facts_at_disk found = facts_at faults losses arms armed found
+  facts_at_disk found = facts_at seen found
 
   either : (first : Bool) (d there : Option D) (rest : Facts) → rest ≡ facts_at_disk there
       → (if first then facts_at_disk d else rest) ≡ facts_at_disk (if first then d else there)
@@ -189,43 +190,42 @@ module _ {D : Type 0} (faults : D → ℕ) (losses : D → List (ℕ × List ℕ
   either false d there rest same = same
 
   among_facts : (es : List (List ℕ × Option D)) (name : List ℕ) (other : Option D)
-      → facts_among faults losses arms armed es (facts_at_disk other) name
+      → facts_among seen es (facts_at_disk other) name
       ≡ facts_at_disk (among (λ (e : List ℕ × Option D). e.0) (λ (e : List ℕ × Option D). e.1) es other name)
   among_facts [] name other = refl
   among_facts (e ∷ es) name other =
       either (same_name name e.0) e.1 (among (λ (e : List ℕ × Option D). e.0) (λ (e : List ℕ × Option D). e.1) es other name)
-      (facts_among faults losses arms armed es (facts_at_disk other) name) (among_facts es name other)
+      (facts_among seen es (facts_at_disk other) name) (among_facts es name other)
 
-  foreign_facts_of : (left : Option (D × D)) (name : List ℕ) → foreign_facts faults losses arms armed left name ≡ facts_at_disk (foreign_disk left name)
+  foreign_facts_of : (left : Option (D × D)) (name : List ℕ) → foreign_facts seen left name ≡ facts_at_disk (foreign_disk left name)
   foreign_facts_of None name = refl
   foreign_facts_of (Some disks) name = go (same_name name state_a) where
     go : (b : Bool) → record {
-      faults = if b then faults disks.0 else faults disks.1;
-      losses = if b then losses disks.0 else losses disks.1;
-      arms = if b then arms disks.0 else arms disks.1;
-      armed = if b then armed disks.0 else armed disks.1;
+      faults = if b then (seen disks.0).faults else (seen disks.1).faults;
+      losses = if b then (seen disks.0).losses else (seen disks.1).losses;
+      arms = if b then (seen disks.0).arms else (seen disks.1).arms;
+      armed = if b then (seen disks.0).armed else (seen disks.1).armed;
     } ≡ facts_at_disk (Some (if b then disks.0 else disks.1))
     go true = refl
     go false = refl
 
-  pub facts_of_disk : (left : LeftDisks D) (name : List ℕ) → facts_in faults losses arms armed left name ≡ facts_at_disk (disk_in left name)
-  facts_of_disk left name = ap (λ (f : Facts). facts_among faults losses arms armed left.parts f name) (foreign_facts_of left.foreign name)
+  pub facts_of_disk : (left : LeftDisks D) (name : List ℕ) → facts_in seen left name ≡ facts_at_disk (disk_in left name)
+  facts_of_disk left name = ap (λ (f : Facts). facts_among seen left.parts f name) (foreign_facts_of left.foreign name)
       ∙ among_facts left.parts name (foreign_disk left.foreign name)
 
--- ---- over a bay; the members of the bay and of its disks come first
+-- ---- over a bay
 
-module _ {B D : Type 0} (disk : B → List ℕ → Option D) (content : D → Option (List ℕ)) (image : D → List ℕ → Type 0) (starved : D → Bool)
-    (faults : D → ℕ) (losses : D → List (ℕ × List ℕ)) (arms : D → ℕ) (armed : D → Armed) where
+module _ {B D : Type 0} (bay_seen : B → BayView D) (seen : D → DiskView) where
   abbrev Tells : ConfigParts → B → (List ℕ → List ℕ) → Disks → Type 0
-  Tells conf bay contents was = TellsDisks disk content faults losses arms armed conf bay contents was
+  Tells conf bay contents was = TellsDisks bay_seen seen conf bay contents was
 
   abbrev began : Machine → CoreParts D → State
-  began m core = state_of faults losses arms armed m core
+  began m core = state_of seen m core
 
   -- a start's own clause
   abbrev Opens : ConfigParts → B → CoreParts D → Type 0
   Opens conf old core = (contents : List ℕ → List ℕ) (was : Disks) → Tells conf old contents was →
-      (m : Machine) × IsCore content image starved core m × IsFirst conf contents was (began m core)
+      (m : Machine) × IsCore seen core m × IsFirst conf contents was (began m core)
 
   -- ---- what a bay has under a name
 
@@ -235,28 +235,28 @@ module _ {B D : Type 0} (disk : B → List ℕ → Option D) (content : D → Op
 
   text_on : Option D → List ℕ
   text_on None = []
-  text_on (Some d) = text (content d)
+  text_on (Some d) = text (seen d).content
 
   text_in : B → List ℕ → List ℕ
-  text_in bay name = text_on (disk bay name)
+  text_in bay name = text_on ((bay_seen bay).disk name)
 
   facts_on : B → Disks
-  facts_on bay name = facts_at faults losses arms armed (disk bay name)
+  facts_on bay name = facts_at seen ((bay_seen bay).disk name)
 
   -- the bay has a disk under this name that tells its content
   abbrev Has : B → List ℕ → Type 0
-  Has bay name = (d : D) × (disk bay name ≡ Some d) × (content d ≡ Some (text_in bay name)) × (facts_on bay name ≡ facts_of faults losses arms armed d)
+  Has bay name = (d : D) × ((bay_seen bay).disk name ≡ Some d) × ((seen d).content ≡ Some (text_in bay name)) × (facts_on bay name ≡ facts_of seen d)
 
-  content_of : (bay : B) (name : List ℕ) (d : D) → disk bay name ≡ Some d → IsTold (content d) → content d ≡ Some (text_in bay name)
+  content_of : (bay : B) (name : List ℕ) (d : D) → (bay_seen bay).disk name ≡ Some d → IsTold (seen d).content → (seen d).content ≡ Some (text_in bay name)
   unfolding text_on text text_in
   content_of bay name d is told =
-      let c = is_told (content d) told in
+      let c = is_told (seen d).content told in
       let same : text_in bay name ≡ c.0 = ap text_on is ∙ ap text c.1 in
       c.1 ∙ ap Some (sym same)
 
-  has : (bay : B) (name : List ℕ) (d : D) → disk bay name ≡ Some d → IsTold (content d) → Has bay name
+  has : (bay : B) (name : List ℕ) (d : D) → (bay_seen bay).disk name ≡ Some d → IsTold (seen d).content → Has bay name
   unfolding facts_on
-  has bay name d is told = (d, is, content_of bay name d is told, ap (facts_at faults losses arms armed) is)
+  has bay name d is told = (d, is, content_of bay name d is told, ap (facts_at seen) is)
 
   -- a sound bay has each disk of a broker
   abbrev HasDisks : Topic → ℕ → Type 0
@@ -291,9 +291,9 @@ module _ {B D : Type 0} (disk : B → List ℕ → Option D) (content : D → Op
   taken_names conf list name (inl one) = names_are conf conf.topics (have_disks conf.topics list) name one
   taken_names conf list name (inr state) = inr state
 
-  pub sound_tells : (steady : B → Type 0) (bay : B) → IsSound disk steady content armed arms starved faults bay → (conf : ConfigParts) → IsTopicList conf.topics
+  pub sound_tells : (bay : B) → IsSound bay_seen seen bay → (conf : ConfigParts) → IsTopicList conf.topics
       → (contents : List ℕ → List ℕ) × (was : Disks) × Tells conf bay contents was
-  sound_tells steady bay sound conf list = (
+  sound_tells bay sound conf list = (
     text_in bay,
     facts_on bay,
     λ name taken. let d = sound.each name (taken_names conf list name taken) in has bay name d.0 d.1 d.2.tells,
@@ -303,17 +303,17 @@ module _ {B D : Type 0} (disk : B → List ℕ → Option D) (content : D → Op
 
   module _ (mid new : B) where
     abbrev Told : List ℕ → Type 0
-    Told name = is_some (disk mid name) ≡ true
+    Told name = is_some ((bay_seen mid).disk name) ≡ true
 
     -- under this name the bay has the disk that was found, and it tells its content
     abbrev Known : List ℕ → Option D → Type 0
-    Known name found = (d : D) × (disk new name ≡ Some d) × IsTold (content d) × (found ≡ Some d)
+    Known name found = (d : D) × ((bay_seen new).disk name ≡ Some d) × IsTold (seen d).content × (found ≡ Some d)
 
     -- it is there, and tells its content
     abbrev IsToldEntry : List ℕ × Option D → Type 0
-    IsToldEntry e = (d : D) × (e.1 ≡ Some d) × IsTold (content d)
+    IsToldEntry e = (d : D) × (e.1 ≡ Some d) × IsTold (seen d).content
 
-    told_entries : (es : List (List ℕ × Option D)) (parts : List HostedPart) → PartsStill content image es parts → AllByRecursion IsToldEntry es
+    told_entries : (es : List (List ℕ × Option D)) (parts : List HostedPart) → PartsStill seen es parts → AllByRecursion IsToldEntry es
     told_entries [] [] still = tt
     told_entries [] (p ∷ parts) still = absurd still
     told_entries (x ∷ []) parts still = absurd still
@@ -329,12 +329,12 @@ module _ {B D : Type 0} (disk : B → List ℕ → Option D) (content : D → Op
           ),
         )
 
-    of_entry : (e : List ℕ × Option D) → HoldsIf disk mid new e → IsToldEntry e → Told e.0 → Known e.0 e.1
+    of_entry : (e : List ℕ × Option D) → HoldsIf bay_seen mid new e → IsToldEntry e → Told e.0 → Known e.0 e.1
     of_entry (n, None) back entry told = absurd back
     of_entry (n, Some d) back entry told =
         let is : Some d ≡ Some entry.0 = entry.1 in
         let same : entry.0 ≡ d = cc in
-        (d, back told, subst (λ (x : D). IsTold (content x)) same entry.2, refl)
+        (d, back told, subst (λ (x : D). IsTold (seen x).content) same entry.2, refl)
 
     abbrev among_disks : List (List ℕ × Option D) → Option D → List ℕ → Option D
     among_disks es other name = among (λ (e : List ℕ × Option D). e.0) (λ (e : List ℕ × Option D). e.1) es other name
@@ -342,7 +342,7 @@ module _ {B D : Type 0} (disk : B → List ℕ → Option D) (content : D → Op
     abbrev cond : Bool → Option D → Option D → Option D
     cond b d e = if b then d else e
 
-    of_entries : (es : List (List ℕ × Option D)) → AllByRecursion (HoldsIf disk mid new) es → AllByRecursion IsToldEntry es
+    of_entries : (es : List (List ℕ × Option D)) → AllByRecursion (HoldsIf bay_seen mid new) es → AllByRecursion IsToldEntry es
         → (name : List ℕ) → Told name → (other : Option D) → HasName es name ⊎ Known name other → Known name (among_disks es other name)
     of_entries [] back entries name told other (inl one) = absurd one
     of_entries [] back entries name told other (inr known) = known
@@ -362,17 +362,17 @@ module _ {B D : Type 0} (disk : B → List ℕ → Option D) (content : D → Op
           subst (λ (b : Bool). Known name (cond b e.1 (among_disks es other name))) (sym eq) (subst (λ (n : List ℕ). Known n e.1) (sym is) k)
       go others (inr not) = subst (λ (b : Bool). Known name (cond b e.1 (among_disks es other name))) (sym not) (others (rest not h))
 
-    of_first : (left : Option (D × D)) (shards : Shards) → BothHold disk mid new left → ForeignStill content image shards.foreign left → Told state_a
+    of_first : (left : Option (D × D)) (shards : Shards) → BothHold bay_seen mid new left → ForeignStill seen shards.foreign left → Told state_a
         → Known state_a (foreign_disk left state_a)
     of_first None shards back still told = absurd still
     of_first (Some (first, second)) shards back still told = (first, back.0 told, still.told, refl)
 
-    of_second : (left : Option (D × D)) (shards : Shards) → BothHold disk mid new left → ForeignStill content image shards.foreign left → Told state_b
+    of_second : (left : Option (D × D)) (shards : Shards) → BothHold bay_seen mid new left → ForeignStill seen shards.foreign left → Told state_b
         → Known state_b (foreign_disk left state_b)
     of_second None shards back still told = absurd still
     of_second (Some (first, second)) shards back still told = (second, back.1 told, still.second_told, refl)
 
-    module _ (left : LeftDisks D) (shards : Shards) (back : ArePutBack disk mid new left) (still : StandStill content image shards left) where
+    module _ (left : LeftDisks D) (shards : Shards) (back : ArePutBack bay_seen mid new left) (still : StandStill seen shards left) where
       abbrev F : List ℕ → Option D
       F name = disk_in left name
 
@@ -392,18 +392,18 @@ module _ {B D : Type 0} (disk : B → List ℕ → Option D) (content : D → Op
 
     -- ---- what their contents stand for
 
-    module _ (read : (d : D) (c : List ℕ) → content d ≡ Some c → image d c) where
-      is_text : (name : List ℕ) (d : D) → disk new name ≡ Some d → IsTold (content d) → image d (text_in new name)
+    module _ (read : (d : D) (c : List ℕ) → (seen d).content ≡ Some c → (seen d).image c) where
+      is_text : (name : List ℕ) (d : D) → (bay_seen new).disk name ≡ Some d → IsTold (seen d).content → (seen d).image (text_in new name)
       unfolding text_on text text_in
       is_text name d is told =
-          let c = is_told (content d) told in
-          subst (λ (t : List ℕ). image d t) (sym (ap text_on is ∙ ap text c.1)) (read d c.0 c.1)
+          let c = is_told (seen d).content told in
+          subst (λ (t : List ℕ). (seen d).image t) (sym (ap text_on is ∙ ap text c.1)) (read d c.0 c.1)
 
       -- a disk that was put back under its name, and which told its content
-      put_back : (e : List ℕ × Option D) (name : List ℕ) (d : D) → e ≡ (name, Some d) → HoldsIf disk mid new e → Told name → disk new name ≡ Some d
-      put_back e name d is back told = subst (λ (x : List ℕ × Option D). HoldsIf disk mid new x) is back told
+      put_back : (e : List ℕ × Option D) (name : List ℕ) (d : D) → e ≡ (name, Some d) → HoldsIf bay_seen mid new e → Told name → (bay_seen new).disk name ≡ Some d
+      put_back e name d is back told = subst (λ (x : List ℕ × Option D). HoldsIf bay_seen mid new x) is back told
 
-      part_stands : (x y z : List ℕ × Option D) (p : HostedPart) → HoldsIf disk mid new x → HoldsIf disk mid new y → HoldsIf disk mid new z → PartStill content image x y z p
+      part_stands : (x y z : List ℕ × Option D) (p : HostedPart) → HoldsIf bay_seen mid new x → HoldsIf bay_seen mid new y → HoldsIf bay_seen mid new z → PartStill seen x y z p
           → Told (log_of p.hosted) → Told (first_of p.hosted) → Told (second_of p.hosted) → StandsForPart (text_in new) p
       part_stands x y z p bx by bz s tx ty tz =
           s.alone.stand (text_in new (log_of p.hosted)) (text_in new (first_of p.hosted)) (text_in new (second_of p.hosted))
@@ -411,7 +411,7 @@ module _ {B D : Type 0} (disk : B → List ℕ → Option D) (content : D → Op
           (is_text (first_of p.hosted) s.first (put_back y (first_of p.hosted) s.first s.first_is by ty) s.alone.first_told)
           (is_text (second_of p.hosted) s.second (put_back z (second_of p.hosted) s.second s.second_is bz tz) s.alone.second_told)
 
-      parts_stand : (es : List (List ℕ × Option D)) (parts : List HostedPart) → AllByRecursion (HoldsIf disk mid new) es → PartsStill content image es parts
+      parts_stand : (es : List (List ℕ × Option D)) (parts : List HostedPart) → AllByRecursion (HoldsIf bay_seen mid new) es → PartsStill seen es parts
           → ((name : List ℕ) → IsOneOf (part_disks (hosted_by parts)) name → Told name) → AllByRecursion (StandsForPart (text_in new)) parts
       parts_stand [] [] back still told = tt
       parts_stand [] (p ∷ parts) back still told = absurd still
@@ -424,15 +424,15 @@ module _ {B D : Type 0} (disk : B → List ℕ → Option D) (content : D → Op
         parts_stand es parts back.1.1.1 still.1 (λ name one. told name (inr (inr (inr one)))),
       )
 
-      state_stands : (left : Option (D × D)) (shards : Shards) → BothHold disk mid new left → ForeignStill content image shards.foreign left → Told state_a → Told state_b
+      state_stands : (left : Option (D × D)) (shards : Shards) → BothHold bay_seen mid new left → ForeignStill seen shards.foreign left → Told state_a → Told state_b
           → StandWith shards.foreign (text_in new state_a) (text_in new state_b)
       state_stands None shards back still first second = absurd still
       state_stands (Some (a, b)) shards back still first second = still.stand (text_in new state_a) (text_in new state_b)
           (is_text state_a a (back.0 first) still.told) (is_text state_b b (back.1 second) still.second_told)
 
-      all_stand : (left : LeftDisks D) (shards : Shards) → ArePutBack disk mid new left
+      all_stand : (left : LeftDisks D) (shards : Shards) → ArePutBack bay_seen mid new left
           → ((name : List ℕ) → IsOneOf (part_disks (hosted_by shards.parts)) name → Told name) → Told state_a → Told state_b
-          → StandStill content image shards left → StandsFor (text_in new) shards
+          → StandStill seen shards left → StandsFor (text_in new) shards
       all_stand left shards back told first second still = record {
         parts = parts_stand left.parts shards.parts back.parts still.parts told;
         foreign = state_stands left.foreign shards back.foreign still.foreign first second;
@@ -440,13 +440,13 @@ module _ {B D : Type 0} (disk : B → List ℕ → Option D) (content : D → Op
 
   -- ---- a session
 
-  module _ (read : (d : D) (c : List ℕ) → content d ≡ Some c → image d c) (old mid new : B) (conf : ConfigParts) (core : CoreParts D) (left : LeftDisks D)
-      (same : core.conf ≡ conf) (opens : Opens conf old core) (still : TellsStill disk old mid) (goes : GoOn content faults (disks_in core.hosts) left)
-      (back : ArePutBack disk mid new left) where
+  module _ (read : (d : D) (c : List ℕ) → (seen d).content ≡ Some c → (seen d).image c) (old mid new : B) (conf : ConfigParts) (core : CoreParts D) (left : LeftDisks D)
+      (same : core.conf ≡ conf) (opens : Opens conf old core) (still : TellsStill bay_seen old mid) (goes : GoOn seen (disks_in core.hosts) left)
+      (back : ArePutBack bay_seen mid new left) where
     abbrev Before : Ending → State → Type 0
-    Before Ends last = Ends (λ shards. StandStill content image shards left) (λ ends. DisksReach image left ends) (facts_in faults losses arms armed left) last
+    Before Ends last = Ends (λ shards. StandStill seen shards left) (λ ends. DisksReach seen left ends) (facts_in seen left) last
 
-    told_in : (contents : List ℕ → List ℕ) (was : Disks) → Tells conf old contents was → (name : List ℕ) → IsTaken conf name → is_some (disk mid name) ≡ true
+    told_in : (contents : List ℕ → List ℕ) (was : Disks) → Tells conf old contents was → (name : List ℕ) → IsTaken conf name → is_some ((bay_seen mid).disk name) ≡ true
     told_in contents was t name taken = still name (ap is_some (t name taken).1)
 
     -- where the disk of this name is
@@ -458,51 +458,51 @@ module _ {B D : Type 0} (disk : B → List ℕ → Option D) (content : D → Op
     here name f (inr state) = inr state
 
     abbrev TellsAt : List ℕ → Type 0
-    TellsAt name = (d : D) × (disk new name ≡ Some d) × (content d ≡ Some (text_in new name))
-        × (facts_in faults losses arms armed left name ≡ facts_of faults losses arms armed d)
+    TellsAt name = (d : D) × ((bay_seen new).disk name ≡ Some d) × ((seen d).content ≡ Some (text_in new name))
+        × (facts_in seen left name ≡ facts_of seen d)
 
     abbrev Found : List ℕ → Type 0
     Found name = Known mid new name (disk_in left name)
 
-    found_at : (shards : Shards) → StandStill content image shards left → (name : List ℕ) → is_some (disk mid name) ≡ true → Place name → Found name
+    found_at : (shards : Shards) → StandStill seen shards left → (name : List ℕ) → is_some ((bay_seen mid).disk name) ≡ true → Place name → Found name
     found_at shards stands name told (inl one) = parts_known mid new left shards back stands name told one
     found_at shards stands name told (inr (inl is)) = subst Found (sym is)
-        (first_known mid new left shards back stands (subst (λ (n : List ℕ). is_some (disk mid n) ≡ true) is told))
+        (first_known mid new left shards back stands (subst (λ (n : List ℕ). is_some ((bay_seen mid).disk n) ≡ true) is told))
     found_at shards stands name told (inr (inr is)) = subst Found (sym is)
-        (second_known mid new left shards back stands (subst (λ (n : List ℕ). is_some (disk mid n) ≡ true) is told))
+        (second_known mid new left shards back stands (subst (λ (n : List ℕ). is_some ((bay_seen mid).disk n) ≡ true) is told))
 
     tells_at : (name : List ℕ) → Found name → TellsAt name
     tells_at name k = (
       k.0,
       k.1,
       content_of new name k.0 k.1 k.2,
-      facts_of_disk faults losses arms armed left name ∙ ap (facts_at faults losses arms armed) k.3,
+      facts_of_disk seen left name ∙ ap (facts_at seen) k.3,
     )
 
     -- its content reaches to the ends to which the disks do
-    reaches_at : (ends : List ℕ → ℕ) → DisksReach image left ends → (name : List ℕ) → Found name → ends name ≤ length (text_in new name)
+    reaches_at : (ends : List ℕ → ℕ) → DisksReach seen left ends → (name : List ℕ) → Found name → ends name ≤ length (text_in new name)
     reaches_at ends reached name k =
-        (subst (λ (found : Option D). ReachesTo image found (ends name)) k.3 (reached name)) (text_in new name) (is_text mid new read name k.0 k.1 k.2)
+        (subst (λ (found : Option D). ReachesTo seen found (ends name)) k.3 (reached name)) (text_in new name) (is_text mid new read name k.0 k.1 k.2)
 
     -- they have the names of the configuration's
-    left_names : (m : Machine) → IsCore content image starved core m → hosted_by m.shards.parts ≡ hosted_of conf → names_in left.parts ≡ part_disks (hosted_of conf)
-    left_names m k hosts = names_go_on content faults (slots_disks core.hosts.parts) left.parts goes.parts ∙ names_of_slots core.hosts.parts
-        ∙ ap part_disks (sym (hosts_of_slots content image starved core.hosts.parts m.shards.parts k.shards.parts) ∙ hosts)
+    left_names : (m : Machine) → IsCore seen core m → hosted_by m.shards.parts ≡ hosted_of conf → names_in left.parts ≡ part_disks (hosted_of conf)
+    left_names m k hosts = names_go_on seen (slots_disks core.hosts.parts) left.parts goes.parts ∙ names_of_slots core.hosts.parts
+        ∙ ap part_disks (sym (hosts_of_slots seen core.hosts.parts m.shards.parts k.shards.parts) ∙ hosts)
 
     pub over : (Ends : Ending) → IsEnding Ends → (events : List Event) (Says : List Outcome → Type 0)
-        → FromCore content image starved faults losses arms armed core left events Says Ends
-        → OverBay disk content faults losses arms armed conf old new (IsSession conf events Says Ends)
+        → FromCore seen core left events Says Ends
+        → OverBay bay_seen seen conf old new (IsSession conf events Says Ends)
     over Ends is events Says from = λ contents was t.
         let o = opens contents was t in
         let r : Ran conf (began o.0 core) events Says (Before Ends) =
         subst (λ (c : ConfigParts). Ran c (began o.0 core) events Says (Before Ends)) same (from o.0 o.1) in
-        let some = is.some (λ shards. StandStill content image shards left) (λ ends. DisksReach image left ends) (facts_in faults losses arms armed left) r.last r.ends in
+        let some = is.some (λ shards. StandStill seen shards left) (λ ends. DisksReach seen left ends) (facts_in seen left) r.last r.ends in
         let told = told_in contents was t in
         let names : names_in left.parts ≡ part_disks (hosted_of conf) = left_names o.0 o.1 o.2.opens.hosts in
         let found : (name : List ℕ) → IsTaken conf name → Found name = λ name taken. found_at some.0 some.1 name (told name taken)
         (here name (λ one. has_of_one left.parts name (subst (λ (l : List (List ℕ)). IsOneOf l name) (sym names) one)) taken) in (
           text_in new,
-          facts_in faults losses arms armed left,
+          facts_in seen left,
           λ name taken. tells_at name (found name taken),
           record {
             first = began o.0 core;
@@ -513,11 +513,11 @@ module _ {B D : Type 0} (disk : B → List ℕ → Option D) (content : D → Op
               run = r.run;
               events_are = r.events_are;
               tells = r.tells;
-              ends = is.along (λ shards. StandStill content image shards left) (StandsFor (text_in new)) (λ ends. DisksReach image left ends)
-                  (ReachTo conf (text_in new)) (facts_in faults losses arms armed left) r.last
+              ends = is.along (λ shards. StandStill seen shards left) (StandsFor (text_in new)) (λ ends. DisksReach seen left ends)
+                  (ReachTo conf (text_in new)) (facts_in seen left) r.last
                   (λ shards stands. all_stand mid new read left shards back
                   (λ name one. told name (inl (subst (λ (l : List (List ℕ)). IsOneOf l name)
-                  (sym (names_still content image left.parts shards.parts stands.parts) ∙ names) one)))
+                  (sym (names_still seen left.parts shards.parts stands.parts) ∙ names) one)))
                   (told state_a (inr (inl refl))) (told state_b (inr (inr refl))) stands)
                   (λ ends reached name taken. reaches_at ends reached name (found name taken)) r.ends;
             };
@@ -528,29 +528,29 @@ module _ {B D : Type 0} (disk : B → List ℕ → Option D) (content : D → Op
         )
 
     abbrev Session : List Event → (List Outcome → Type 0) → Ending → Type 0
-    Session events Says Ends = OverBay disk content faults losses arms armed conf old new (IsSession conf events Says Ends)
+    Session events Says Ends = OverBay bay_seen seen conf old new (IsSession conf events Says Ends)
 
     pub played_over : (input : InputChange) (output : OutputChange) (Rises Rose_over : Type 0) → (Rises → Rose_over) → (status : Status)
-        → IsPlayed core.conf input output (FromCore content image starved faults losses arms armed core left) (NeverFrom content image starved core) Rises status
-        → IsPlayed conf input output Session (OfBay disk content faults losses arms armed conf old (λ contents was. ⊥)) Rose_over status
+        → IsPlayed core.conf input output (FromCore seen core left) (NeverFrom seen core) Rises status
+        → IsPlayed conf input output Session (OfBay bay_seen seen conf old (λ contents was. ⊥)) Rose_over status
     played_over input output Rises Rose_over rises status p =
-        played conf input output (FromCore content image starved faults losses arms armed core left) Session
-        (NeverFrom content image starved core) (OfBay disk content faults losses arms armed conf old (λ contents was. ⊥)) Rises Rose_over
+        played conf input output (FromCore seen core left) Session
+        (NeverFrom seen core) (OfBay bay_seen seen conf old (λ contents was. ⊥)) Rises Rose_over
         (λ events Says from. over (Leaves conf) (leaves_ends conf) events Says from)
         (λ Next events Says from. over (LeavesWithin conf Next) (within_ends conf Next) events Says from)
         (λ never contents was t. let o = opens contents was t in never o.0 o.1) rises
         status
-        (subst (λ (c : ConfigParts). IsPlayed c input output (FromCore content image starved faults losses arms armed core left)
-        (NeverFrom content image starved core) Rises status) same p)
+        (subst (λ (c : ConfigParts). IsPlayed c input output (FromCore seen core left)
+        (NeverFrom seen core) Rises status) same p)
 
   -- ---- a broker that was not opened
 
-  module _ (old new : B) (bay_faults : B → ℕ) (conf : ConfigParts) (output : OutputChange) (fault : CoreOpen)
+  module _ (old new : B) (conf : ConfigParts) (output : OutputChange) (fault : CoreOpen)
       (damaged : (name : List ℕ) (place : ℕ) → fault ≡ open_fault.Damaged name place → (contents : List ℕ → List ℕ) (was : Disks) → Tells conf old contents was
       → IsDamagedDisk conf contents name place)
-      (rises : ((fault ≡ open_fault.Device) ⊎ (fault ≡ open_fault.Bay)) → CountRose disk faults bay_faults conf old new) where
+      (rises : ((fault ≡ open_fault.Device) ⊎ (fault ≡ open_fault.Bay)) → CountRose bay_seen seen conf old new) where
     pub not_opened : (status : Status) → IsRefusal fault output status
-        → IsNotOpened conf output (OfBay disk content faults losses arms armed conf old) (CountRose disk faults bay_faults conf old new) status
+        → IsNotOpened conf output (OfBay bay_seen seen conf old) (CountRose bay_seen seen conf old new) status
     not_opened Done r = r
     not_opened Usage r = r
     not_opened Malformed r = r
@@ -562,12 +562,12 @@ module _ {B D : Type 0} (disk : B → List ℕ → Option D) (content : D → Op
 
   -- a replay over disks that tell their contents isn't stopped by a power loss
   pub never_stopped : (core : CoreParts D) (left : LeftDisks D) (input : InputChange) (output : OutputChange) (Rises : Type 0) (status : Status)
-      → IsPlayed core.conf input output (FromCore content image starved faults losses arms armed core left) (NeverFrom content image starved core) Rises status
-      → (status ≡ Damaged) ⊎ (status ≡ Device) → NeverFrom content image starved core
+      → IsPlayed core.conf input output (FromCore seen core left) (NeverFrom seen core) Rises status
+      → (status ≡ Damaged) ⊎ (status ≡ Device) → NeverFrom seen core
   never_stopped core left input output Rises status p (inl is) = subst (λ (s : Status). IsPlayed core.conf input output
-      (FromCore content image starved faults losses arms armed core left) (NeverFrom content image starved core) Rises s) is p
+      (FromCore seen core left) (NeverFrom seen core) Rises s) is p
   never_stopped core left input output Rises status p (inr is) = (subst (λ (s : Status). IsPlayed core.conf input output
-      (FromCore content image starved faults losses arms armed core left) (NeverFrom content image starved core) Rises s) is p).1
+      (FromCore seen core left) (NeverFrom seen core) Rises s) is p).1
 
 pub refusal_damaged : (fault : CoreOpen) (output : OutputChange) (status : Status) → IsRefusal fault output status → status ≡ Damaged → IsRefusal fault output Damaged
 refusal_damaged fault output status r is = subst (λ (s : Status). IsRefusal fault output s) is r

@@ -25,6 +25,7 @@ use Rattle.share_top.specs.Sessions.{DoesMore, Leaves, LeavesWithin, Ran, counts
 use Rattle.share_top.specs.Going.{Goes, Plays, Halts}
 use Rattle.share_top.proofs.Fronts.{front_behind, keeps_appends}
 use Rattle.share_top.proofs.Steps.{run_then, events_then, outcomes_then}
+use Rattle.edge_io.specs.Views.{DiskView}
 
 abbrev Held : Type 0
 Held = Option (List ℕ)
@@ -62,28 +63,27 @@ module _ (a b c : Held) (conf : ConfigParts) where
     },
   )
 
--- ---- runs; the members of the disk come first
+-- ---- runs
 
-module _ {D : Type 0} (content : D → Option (List ℕ)) (image : D → List ℕ → Type 0) (starved : D → Bool)
-    (faults : D → ℕ) (losses : D → List (ℕ × List ℕ)) (arms : D → ℕ) (armed : D → Armed) where
+module _ {D : Type 0} (seen : D → DiskView) where
   abbrev at : Machine → CoreParts D → State
-  at m core = state_of faults losses arms armed m core
+  at m core = state_of seen m core
 
   abbrev Stands : CoreParts D → Machine → Type 0
-  Stands core m = IsCore content image starved core m
+  Stands core m = IsCore seen core m
 
   abbrev G : ConfigParts → State → List Event → (List Outcome → Type 0) → CoreParts D → Type 0
-  G conf first events Tells core = Goes content image starved faults losses arms armed conf first events Tells core
+  G conf first events Tells core = Goes seen conf first events Tells core
 
   abbrev Still : LeftDisks D → Shards → Type 0
-  Still left shards = StandStill content image shards left
+  Still left shards = StandStill seen shards left
 
   pub begins : (m : Machine) (core : CoreParts D) (Tells : List Outcome → Type 0) → Stands core m → Tells [] → G core.conf (at m core) [] Tells core
   begins m core Tells k told = record { steps = []; machine = m; core = k; run = refl; events_are = refl; tells = told }
 
   pub goes_on : (conf : ConfigParts) (first : State) (events : List Event) (e : Event) (T U V : List Outcome → Type 0)
       → ((xs ys : List Outcome) → T xs → U ys → V (xs ++ ys)) → (core next : CoreParts D) → core.conf ≡ conf → G conf first events T core
-      → Plays content image starved faults losses arms armed core e U next → G conf first (events ++ e ∷ []) V next
+      → Plays seen core e U next → G conf first (events ++ e ∷ []) V next
   goes_on conf first events e T U V join core next same g one =
       let o = one.2 g.machine g.core in
       let s : Step = record { before = at g.machine core; event = e; call = o.1; outcomes = one.0; after = at o.0 next } in
@@ -111,16 +111,16 @@ module _ {D : Type 0} (content : D → Option (List ℕ)) (image : D → List �
   -- ---- what is left
 
   core_still : (core : CoreParts D) (m : Machine) → Stands core m → Still (disks_in core.hosts) m.shards
-  core_still core m k = still_all content image starved faults losses arms armed core.hosts m.shards k.shards
+  core_still core m k = still_all seen core.hosts m.shards k.shards
 
   abbrev Reach : LeftDisks D → (List ℕ → ℕ) → Type 0
-  Reach left ends = DisksReach image left ends
+  Reach left ends = DisksReach seen left ends
 
   core_reach : (core : CoreParts D) (m : Machine) → Stands core m → Reach (disks_in core.hosts) (ends_in core.hosts)
-  core_reach core m k = reach_all content image starved core.hosts m.shards k.shards
+  core_reach core m k = reach_all seen core.hosts m.shards k.shards
 
   pub ran : (conf : ConfigParts) (first : State) (events : List Event) (T : List Outcome → Type 0) (core : CoreParts D) → G conf first events T core
-      → Ran conf first events T (Leaves conf (Still (disks_in core.hosts)) (Reach (disks_in core.hosts)) (facts_in faults losses arms armed (disks_in core.hosts)))
+      → Ran conf first events T (Leaves conf (Still (disks_in core.hosts)) (Reach (disks_in core.hosts)) (facts_in seen (disks_in core.hosts)))
   ran conf first events T core g = record {
     steps = g.steps;
     last = at g.machine core;
@@ -131,7 +131,7 @@ module _ {D : Type 0} (content : D → Option (List ℕ)) (image : D → List �
   }
 
   pub ran_within : (conf : ConfigParts) (Next : Event → Type 0) (first : State) (events : List Event) (T : List Outcome → Type 0) (core : CoreParts D) → G conf first events T core
-      → Ran conf first events T (LeavesWithin conf Next (Still (disks_in core.hosts)) (Reach (disks_in core.hosts)) (facts_in faults losses arms armed (disks_in core.hosts)))
+      → Ran conf first events T (LeavesWithin conf Next (Still (disks_in core.hosts)) (Reach (disks_in core.hosts)) (facts_in seen (disks_in core.hosts)))
   ran_within conf Next first events T core g = record {
     steps = g.steps;
     last = at g.machine core;
@@ -145,14 +145,14 @@ module _ {D : Type 0} (content : D → Option (List ℕ)) (image : D → List �
       later = λ name taken. omega arith;
       ends_later = λ name taken. omega arith;
       stands = core_still core g.machine g.core;
-      reach = reach_less image (disks_in core.hosts) (ends_in core.hosts) (core_reach core g.machine g.core);
+      reach = reach_less seen (disks_in core.hosts) (ends_in core.hosts) (core_reach core g.machine g.core);
     };
   }
 
   -- ---- no memory was found in an event
 
   abbrev known : CoreParts D → Disks
-  known core = facts_in faults losses arms armed (disks_in core.hosts)
+  known core = facts_in seen (disks_in core.hosts)
 
   -- the event was done, or left within, or not begun
   reached : (conf : ConfigParts) (Next : Event → Type 0) (core next : CoreParts D) → core.conf ≡ conf → (old after : Machine) (ends : List ℕ → ℕ)
@@ -165,8 +165,8 @@ module _ {D : Type 0} (content : D → Option (List ℕ)) (image : D → List �
 
   pub halted : (conf : ConfigParts) (Next : Event → Type 0) (first : State) (events : List Event) (e : Event) → Next e → (T U : List Outcome → Type 0) (output : OutputChange)
       → ((xs : List Outcome) → T xs → Keeps output.held output.held_after → U xs) → (core next : CoreParts D) → core.conf ≡ conf → G conf first events T core
-      → ((m : Machine) → Stands core m → Halts content image faults losses arms armed core m e next output)
-      → Ran conf first events U (LeavesWithin conf Next (Still (disks_in next.hosts)) (Reach (disks_in next.hosts)) (facts_in faults losses arms armed (disks_in next.hosts)))
+      → ((m : Machine) → Stands core m → Halts seen core m e next output)
+      → Ran conf first events U (LeavesWithin conf Next (Still (disks_in next.hosts)) (Reach (disks_in next.hosts)) (facts_in seen (disks_in next.hosts)))
   halted conf Next first events e comes T U output keep core next same g halts =
       let h = halts g.machine g.core in
       record {
@@ -179,7 +179,7 @@ module _ {D : Type 0} (content : D → Option (List ℕ)) (image : D → List �
           after = h.stops.after;
           ends = h.stops.ends;
           reaches = reached conf Next core next same g.machine h.stops.after h.stops.ends e comes h.stops.reaches;
-          later = λ name taken. counts_later content image starved faults losses arms armed (disks_in core.hosts) (disks_in next.hosts) h.disks name;
+          later = λ name taken. counts_later seen (disks_in core.hosts) (disks_in next.hosts) h.disks name;
           ends_later = λ name taken. h.stops.ends_later name;
           stands = h.stops.still;
           reach = h.stops.reach;

@@ -22,6 +22,7 @@ use Rattle.share_top.specs.Changes.{InputChange, OutputChange}
 use Rattle.share_top.specs.Sessions.{WritesFrontOf}
 use Rattle.share_top.specs.Loading.{LoadEnding, IsWhole, IsRefusedSegment, IsBegunSegment, WithLine, WithPlace, IsLoaded, IsNotLoaded, IsLogDisk, OverDisk, IsStored, StoresIn, StaysIn, DamagesIn, DiskCountRose}
 use Rattle.share_top.specs.Loads.{IsGrown, IsLogRefusal}
+use Rattle.edge_io.specs.Views.{DiskView, BayView}
 
 -- ---- the disk of a shard
 
@@ -119,49 +120,49 @@ some_told : (o : Option (List ℕ)) → is_some o ≡ true → (c : List ℕ) ×
 some_told None e = absurd cc
 some_told (Some c) e = (c, refl)
 
-module _ {B D : Type 0} (disk : B → List ℕ → Option D) (content : D → Option (List ℕ)) (image : D → List ℕ → Type 0) (faults : D → ℕ) (bay_faults : B → ℕ)
+module _ {B D : Type 0} (bay_seen : B → BayView D) (seen : D → DiskView)
     (name : List ℕ) (old mid new : B) where
   -- the bay gave no disk
-  pub stays_there : disk new name ≡ disk old name → StaysIn disk content image name old new
+  pub stays_there : (bay_seen new).disk name ≡ (bay_seen old).disk name → StaysIn bay_seen seen name old new
   stays_there same d c is has = (d, c, same ∙ is, has, λ x on. (x, on, inl refl))
 
-  module _ (first last : D) (given : IsAsTold (disk old name) first) (told : is_some (disk mid name) ≡ is_some (disk old name))
-      (there : Holds (disk mid name) (disk new name) last) (tells : is_some (content last) ≡ is_some (content first)) where
-    over : (P : D → List ℕ → D → List ℕ → Type 0) → ((c left : List ℕ) → content first ≡ Some c → content last ≡ Some left → P first c last left)
-        → OverDisk disk content name old new P
+  module _ (first last : D) (given : IsAsTold ((bay_seen old).disk name) first) (told : is_some ((bay_seen mid).disk name) ≡ is_some ((bay_seen old).disk name))
+      (there : Holds ((bay_seen mid).disk name) ((bay_seen new).disk name) last) (tells : is_some (seen last).content ≡ is_some (seen first).content) where
+    over : (P : D → List ℕ → D → List ℕ → Type 0) → ((c left : List ℕ) → (seen first).content ≡ Some c → (seen last).content ≡ Some left → P first c last left)
+        → OverDisk bay_seen seen name old new P
     over P f d c is has =
         let e : first ≡ d = given d is in
-        let first_has : content first ≡ Some c = ap content e ∙ has in
-        let left = some_told (content last) (tells ∙ ap is_some first_has) in
+        let first_has : (seen first).content ≡ Some c = ap (λ d. (seen d).content) e ∙ has in
+        let left = some_told (seen last).content (tells ∙ ap is_some first_has) in
         (last, left.0, there (told ∙ ap is_some is), left.1, subst (λ (x : D). P x c last left.0) e (f c left.0 first_has left.1))
 
-    pub stays : (moment : D → ℕ) (since : D → ℕ → List ℕ → Type 0) → ((d : D) (t : ℕ) (c : List ℕ) → t ≤ moment d → image d c → since d t c)
-        → LeavesOnly moment since first last (StandsAs (image first)) → StaysIn disk content image name old new
-    stays moment since counts l = over (λ d c e left. (x : List ℕ) → image e x → StandsAs (image d) x)
-        (λ c left is has x on. l.each x (counts last (moment first) x l.later on))
+    pub stays : ((d : D) (t : ℕ) (c : List ℕ) → t ≤ (seen d).moment → (seen d).image c → (seen d).since t c)
+        → LeavesOnly seen first last (StandsAs (seen first).image) → StaysIn bay_seen seen name old new
+    stays counts l = over (λ d c e left. (x : List ℕ) → (seen e).image x → StandsAs (seen d).image x)
+        (λ c left is has x on. l.each x (counts last (seen first).moment x l.later on))
 
-    pub stores : ((d : D) (c : List ℕ) → content d ≡ Some c → image d c) → (opened new_log : LogParts D) → last ≡ new_log.journal.disk
-        → ((c : List ℕ) → content first ≡ Some c → IsLogText c opened.batches)
-        → (log batches : List Batch) (pending : Option Batch) → IsGrown image opened new_log log batches pending → StoresIn disk content image name old new log batches pending
-    stores read opened new_log at opens log batches pending h = over (λ d c e left. IsStored image log batches pending c e left)
+    pub stores : ((d : D) (c : List ℕ) → (seen d).content ≡ Some c → (seen d).image c) → (opened new_log : LogParts D) → last ≡ new_log.journal.disk
+        → ((c : List ℕ) → (seen first).content ≡ Some c → IsLogText c opened.batches)
+        → (log batches : List Batch) (pending : Option Batch) → IsGrown seen opened new_log log batches pending → StoresIn bay_seen seen name old new log batches pending
+    stores read opened new_log at opens log batches pending h = over (λ d c e left. IsStored seen log batches pending c e left)
         (λ c left is has. record {
           before = subst (IsLogText c) (sym h.was) (opens c is);
-          images = λ x on. h.images x (subst (λ (d : D). image d x) at on);
+          images = λ x on. h.images x (subst (λ (d : D). (seen d).image x) at on);
           read = read last left has;
         })
 
-  pub damages : (first : D) → IsAsTold (disk old name) first → (fault : OpenFault)
-      → ((place : ℕ) → fault ≡ open_fault.Damaged place → (c : List ℕ) → content first ≡ Some c → IsNoLogText c place)
-      → (place : ℕ) → fault ≡ open_fault.Damaged place → DamagesIn disk content name old place
-  damages first given fault f place is d c told has = f place is c (ap content (given d told) ∙ has)
+  pub damages : (first : D) → IsAsTold ((bay_seen old).disk name) first → (fault : OpenFault)
+      → ((place : ℕ) → fault ≡ open_fault.Damaged place → (c : List ℕ) → (seen first).content ≡ Some c → IsNoLogText c place)
+      → (place : ℕ) → fault ≡ open_fault.Damaged place → DamagesIn bay_seen seen name old place
+  damages first given fault f place is d c told has = f place is c (ap (λ d. (seen d).content) (given d told) ∙ has)
 
   -- the count of the disk rose, and so did the bay's, unless the disk's stood at its last value
-  pub rises : (first : D) (taken after : ℕ) → IsAsTold (disk old name) first → taken ≡ faults first → bay_faults old ≤ bay_faults mid
-      → bay_faults new ≡ min (bay_faults mid + (after - taken)) (2 ^ 64 - 1) → Rose (faults first) after → DiskCountRose disk faults bay_faults name old new
-  rises first taken after given noted later sum rose = ⊎_elim
-      (λ lt. inl (let r : Rose (bay_faults old) (bay_faults new) = omega (arith, lt, noted, later, sum, rose) in r))
-      (λ le. inr (first, given, le))
-      (cases_lt (faults first) (2 ^ 64 - 1))
+  pub rises : (first : D) (taken after : ℕ) → (bay_seen new).taken name ≡ taken → taken ≡ (seen first).faults → (bay_seen old).faults ≤ (bay_seen mid).faults
+      → (bay_seen new).faults ≡ min ((bay_seen mid).faults + (after - taken)) (2 ^ 64 - 1) → Rose (seen first).faults after → DiskCountRose bay_seen name old new
+  rises first taken after kept noted later sum rose = ⊎_elim
+      (λ lt. inl (let r : Rose (bay_seen old).faults (bay_seen new).faults = omega (arith, lt, noted, later, sum, rose) in r))
+      (λ le. inr (let l : 2 ^ 64 - 1 ≤ (bay_seen new).taken name = omega (arith, kept, noted, le) in l))
+      (cases_lt (seen first).faults (2 ^ 64 - 1))
 
 pub rose_on : (a b c : ℕ) → a ≤ b → Rose b c → Rose a c
 rose_on a b c le r = omega (arith, le, r)

@@ -20,6 +20,7 @@ use Rattle.share_top.specs.Statuses.{status_number}
 use Rattle.share_top.proofs.LoadSteps.{sized}
 use Rattle.share_top.proofs.SegmentReads.{front_size, same_size}
 use Rattle.share_top.proofs.LoadRuns.{some_then}
+use Rattle.edge_io.specs.Views.{DiskView, BayView}
 
 -- ---- a log and batches behind it
 
@@ -99,9 +100,9 @@ none_refused text log batches others s r =
 
 -- ---- a load ends so
 
-module _ {B D : Type 0} (disk : B → List ℕ → Option D) (content : D → Option (List ℕ)) (image : D → List ℕ → Type 0) (faults : D → ℕ) (bay_faults : B → ℕ)
+module _ {B D : Type 0} (bay_seen : B → BayView D) (seen : D → DiskView)
     (name : List ℕ) (old new : B) (input : InputChange) (output : OutputChange)
-    (d : D) (c : List ℕ) (log batches : List Batch) (told : disk old name ≡ Some d) (has : content d ≡ Some c) (text : IsLogText c log) where
+    (d : D) (c : List ℕ) (log batches : List Batch) (told : (bay_seen old).disk name ≡ Some d) (has : (seen d).content ≡ Some c) (text : IsLogText c log) where
   abbrev Whole : ℕ → Type 0
   Whole number = IfSome input.left (λ text. IsSegment text log batches → (number ≡ 0) ⊎ ((number ≡ 7) ⊎ (number ≡ 8)))
 
@@ -110,7 +111,7 @@ module _ {B D : Type 0} (disk : B → List ℕ → Option D) (content : D → Op
   always None number h = tt
   always (Some text) number h = λ s. h
 
-  pub completes : (number : ℕ) (status : Status) → number ≡ status_number status → IsLoad disk content image faults bay_faults name old new input output status
+  pub completes : (number : ℕ) (status : Status) → number ≡ status_number status → IsLoad bay_seen seen name old new input output status
       → (Rose input.faults input.faults_after → ⊥) → (Rose output.faults output.faults_after → ⊥) → Whole number
   completes number Done is e read write = always input.left number (inl is)
   completes number Device is e read write = always input.left number (inr (inl is))

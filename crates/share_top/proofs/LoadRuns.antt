@@ -25,14 +25,15 @@ use Rattle.share_top.specs.Segments.{Begins, IsSegment, IsRefused, HasNoBatch, s
 use Rattle.share_top.specs.Loading.{LoadEnding, IsWhole, IsRefusedSegment, IsBegunSegment, HasNoRoom, WithLine, WithPlace, loaded_line}
 use Rattle.share_top.specs.Loads.{IsNext, LoadsNext, HasLoaded, IsGrown, AtPlace, LoadsAll}
 use Rattle.share_top.proofs.SegmentReads.{same_consumes}
+use Rattle.edge_io.specs.Views.{DiskView}
 
 segment_more : (batches : List Batch) (b : Batch) → segment_of (batches ++ b ∷ []) ≡ segment_of batches ++ b.bytes
 segment_more batches b =
     flat_map-append (λ (x : Batch). x.bytes) batches (b ∷ []) ∙ ap (λ (l : List ℕ). segment_of batches ++ l) (append-nil b.bytes)
 
-pub starts : {D : Type 0} (image : D → List ℕ → Type 0) (first : LogParts D) (left : Option (List ℕ)) → KeepsLog image first None
-    → HasLoaded image first first left left (record { place = 0; pending = [] })
-starts image first left kept = record {
+pub starts : {D : Type 0} (seen : D → DiskView) (first : LogParts D) (left : Option (List ℕ)) → KeepsLog seen first None
+    → HasLoaded seen first first left left (record { place = 0; pending = [] })
+starts seen first left kept = record {
   given = [];
   batches = [];
   consumed = same_consumes left;
@@ -42,10 +43,10 @@ starts image first left kept = record {
   kept = kept;
 }
 
-module _ {D : Type 0} (image : D → List ℕ → Type 0) (first log : LogParts D) (left mid : Option (List ℕ)) (u : Unread) (h : HasLoaded image first log left mid u) where
+module _ {D : Type 0} (seen : D → DiskView) (first log : LogParts D) (left mid : Option (List ℕ)) (u : Unread) (h : HasLoaded seen first log left mid u) where
   -- a batch was added
-  pub goes : (new : LogParts D) (after : Option (List ℕ)) (v : Unread) (b : Batch) → Takes u v mid after b.bytes → IsAdded image log new b
-      → HasLoaded image first new left after v
+  pub goes : (new : LogParts D) (after : Option (List ℕ)) (v : Unread) (b : Batch) → Takes u v mid after b.bytes → IsAdded seen log new b
+      → HasLoaded seen first new left after v
   goes new after v b t a = record {
     given = h.given ++ t.given;
     batches = h.batches ++ b ∷ [];
@@ -61,7 +62,7 @@ module _ {D : Type 0} (image : D → List ℕ → Type 0) (first log : LogParts 
   sound : IsStoredLog (first.batches ++ h.batches)
   sound = subst IsStoredLog h.added h.kept.sound
 
-  pub grown : IsGrown image first log first.batches h.batches None
+  pub grown : IsGrown seen first log first.batches h.batches None
   grown = record {
     was = refl;
     has = h.added;
@@ -98,19 +99,19 @@ some_then None P Q f h = tt
 some_then (Some more) P Q f h = f more h
 
 -- where the last gate of a journal ends
-end_of_writer : {D : Type 0} (image : D → List ℕ → Type 0) (w : Writer D) (m : Mending) (frames : List (List ℕ)) → Mends image w m frames None → w.end ≡ length (blocks frames) + 1
-end_of_writer image w Nothing frames s = s.1.end
-end_of_writer image w Behind frames s = s.end
-end_of_writer image w Gate frames s = absurd (let e = s.1 in cc)
+end_of_writer : {D : Type 0} (seen : D → DiskView) (w : Writer D) (m : Mending) (frames : List (List ℕ)) → Mends seen w m frames None → w.end ≡ length (blocks frames) + 1
+end_of_writer seen w Nothing frames s = s.1.end
+end_of_writer seen w Behind frames s = s.end
+end_of_writer seen w Gate frames s = absurd (let e = s.1 in cc)
 
 -- ---- the end, or a stop
 
 abbrev pub change : Option (List ℕ) → Option (List ℕ) → Bool → ℕ → ℕ → Type 0 → InputChange
 change left after ended f g Same = record { left = left; left_after = after; ended = ended; faults = f; faults_after = g; Same = Same }
 
-module _ {D : Type 0} (image : D → List ℕ → Type 0) (faults : D → ℕ) (first log new : LogParts D) (left mid after : Option (List ℕ)) (u v : Unread)
-    (h : HasLoaded image first log left mid u) (le : u.place ≤ longest) (ended : Bool) (f g k : ℕ) (Same SameStep : Type 0) (read : f ≤ g)
-    (disks : faults first.journal.disk ≤ faults log.journal.disk) where
+module _ {D : Type 0} (seen : D → DiskView) (first log new : LogParts D) (left mid after : Option (List ℕ)) (u v : Unread)
+    (h : HasLoaded seen first log left mid u) (le : u.place ≤ longest) (ended : Bool) (f g k : ℕ) (Same SameStep : Type 0) (read : f ≤ g)
+    (disks : (seen first.journal.disk).faults ≤ (seen log.journal.disk).faults) where
   abbrev input : InputChange
   input = change left after ended f k Same
 
@@ -127,7 +128,7 @@ module _ {D : Type 0} (image : D → List ℕ → Type 0) (faults : D → ℕ) (
   begins_still t more = record {
     parts = ap (λ (l : List ℕ). l ++ more) (ap (λ (l : List ℕ). l ++ t.given) h.parts ∙ append_assoc (segment_of h.batches) u.pending t.given
         ∙ ap (λ (l : List ℕ). segment_of h.batches ++ l) t.parts) ∙ append_assoc (segment_of h.batches) v.pending more;
-    sound = sound image first log left mid u h;
+    sound = sound seen first log left mid u h;
     within = omega (arith, h.place, le);
   }
 
@@ -142,12 +143,12 @@ module _ {D : Type 0} (image : D → List ℕ → Type 0) (faults : D → ℕ) (
   has_none t rest none = subst (λ (n : ℕ). HasNoBatch n (first.batches ++ h.batches) rest) (at t) (subst (λ (l : List Batch). HasNoBatch v.place l rest) h.added none)
 
   abbrev Ends : LoadEnding
-  Ends log batches pending = IsGrown image first new log batches pending
+  Ends log batches pending = IsGrown seen first new log batches pending
 
   same : new ≡ log → Ends first.batches h.batches None
-  same e = subst (λ (l : LogParts D). IsGrown image first l first.batches h.batches None) (sym e) (grown image first log left mid u h)
+  same e = subst (λ (l : LogParts D). IsGrown seen first l first.batches h.batches None) (sym e) (grown seen first log left mid u h)
 
-  pub done : LoadsNext image faults log new u v step (Ok false) → IsWhole input Ends
+  pub done : LoadsNext seen log new u v step (Ok false) → IsWhole input Ends
   done (t, none, end, has_ended, e) = record {
     log = first.batches;
     batches = h.batches;
@@ -183,12 +184,12 @@ module _ {D : Type 0} (image : D → List ℕ → Type 0) (faults : D → ℕ) (
       )))
 
   -- the write of the batch at the front failed
-  unwritten : (t : Took) (b : Batch) → IsNext log.batches v b → IsUnwritten image log new b → IsBegunSegment input Ends
+  unwritten : (t : Took) (b : Batch) → IsNext log.batches v b → IsUnwritten seen log new b → IsBegunSegment input Ends
   unwritten t b n w = go (w.kept None h.kept) where
     has : new.batches ≡ first.batches ++ h.batches
     has = w.batches ∙ h.added
 
-    go : KeepsLog image new None ⊎ KeepsLog image new (Some b) → IsBegunSegment input Ends
+    go : KeepsLog seen new None ⊎ KeepsLog seen new (Some b) → IsBegunSegment input Ends
     go (inl k) = begun t (record {
       was = refl;
       has = has;
@@ -209,8 +210,8 @@ module _ {D : Type 0} (image : D → List ℕ → Type 0) (faults : D → ℕ) (
   rose : (a b c : ℕ) → a ≤ b → Rose b c → Rose a c
   rose a b c le r = omega (arith, le, r)
 
-  pub stopped : (stop : Stop) → LoadsNext image faults log new u v step (Err stop)
-      → LoadsAll input Ends (Rose (faults first.journal.disk) (faults new.journal.disk)) (Err stop)
+  pub stopped : (stop : Stop) → LoadsNext seen log new u v step (Err stop)
+      → LoadsAll input Ends (Rose (seen first.journal.disk).faults (seen new.journal.disk).faults) (Err stop)
   stopped (Refused place) (t, is, e, none) = record {
     log = first.batches;
     batches = h.batches;
@@ -237,7 +238,7 @@ module _ {D : Type 0} (image : D → List ℕ → Type 0) (faults : D → ℕ) (
     next = b;
     begins = begins_next t b n;
     no_room =
-        let end : log.journal.end ≡ length (blocks (frames_of log.batches)) + 1 = end_of_writer image log.journal log.journal.mending (frames_of log.batches) h.kept.stands.mends in
+        let end : log.journal.end ≡ length (blocks (frames_of log.batches)) + 1 = end_of_writer seen log.journal log.journal.mending (frames_of log.batches) h.kept.stands.mends in
         subst (λ (l : List Batch). HasNoRoom l b) h.added (omega (arith, end, room));
     ends = same e;
   }
@@ -247,9 +248,9 @@ module _ {D : Type 0} (image : D → List ℕ → Type 0) (faults : D → ℕ) (
 
 -- ---- the last line
 
-module _ {D : Type 0} (image : D → List ℕ → Type 0) (first new : LogParts D) (input : InputChange) where
+module _ {D : Type 0} (seen : D → DiskView) (first new : LogParts D) (input : InputChange) where
   abbrev Grows : LoadEnding
-  Grows log batches pending = IsGrown image first new log batches pending
+  Grows log batches pending = IsGrown seen first new log batches pending
 
   pub with_line : (Tells : List ℕ → Type 0) (before count end : ℕ) → before ≡ length first.batches → count ≡ length new.batches - before → end ≡ end_of new.batches
       → Tells (loaded_line count end) → IsWhole input Grows → IsWhole input (WithLine Grows Tells)

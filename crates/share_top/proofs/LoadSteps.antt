@@ -22,6 +22,7 @@ use Rattle.share_top.specs.Segments.{HasNoBatch}
 use Rattle.share_top.specs.SegmentReading.{IsSized, IsFront, HasNoFront, RefusesFront}
 use Rattle.share_top.specs.Loads.{IsNext, LoadsNext, stop_by}
 use Rattle.share_top.proofs.SegmentReads.{front_size, size_of_front, same_size}
+use Rattle.edge_io.specs.Views.{DiskView}
 
 -- ---- what stands at the front
 
@@ -75,15 +76,14 @@ module _ (place size : ℕ) (pending : List ℕ) (front : IsFront place pending 
 
 -- ---- the log refused the batch at the front
 
-module _ {D : Type 0} (content : D → Option (List ℕ)) (image : D → List ℕ → Type 0) (moment : D → ℕ) (since : D → ℕ → List ℕ → Type 0)
-    (armed : D → Armed) (starved : D → Bool) (faults : D → ℕ) (old new : LogParts D) (u v : Unread) (input : InputChange) (size : ℕ) (result : Result ℕ LogFault)
+module _ {D : Type 0} (seen : D → DiskView) (old new : LogParts D) (u v : Unread) (input : InputChange) (size : ℕ) (result : Result ℕ LogFault)
     (takes : Takes u v input.left input.left_after []) (front : IsFront v.place v.pending size)
-    (once : AddsOnce content image moment since armed starved faults old new (batch_in (take size v.pending)) result) where
+    (once : AddsOnce seen old new (batch_in (take size v.pending)) result) where
   abbrev bytes_in : List ℕ
   bytes_in = take size v.pending
 
   abbrev Stops : Stop → Type 0
-  Stops stop = LoadsNext image faults old new u v input (Err stop)
+  Stops stop = LoadsNext seen old new u v input (Err stop)
 
   pub stops : ((f : BatchFault) → (result ≡ Err (log_fault.Batch f)) ↔ IsFirstFault Stored bytes_in f)
       → ((end : ℕ) → (result ≡ Err (log_fault.Behind end)) ↔ ((end ≡ end_of old.batches) × IsStored (batch_in bytes_in) × ((batch_in bytes_in).base < end_of old.batches)))

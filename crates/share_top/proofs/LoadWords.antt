@@ -16,19 +16,20 @@ use Rattle.share_top.specs.Statuses.{status_number}
 use Rattle.share_top.proofs.OneCommand.{one_load, two_commands}
 use Rattle.share_top.proofs.PartitionWords.{one_partition}
 use Rattle.share_top.proofs.LoadCompletes.{completes}
+use Rattle.edge_io.specs.Views.{DiskView, BayView}
 
 pub one_disk : (topics : List Topic) (shard : ℕ) (name other : List ℕ) → IsLogDisk topics shard name → IsLogDisk topics shard other → name ≡ other
 one_disk topics shard name other p q =
     let s = one_partition topics shard p.0 q.0 p.1 q.1 p.2 q.2 in
     p.3 ∙ ap (λ (t : Topic). hosted_name t.name p.1 Log) s.0 ∙ ap (λ (n : ℕ). hosted_name q.0.name n Log) s.1 ∙ sym q.3
 
-module _ {B D : Type 0} (disk : B → List ℕ → Option D) (content : D → Option (List ℕ)) (image : D → List ℕ → Type 0) (faults : D → ℕ) (bay_faults : B → ℕ)
+module _ {B D : Type 0} (bay_seen : B → BayView D) (seen : D → DiskView)
     (old new : B) (words : List (String Global)) (input : InputChange) (output : OutputChange) where
   abbrev Loads : ℕ → Type 0
-  Loads number = LoadsWith disk content image faults bay_faults old new words input output number
+  Loads number = LoadsWith bay_seen seen old new words input output number
 
   abbrev Completes : ℕ → Type 0
-  Completes number = LoadCompletes disk content faults bay_faults old new words input output number
+  Completes number = LoadCompletes bay_seen seen old new words input output number
 
   -- words of no load
   module _ (number : ℕ) (none : (conf : ConfigParts) (shard : ℕ) → AreLoadWords (texts words) conf shard → ⊥) where
@@ -55,7 +56,7 @@ module _ {B D : Type 0} (disk : B → List ℕ → Option D) (content : D → Op
 
   -- words of a load
   module _ (conf : ConfigParts) (shard : ℕ) (are : AreLoadWords (texts words) conf shard) (status : Status) (number : ℕ) (is : number ≡ status_number status)
-      (name : List ℕ) (at : IsLogDisk conf.topics shard name) (load : IsLoad disk content image faults bay_faults name old new input output status) where
+      (name : List ℕ) (at : IsLogDisk conf.topics shard name) (load : IsLoad bay_seen seen name old new input output status) where
     same : (other : ConfigParts) (next : ℕ) → AreLoadWords (texts words) other next → IsLogDisk other.topics next name
     same other next p =
         let e = one_load (texts words) conf other shard next are p in
@@ -67,4 +68,4 @@ module _ {B D : Type 0} (disk : B → List ℕ → Option D) (content : D → Op
     pub is_complete : Completes number
     is_complete other next disk_name p there rises read write d c log batches told has text =
         let e = one_disk other.topics next name disk_name (same other next p) there in
-        completes disk content image faults bay_faults name old new input output d c log batches (ap (disk old) e ∙ told) has text number status is load read write
+        completes bay_seen seen name old new input output d c log batches (ap (bay_seen old).disk e ∙ told) has text number status is load read write

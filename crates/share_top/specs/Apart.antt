@@ -13,24 +13,23 @@ use Rattle.share_top.specs.declared.words.Words.{Words}
 use Rattle.share_top.specs.declared.words.Words.TheVariants.{Replay, Load}
 use Rattle.share_top.specs.Loading.{IsLogDisk}
 use Rattle.share_top.specs.Words.{AreWords, AreLoadWords, texts}
+use Rattle.edge_io.specs.Views.{DiskView, BayView}
 
 -- the disk of this name is one of the command's: a replay has those of its broker, and a load that of one log
 abbrev pub IsOfCommand : Words → List ℕ → Type 0
 IsOfCommand (Replay conf) name = IsTaken conf name
 IsOfCommand (Load conf shard) name = IsLogDisk conf.topics shard name
 
--- The disks that aren't those of the words' command are as they were. The members of the bay come first.
-abbrev pub LeavesOthers : {B D : Type 0} → (B → List ℕ → Option D) → (B → List ℕ → Bool) → (B → List ℕ → ℕ) → List (String Global) → B → B → Type 0
-LeavesOthers disk out taken words old new = (name : List ℕ) → ((command : Words) → AreWords (texts words) command → IsOfCommand command name → ⊥)
-    → SameSlot disk out taken name old new
+-- The disks that aren't those of the words' command are as they were.
+abbrev pub LeavesOthers : {B D : Type 0} → (B → BayView D) → List (String Global) → B → B → Type 0
+LeavesOthers bay_seen words old new = (name : List ℕ) → ((command : Words) → AreWords (texts words) command → IsOfCommand command name → ⊥)
+    → SameSlot bay_seen name old new
 
--- What a load does to its disk, where the bay tells it, arms no fault and loses no power. The members of the bay and of its disks come first.
-abbrev pub RunsDisk : {B D : Type 0} → (B → List ℕ → Option D) → (D → Option (List ℕ)) → (D → List (ℕ × List ℕ)) → (D → ℕ) → (D → Armed) → (D → Bool)
-    → (D → ℕ) → List ℕ → B → B → Type 0
-RunsDisk disk content losses arms armed starved faults name old new = (d e : _) → disk old name ≡ Some d → disk new name ≡ Some e
-    → RunsOn content losses arms armed starved faults d e
+-- What a load does to its disk, where the bay tells it, arms no fault and loses no power.
+abbrev pub RunsDisk : {B D : Type 0} → (B → BayView D) → (D → DiskView) → List ℕ → B → B → Type 0
+RunsDisk bay_seen seen name old new = (d e : _) → (bay_seen old).disk name ≡ Some d → (bay_seen new).disk name ≡ Some e
+    → RunsOn seen d e
 
-abbrev pub LoadRuns : {B D : Type 0} → (B → List ℕ → Option D) → (D → Option (List ℕ)) → (D → List (ℕ × List ℕ)) → (D → ℕ) → (D → Armed) → (D → Bool)
-    → (D → ℕ) → List (String Global) → B → B → Type 0
-LoadRuns disk content losses arms armed starved faults words old new = (conf : ConfigParts) (shard : ℕ) (name : List ℕ) → AreLoadWords (texts words) conf shard
-    → IsLogDisk conf.topics shard name → RunsDisk disk content losses arms armed starved faults name old new
+abbrev pub LoadRuns : {B D : Type 0} → (B → BayView D) → (D → DiskView) → List (String Global) → B → B → Type 0
+LoadRuns bay_seen seen words old new = (conf : ConfigParts) (shard : ℕ) (name : List ℕ) → AreLoadWords (texts words) conf shard
+    → IsLogDisk conf.topics shard name → RunsDisk bay_seen seen name old new

@@ -25,6 +25,7 @@ use Rattle.share_top.specs.Segments.{Begins, IsSegment, IsRefused, StandWhole, s
 use Rattle.share_top.specs.Sessions.{WritesFrontOf}
 use Rattle.share_top.specs.Statuses.{status_number}
 use Rattle.share_top.specs.Words.{AreLoadWords, IsPartitionOf, texts}
+use Rattle.edge_io.specs.Views.{DiskView, BayView}
 
 -- the last line of a load: how many batches were added, and where the log ends
 abbrev pub loaded_line : ℕ → ℕ → List ℕ
@@ -126,70 +127,69 @@ IsNotLoaded output disk Damages Rises Malformed = ⊥
 IsNotLoaded output disk Damages Rises ReadFault = ⊥
 
 -- no disk of the bay is out
-abbrev pub NoneIsOut : {B : Type 0} → (B → List ℕ → Bool) → B → Type 0
-NoneIsOut out bay = (name : List ℕ) → out bay name ≡ false
+abbrev pub NoneIsOut : {B D : Type 0} → (B → BayView D) → B → Type 0
+NoneIsOut bay_seen bay = (name : List ℕ) → (bay_seen bay).out name ≡ false
 
--- ---- the disk of the log in a bay; the members of the bay and of its disks come first
+-- ---- the disk of the log in a bay
 
 -- the disk of the log of a shard's partition
 abbrev pub IsLogDisk : List Topic → ℕ → List ℕ → Type 0
 IsLogDisk topics shard name = (topic : Topic) × (number : ℕ) × IsPartitionOf topics shard topic number × (name ≡ hosted_name topic.name number Log)
 
 -- where a bay tells the disk of this name, it tells it behind the call as well
-abbrev pub OverDisk : {B D : Type 0} → (B → List ℕ → Option D) → (D → Option (List ℕ)) → List ℕ → B → B
+abbrev pub OverDisk : {B D : Type 0} → (B → BayView D) → (D → DiskView) → List ℕ → B → B
     → (D → List ℕ → D → List ℕ → Type 0) → Type 0
-OverDisk disk content name old new P = (d : _) (c : List ℕ) → disk old name ≡ Some d → content d ≡ Some c →
-    (e : _) × (left : List ℕ) × (disk new name ≡ Some e) × (content e ≡ Some left) × P d c e left
+OverDisk bay_seen seen name old new P = (d : _) (c : List ℕ) → (bay_seen old).disk name ≡ Some d → (seen d).content ≡ Some c →
+    (e : _) × (left : List ℕ) × ((bay_seen new).disk name ≡ Some e) × ((seen e).content ≡ Some left) × P d c e left
 
 -- The disk stood for the log. A crash behind the call leaves the log with these batches, with or without the pending one; so does a read.
-pub record IsStored {D : Type 0} (image : D → List ℕ → Type 0) (log batches : List Batch) (pending : Option Batch)
+pub record IsStored {D : Type 0} (seen : D → DiskView) (log batches : List Batch) (pending : Option Batch)
     (content : List ℕ) (now : D) (left : List ℕ) : Type 0 where
   pub before : IsLogText content log
-  pub images : (c : List ℕ) → image now c → WithPending (IsLogText c) (log ++ batches) (and_pending (log ++ batches) pending)
-  pub read : image now left
+  pub images : (c : List ℕ) → (seen now).image c → WithPending (IsLogText c) (log ++ batches) (and_pending (log ++ batches) pending)
+  pub read : (seen now).image left
 
-abbrev pub StoresIn : {B D : Type 0} → (B → List ℕ → Option D) → (D → Option (List ℕ)) → (D → List ℕ → Type 0) → List ℕ → B → B → LoadEnding
-StoresIn disk content image name old new log batches pending =
-    OverDisk disk content name old new (λ d c e left. IsStored image log batches pending c e left)
+abbrev pub StoresIn : {B D : Type 0} → (B → BayView D) → (D → DiskView) → List ℕ → B → B → LoadEnding
+StoresIn bay_seen seen name old new log batches pending =
+    OverDisk bay_seen seen name old new (λ d c e left. IsStored seen log batches pending c e left)
 
 -- a crash behind the call leaves what one before it might have left, or what stands for the same frames
-abbrev pub StaysIn : {B D : Type 0} → (B → List ℕ → Option D) → (D → Option (List ℕ)) → (D → List ℕ → Type 0) → List ℕ → B → B → Type 0
-StaysIn disk content image name old new = OverDisk disk content name old new (λ d c e left. (x : List ℕ) → image e x → StandsAs (image d) x)
+abbrev pub StaysIn : {B D : Type 0} → (B → BayView D) → (D → DiskView) → List ℕ → B → B → Type 0
+StaysIn bay_seen seen name old new = OverDisk bay_seen seen name old new (λ d c e left. (x : List ℕ) → (seen e).image x → StandsAs (seen d).image x)
 
 -- the content of the disk isn't a log's, by this place
-abbrev pub DamagesIn : {B D : Type 0} → (B → List ℕ → Option D) → (D → Option (List ℕ)) → List ℕ → B → ℕ → Type 0
-DamagesIn disk content name old place = (d : _) (c : List ℕ) → disk old name ≡ Some d → content d ≡ Some c → IsNoLogText c place
+abbrev pub DamagesIn : {B D : Type 0} → (B → BayView D) → (D → DiskView) → List ℕ → B → ℕ → Type 0
+DamagesIn bay_seen seen name old place = (d : _) (c : List ℕ) → (bay_seen old).disk name ≡ Some d → (seen d).content ≡ Some c → IsNoLogText c place
 
--- the bay's count of faults rose, in which are those of the disk; or that of the disk stood at its last value
-abbrev pub DiskCountRose : {B D : Type 0} → (B → List ℕ → Option D) → (D → ℕ) → (B → ℕ) → List ℕ → B → B → Type 0
-DiskCountRose disk faults bay_faults name old new =
-    Rose (bay_faults old) (bay_faults new) ⊎ ((d : _) × IsAsTold (disk old name) d × (2 ^ 64 - 1 ≤ faults d))
+-- the bay's count of faults rose, in which are those of the disk; or the disk was taken with one at its last value, as the bay notes it
+abbrev pub DiskCountRose : {B D : Type 0} → (B → BayView D) → List ℕ → B → B → Type 0
+DiskCountRose bay_seen name old new = Rose (bay_seen old).faults (bay_seen new).faults ⊎ (2 ^ 64 - 1 ≤ (bay_seen new).taken name)
 
 -- a load on the disk of this name
-abbrev pub IsLoad : {B D : Type 0} → (B → List ℕ → Option D) → (D → Option (List ℕ)) → (D → List ℕ → Type 0) → (D → ℕ) → (B → ℕ)
+abbrev pub IsLoad : {B D : Type 0} → (B → BayView D) → (D → DiskView)
     → List ℕ → B → B → InputChange → OutputChange → Status → Type 0
-IsLoad disk content image faults bay_faults name old new input output status =
-    IsLoaded input output (StoresIn disk content image name old new) (DiskCountRose disk faults bay_faults name old new) status
-    ⊎ (input.Same × StaysIn disk content image name old new
-    × IsNotLoaded output name (DamagesIn disk content name old) (DiskCountRose disk faults bay_faults name old new) status)
+IsLoad bay_seen seen name old new input output status =
+    IsLoaded input output (StoresIn bay_seen seen name old new) (DiskCountRose bay_seen name old new) status
+    ⊎ (input.Same × StaysIn bay_seen seen name old new
+    × IsNotLoaded output name (DamagesIn bay_seen seen name old) (DiskCountRose bay_seen name old new) status)
 
 -- ---- the program
 
--- Where the words are those of a load, the program ends with this number. The members of the bay and of its disks come first.
-abbrev pub LoadsWith : {B D : Type 0} → (B → List ℕ → Option D) → (D → Option (List ℕ)) → (D → List ℕ → Type 0) → (D → ℕ) → (B → ℕ)
+-- Where the words are those of a load, the program ends with this number.
+abbrev pub LoadsWith : {B D : Type 0} → (B → BayView D) → (D → DiskView)
     → B → B → List (String Global) → InputChange → OutputChange → ℕ → Type 0
-LoadsWith disk content image faults bay_faults old new words input output number =
+LoadsWith bay_seen seen old new words input output number =
     (conf : ConfigParts) (shard : ℕ) → AreLoadWords (texts words) conf shard → (status : Status) × (number ≡ status_number status)
     × (((status ≡ NoMemory) × input.Same × output.Same × (new ≡ old))
-    ⊎ ((name : List ℕ) × IsLogDisk conf.topics shard name × IsLoad disk content image faults bay_faults name old new input output status))
+    ⊎ ((name : List ℕ) × IsLogDisk conf.topics shard name × IsLoad bay_seen seen name old new input output status))
 
 -- A segment whose batches may stand behind the log is loaded, where no count rose, memory is found and the journal has room; it hasn't
 -- with 7 alone.
-abbrev pub LoadCompletes : {B D : Type 0} → (B → List ℕ → Option D) → (D → Option (List ℕ)) → (D → ℕ) → (B → ℕ)
+abbrev pub LoadCompletes : {B D : Type 0} → (B → BayView D) → (D → DiskView)
     → B → B → List (String Global) → InputChange → OutputChange → ℕ → Type 0
-LoadCompletes disk content faults bay_faults old new words input output number =
+LoadCompletes bay_seen seen old new words input output number =
     (conf : ConfigParts) (shard : ℕ) (name : List ℕ) → AreLoadWords (texts words) conf shard → IsLogDisk conf.topics shard name
-    → (DiskCountRose disk faults bay_faults name old new → ⊥)
+    → (DiskCountRose bay_seen name old new → ⊥)
     → (Rose input.faults input.faults_after → ⊥) → (Rose output.faults output.faults_after → ⊥)
-    → (d : _) (c : List ℕ) (log batches : List Batch) → disk old name ≡ Some d → content d ≡ Some c → IsLogText c log
+    → (d : _) (c : List ℕ) (log batches : List Batch) → (bay_seen old).disk name ≡ Some d → (seen d).content ≡ Some c → IsLogText c log
     → IfSome input.left (λ text. IsSegment text log batches → (number ≡ 0) ⊎ ((number ≡ 7) ⊎ (number ≡ 8)))

@@ -24,6 +24,7 @@ use Rattle.share_top.specs.declared.load.Stop.TheVariants.{Refused, Read, Full, 
 use Rattle.share_top.specs.Changes.{InputChange, OutputChange}
 use Rattle.share_top.specs.Segments.{HasNoBatch, segment_of}
 use Rattle.share_top.specs.Loading.{LoadEnding, IsWhole, IsRefusedSegment, IsCutSegment, IsBegunSegment, IsFullSegment}
+use Rattle.edge_io.specs.Views.{DiskView}
 
 -- ---- one batch
 
@@ -44,39 +45,39 @@ pub record IsNext (log : List Batch) (unread : Unread) (b : Batch) : Type 0 wher
   pub within : unread.place + length b.bytes ≤ longest
 
 -- The batch at the front was added and taken, or the segment ended, or it was stopped there.
-abbrev pub LoadsNext : {D : Type 0} → (D → List ℕ → Type 0) → (D → ℕ) → LogParts D → LogParts D → Unread → Unread → InputChange → Result Bool Stop → Type 0
-LoadsNext image faults old new unread now input (Ok true) =
-    (b : Batch) × Takes unread now input.left input.left_after b.bytes × (now.place ≤ longest) × IsAdded image old new b
-LoadsNext image faults old new unread now input (Ok false) =
+abbrev pub LoadsNext : {D : Type 0} → (D → DiskView) → LogParts D → LogParts D → Unread → Unread → InputChange → Result Bool Stop → Type 0
+LoadsNext seen old new unread now input (Ok true) =
+    (b : Batch) × Takes unread now input.left input.left_after b.bytes × (now.place ≤ longest) × IsAdded seen old new b
+LoadsNext seen old new unread now input (Ok false) =
     Takes unread now input.left input.left_after [] × (now.pending ≡ []) × IsAtEnd input.left_after × (input.ended ≡ true) × (new ≡ old)
-LoadsNext image faults old new unread now input (Err (Refused place)) = Takes unread now input.left input.left_after [] × (place ≡ now.place) × (new ≡ old)
+LoadsNext seen old new unread now input (Err (Refused place)) = Takes unread now input.left input.left_after [] × (place ≡ now.place) × (new ≡ old)
     × IfSome input.left_after (λ more. HasNoBatch now.place old.batches (now.pending ++ more) × (now.pending ++ more ≢ []))
-LoadsNext image faults old new unread now input (Err Read) = Takes unread now input.left input.left_after [] × (new ≡ old)
+LoadsNext seen old new unread now input (Err Read) = Takes unread now input.left input.left_after [] × (new ≡ old)
     × HasNoBatch now.place old.batches now.pending × Rose input.faults input.faults_after
-LoadsNext image faults old new unread now input (Err Full) = Takes unread now input.left input.left_after [] × (new ≡ old)
+LoadsNext seen old new unread now input (Err Full) = Takes unread now input.left input.left_after [] × (new ≡ old)
     × ((b : Batch) × IsNext old.batches now b × (2 ^ 62 < old.journal.end + (length b.bytes + 5)))
-LoadsNext image faults old new unread now input (Err Device) = Takes unread now input.left input.left_after []
-    × ((b : Batch) × IsNext old.batches now b × IsUnwritten image old new b) × Rose (faults old.journal.disk) (faults new.journal.disk)
-LoadsNext image faults old new unread now input (Err NoMemory) = Takes unread now input.left input.left_after []
-    × ((new ≡ old) ⊎ ((b : Batch) × IsNext old.batches now b × IsUnwritten image old new b))
+LoadsNext seen old new unread now input (Err Device) = Takes unread now input.left input.left_after []
+    × ((b : Batch) × IsNext old.batches now b × IsUnwritten seen old new b) × Rose (seen old.journal.disk).faults (seen new.journal.disk).faults
+LoadsNext seen old new unread now input (Err NoMemory) = Takes unread now input.left input.left_after []
+    × ((new ≡ old) ⊎ ((b : Batch) × IsNext old.batches now b × IsUnwritten seen old new b))
 
 -- ---- all batches
 
 -- the input gave these bytes, which are those of batches that were added and what is pending
-pub record HasLoaded {D : Type 0} (image : D → List ℕ → Type 0) (first log : LogParts D) (left now : Option (List ℕ)) (unread : Unread) : Type 0 where
+pub record HasLoaded {D : Type 0} (seen : D → DiskView) (first log : LogParts D) (left now : Option (List ℕ)) (unread : Unread) : Type 0 where
   pub given : List ℕ
   pub batches : List Batch
   pub consumed : Consumes left now given
   pub parts : given ≡ segment_of batches ++ unread.pending
   pub place : unread.place ≡ length (segment_of batches)
   pub added : log.batches ≡ first.batches ++ batches
-  pub kept : Keeps image log None
+  pub kept : Keeps seen log None
 
 -- the log was this one, has these batches more, and a crash leaves it with or without the pending one
-pub record IsGrown {D : Type 0} (image : D → List ℕ → Type 0) (first new : LogParts D) (log batches : List Batch) (pending : Option Batch) : Type 0 where
+pub record IsGrown {D : Type 0} (seen : D → DiskView) (first new : LogParts D) (log batches : List Batch) (pending : Option Batch) : Type 0 where
   pub was : log ≡ first.batches
   pub has : new.batches ≡ log ++ batches
-  pub images : (c : List ℕ) → image new.journal.disk c → WithPending (IsLogText c) (log ++ batches) (and_pending (log ++ batches) pending)
+  pub images : (c : List ℕ) → (seen new.journal.disk).image c → WithPending (IsLogText c) (log ++ batches) (and_pending (log ++ batches) pending)
 
 -- and the place is that behind the batches
 abbrev pub AtPlace : ℕ → LoadEnding → LoadEnding

@@ -25,6 +25,7 @@ use Rattle.broker_model.specs.Starts.{IsWell}
 use Rattle.broker_core.specs.Bays.{TellsDisks, IsFirst, StandForAll, HasLastCount}
 use Rattle.broker_core.specs.Restarts.{IsDamagedDisk}
 use Rattle.share_top.specs.Changes.{OutputChange}
+use Rattle.edge_io.specs.Views.{DiskView, BayView}
 
 -- ---- what was written of a run's outcomes
 
@@ -114,30 +115,30 @@ pub record IsSession (conf : ConfigParts) (events : List Event) (Tells : List Ou
   -- a disk with nothing armed begins so: its count rises only behind an arm, as `holds` says
   pub unarmed : (name : List ℕ) → IsTaken conf name → (was name).armed ≡ Nothing → (first.disks name).armed ≡ Nothing
 
--- ---- the disks of a bay; the members of the bay and of its disks come first
+-- ---- the disks of a bay
 
 -- where a bay tells the disks of this broker
-abbrev pub OfBay : {B D : Type 0} → (B → List ℕ → Option D) → (D → Option (List ℕ)) → (D → ℕ) → (D → List (ℕ × List ℕ)) → (D → ℕ) → (D → Armed)
+abbrev pub OfBay : {B D : Type 0} → (B → BayView D) → (D → DiskView)
     → ConfigParts → B → ((List ℕ → List ℕ) → Disks → Type 0) → Type 0
-OfBay disk content faults losses arms armed conf bay P =
-    (contents : List ℕ → List ℕ) (was : Disks) → TellsDisks disk content faults losses arms armed conf bay contents was → P contents was
+OfBay bay_seen seen conf bay P =
+    (contents : List ℕ → List ℕ) (was : Disks) → TellsDisks bay_seen seen conf bay contents was → P contents was
 
 -- where a bay tells them, it tells them behind the call as well
-abbrev pub OverBay : {B D : Type 0} → (B → List ℕ → Option D) → (D → Option (List ℕ)) → (D → ℕ) → (D → List (ℕ × List ℕ)) → (D → ℕ) → (D → Armed)
+abbrev pub OverBay : {B D : Type 0} → (B → BayView D) → (D → DiskView)
     → ConfigParts → B → B → ((List ℕ → List ℕ) → Disks → (List ℕ → List ℕ) → Disks → Type 0) → Type 0
-OverBay disk content faults losses arms armed conf old new P = OfBay disk content faults losses arms armed conf old (λ contents was.
-    (left : List ℕ → List ℕ) × (now : Disks) × TellsDisks disk content faults losses arms armed conf new left now × P contents was left now)
+OverBay bay_seen seen conf old new P = OfBay bay_seen seen conf old (λ contents was.
+    (left : List ℕ → List ℕ) × (now : Disks) × TellsDisks bay_seen seen conf new left now × P contents was left now)
 
 -- its disks are told, and stand for some logs and states
-abbrev pub HoldsStates : {B D : Type 0} → (B → List ℕ → Option D) → (D → Option (List ℕ)) → (D → ℕ) → (D → List (ℕ × List ℕ)) → (D → ℕ) → (D → Armed)
+abbrev pub HoldsStates : {B D : Type 0} → (B → BayView D) → (D → DiskView)
     → ConfigParts → B → Type 0
-HoldsStates disk content faults losses arms armed conf bay = (contents : List ℕ → List ℕ) × (was : Disks)
-    × TellsDisks disk content faults losses arms armed conf bay contents was × StandForAll conf contents
+HoldsStates bay_seen seen conf bay = (contents : List ℕ → List ℕ) × (was : Disks)
+    × TellsDisks bay_seen seen conf bay contents was × StandForAll conf contents
 
 -- one of these disks isn't store text, and this holds of the line that names it and the place of its fault
 abbrev pub NamesDamage : ConfigParts → (List ℕ → List ℕ) → (List ℕ → Type 0) → Type 0
 NamesDamage conf contents Says = (disk : List ℕ) × (place : ℕ) × IsDamagedDisk conf contents disk place × Says (damaged_line disk place)
 
--- the bay's count of faults rose, in which are those of its disks; or that of a disk stood at its last value
-abbrev pub CountRose : {B D : Type 0} → (B → List ℕ → Option D) → (D → ℕ) → (B → ℕ) → ConfigParts → B → B → Type 0
-CountRose disk faults bay_faults conf old new = Rose (bay_faults old) (bay_faults new) ⊎ HasLastCount disk faults conf old
+-- the bay's count of faults rose, in which are those of its disks; or a disk was taken with one at its last value, as the bay notes it
+abbrev pub CountRose : {B D : Type 0} → (B → BayView D) → (D → DiskView) → ConfigParts → B → B → Type 0
+CountRose bay_seen seen conf old new = Rose (bay_seen old).faults (bay_seen new).faults ⊎ HasLastCount bay_seen conf new

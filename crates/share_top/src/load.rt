@@ -63,10 +63,10 @@ fn load_next<D: Disk, I: Source>(
     log: &mut PartLog<D>,
     input: &mut I,
 ) -> Result<bool, Stop>
-    ensures loads { LoadsNext D.image D.faults log.old log.new reader.old reader.new
+    ensures loads { LoadsNext D.seen log.old log.new reader.old reader.new
         (input_change I.left I.ended I.faults input.old input.new) result }
     ensures later { I.faults input.old ≤ I.faults input.new }
-    ensures runs { RunsOn D.content D.losses D.arms D.armed D.starved D.faults log.old.journal.disk log.new.journal.disk }
+    ensures runs { RunsOn D.seen log.old.journal.disk log.new.journal.disk }
 {
     let size = match reader.front(input) {
         Ok(Front::Batch { size }) => size,
@@ -94,10 +94,10 @@ fn load_all<D: Disk, I: Source>(
     log: &mut PartLog<D>,
     input: &mut I,
 ) -> Result<(), Stop>
-    requires { Keeps D.image log.old None }
-    ensures loads { LoadsAll (input_change I.left I.ended I.faults input.old input.new) (IsGrown D.image log.old log.new)
-        (Rose (D.faults log.old.journal.disk) (D.faults log.new.journal.disk)) result }
-    ensures runs { RunsOn D.content D.losses D.arms D.armed D.starved D.faults log.old.journal.disk log.new.journal.disk }
+    requires { Keeps D.seen log.old None }
+    ensures loads { LoadsAll (input_change I.left I.ended I.faults input.old input.new) (IsGrown D.seen log.old log.new)
+        (Rose (D.seen log.old.journal.disk).faults (D.seen log.new.journal.disk).faults) result }
+    ensures runs { RunsOn D.seen log.old.journal.disk log.new.journal.disk }
 {
     let mut reader = SegmentReader::new(alloc);
     'batches: loop {
@@ -132,11 +132,11 @@ fn load_into<D: Disk, I: Source, O: Sink>(
     input: &mut I,
     output: &mut O,
 ) -> Status
-    requires { Keeps D.image log.old None }
+    requires { Keeps D.seen log.old None }
     ensures loaded { IsLoaded (input_change I.left I.ended I.faults input.old input.new) (output_change O.held O.faults output.old output.new)
-        (IsGrown D.image log.old log.new) (Rose (D.faults log.old.journal.disk) (D.faults log.new.journal.disk)) result }
+        (IsGrown D.seen log.old log.new) (Rose (D.seen log.old.journal.disk).faults (D.seen log.new.journal.disk).faults) result }
     ensures counted { result ≢ Status.WriteFault → O.faults output.new ≡ O.faults output.old }
-    ensures runs { RunsOn D.content D.losses D.arms D.armed D.starved D.faults log.old.journal.disk log.new.journal.disk }
+    ensures runs { RunsOn D.seen log.old.journal.disk log.new.journal.disk }
 {
     let before = log.len();
     match load_all(alloc, log, input) {
@@ -196,13 +196,13 @@ fn load_on<I: Source, O: Sink, B: Bay>(
 ) -> Status
 where
     B::D: Drop,
-    requires { NoneIsOut B.out bay.old }
-    ensures loads { IsLoad B.disk B.D.content B.D.image B.D.faults B.faults name.now bay.old bay.new
+    requires { NoneIsOut B.seen bay.old }
+    ensures loads { IsLoad B.seen B.D.seen name.now bay.old bay.new
         (input_change I.left I.ended I.faults input.old input.new) (output_change O.held O.faults output.old output.new) result }
     ensures counted { result ≢ Status.WriteFault → O.faults output.new ≡ O.faults output.old }
-    ensures back { NoneIsOut B.out bay.new }
-    ensures others { (m : List ℕ) → m ≢ name.now → SameSlot B.disk B.out B.taken m bay.old bay.new }
-    ensures runs { RunsDisk B.disk B.D.content B.D.losses B.D.arms B.D.armed B.D.starved B.D.faults name.now bay.old bay.new }
+    ensures back { NoneIsOut B.seen bay.new }
+    ensures others { (m : List ℕ) → m ≢ name.now → SameSlot B.seen m bay.old bay.new }
+    ensures runs { RunsDisk B.seen B.D.seen name.now bay.old bay.new }
 {
     let Ok(disk) = bay.take(name) else {
         return if bay.starved() {
@@ -252,15 +252,15 @@ pub fn load<I: Source, O: Sink, B: Bay>(
 where
     B::D: Drop,
     requires hosted { shard < partitions conf.now.topics }
-    requires home { NoneIsOut B.out bay.old }
+    requires home { NoneIsOut B.seen bay.old }
     ensures loads { (name : List ℕ) × IsLogDisk conf.now.topics shard name
-        × IsLoad B.disk B.D.content B.D.image B.D.faults B.faults name bay.old bay.new
+        × IsLoad B.seen B.D.seen name bay.old bay.new
         (input_change I.left I.ended I.faults input.old input.new) (output_change O.held O.faults output.old output.new) result }
     ensures counted { result ≢ Status.WriteFault → O.faults output.new ≡ O.faults output.old }
-    ensures back { NoneIsOut B.out bay.new }
-    ensures others { (m : List ℕ) → (IsLogDisk conf.now.topics shard m → ⊥) → SameSlot B.disk B.out B.taken m bay.old bay.new }
+    ensures back { NoneIsOut B.seen bay.new }
+    ensures others { (m : List ℕ) → (IsLogDisk conf.now.topics shard m → ⊥) → SameSlot B.seen m bay.old bay.new }
     ensures runs { (name : List ℕ) → IsLogDisk conf.now.topics shard name
-        → RunsDisk B.disk B.D.content B.D.losses B.D.arms B.D.armed B.D.starved B.D.faults name bay.old bay.new }
+        → RunsDisk B.seen B.D.seen name bay.old bay.new }
 {
     let Some(name) = log_disk(conf.topics(), shard) else {
         unreachable!()

@@ -27,9 +27,9 @@ returns-in-Some-clause-ok g c =
     let there = subst (λ l. HoldsAt c.in-Some.number (λ (s : PartSlot g.row.D.Denot). hosted_name s.topic s.conf.part c.in-Some.place ≡ c.args.disk.now) l) c.deref.ensures.value c.in-Some.ensures in
     let lt = holds_within (λ (s : PartSlot g.row.D.Denot). hosted_name s.topic s.conf.part c.in-Some.place ≡ c.args.disk.now) c.in-Some.number c.args.hosts.now.parts.items there in
     let is : c.index_mut.result.now ≡ get_or c.args.hosts.now.parts.items c.in-Some.number c.index_mut.result.now = search rules in
-    let changes = changes_set (ArmsSlot g.D.Disk.content g.D.Disk.image g.D.Disk.losses g.D.Disk.arms g.D.Disk.armed g.D.Disk.starved g.D.Disk.faults c.in-Some.place c.args.after c.args.mode)
+    let changes = changes_set (ArmsSlot g.D.Disk.seen c.in-Some.place c.args.after c.args.mode)
     c.in-Some.number c.args.hosts.now.parts.items c.index_mut.result.now c.arm_part.new.slot lt is c.arm_part.ensures in
-    part_is_armed g.D.Disk.content g.D.Disk.image g.D.Disk.starved g.D.Disk.faults g.D.Disk.losses g.D.Disk.arms g.D.Disk.armed
+    part_is_armed g.D.Disk.seen
     (parts_of c.args.hosts.now) (set c.args.hosts.now.parts.items c.in-Some.number c.arm_part.new.slot) c.in-Some.number c.in-Some.place c.args.disk.now c.args.after c.args.mode there changes c.requires.apart
 
 pub returns-in-Some-clause-disks : goal.returns-in-Some-clause-disks
@@ -37,12 +37,12 @@ returns-in-Some-clause-disks g c =
     let there = subst (λ l. HoldsAt c.in-Some.number (λ (s : PartSlot g.row.D.Denot). hosted_name s.topic s.conf.part c.in-Some.place ≡ c.args.disk.now) l) c.deref.ensures.value c.in-Some.ensures in
     let lt = holds_within (λ (s : PartSlot g.row.D.Denot). hosted_name s.topic s.conf.part c.in-Some.place ≡ c.args.disk.now) c.in-Some.number c.args.hosts.now.parts.items there in
     let is : c.index_mut.result.now ≡ get_or c.args.hosts.now.parts.items c.in-Some.number c.index_mut.result.now = search rules in
-    let changes = changes_set (ArmsSlot g.D.Disk.content g.D.Disk.image g.D.Disk.losses g.D.Disk.arms g.D.Disk.armed g.D.Disk.starved g.D.Disk.faults c.in-Some.place c.args.after c.args.mode)
+    let changes = changes_set (ArmsSlot g.D.Disk.seen c.in-Some.place c.args.after c.args.mode)
     c.in-Some.number c.args.hosts.now.parts.items c.index_mut.result.now c.arm_part.new.slot lt is c.arm_part.ensures in
-    turned_on g.D.Disk.content g.D.Disk.image g.D.Disk.starved g.D.Disk.faults g.D.Disk.losses g.D.Disk.arms g.D.Disk.armed
+    turned_on g.D.Disk.seen
     (parts_of c.args.hosts.now) (set c.args.hosts.now.parts.items c.in-Some.number c.arm_part.new.slot) c.in-Some.number
-    (changes_so c.in-Some.number (ArmsSlot g.D.Disk.content g.D.Disk.image g.D.Disk.losses g.D.Disk.arms g.D.Disk.armed g.D.Disk.starved g.D.Disk.faults c.in-Some.place c.args.after c.args.mode) (Turned g.D.Disk.content g.D.Disk.image g.D.Disk.starved g.D.Disk.faults g.D.Disk.losses g.D.Disk.arms g.D.Disk.armed)
-    (turned_arms g.D.Disk.content g.D.Disk.image g.D.Disk.starved g.D.Disk.faults g.D.Disk.losses g.D.Disk.arms g.D.Disk.armed c.in-Some.place c.args.after c.args.mode)
+    (changes_so c.in-Some.number (ArmsSlot g.D.Disk.seen c.in-Some.place c.args.after c.args.mode) (Turned g.D.Disk.seen)
+    (turned_arms g.D.Disk.seen c.in-Some.place c.args.after c.args.mode)
     c.args.hosts.now.parts.items (set c.args.hosts.now.parts.items c.in-Some.number c.arm_part.new.slot) changes)
 
 pub returns-in-Some-clause-stays : goal.returns-in-Some-clause-stays
@@ -50,24 +50,24 @@ returns-in-Some-clause-stays g c =
     let there = subst (λ l. HoldsAt c.in-Some.number (λ (s : PartSlot g.row.D.Denot). hosted_name s.topic s.conf.part c.in-Some.place ≡ c.args.disk.now) l) c.deref.ensures.value c.in-Some.ensures in
     let lt = holds_within (λ (s : PartSlot g.row.D.Denot). hosted_name s.topic s.conf.part c.in-Some.place ≡ c.args.disk.now) c.in-Some.number c.args.hosts.now.parts.items there in
     let is : c.index_mut.result.now ≡ get_or c.args.hosts.now.parts.items c.in-Some.number c.index_mut.result.now = search rules in
-    let changes = changes_set (ArmsSlot g.D.Disk.content g.D.Disk.image g.D.Disk.losses g.D.Disk.arms g.D.Disk.armed g.D.Disk.starved g.D.Disk.faults c.in-Some.place c.args.after c.args.mode)
+    let changes = changes_set (ArmsSlot g.D.Disk.seen c.in-Some.place c.args.after c.args.mode)
     c.in-Some.number c.args.hosts.now.parts.items c.index_mut.result.now c.arm_part.new.slot lt is c.arm_part.ensures in
-    turned_hosted g.D.Disk.content g.D.Disk.image g.D.Disk.starved g.D.Disk.faults g.D.Disk.losses g.D.Disk.arms g.D.Disk.armed
+    turned_hosted g.D.Disk.seen
     (parts_of c.args.hosts.now) (set c.args.hosts.now.parts.items c.in-Some.number c.arm_part.new.slot) c.in-Some.number
-    (changes_so c.in-Some.number (ArmsSlot g.D.Disk.content g.D.Disk.image g.D.Disk.losses g.D.Disk.arms g.D.Disk.armed g.D.Disk.starved g.D.Disk.faults c.in-Some.place c.args.after c.args.mode) (Turned g.D.Disk.content g.D.Disk.image g.D.Disk.starved g.D.Disk.faults g.D.Disk.losses g.D.Disk.arms g.D.Disk.armed)
-    (turned_arms g.D.Disk.content g.D.Disk.image g.D.Disk.starved g.D.Disk.faults g.D.Disk.losses g.D.Disk.arms g.D.Disk.armed c.in-Some.place c.args.after c.args.mode)
+    (changes_so c.in-Some.number (ArmsSlot g.D.Disk.seen c.in-Some.place c.args.after c.args.mode) (Turned g.D.Disk.seen)
+    (turned_arms g.D.Disk.seen c.in-Some.place c.args.after c.args.mode)
     c.args.hosts.now.parts.items (set c.args.hosts.now.parts.items c.in-Some.number c.arm_part.new.slot) changes)
 
 pub returns-in-None-clause-ok : goal.returns-in-None-clause-ok
 returns-in-None-clause-ok g c =
     let away = subst (λ l. NotIn (part_disks (hosted_slots l)) c.args.disk.now) c.deref.ensures.value c.in-None.ensures in
-    arms_state g.D.Disk.content g.D.Disk.image g.D.Disk.starved g.D.Disk.faults g.D.Disk.losses g.D.Disk.arms g.D.Disk.armed
+    arms_state g.D.Disk.seen
     (parts_of c.args.hosts.now) (record { parts = c.args.hosts.now.parts.items; members = c.args.hosts.now.members; foreign = c.arm_foreign.new.slot })
     c.args.disk.now c.args.after c.args.mode away c.arm_foreign.ensures refl refl c.requires.apart
 
 pub returns-in-None-clause-disks : goal.returns-in-None-clause-disks
 returns-in-None-clause-disks g c =
     let away = subst (λ l. NotIn (part_disks (hosted_slots l)) c.args.disk.now) c.deref.ensures.value c.in-None.ensures in
-    arms_state_on g.D.Disk.content g.D.Disk.image g.D.Disk.starved g.D.Disk.faults g.D.Disk.losses g.D.Disk.arms g.D.Disk.armed
+    arms_state_on g.D.Disk.seen
     (parts_of c.args.hosts.now) (record { parts = c.args.hosts.now.parts.items; members = c.args.hosts.now.members; foreign = c.arm_foreign.new.slot })
     c.args.disk.now c.args.after c.args.mode away c.arm_foreign.ensures refl refl c.requires.apart

@@ -10,7 +10,7 @@ returns g c = record {
   new_is = refl;
   topic = refl;
   conf = refl;
-  arms_disk = place_of_arm g.D.Disk.content g.D.Disk.image g.D.Disk.starved g.D.Disk.faults g.D.Disk.losses g.D.Disk.arms g.D.Disk.armed
+  arms_disk = place_of_arm g.D.Disk.seen
       c.args.after c.args.mode c.in-Open.part c.arm.new.self c.args.place c.arm.ensures.log c.arm.ensures.first c.arm.ensures.second;
   ends = c.arm.ensures.ends;
   part_conf = c.arm.ensures.conf;

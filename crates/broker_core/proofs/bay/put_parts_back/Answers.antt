@@ -4,27 +4,27 @@ use Rattle.broker_core.proofs.Partitions.{putting_all, putting_apart, putting_he
 use Rattle.broker_core.proofs.bay.put_parts_back.Goals as goal
 
 pub put_part_back-requires-clause-named : goal.put_part_back-requires-clause-named
-put_part_back-requires-clause-named g c = putting_named g.B.Bay.disk g.B.Bay.out g.B.Bay.taken g.B.Bay.steady g.B.Bay.faults g.D.Disk.content g.D.Disk.image g.D.Disk.starved g.D.Disk.faults g.D.Disk.losses g.D.Disk.arms g.D.Disk.armed
+put_part_back-requires-clause-named g c = putting_named g.B.Bay.seen g.D.Disk.seen
     c.args.slots.items c.loop-slot.yielded c.loop-slot.slot-iterator.rest.items c.next.new.self.rest.items c.in-Some.slot c.args.bay.now c.loop-slot.bay
     c.loop-slot.invariant c.in-Some.ensures.steps.0 c.requires.named
 
 pub put_part_back-requires-clause-held : goal.put_part_back-requires-clause-held
-put_part_back-requires-clause-held g c = putting_held g.B.Bay.disk g.B.Bay.out g.B.Bay.taken g.B.Bay.steady g.B.Bay.faults g.D.Disk.content g.D.Disk.image g.D.Disk.starved g.D.Disk.faults g.D.Disk.losses g.D.Disk.arms g.D.Disk.armed
+put_part_back-requires-clause-held g c = putting_held g.B.Bay.seen g.D.Disk.seen
     c.args.slots.items c.loop-slot.yielded c.loop-slot.slot-iterator.rest.items c.next.new.self.rest.items c.in-Some.slot c.args.bay.now c.loop-slot.bay
     c.loop-slot.invariant c.in-Some.ensures.steps.0 c.requires.held
 
 pub put_part_back-requires-clause-apart : goal.put_part_back-requires-clause-apart
-put_part_back-requires-clause-apart g c = putting_apart g.B.Bay.disk g.B.Bay.out g.B.Bay.taken g.B.Bay.steady g.B.Bay.faults g.D.Disk.content g.D.Disk.image g.D.Disk.starved g.D.Disk.faults g.D.Disk.losses g.D.Disk.arms g.D.Disk.armed
+put_part_back-requires-clause-apart g c = putting_apart g.B.Bay.seen g.D.Disk.seen
     c.args.slots.items c.loop-slot.yielded c.loop-slot.slot-iterator.rest.items c.next.new.self.rest.items c.in-Some.slot c.args.bay.now c.loop-slot.bay
     c.loop-slot.invariant c.in-Some.ensures.steps.0 c.requires.distinct
 
 pub put_part_back-requires-clause-out : goal.put_part_back-requires-clause-out
-put_part_back-requires-clause-out g c = putting_out g.B.Bay.disk g.B.Bay.out g.B.Bay.taken g.B.Bay.steady g.B.Bay.faults g.D.Disk.content g.D.Disk.image g.D.Disk.starved g.D.Disk.faults g.D.Disk.losses g.D.Disk.arms g.D.Disk.armed
+put_part_back-requires-clause-out g c = putting_out g.B.Bay.seen g.D.Disk.seen
     c.args.slots.items c.loop-slot.yielded c.loop-slot.slot-iterator.rest.items c.next.new.self.rest.items c.in-Some.slot c.args.bay.now c.loop-slot.bay
     c.loop-slot.invariant c.in-Some.ensures.steps.0 c.requires.distinct c.requires.out
 
 pub loop-slot-preserved : goal.loop-slot-preserved
-loop-slot-preserved g c = putting_on g.B.Bay.disk g.B.Bay.out g.B.Bay.taken g.B.Bay.steady g.B.Bay.faults g.D.Disk.content g.D.Disk.image g.D.Disk.starved g.D.Disk.faults g.D.Disk.losses g.D.Disk.arms g.D.Disk.armed
+loop-slot-preserved g c = putting_on g.B.Bay.seen g.D.Disk.seen
     c.args.slots.items c.loop-slot.yielded c.loop-slot.slot-iterator.rest.items c.next.new.self.rest.items c.in-Some.slot c.args.bay.now c.loop-slot.bay
     c.loop-slot.invariant c.in-Some.ensures.steps.0 c.put_part_back.new.bay c.put_part_back.ensures
 
@@ -32,5 +32,5 @@ pub returns : goal.returns
 returns g c =
     let zero : length c.loop-slot.slot-iterator.rest.items ≡ 0 = omega (arith, c.loop-slot.slot-iterator.rest.ok, c.in-None.ensures.steps.0) in
     let none : c.loop-slot.slot-iterator.rest.items ≡ [] = nil_from_length c.loop-slot.slot-iterator.rest.items zero in
-    putting_all g.B.Bay.disk g.B.Bay.out g.B.Bay.taken g.B.Bay.steady g.B.Bay.faults g.D.Disk.content g.D.Disk.image g.D.Disk.starved g.D.Disk.faults g.D.Disk.losses g.D.Disk.arms g.D.Disk.armed
+    putting_all g.B.Bay.seen g.D.Disk.seen
     c.args.slots.items c.loop-slot.yielded c.loop-slot.slot-iterator.rest.items c.args.bay.now c.loop-slot.bay c.loop-slot.invariant none

@@ -12,18 +12,18 @@ put_parts_back-requires-clause-distinct g c = parts_distinct (hosted_slots c.arg
 
 pub put_parts_back-requires-clause-out : goal.put_parts_back-requires-clause-out
 put_parts_back-requires-clause-out g c = λ name one.
-    c.requires.out.those name (one_in_front (part_disks (hosted_slots c.args.hosts.parts.items)) (state_a ∷ state_b ∷ []) name one)
+    c.requires.out name (one_in_front (part_disks (hosted_slots c.args.hosts.parts.items)) (state_a ∷ state_b ∷ []) name one)
 
 pub put_foreign_back-requires-clause-first : goal.put_foreign_back-requires-clause-first
 put_foreign_back-requires-clause-first g c =
-    (puts_others g.B.Bay.disk g.B.Bay.out g.B.Bay.taken g.B.Bay.steady g.B.Bay.faults g.D.Disk.faults (slots_disks c.args.hosts.parts.items) c.args.bay.now
+    (puts_others g.B.Bay.seen g.D.Disk.seen (slots_disks c.args.hosts.parts.items) c.args.bay.now
     c.put_parts_back.new.bay c.put_parts_back.ensures state_a
     (subst (λ l. NotIn l state_a) (sym (names_of_disks c.args.hosts.parts.items)) (no_state_a (hosted_slots c.args.hosts.parts.items) c.requires.apart))).same_out
-    ∙ c.requires.out.those state_a (one_in_rest (part_disks (hosted_slots c.args.hosts.parts.items)) (state_a ∷ state_b ∷ []) state_a (inl refl))
+    ∙ c.requires.out state_a (one_in_rest (part_disks (hosted_slots c.args.hosts.parts.items)) (state_a ∷ state_b ∷ []) state_a (inl refl))
 
 pub put_foreign_back-requires-clause-second : goal.put_foreign_back-requires-clause-second
 put_foreign_back-requires-clause-second g c =
-    (puts_others g.B.Bay.disk g.B.Bay.out g.B.Bay.taken g.B.Bay.steady g.B.Bay.faults g.D.Disk.faults (slots_disks c.args.hosts.parts.items) c.args.bay.now
+    (puts_others g.B.Bay.seen g.D.Disk.seen (slots_disks c.args.hosts.parts.items) c.args.bay.now
     c.put_parts_back.new.bay c.put_parts_back.ensures state_b
     (subst (λ l. NotIn l state_b) (sym (names_of_disks c.args.hosts.parts.items)) (no_state_b (hosted_slots c.args.hosts.parts.items) c.requires.apart))).same_out
-    ∙ c.requires.out.those state_b (one_in_rest (part_disks (hosted_slots c.args.hosts.parts.items)) (state_a ∷ state_b ∷ []) state_b (inr (inl refl)))
+    ∙ c.requires.out state_b (one_in_rest (part_disks (hosted_slots c.args.hosts.parts.items)) (state_a ∷ state_b ∷ []) state_b (inr (inl refl)))

@@ -19,8 +19,8 @@ returns-clause-ok g c = ok_weaker _ _ c.expire.result
       topic = refl;
       conf = refl;
       goes = c.expire.ensures.disks;
-      leads = of_conf g.D.Disk.content g.D.Disk.image g.D.Disk.starved g.D.Disk.faults g.D.Disk.losses g.D.Disk.arms g.D.Disk.armed c.args.slot.now.conf c.in-Open.part
-          (λ conf s. LeadsPart g.D.Disk.content g.D.Disk.image g.D.Disk.starved g.D.Disk.faults g.D.Disk.losses g.D.Disk.arms g.D.Disk.armed conf c.args.now (Expires answer) c.in-Open.part s c.expire.new.part) h;
+      leads = of_conf g.D.Disk.seen c.args.slot.now.conf c.in-Open.part
+          (λ conf s. LeadsPart g.D.Disk.seen conf c.args.now (Expires answer) c.in-Open.part s c.expire.new.part) h;
     })
     c.expire.ensures.ok
 
@@ -34,7 +34,7 @@ returns-clause-stopped g c = on_err_weaker c.expire.result
       topic = refl;
       conf = refl;
       goes = c.expire.ensures.disks;
-      halts = of_conf g.D.Disk.content g.D.Disk.image g.D.Disk.starved g.D.Disk.faults g.D.Disk.losses g.D.Disk.arms g.D.Disk.armed c.args.slot.now.conf c.in-Open.part
-          (λ conf s. HaltsPart g.D.Disk.content g.D.Disk.image g.D.Disk.faults conf c.args.now (λ did. (answer : ExpireAnswer) × (did ≡ Expires answer)) (λ begun. begun ≡ BeginsExpiry) c.in-Open.part s c.expire.new.part) h;
+      halts = of_conf g.D.Disk.seen c.args.slot.now.conf c.in-Open.part
+          (λ conf s. HaltsPart g.D.Disk.seen conf c.args.now (λ did. (answer : ExpireAnswer) × (did ≡ Expires answer)) (λ begun. begun ≡ BeginsExpiry) c.in-Open.part s c.expire.new.part) h;
     })
     c.expire.ensures.stopped

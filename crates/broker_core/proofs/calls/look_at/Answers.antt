@@ -10,5 +10,5 @@ returns-clause-ok g c =
     let lt : c.args.shard < length c.args.parts.now = search rules in
     let is : c.in-Some.slot.now ≡ get_or c.args.parts.now c.args.shard c.in-Some.slot.now = search rules in
     ok_weaker _ _ c.look_in.result
-    (λ looked p now. holds_get (λ slot. LeadsSlot g.D.Disk.content g.D.Disk.image g.D.Disk.starved g.D.Disk.faults g.D.Disk.losses g.D.Disk.arms g.D.Disk.armed now (Looks c.args.group.now looked) slot slot) c.args.shard c.args.parts.now c.in-Some.slot.now lt is (p now))
+    (λ looked p now. holds_get (λ slot. LeadsSlot g.D.Disk.seen now (Looks c.args.group.now looked) slot slot) c.args.shard c.args.parts.now c.in-Some.slot.now lt is (p now))
     c.look_in.ensures.ok

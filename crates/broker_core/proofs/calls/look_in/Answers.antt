@@ -12,7 +12,7 @@ returns-clause-ok g c = ok_weaker _ _ c.look.result
       new_is = c.in-Open.is;
       topic = refl;
       conf = refl;
-      goes = same_goes_on g.D.Disk.content g.D.Disk.image g.D.Disk.starved g.D.Disk.faults g.D.Disk.losses g.D.Disk.arms g.D.Disk.armed c.in-Open.part;
-      leads = look_leads g.D.Disk.content g.D.Disk.image g.D.Disk.starved g.D.Disk.faults g.D.Disk.losses g.D.Disk.arms g.D.Disk.armed c.args.slot.now.conf now c.args.group.now looked c.in-Open.part told;
+      goes = same_goes_on g.D.Disk.seen c.in-Open.part;
+      leads = look_leads g.D.Disk.seen c.args.slot.now.conf now c.args.group.now looked c.in-Open.part told;
     })
     c.look.ensures.ok

@@ -14,7 +14,7 @@ returns-clause-ok g c =
     let lt : c.args.shard < length c.args.parts.now.items = search rules in
     let is : c.in-Some.slot.now ≡ get_or c.args.parts.now.items c.args.shard c.in-Some.slot.now = search rules in
     ok_weaker _ _ c.produce_in.result
-    (λ answer p. changes_set (LeadsSlot g.D.Disk.content g.D.Disk.image g.D.Disk.starved g.D.Disk.faults g.D.Disk.losses g.D.Disk.arms g.D.Disk.armed c.args.now (Produces c.args.batch.now answer))
+    (λ answer p. changes_set (LeadsSlot g.D.Disk.seen c.args.now (Produces c.args.batch.now answer))
     c.args.shard c.args.parts.now.items c.in-Some.slot.now c.produce_in.new.slot lt is p)
     c.produce_in.ensures.ok
 
@@ -23,6 +23,6 @@ returns-clause-stopped g c =
     let lt : c.args.shard < length c.args.parts.now.items = search rules in
     let is : c.in-Some.slot.now ≡ get_or c.args.parts.now.items c.args.shard c.in-Some.slot.now = search rules in
     on_err_weaker c.produce_in.result
-    (λ p. inr (changes_set (HaltsSlot g.D.Disk.content g.D.Disk.image g.D.Disk.starved g.D.Disk.faults c.args.now (λ did. (produced : Produced) × (did ≡ Produces c.args.batch.now produced)) (λ begun. ⊥))
+    (λ p. inr (changes_set (HaltsSlot g.D.Disk.seen c.args.now (λ did. (produced : Produced) × (did ≡ Produces c.args.batch.now produced)) (λ begun. ⊥))
     c.args.shard c.args.parts.now.items c.in-Some.slot.now c.produce_in.new.slot lt is p))
     c.produce_in.ensures.stopped

@@ -14,7 +14,7 @@ returns-clause-ok g c =
     let lt : c.args.shard < length c.args.parts.now.items = search rules in
     let is : c.in-Some.slot.now ≡ get_or c.args.parts.now.items c.args.shard c.in-Some.slot.now = search rules in
     ok_weaker _ _ c.visit_in.result
-    (λ answer p. changes_set (LeadsSlot g.D.Disk.content g.D.Disk.image g.D.Disk.starved g.D.Disk.faults g.D.Disk.losses g.D.Disk.arms g.D.Disk.armed c.args.now (Visits c.args.asked.now answer))
+    (λ answer p. changes_set (LeadsSlot g.D.Disk.seen c.args.now (Visits c.args.asked.now answer))
     c.args.shard c.args.parts.now.items c.in-Some.slot.now c.visit_in.new.slot lt is p)
     c.visit_in.ensures.ok
 
@@ -23,6 +23,6 @@ returns-clause-stopped g c =
     let lt : c.args.shard < length c.args.parts.now.items = search rules in
     let is : c.in-Some.slot.now ≡ get_or c.args.parts.now.items c.args.shard c.in-Some.slot.now = search rules in
     on_err_weaker c.visit_in.result
-    (λ p. inr (changes_set (HaltsSlot g.D.Disk.content g.D.Disk.image g.D.Disk.starved g.D.Disk.faults c.args.now (λ did. (answer : VisitAnswer) × (did ≡ Visits c.args.asked.now answer)) (λ begun. begun ≡ BeginsVisit c.args.asked.now))
+    (λ p. inr (changes_set (HaltsSlot g.D.Disk.seen c.args.now (λ did. (answer : VisitAnswer) × (did ≡ Visits c.args.asked.now answer)) (λ begun. begun ≡ BeginsVisit c.args.asked.now))
     c.args.shard c.args.parts.now.items c.in-Some.slot.now c.visit_in.new.slot lt is p))
     c.visit_in.ensures.stopped

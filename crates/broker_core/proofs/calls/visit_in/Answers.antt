@@ -19,8 +19,8 @@ returns-clause-ok g c = ok_weaker _ _ c.visit.result
       topic = refl;
       conf = refl;
       goes = c.visit.ensures.disks;
-      leads = of_conf g.D.Disk.content g.D.Disk.image g.D.Disk.starved g.D.Disk.faults g.D.Disk.losses g.D.Disk.arms g.D.Disk.armed c.args.slot.now.conf c.in-Open.part
-          (λ conf s. LeadsPart g.D.Disk.content g.D.Disk.image g.D.Disk.starved g.D.Disk.faults g.D.Disk.losses g.D.Disk.arms g.D.Disk.armed conf c.args.now (Visits c.args.asked.now answer) c.in-Open.part s c.visit.new.part) h;
+      leads = of_conf g.D.Disk.seen c.args.slot.now.conf c.in-Open.part
+          (λ conf s. LeadsPart g.D.Disk.seen conf c.args.now (Visits c.args.asked.now answer) c.in-Open.part s c.visit.new.part) h;
     })
     c.visit.ensures.ok
 
@@ -34,7 +34,7 @@ returns-clause-stopped g c = on_err_weaker c.visit.result
       topic = refl;
       conf = refl;
       goes = c.visit.ensures.disks;
-      halts = of_conf g.D.Disk.content g.D.Disk.image g.D.Disk.starved g.D.Disk.faults g.D.Disk.losses g.D.Disk.arms g.D.Disk.armed c.args.slot.now.conf c.in-Open.part
-          (λ conf s. HaltsPart g.D.Disk.content g.D.Disk.image g.D.Disk.faults conf c.args.now (λ did. (answer : VisitAnswer) × (did ≡ Visits c.args.asked.now answer)) (λ begun. begun ≡ BeginsVisit c.args.asked.now) c.in-Open.part s c.visit.new.part) h;
+      halts = of_conf g.D.Disk.seen c.args.slot.now.conf c.in-Open.part
+          (λ conf s. HaltsPart g.D.Disk.seen conf c.args.now (λ did. (answer : VisitAnswer) × (did ≡ Visits c.args.asked.now answer)) (λ begun. begun ≡ BeginsVisit c.args.asked.now) c.in-Open.part s c.visit.new.part) h;
     })
     c.visit.ensures.stopped

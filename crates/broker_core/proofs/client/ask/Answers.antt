@@ -10,13 +10,13 @@ use Rattle.broker_core.proofs.client.ask.Goals as goal
 
 pub returns-in_err-answer-clause-stopped : goal.returns-in_err-answer-clause-stopped
 returns-in_err-answer-clause-stopped g c = on_err c.from_residual.result
-    (λ s k. halts_so g.D.Disk.content g.D.Disk.image g.D.Disk.starved g.D.Disk.faults g.D.Disk.losses g.D.Disk.arms g.D.Disk.armed
+    (λ s k. halts_so g.D.Disk.seen
     (parts_of c.act.new.hosts) s _ _ _ _
     (λ a call b h.
     let conn = conn_after_answer h.0 c.args.conn.now in (
       faults_in c.args.part.now h.0 ++ replies_to c.args.id conn,
       without_replies conn,
-      part_done (counts_in g.D.Disk.faults g.D.Disk.losses g.D.Disk.arms g.D.Disk.armed (disks_in (parts_of c.args.hosts.now)) (disks_in (parts_of c.act.new.hosts))) (ends_over (parts_of c.args.hosts.now) (parts_of c.act.new.hosts))
+      part_done (counts_in g.D.Disk.seen (disks_in (parts_of c.args.hosts.now)) (disks_in (parts_of c.act.new.hosts))) (ends_over (parts_of c.args.hosts.now) (parts_of c.act.new.hosts))
           c.args.id c.args.now c.args.part.now h.0 c.args.conn.now _ _ refl refl a call b h.1,
     ))
     (λ a b h. (c.args.part.now, refl, h))
@@ -26,12 +26,12 @@ pub returns-in_err-outcomes-clause-stopped : goal.returns-in_err-outcomes-clause
 returns-in_err-outcomes-clause-stopped g c = on_err c.from_residual-in_err-outcomes.result
     (λ s k.
     let conn = conn_after_answer c.in_ok-answer.answer c.args.conn.now in
-    leads_halts g.D.Disk.content g.D.Disk.image g.D.Disk.starved g.D.Disk.faults g.D.Disk.losses g.D.Disk.arms g.D.Disk.armed
+    leads_halts g.D.Disk.seen
     (parts_of c.args.hosts.now) (parts_of c.act.new.hosts) s _ _ _
     (λ a call b h. (
       faults_in c.args.part.now c.in_ok-answer.answer ++ replies_to c.args.id conn,
       without_replies conn,
-      part_done (counts_in g.D.Disk.faults g.D.Disk.losses g.D.Disk.arms g.D.Disk.armed (disks_in (parts_of c.args.hosts.now)) (disks_in (parts_of c.act.new.hosts))) (ends_over (parts_of c.args.hosts.now) (parts_of c.act.new.hosts))
+      part_done (counts_in g.D.Disk.seen (disks_in (parts_of c.args.hosts.now)) (disks_in (parts_of c.act.new.hosts))) (ends_over (parts_of c.args.hosts.now) (parts_of c.act.new.hosts))
           c.args.id c.args.now c.args.part.now c.in_ok-answer.answer c.args.conn.now _ _ refl refl a call b h,
     )) (c.in_ok-answer.ensures.ok s k))
 
@@ -39,12 +39,12 @@ pub returns-in_err-give-clause-stopped : goal.returns-in_err-give-clause-stopped
 returns-in_err-give-clause-stopped g c = on_err c.from_residual-in_err-give.result
     (λ s k.
     let conn = conn_after_answer c.in_ok-answer.answer c.args.conn.now in
-    leads_halts g.D.Disk.content g.D.Disk.image g.D.Disk.starved g.D.Disk.faults g.D.Disk.losses g.D.Disk.arms g.D.Disk.armed
+    leads_halts g.D.Disk.seen
     (parts_of c.args.hosts.now) (parts_of c.act.new.hosts) s _ _ _
     (λ a call b h. (
       faults_in c.args.part.now c.in_ok-answer.answer ++ replies_to c.args.id conn,
       without_replies conn,
-      part_done (counts_in g.D.Disk.faults g.D.Disk.losses g.D.Disk.arms g.D.Disk.armed (disks_in (parts_of c.args.hosts.now)) (disks_in (parts_of c.act.new.hosts))) (ends_over (parts_of c.args.hosts.now) (parts_of c.act.new.hosts))
+      part_done (counts_in g.D.Disk.seen (disks_in (parts_of c.args.hosts.now)) (disks_in (parts_of c.act.new.hosts))) (ends_over (parts_of c.args.hosts.now) (parts_of c.act.new.hosts))
           c.args.id c.args.now c.args.part.now c.in_ok-answer.answer c.args.conn.now _ _ refl refl a call b h,
     )) (c.in_ok-answer.ensures.ok s k))
 
@@ -52,19 +52,19 @@ pub returns-in_err-replies-clause-stopped : goal.returns-in_err-replies-clause-s
 returns-in_err-replies-clause-stopped g c = on_err c.from_residual-in_err-replies.result
     (λ s k.
     let conn = conn_after_answer c.in_ok-answer.answer c.args.conn.now in
-    leads_halts g.D.Disk.content g.D.Disk.image g.D.Disk.starved g.D.Disk.faults g.D.Disk.losses g.D.Disk.arms g.D.Disk.armed
+    leads_halts g.D.Disk.seen
     (parts_of c.args.hosts.now) (parts_of c.act.new.hosts) s _ _ _
     (λ a call b h. (
       faults_in c.args.part.now c.in_ok-answer.answer ++ replies_to c.args.id conn,
       without_replies conn,
-      part_done (counts_in g.D.Disk.faults g.D.Disk.losses g.D.Disk.arms g.D.Disk.armed (disks_in (parts_of c.args.hosts.now)) (disks_in (parts_of c.act.new.hosts))) (ends_over (parts_of c.args.hosts.now) (parts_of c.act.new.hosts))
+      part_done (counts_in g.D.Disk.seen (disks_in (parts_of c.args.hosts.now)) (disks_in (parts_of c.act.new.hosts))) (ends_over (parts_of c.args.hosts.now) (parts_of c.act.new.hosts))
           c.args.id c.args.now c.args.part.now c.in_ok-answer.answer c.args.conn.now _ _ refl refl a call b h,
     )) (c.in_ok-answer.ensures.ok s k))
 
 pub returns-clause-ok : goal.returns-clause-ok
-returns-clause-ok g c = λ s k. leads_to g.D.Disk.content g.D.Disk.image g.D.Disk.starved g.D.Disk.faults g.D.Disk.losses g.D.Disk.arms g.D.Disk.armed
+returns-clause-ok g c = λ s k. leads_to g.D.Disk.seen
     (parts_of c.args.hosts.now) (parts_of c.act.new.hosts) s _ _
-    (λ a call b h. part_done (counts_in g.D.Disk.faults g.D.Disk.losses g.D.Disk.arms g.D.Disk.armed (disks_in (parts_of c.args.hosts.now)) (disks_in (parts_of c.act.new.hosts))) (ends_over (parts_of c.args.hosts.now) (parts_of c.act.new.hosts))
+    (λ a call b h. part_done (counts_in g.D.Disk.seen (disks_in (parts_of c.args.hosts.now)) (disks_in (parts_of c.act.new.hosts))) (ends_over (parts_of c.args.hosts.now) (parts_of c.act.new.hosts))
     c.args.id c.args.now c.args.part.now c.in_ok-answer.answer c.args.conn.now _ _
     (c.in_ok-replies.ensures.told ∙ ap (λ l. l ++ replies_to c.args.id c.give.new.self) (c.in_ok-outcomes.ensures ∙ c.fault_in.ensures)
     ∙ ap (λ conn. faults_in c.args.part.now c.in_ok-answer.answer ++ replies_to c.args.id conn) c.in_ok-give.ensures.answer)

@@ -8,47 +8,47 @@ use Rattle.broker_core.proofs.client.done.Goals as goal
 
 pub returns-in-Ask-clause-ok : goal.returns-in-Ask-clause-ok
 returns-in-Ask-clause-ok g c = ok_weaker _ _ c.ask.result
-    (λ outcomes h s k. leads_to g.D.Disk.content g.D.Disk.image g.D.Disk.starved g.D.Disk.faults g.D.Disk.losses g.D.Disk.arms g.D.Disk.armed
+    (λ outcomes h s k. leads_to g.D.Disk.seen
     (parts_of c.args.hosts.now) (parts_of c.ask.new.hosts) s _ _
     (λ a call b does. asks_next
-    (counts_in g.D.Disk.faults g.D.Disk.losses g.D.Disk.arms g.D.Disk.armed (disks_in (parts_of c.args.hosts.now)) (disks_in (parts_of c.ask.new.hosts))) (ends_over (parts_of c.args.hosts.now) (parts_of c.ask.new.hosts))
+    (counts_in g.D.Disk.seen (disks_in (parts_of c.args.hosts.now)) (disks_in (parts_of c.ask.new.hosts))) (ends_over (parts_of c.args.hosts.now) (parts_of c.ask.new.hosts))
     c.args.id c.args.now c.in-Ask.part c.args.next c.args.conn.now c.ask.new.conn outcomes.items c.in-Ask.is a call b does)
     (h s k))
     c.ask.ensures.ok
 
 pub returns-in-Ask-clause-stopped : goal.returns-in-Ask-clause-stopped
 returns-in-Ask-clause-stopped g c = on_err_weaker c.ask.result
-    (λ h s k. halts_so g.D.Disk.content g.D.Disk.image g.D.Disk.starved g.D.Disk.faults g.D.Disk.losses g.D.Disk.arms g.D.Disk.armed
+    (λ h s k. halts_so g.D.Disk.seen
     (parts_of c.ask.new.hosts) s _ _ _ _
     (λ a call b does. (
       does.0,
       does.1,
       asks_next
-          (counts_in g.D.Disk.faults g.D.Disk.losses g.D.Disk.arms g.D.Disk.armed (disks_in (parts_of c.args.hosts.now)) (disks_in (parts_of c.ask.new.hosts))) (ends_over (parts_of c.args.hosts.now) (parts_of c.ask.new.hosts))
+          (counts_in g.D.Disk.seen (disks_in (parts_of c.args.hosts.now)) (disks_in (parts_of c.ask.new.hosts))) (ends_over (parts_of c.args.hosts.now) (parts_of c.ask.new.hosts))
           c.args.id c.args.now c.in-Ask.part c.args.next c.args.conn.now does.1 does.0 c.in-Ask.is a call b does.2,
     ))
-    (halves_asked (counts_in g.D.Disk.faults g.D.Disk.losses g.D.Disk.arms g.D.Disk.armed (disks_in (parts_of c.args.hosts.now)) (disks_in (parts_of c.ask.new.hosts))) (ends_over (parts_of c.args.hosts.now) (parts_of c.ask.new.hosts)) c.in-Ask.part c.args.next c.in-Ask.is)
+    (halves_asked (counts_in g.D.Disk.seen (disks_in (parts_of c.args.hosts.now)) (disks_in (parts_of c.ask.new.hosts))) (ends_over (parts_of c.args.hosts.now) (parts_of c.ask.new.hosts)) c.in-Ask.part c.args.next c.in-Ask.is)
     (h s k))
     c.ask.ensures.stopped
 
 pub returns-in_err-replies-in-Ready-clause-stopped : goal.returns-in_err-replies-in-Ready-clause-stopped
-returns-in_err-replies-in-Ready-clause-stopped g c = on_err c.from_residual.result (λ s k. halts_still g.D.Disk.content g.D.Disk.image g.D.Disk.starved g.D.Disk.faults g.D.Disk.losses g.D.Disk.arms g.D.Disk.armed (parts_of c.args.hosts.now) s _ _ k)
+returns-in_err-replies-in-Ready-clause-stopped g c = on_err c.from_residual.result (λ s k. halts_still g.D.Disk.seen (parts_of c.args.hosts.now) s _ _ k)
 
 pub returns-in_err-replies-in-Ready-clause-disks : goal.returns-in_err-replies-in-Ready-clause-disks
-returns-in_err-replies-in-Ready-clause-disks g c = go_on_same g.D.Disk.content g.D.Disk.image g.D.Disk.starved g.D.Disk.faults g.D.Disk.losses g.D.Disk.arms g.D.Disk.armed (disks_in (parts_of c.args.hosts.now))
+returns-in_err-replies-in-Ready-clause-disks g c = go_on_same g.D.Disk.seen (disks_in (parts_of c.args.hosts.now))
 
 pub returns-in_ok-replies-in-Ready-clause-told : goal.returns-in_ok-replies-in-Ready-clause-told
 returns-in_ok-replies-in-Ready-clause-told g c = replies_told c.args.conf.now.topics c.args.id c.args.conn.now _
     (c.in_ok-replies-in-Ready.ensures.told ∙ ap (λ l. l ++ replies_to c.args.id c.args.conn.now) c.new-outcomes.ensures.items)
 
 pub returns-in_ok-replies-in-Ready-clause-disks : goal.returns-in_ok-replies-in-Ready-clause-disks
-returns-in_ok-replies-in-Ready-clause-disks g c = go_on_same g.D.Disk.content g.D.Disk.image g.D.Disk.starved g.D.Disk.faults g.D.Disk.losses g.D.Disk.arms g.D.Disk.armed (disks_in (parts_of c.args.hosts.now))
+returns-in_ok-replies-in-Ready-clause-disks g c = go_on_same g.D.Disk.seen (disks_in (parts_of c.args.hosts.now))
 
 pub returns-in-Closed-clause-stopped : goal.returns-in-Closed-clause-stopped
-returns-in-Closed-clause-stopped g c = on_err c.one.result (λ s k. halts_still g.D.Disk.content g.D.Disk.image g.D.Disk.starved g.D.Disk.faults g.D.Disk.losses g.D.Disk.arms g.D.Disk.armed (parts_of c.args.hosts.now) s _ _ k)
+returns-in-Closed-clause-stopped g c = on_err c.one.result (λ s k. halts_still g.D.Disk.seen (parts_of c.args.hosts.now) s _ _ k)
 
 pub returns-in-Closed-clause-disks : goal.returns-in-Closed-clause-disks
-returns-in-Closed-clause-disks g c = go_on_same g.D.Disk.content g.D.Disk.image g.D.Disk.starved g.D.Disk.faults g.D.Disk.losses g.D.Disk.arms g.D.Disk.armed (disks_in (parts_of c.args.hosts.now))
+returns-in-Closed-clause-disks g c = go_on_same g.D.Disk.seen (disks_in (parts_of c.args.hosts.now))
 
 pub returns-in-Idle-clause-disks : goal.returns-in-Idle-clause-disks
-returns-in-Idle-clause-disks g c = go_on_same g.D.Disk.content g.D.Disk.image g.D.Disk.starved g.D.Disk.faults g.D.Disk.losses g.D.Disk.arms g.D.Disk.armed (disks_in (parts_of c.args.hosts.now))
+returns-in-Idle-clause-disks g c = go_on_same g.D.Disk.seen (disks_in (parts_of c.args.hosts.now))

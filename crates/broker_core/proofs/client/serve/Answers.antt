@@ -13,17 +13,17 @@ returns-in_err-outcomes-clause-stopped g c =
     let es = c.args.clients.now.entries in
     let found : conn_at c.args.id es ≡ Some c.in-Some.conn.now = search rules in
     on_err c.from_residual.result
-    (λ s k. halts_so g.D.Disk.content g.D.Disk.image g.D.Disk.starved g.D.Disk.faults g.D.Disk.losses g.D.Disk.arms g.D.Disk.armed
+    (λ s k. halts_so g.D.Disk.seen
     (parts_of c.step.new.hosts) s _ _ _ _
     (λ a call b h. (
       h.0,
       record { connections = left c.args.id h.1 es; shards = b },
       refl,
-      subst (λ o. Serves c.args.conf.now (counts_in g.D.Disk.faults g.D.Disk.losses g.D.Disk.arms g.D.Disk.armed (disks_in (parts_of c.args.hosts.now)) (disks_in (parts_of c.step.new.hosts))) (ends_over (parts_of c.args.hosts.now) (parts_of c.step.new.hosts))
+      subst (λ o. Serves c.args.conf.now (counts_in g.D.Disk.seen (disks_in (parts_of c.args.hosts.now)) (disks_in (parts_of c.step.new.hosts))) (ends_over (parts_of c.args.hosts.now) (parts_of c.step.new.hosts))
           (record { connections = es; shards = a }) c.args.id c.args.now o call h.0 (record { connections = left c.args.id h.1 es; shards = b })) (sym found)
           (record { after = h.1; does = h.2; leaves = refl }),
     ))
-    (λ a b h. subst (λ o. HalvesServe c.args.conf.now (counts_in g.D.Disk.faults g.D.Disk.losses g.D.Disk.arms g.D.Disk.armed (disks_in (parts_of c.args.hosts.now)) (disks_in (parts_of c.step.new.hosts))) (ends_over (parts_of c.args.hosts.now) (parts_of c.step.new.hosts)) o a b) (sym found) h)
+    (λ a b h. subst (λ o. HalvesServe c.args.conf.now (counts_in g.D.Disk.seen (disks_in (parts_of c.args.hosts.now)) (disks_in (parts_of c.step.new.hosts))) (ends_over (parts_of c.args.hosts.now) (parts_of c.step.new.hosts)) o a b) (sym found) h)
     (c.in_err-outcomes.ensures.stopped s k))
 
 pub returns-clause-ok : goal.returns-clause-ok
@@ -36,13 +36,13 @@ returns-clause-ok g c =
     let gone : c.in_ok-outcomes.gone ≡ is_gone after = search rules in
     let went : c.let_go.new.clients.entries ≡ cond (is_gone after) (remove_entry (named c.args.id) kept) kept = search rules in
     let leaves = went ∙ ap (λ l. cond (is_gone after) (remove_entry (named c.args.id) l) l) wrote ∙ left_at c.args.id after c.in-Some.conn.now es found in
-    λ s k. leads_to g.D.Disk.content g.D.Disk.image g.D.Disk.starved g.D.Disk.faults g.D.Disk.losses g.D.Disk.arms g.D.Disk.armed
+    λ s k. leads_to g.D.Disk.seen
     (parts_of c.args.hosts.now) (parts_of c.step.new.hosts) s _ _
     (λ a call b h.
-    subst (λ o. Serves c.args.conf.now (counts_in g.D.Disk.faults g.D.Disk.losses g.D.Disk.arms g.D.Disk.armed (disks_in (parts_of c.args.hosts.now)) (disks_in (parts_of c.step.new.hosts))) (ends_over (parts_of c.args.hosts.now) (parts_of c.step.new.hosts))
+    subst (λ o. Serves c.args.conf.now (counts_in g.D.Disk.seen (disks_in (parts_of c.args.hosts.now)) (disks_in (parts_of c.step.new.hosts))) (ends_over (parts_of c.args.hosts.now) (parts_of c.step.new.hosts))
     (record { connections = es; shards = a }) c.args.id c.args.now o call c.in_ok-outcomes.outcomes.items (record { connections = c.let_go.new.clients.entries; shards = b }))
     (sym found) (record { after = after; does = h; leaves = leaves }))
     (c.in_ok-outcomes.ensures.ok s k)
 
 pub returns-in_default-clause-disks : goal.returns-in_default-clause-disks
-returns-in_default-clause-disks g c = go_on_same g.D.Disk.content g.D.Disk.image g.D.Disk.starved g.D.Disk.faults g.D.Disk.losses g.D.Disk.arms g.D.Disk.armed (disks_in (parts_of c.args.hosts.now))
+returns-in_default-clause-disks g c = go_on_same g.D.Disk.seen (disks_in (parts_of c.args.hosts.now))

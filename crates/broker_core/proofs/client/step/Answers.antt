@@ -7,30 +7,30 @@ use Rattle.broker_core.proofs.client.step.Goals as goal
 
 pub returns-in_err-outcomes-clause-stopped : goal.returns-in_err-outcomes-clause-stopped
 returns-in_err-outcomes-clause-stopped g c = on_err c.from_residual-in_err-outcomes.result
-    (λ s k. halts_so g.D.Disk.content g.D.Disk.image g.D.Disk.starved g.D.Disk.faults g.D.Disk.losses g.D.Disk.arms g.D.Disk.armed
+    (λ s k. halts_so g.D.Disk.seen
     (parts_of c.done.new.hosts) s _ _ _ _
     (λ a call b h. (
       h.0,
       h.1,
       does_turn
-          (counts_in g.D.Disk.faults g.D.Disk.losses g.D.Disk.arms g.D.Disk.armed (disks_in (parts_of c.args.hosts.now)) (disks_in (parts_of c.done.new.hosts))) (ends_over (parts_of c.args.hosts.now) (parts_of c.done.new.hosts))
+          (counts_in g.D.Disk.seen (disks_in (parts_of c.args.hosts.now)) (disks_in (parts_of c.done.new.hosts))) (ends_over (parts_of c.args.hosts.now) (parts_of c.done.new.hosts))
           c.args.id c.args.now (turn c.args.conf.now c.args.conn.now) c.in_ok-next.next c.next_part.new.self h.1 h.0
           c.in_ok-next.ensures.next a call b h.2,
     ))
-    (halves_turn (counts_in g.D.Disk.faults g.D.Disk.losses g.D.Disk.arms g.D.Disk.armed (disks_in (parts_of c.args.hosts.now)) (disks_in (parts_of c.done.new.hosts))) (ends_over (parts_of c.args.hosts.now) (parts_of c.done.new.hosts)) (turn c.args.conf.now c.args.conn.now) c.in_ok-next.next c.next_part.new.self c.in_ok-next.ensures.next)
+    (halves_turn (counts_in g.D.Disk.seen (disks_in (parts_of c.args.hosts.now)) (disks_in (parts_of c.done.new.hosts))) (ends_over (parts_of c.args.hosts.now) (parts_of c.done.new.hosts)) (turn c.args.conf.now c.args.conn.now) c.in_ok-next.next c.next_part.new.self c.in_ok-next.ensures.next)
     (c.in_err-outcomes.ensures.stopped s k))
 
 pub returns-clause-ok : goal.returns-clause-ok
-returns-clause-ok g c = λ s k. leads_to g.D.Disk.content g.D.Disk.image g.D.Disk.starved g.D.Disk.faults g.D.Disk.losses g.D.Disk.arms g.D.Disk.armed
+returns-clause-ok g c = λ s k. leads_to g.D.Disk.seen
     (parts_of c.args.hosts.now) (parts_of c.done.new.hosts) s _ _
     (λ a call b h. does_turn
-    (counts_in g.D.Disk.faults g.D.Disk.losses g.D.Disk.arms g.D.Disk.armed (disks_in (parts_of c.args.hosts.now)) (disks_in (parts_of c.done.new.hosts))) (ends_over (parts_of c.args.hosts.now) (parts_of c.done.new.hosts))
+    (counts_in g.D.Disk.seen (disks_in (parts_of c.args.hosts.now)) (disks_in (parts_of c.done.new.hosts))) (ends_over (parts_of c.args.hosts.now) (parts_of c.done.new.hosts))
     c.args.id c.args.now (turn c.args.conf.now c.args.conn.now) c.in_ok-next.next c.next_part.new.self _ _
     c.in_ok-next.ensures.next a call b h)
     (c.in_ok-outcomes.ensures.ok s k)
 
 pub returns-in_err-next-clause-stopped : goal.returns-in_err-next-clause-stopped
-returns-in_err-next-clause-stopped g c = on_err c.from_residual.result (λ s k. halts_still g.D.Disk.content g.D.Disk.image g.D.Disk.starved g.D.Disk.faults g.D.Disk.losses g.D.Disk.arms g.D.Disk.armed (parts_of c.args.hosts.now) s _ _ k)
+returns-in_err-next-clause-stopped g c = on_err c.from_residual.result (λ s k. halts_still g.D.Disk.seen (parts_of c.args.hosts.now) s _ _ k)
 
 pub returns-in_err-next-clause-disks : goal.returns-in_err-next-clause-disks
-returns-in_err-next-clause-disks g c = go_on_same g.D.Disk.content g.D.Disk.image g.D.Disk.starved g.D.Disk.faults g.D.Disk.losses g.D.Disk.arms g.D.Disk.armed (disks_in (parts_of c.args.hosts.now))
+returns-in_err-next-clause-disks g c = go_on_same g.D.Disk.seen (disks_in (parts_of c.args.hosts.now))

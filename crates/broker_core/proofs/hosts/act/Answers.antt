@@ -18,133 +18,133 @@ use Rattle.broker_core.proofs.Leading.{foreign_leads, foreign_halts, foreign_on,
 use Rattle.broker_core.proofs.hosts.act.Goals as goal
 
 pub returns-in_err-answer-in-Open-clause-disks : goal.returns-in_err-answer-in-Open-clause-disks
-returns-in_err-answer-in-Open-clause-disks g c = foreign_on g.D.Disk.content g.D.Disk.image g.D.Disk.starved g.D.Disk.faults g.D.Disk.losses g.D.Disk.arms g.D.Disk.armed
+returns-in_err-answer-in-Open-clause-disks g c = foreign_on g.D.Disk.seen
     (parts_of c.args.hosts.now) c.in-Open.shard c.act.new.shard c.in-Open.is c.act.ensures.first c.act.ensures.second
 
 pub returns-in_ok-answer-in-Open-clause-disks : goal.returns-in_ok-answer-in-Open-clause-disks
-returns-in_ok-answer-in-Open-clause-disks g c = foreign_on g.D.Disk.content g.D.Disk.image g.D.Disk.starved g.D.Disk.faults g.D.Disk.losses g.D.Disk.arms g.D.Disk.armed
+returns-in_ok-answer-in-Open-clause-disks g c = foreign_on g.D.Disk.seen
     (parts_of c.args.hosts.now) c.in-Open.shard c.act.new.shard c.in-Open.is c.act.ensures.first c.act.ensures.second
 
 pub returns-in_err-answer-in-Open-clause-stopped : goal.returns-in_err-answer-in-Open-clause-stopped
 returns-in_err-answer-in-Open-clause-stopped g c = on_err c.from_residual.result
-    (λ s k. halts_so g.D.Disk.content g.D.Disk.image g.D.Disk.starved g.D.Disk.faults g.D.Disk.losses g.D.Disk.arms g.D.Disk.armed
+    (λ s k. halts_so g.D.Disk.seen
     (record { parts = c.args.hosts.now.parts.items; members = c.args.hosts.now.members; foreign = Open c.act.new.shard }) s _ _ _ _
     (λ a call b d. (d.0, (d.1.0, d.1.1, d.1.2 ∙ ap (λ part. Some (record { part = part; answer = d.0 })) (sym c.in-Foreign.is), d.1.3)))
     (λ a b w. w)
-    (foreign_halts g.D.Disk.content g.D.Disk.image g.D.Disk.starved g.D.Disk.faults g.D.Disk.losses g.D.Disk.arms g.D.Disk.armed (parts_of c.args.hosts.now) c.in-Open.shard c.act.new.shard c.in-Open.is c.act.ensures.second c.requires.apart
+    (foreign_halts g.D.Disk.seen (parts_of c.args.hosts.now) c.in-Open.shard c.act.new.shard c.in-Open.is c.act.ensures.second c.requires.apart
     c.args.now c.in-Foreign.op _ c.in_err-answer-in-Open.ensures.stopped s k))
 
 pub returns-in_ok-answer-in-Open-clause-ok : goal.returns-in_ok-answer-in-Open-clause-ok
-returns-in_ok-answer-in-Open-clause-ok g c = λ s k. leads_to g.D.Disk.content g.D.Disk.image g.D.Disk.starved g.D.Disk.faults g.D.Disk.losses g.D.Disk.arms g.D.Disk.armed
+returns-in_ok-answer-in-Open-clause-ok g c = λ s k. leads_to g.D.Disk.seen
     (parts_of c.args.hosts.now) (record { parts = c.args.hosts.now.parts.items; members = c.args.hosts.now.members; foreign = Open c.act.new.shard }) s _ _
     (λ a call b d. (d.0, d.1, d.2 ∙ ap (λ part. Some (record { part = part; answer = AnswerForeign c.in_ok-answer-in-Open.answer })) (sym c.in-Foreign.is), d.3))
-    (foreign_leads g.D.Disk.content g.D.Disk.image g.D.Disk.starved g.D.Disk.faults g.D.Disk.losses g.D.Disk.arms g.D.Disk.armed (parts_of c.args.hosts.now) c.in-Open.shard c.act.new.shard c.in-Open.is c.act.ensures.second c.requires.apart
+    (foreign_leads g.D.Disk.seen (parts_of c.args.hosts.now) c.in-Open.shard c.act.new.shard c.in-Open.is c.act.ensures.second c.requires.apart
     c.args.now c.in-Foreign.op c.in_ok-answer-in-Open.answer c.in_ok-answer-in-Open.ensures.ok s k)
 
 pub returns-in_ok-produced-in-Produce-clause-disks : goal.returns-in_ok-produced-in-Produce-clause-disks
-returns-in_ok-produced-in-Produce-clause-disks g c = turned_on g.D.Disk.content g.D.Disk.image g.D.Disk.starved g.D.Disk.faults g.D.Disk.losses g.D.Disk.arms g.D.Disk.armed (parts_of c.args.hosts.now) c.produce_at.new.parts.items c.in-Produce.shard (led_turned g.D.Disk.content g.D.Disk.image g.D.Disk.starved g.D.Disk.faults g.D.Disk.losses g.D.Disk.arms g.D.Disk.armed c.in-Produce.shard c.args.now (Produces c.as_slice.result.now (c.in_ok-produced-in-Produce.produced)) c.args.hosts.now.parts.items c.produce_at.new.parts.items c.in_ok-produced-in-Produce.ensures.ok)
+returns-in_ok-produced-in-Produce-clause-disks g c = turned_on g.D.Disk.seen (parts_of c.args.hosts.now) c.produce_at.new.parts.items c.in-Produce.shard (led_turned g.D.Disk.seen c.in-Produce.shard c.args.now (Produces c.as_slice.result.now (c.in_ok-produced-in-Produce.produced)) c.args.hosts.now.parts.items c.produce_at.new.parts.items c.in_ok-produced-in-Produce.ensures.ok)
 
 pub returns-in_err-produced-in-Produce-clause-disks : goal.returns-in_err-produced-in-Produce-clause-disks
-returns-in_err-produced-in-Produce-clause-disks g c = may_on g.D.Disk.content g.D.Disk.image g.D.Disk.starved g.D.Disk.faults g.D.Disk.losses g.D.Disk.arms g.D.Disk.armed (parts_of c.args.hosts.now) c.produce_at.new.parts.items c.in-Produce.shard c.args.now (λ did. (produced : Produced) × (did ≡ Produces c.as_slice.result.now produced)) (λ begun. ⊥) c.in_err-produced-in-Produce.ensures.stopped (λ h. GoOn g.D.Disk.content g.D.Disk.faults (disks_in (parts_of c.args.hosts.now)) (disks_in h)) (go_on_same g.D.Disk.content g.D.Disk.image g.D.Disk.starved g.D.Disk.faults g.D.Disk.losses g.D.Disk.arms g.D.Disk.armed (disks_in (parts_of c.args.hosts.now))) (turned_on g.D.Disk.content g.D.Disk.image g.D.Disk.starved g.D.Disk.faults g.D.Disk.losses g.D.Disk.arms g.D.Disk.armed (parts_of c.args.hosts.now) c.produce_at.new.parts.items c.in-Produce.shard)
+returns-in_err-produced-in-Produce-clause-disks g c = may_on g.D.Disk.seen (parts_of c.args.hosts.now) c.produce_at.new.parts.items c.in-Produce.shard c.args.now (λ did. (produced : Produced) × (did ≡ Produces c.as_slice.result.now produced)) (λ begun. ⊥) c.in_err-produced-in-Produce.ensures.stopped (λ h. GoOn g.D.Disk.seen (disks_in (parts_of c.args.hosts.now)) (disks_in h)) (go_on_same g.D.Disk.seen (disks_in (parts_of c.args.hosts.now))) (turned_on g.D.Disk.seen (parts_of c.args.hosts.now) c.produce_at.new.parts.items c.in-Produce.shard)
 
 pub returns-in_ok-produced-in-Produce-clause-stays : goal.returns-in_ok-produced-in-Produce-clause-stays
-returns-in_ok-produced-in-Produce-clause-stays g c = turned_hosted g.D.Disk.content g.D.Disk.image g.D.Disk.starved g.D.Disk.faults g.D.Disk.losses g.D.Disk.arms g.D.Disk.armed (parts_of c.args.hosts.now) c.produce_at.new.parts.items c.in-Produce.shard (led_turned g.D.Disk.content g.D.Disk.image g.D.Disk.starved g.D.Disk.faults g.D.Disk.losses g.D.Disk.arms g.D.Disk.armed c.in-Produce.shard c.args.now (Produces c.as_slice.result.now (c.in_ok-produced-in-Produce.produced)) c.args.hosts.now.parts.items c.produce_at.new.parts.items c.in_ok-produced-in-Produce.ensures.ok)
+returns-in_ok-produced-in-Produce-clause-stays g c = turned_hosted g.D.Disk.seen (parts_of c.args.hosts.now) c.produce_at.new.parts.items c.in-Produce.shard (led_turned g.D.Disk.seen c.in-Produce.shard c.args.now (Produces c.as_slice.result.now (c.in_ok-produced-in-Produce.produced)) c.args.hosts.now.parts.items c.produce_at.new.parts.items c.in_ok-produced-in-Produce.ensures.ok)
 
 pub returns-in_err-produced-in-Produce-clause-stays : goal.returns-in_err-produced-in-Produce-clause-stays
-returns-in_err-produced-in-Produce-clause-stays g c = may_on g.D.Disk.content g.D.Disk.image g.D.Disk.starved g.D.Disk.faults g.D.Disk.losses g.D.Disk.arms g.D.Disk.armed (parts_of c.args.hosts.now) c.produce_at.new.parts.items c.in-Produce.shard c.args.now (λ did. (produced : Produced) × (did ≡ Produces c.as_slice.result.now produced)) (λ begun. ⊥) c.in_err-produced-in-Produce.ensures.stopped (λ h. StaysHosted (parts_of c.args.hosts.now) h) (record { hosted = refl; topics = refl }) (turned_hosted g.D.Disk.content g.D.Disk.image g.D.Disk.starved g.D.Disk.faults g.D.Disk.losses g.D.Disk.arms g.D.Disk.armed (parts_of c.args.hosts.now) c.produce_at.new.parts.items c.in-Produce.shard)
+returns-in_err-produced-in-Produce-clause-stays g c = may_on g.D.Disk.seen (parts_of c.args.hosts.now) c.produce_at.new.parts.items c.in-Produce.shard c.args.now (λ did. (produced : Produced) × (did ≡ Produces c.as_slice.result.now produced)) (λ begun. ⊥) c.in_err-produced-in-Produce.ensures.stopped (λ h. StaysHosted (parts_of c.args.hosts.now) h) (record { hosted = refl; topics = refl }) (turned_hosted g.D.Disk.seen (parts_of c.args.hosts.now) c.produce_at.new.parts.items c.in-Produce.shard)
 
 pub returns-in_ok-produced-in-Produce-clause-open : goal.returns-in_ok-produced-in-Produce-clause-open
-returns-in_ok-produced-in-Produce-clause-open g c = turned_open g.D.Disk.content g.D.Disk.image g.D.Disk.starved g.D.Disk.faults g.D.Disk.losses g.D.Disk.arms g.D.Disk.armed (parts_of c.args.hosts.now) c.produce_at.new.parts.items c.in-Produce.shard (led_turned g.D.Disk.content g.D.Disk.image g.D.Disk.starved g.D.Disk.faults g.D.Disk.losses g.D.Disk.arms g.D.Disk.armed c.in-Produce.shard c.args.now (Produces c.as_slice.result.now (c.in_ok-produced-in-Produce.produced)) c.args.hosts.now.parts.items c.produce_at.new.parts.items c.in_ok-produced-in-Produce.ensures.ok) c.requires.open
+returns-in_ok-produced-in-Produce-clause-open g c = turned_open g.D.Disk.seen (parts_of c.args.hosts.now) c.produce_at.new.parts.items c.in-Produce.shard (led_turned g.D.Disk.seen c.in-Produce.shard c.args.now (Produces c.as_slice.result.now (c.in_ok-produced-in-Produce.produced)) c.args.hosts.now.parts.items c.produce_at.new.parts.items c.in_ok-produced-in-Produce.ensures.ok) c.requires.open
 
 pub returns-in_err-produced-in-Produce-clause-open : goal.returns-in_err-produced-in-Produce-clause-open
-returns-in_err-produced-in-Produce-clause-open g c = may_on g.D.Disk.content g.D.Disk.image g.D.Disk.starved g.D.Disk.faults g.D.Disk.losses g.D.Disk.arms g.D.Disk.armed (parts_of c.args.hosts.now) c.produce_at.new.parts.items c.in-Produce.shard c.args.now (λ did. (produced : Produced) × (did ≡ Produces c.as_slice.result.now produced)) (λ begun. ⊥) c.in_err-produced-in-Produce.ensures.stopped (λ h. AreOpen h) c.requires.open (λ t. turned_open g.D.Disk.content g.D.Disk.image g.D.Disk.starved g.D.Disk.faults g.D.Disk.losses g.D.Disk.arms g.D.Disk.armed (parts_of c.args.hosts.now) c.produce_at.new.parts.items c.in-Produce.shard t c.requires.open)
+returns-in_err-produced-in-Produce-clause-open g c = may_on g.D.Disk.seen (parts_of c.args.hosts.now) c.produce_at.new.parts.items c.in-Produce.shard c.args.now (λ did. (produced : Produced) × (did ≡ Produces c.as_slice.result.now produced)) (λ begun. ⊥) c.in_err-produced-in-Produce.ensures.stopped (λ h. AreOpen h) c.requires.open (λ t. turned_open g.D.Disk.seen (parts_of c.args.hosts.now) c.produce_at.new.parts.items c.in-Produce.shard t c.requires.open)
 
 pub returns-in_ok-produced-in-Produce-clause-ok : goal.returns-in_ok-produced-in-Produce-clause-ok
-returns-in_ok-produced-in-Produce-clause-ok g c = λ s k. leads_to g.D.Disk.content g.D.Disk.image g.D.Disk.starved g.D.Disk.faults g.D.Disk.losses g.D.Disk.arms g.D.Disk.armed
-    (parts_of c.args.hosts.now) (with_parts g.D.Disk.content g.D.Disk.image g.D.Disk.starved g.D.Disk.faults g.D.Disk.losses g.D.Disk.arms g.D.Disk.armed (parts_of c.args.hosts.now) c.produce_at.new.parts.items) s _ _
+returns-in_ok-produced-in-Produce-clause-ok g c = λ s k. leads_to g.D.Disk.seen
+    (parts_of c.args.hosts.now) (with_parts g.D.Disk.seen (parts_of c.args.hosts.now) c.produce_at.new.parts.items) s _ _
     (λ a call b d. (CallPart c.in-Produce.shard d.0 (Produces c.as_slice.result.now (c.in_ok-produced-in-Produce.produced)), d.1, ap (λ part. Some (record { part = part; answer = AnswerProduce (c.in_ok-produced-in-Produce.produced) })) (ap (λ (b : List ℕ). Produce c.in-Produce.shard b) c.as_slice.ensures ∙ sym c.in-Produce.is), d.2))
-    (part_leads g.D.Disk.content g.D.Disk.image g.D.Disk.starved g.D.Disk.faults g.D.Disk.losses g.D.Disk.arms g.D.Disk.armed (parts_of c.args.hosts.now) c.produce_at.new.parts.items c.in-Produce.shard c.args.now (Produces c.as_slice.result.now (c.in_ok-produced-in-Produce.produced)) c.in_ok-produced-in-Produce.ensures.ok c.requires.apart s k)
+    (part_leads g.D.Disk.seen (parts_of c.args.hosts.now) c.produce_at.new.parts.items c.in-Produce.shard c.args.now (Produces c.as_slice.result.now (c.in_ok-produced-in-Produce.produced)) c.in_ok-produced-in-Produce.ensures.ok c.requires.apart s k)
 
 pub returns-in_err-produced-in-Produce-clause-stopped : goal.returns-in_err-produced-in-Produce-clause-stopped
 returns-in_err-produced-in-Produce-clause-stopped g c = on_err c.from_residual-in_err-produced-in-Produce.result
-    (λ s k. halts_so g.D.Disk.content g.D.Disk.image g.D.Disk.starved g.D.Disk.faults g.D.Disk.losses g.D.Disk.arms g.D.Disk.armed
-    (with_parts g.D.Disk.content g.D.Disk.image g.D.Disk.starved g.D.Disk.faults g.D.Disk.losses g.D.Disk.arms g.D.Disk.armed (parts_of c.args.hosts.now) c.produce_at.new.parts.items) s _ _ _ _
+    (λ s k. halts_so g.D.Disk.seen
+    (with_parts g.D.Disk.seen (parts_of c.args.hosts.now) c.produce_at.new.parts.items) s _ _ _ _
     (λ a call b d. (
       AnswerProduce d.1.0,
-      produce_halts g.D.Disk.content g.D.Disk.image g.D.Disk.starved g.D.Disk.faults g.D.Disk.losses g.D.Disk.arms g.D.Disk.armed _ _ c.args.now c.in-Produce.shard c.args.part.now c.as_slice.result.now
+      produce_halts g.D.Disk.seen _ _ c.args.now c.in-Produce.shard c.args.part.now c.as_slice.result.now
           (c.in-Produce.is ∙ ap (λ (b : List ℕ). Produce c.in-Produce.shard b) (sym c.as_slice.ensures)) d.0 d.1.0 d.1.1 a call b d.2,
     ))
     (λ a b d. absurd d.1)
-    (part_halts g.D.Disk.content g.D.Disk.image g.D.Disk.starved g.D.Disk.faults g.D.Disk.losses g.D.Disk.arms g.D.Disk.armed (parts_of c.args.hosts.now) c.produce_at.new.parts.items c.in-Produce.shard c.args.now (λ did. (produced : Produced) × (did ≡ Produces c.as_slice.result.now produced)) (λ begun. ⊥) c.in_err-produced-in-Produce.ensures.stopped c.requires.apart s k))
+    (part_halts g.D.Disk.seen (parts_of c.args.hosts.now) c.produce_at.new.parts.items c.in-Produce.shard c.args.now (λ did. (produced : Produced) × (did ≡ Produces c.as_slice.result.now produced)) (λ begun. ⊥) c.in_err-produced-in-Produce.ensures.stopped c.requires.apart s k))
 
 pub returns-in_ok-answer-in-Visit-clause-disks : goal.returns-in_ok-answer-in-Visit-clause-disks
-returns-in_ok-answer-in-Visit-clause-disks g c = turned_on g.D.Disk.content g.D.Disk.image g.D.Disk.starved g.D.Disk.faults g.D.Disk.losses g.D.Disk.arms g.D.Disk.armed (parts_of c.args.hosts.now) c.visit_at.new.parts.items c.in-Visit.shard (led_turned g.D.Disk.content g.D.Disk.image g.D.Disk.starved g.D.Disk.faults g.D.Disk.losses g.D.Disk.arms g.D.Disk.armed c.in-Visit.shard c.args.now (Visits c.in-Visit.visit (c.in_ok-answer-in-Visit.answer)) c.args.hosts.now.parts.items c.visit_at.new.parts.items c.in_ok-answer-in-Visit.ensures.ok)
+returns-in_ok-answer-in-Visit-clause-disks g c = turned_on g.D.Disk.seen (parts_of c.args.hosts.now) c.visit_at.new.parts.items c.in-Visit.shard (led_turned g.D.Disk.seen c.in-Visit.shard c.args.now (Visits c.in-Visit.visit (c.in_ok-answer-in-Visit.answer)) c.args.hosts.now.parts.items c.visit_at.new.parts.items c.in_ok-answer-in-Visit.ensures.ok)
 
 pub returns-in_err-answer-in-Visit-clause-disks : goal.returns-in_err-answer-in-Visit-clause-disks
-returns-in_err-answer-in-Visit-clause-disks g c = may_on g.D.Disk.content g.D.Disk.image g.D.Disk.starved g.D.Disk.faults g.D.Disk.losses g.D.Disk.arms g.D.Disk.armed (parts_of c.args.hosts.now) c.visit_at.new.parts.items c.in-Visit.shard c.args.now (λ did. (answer : VisitAnswer) × (did ≡ Visits c.in-Visit.visit answer)) (λ begun. begun ≡ BeginsVisit c.in-Visit.visit) c.in_err-answer-in-Visit.ensures.stopped (λ h. GoOn g.D.Disk.content g.D.Disk.faults (disks_in (parts_of c.args.hosts.now)) (disks_in h)) (go_on_same g.D.Disk.content g.D.Disk.image g.D.Disk.starved g.D.Disk.faults g.D.Disk.losses g.D.Disk.arms g.D.Disk.armed (disks_in (parts_of c.args.hosts.now))) (turned_on g.D.Disk.content g.D.Disk.image g.D.Disk.starved g.D.Disk.faults g.D.Disk.losses g.D.Disk.arms g.D.Disk.armed (parts_of c.args.hosts.now) c.visit_at.new.parts.items c.in-Visit.shard)
+returns-in_err-answer-in-Visit-clause-disks g c = may_on g.D.Disk.seen (parts_of c.args.hosts.now) c.visit_at.new.parts.items c.in-Visit.shard c.args.now (λ did. (answer : VisitAnswer) × (did ≡ Visits c.in-Visit.visit answer)) (λ begun. begun ≡ BeginsVisit c.in-Visit.visit) c.in_err-answer-in-Visit.ensures.stopped (λ h. GoOn g.D.Disk.seen (disks_in (parts_of c.args.hosts.now)) (disks_in h)) (go_on_same g.D.Disk.seen (disks_in (parts_of c.args.hosts.now))) (turned_on g.D.Disk.seen (parts_of c.args.hosts.now) c.visit_at.new.parts.items c.in-Visit.shard)
 
 pub returns-in_ok-answer-in-Visit-clause-stays : goal.returns-in_ok-answer-in-Visit-clause-stays
-returns-in_ok-answer-in-Visit-clause-stays g c = turned_hosted g.D.Disk.content g.D.Disk.image g.D.Disk.starved g.D.Disk.faults g.D.Disk.losses g.D.Disk.arms g.D.Disk.armed (parts_of c.args.hosts.now) c.visit_at.new.parts.items c.in-Visit.shard (led_turned g.D.Disk.content g.D.Disk.image g.D.Disk.starved g.D.Disk.faults g.D.Disk.losses g.D.Disk.arms g.D.Disk.armed c.in-Visit.shard c.args.now (Visits c.in-Visit.visit (c.in_ok-answer-in-Visit.answer)) c.args.hosts.now.parts.items c.visit_at.new.parts.items c.in_ok-answer-in-Visit.ensures.ok)
+returns-in_ok-answer-in-Visit-clause-stays g c = turned_hosted g.D.Disk.seen (parts_of c.args.hosts.now) c.visit_at.new.parts.items c.in-Visit.shard (led_turned g.D.Disk.seen c.in-Visit.shard c.args.now (Visits c.in-Visit.visit (c.in_ok-answer-in-Visit.answer)) c.args.hosts.now.parts.items c.visit_at.new.parts.items c.in_ok-answer-in-Visit.ensures.ok)
 
 pub returns-in_err-answer-in-Visit-clause-stays : goal.returns-in_err-answer-in-Visit-clause-stays
-returns-in_err-answer-in-Visit-clause-stays g c = may_on g.D.Disk.content g.D.Disk.image g.D.Disk.starved g.D.Disk.faults g.D.Disk.losses g.D.Disk.arms g.D.Disk.armed (parts_of c.args.hosts.now) c.visit_at.new.parts.items c.in-Visit.shard c.args.now (λ did. (answer : VisitAnswer) × (did ≡ Visits c.in-Visit.visit answer)) (λ begun. begun ≡ BeginsVisit c.in-Visit.visit) c.in_err-answer-in-Visit.ensures.stopped (λ h. StaysHosted (parts_of c.args.hosts.now) h) (record { hosted = refl; topics = refl }) (turned_hosted g.D.Disk.content g.D.Disk.image g.D.Disk.starved g.D.Disk.faults g.D.Disk.losses g.D.Disk.arms g.D.Disk.armed (parts_of c.args.hosts.now) c.visit_at.new.parts.items c.in-Visit.shard)
+returns-in_err-answer-in-Visit-clause-stays g c = may_on g.D.Disk.seen (parts_of c.args.hosts.now) c.visit_at.new.parts.items c.in-Visit.shard c.args.now (λ did. (answer : VisitAnswer) × (did ≡ Visits c.in-Visit.visit answer)) (λ begun. begun ≡ BeginsVisit c.in-Visit.visit) c.in_err-answer-in-Visit.ensures.stopped (λ h. StaysHosted (parts_of c.args.hosts.now) h) (record { hosted = refl; topics = refl }) (turned_hosted g.D.Disk.seen (parts_of c.args.hosts.now) c.visit_at.new.parts.items c.in-Visit.shard)
 
 pub returns-in_ok-answer-in-Visit-clause-open : goal.returns-in_ok-answer-in-Visit-clause-open
-returns-in_ok-answer-in-Visit-clause-open g c = turned_open g.D.Disk.content g.D.Disk.image g.D.Disk.starved g.D.Disk.faults g.D.Disk.losses g.D.Disk.arms g.D.Disk.armed (parts_of c.args.hosts.now) c.visit_at.new.parts.items c.in-Visit.shard (led_turned g.D.Disk.content g.D.Disk.image g.D.Disk.starved g.D.Disk.faults g.D.Disk.losses g.D.Disk.arms g.D.Disk.armed c.in-Visit.shard c.args.now (Visits c.in-Visit.visit (c.in_ok-answer-in-Visit.answer)) c.args.hosts.now.parts.items c.visit_at.new.parts.items c.in_ok-answer-in-Visit.ensures.ok) c.requires.open
+returns-in_ok-answer-in-Visit-clause-open g c = turned_open g.D.Disk.seen (parts_of c.args.hosts.now) c.visit_at.new.parts.items c.in-Visit.shard (led_turned g.D.Disk.seen c.in-Visit.shard c.args.now (Visits c.in-Visit.visit (c.in_ok-answer-in-Visit.answer)) c.args.hosts.now.parts.items c.visit_at.new.parts.items c.in_ok-answer-in-Visit.ensures.ok) c.requires.open
 
 pub returns-in_err-answer-in-Visit-clause-open : goal.returns-in_err-answer-in-Visit-clause-open
-returns-in_err-answer-in-Visit-clause-open g c = may_on g.D.Disk.content g.D.Disk.image g.D.Disk.starved g.D.Disk.faults g.D.Disk.losses g.D.Disk.arms g.D.Disk.armed (parts_of c.args.hosts.now) c.visit_at.new.parts.items c.in-Visit.shard c.args.now (λ did. (answer : VisitAnswer) × (did ≡ Visits c.in-Visit.visit answer)) (λ begun. begun ≡ BeginsVisit c.in-Visit.visit) c.in_err-answer-in-Visit.ensures.stopped (λ h. AreOpen h) c.requires.open (λ t. turned_open g.D.Disk.content g.D.Disk.image g.D.Disk.starved g.D.Disk.faults g.D.Disk.losses g.D.Disk.arms g.D.Disk.armed (parts_of c.args.hosts.now) c.visit_at.new.parts.items c.in-Visit.shard t c.requires.open)
+returns-in_err-answer-in-Visit-clause-open g c = may_on g.D.Disk.seen (parts_of c.args.hosts.now) c.visit_at.new.parts.items c.in-Visit.shard c.args.now (λ did. (answer : VisitAnswer) × (did ≡ Visits c.in-Visit.visit answer)) (λ begun. begun ≡ BeginsVisit c.in-Visit.visit) c.in_err-answer-in-Visit.ensures.stopped (λ h. AreOpen h) c.requires.open (λ t. turned_open g.D.Disk.seen (parts_of c.args.hosts.now) c.visit_at.new.parts.items c.in-Visit.shard t c.requires.open)
 
 pub returns-in_ok-answer-in-Visit-clause-ok : goal.returns-in_ok-answer-in-Visit-clause-ok
-returns-in_ok-answer-in-Visit-clause-ok g c = λ s k. leads_to g.D.Disk.content g.D.Disk.image g.D.Disk.starved g.D.Disk.faults g.D.Disk.losses g.D.Disk.arms g.D.Disk.armed
-    (parts_of c.args.hosts.now) (with_parts g.D.Disk.content g.D.Disk.image g.D.Disk.starved g.D.Disk.faults g.D.Disk.losses g.D.Disk.arms g.D.Disk.armed (parts_of c.args.hosts.now) c.visit_at.new.parts.items) s _ _
+returns-in_ok-answer-in-Visit-clause-ok g c = λ s k. leads_to g.D.Disk.seen
+    (parts_of c.args.hosts.now) (with_parts g.D.Disk.seen (parts_of c.args.hosts.now) c.visit_at.new.parts.items) s _ _
     (λ a call b d. (CallPart c.in-Visit.shard d.0 (Visits c.in-Visit.visit (c.in_ok-answer-in-Visit.answer)), d.1, ap (λ part. Some (record { part = part; answer = AnswerVisit (c.in_ok-answer-in-Visit.answer) })) (sym c.in-Visit.is), d.2))
-    (part_leads g.D.Disk.content g.D.Disk.image g.D.Disk.starved g.D.Disk.faults g.D.Disk.losses g.D.Disk.arms g.D.Disk.armed (parts_of c.args.hosts.now) c.visit_at.new.parts.items c.in-Visit.shard c.args.now (Visits c.in-Visit.visit (c.in_ok-answer-in-Visit.answer)) c.in_ok-answer-in-Visit.ensures.ok c.requires.apart s k)
+    (part_leads g.D.Disk.seen (parts_of c.args.hosts.now) c.visit_at.new.parts.items c.in-Visit.shard c.args.now (Visits c.in-Visit.visit (c.in_ok-answer-in-Visit.answer)) c.in_ok-answer-in-Visit.ensures.ok c.requires.apart s k)
 
 pub returns-in_err-answer-in-Visit-clause-stopped : goal.returns-in_err-answer-in-Visit-clause-stopped
 returns-in_err-answer-in-Visit-clause-stopped g c = on_err c.from_residual-in_err-answer-in-Visit.result
-    (λ s k. halts_so g.D.Disk.content g.D.Disk.image g.D.Disk.starved g.D.Disk.faults g.D.Disk.losses g.D.Disk.arms g.D.Disk.armed
-    (with_parts g.D.Disk.content g.D.Disk.image g.D.Disk.starved g.D.Disk.faults g.D.Disk.losses g.D.Disk.arms g.D.Disk.armed (parts_of c.args.hosts.now) c.visit_at.new.parts.items) s _ _ _ _
-    (λ a call b d. (AnswerVisit d.1.0, visit_halts g.D.Disk.content g.D.Disk.image g.D.Disk.starved g.D.Disk.faults g.D.Disk.losses g.D.Disk.arms g.D.Disk.armed _ _ c.args.now c.in-Visit.shard c.args.part.now c.in-Visit.visit c.in-Visit.is d.0 d.1.0 d.1.1 a call b d.2))
-    (λ a b d. half_of_visit g.D.Disk.content g.D.Disk.image g.D.Disk.starved g.D.Disk.faults g.D.Disk.losses g.D.Disk.arms g.D.Disk.armed (counts_in g.D.Disk.faults g.D.Disk.losses g.D.Disk.arms g.D.Disk.armed (disks_in (parts_of c.args.hosts.now)) (disks_in (with_parts g.D.Disk.content g.D.Disk.image g.D.Disk.starved g.D.Disk.faults g.D.Disk.losses g.D.Disk.arms g.D.Disk.armed (parts_of c.args.hosts.now) c.visit_at.new.parts.items))) (ends_over (parts_of c.args.hosts.now) (with_parts g.D.Disk.content g.D.Disk.image g.D.Disk.starved g.D.Disk.faults g.D.Disk.losses g.D.Disk.arms g.D.Disk.armed (parts_of c.args.hosts.now) c.visit_at.new.parts.items)) c.args.now c.args.part.now c.in-Visit.shard c.in-Visit.visit c.in-Visit.is d.0 d.1 a b d.2)
-    (part_halts g.D.Disk.content g.D.Disk.image g.D.Disk.starved g.D.Disk.faults g.D.Disk.losses g.D.Disk.arms g.D.Disk.armed (parts_of c.args.hosts.now) c.visit_at.new.parts.items c.in-Visit.shard c.args.now (λ did. (answer : VisitAnswer) × (did ≡ Visits c.in-Visit.visit answer)) (λ begun. begun ≡ BeginsVisit c.in-Visit.visit) c.in_err-answer-in-Visit.ensures.stopped c.requires.apart s k))
+    (λ s k. halts_so g.D.Disk.seen
+    (with_parts g.D.Disk.seen (parts_of c.args.hosts.now) c.visit_at.new.parts.items) s _ _ _ _
+    (λ a call b d. (AnswerVisit d.1.0, visit_halts g.D.Disk.seen _ _ c.args.now c.in-Visit.shard c.args.part.now c.in-Visit.visit c.in-Visit.is d.0 d.1.0 d.1.1 a call b d.2))
+    (λ a b d. half_of_visit g.D.Disk.seen (counts_in g.D.Disk.seen (disks_in (parts_of c.args.hosts.now)) (disks_in (with_parts g.D.Disk.seen (parts_of c.args.hosts.now) c.visit_at.new.parts.items))) (ends_over (parts_of c.args.hosts.now) (with_parts g.D.Disk.seen (parts_of c.args.hosts.now) c.visit_at.new.parts.items)) c.args.now c.args.part.now c.in-Visit.shard c.in-Visit.visit c.in-Visit.is d.0 d.1 a b d.2)
+    (part_halts g.D.Disk.seen (parts_of c.args.hosts.now) c.visit_at.new.parts.items c.in-Visit.shard c.args.now (λ did. (answer : VisitAnswer) × (did ≡ Visits c.in-Visit.visit answer)) (λ begun. begun ≡ BeginsVisit c.in-Visit.visit) c.in_err-answer-in-Visit.ensures.stopped c.requires.apart s k))
 
 pub returns-in_ok-answer-in-Visit-clause-there : goal.returns-in_ok-answer-in-Visit-clause-there
 returns-in_ok-answer-in-Visit-clause-there g c = subst (λ part. IsThere (length c.args.hosts.now.parts.items) part) (sym c.in-Visit.is)
-    (changes_within (LeadsSlot g.D.Disk.content g.D.Disk.image g.D.Disk.starved g.D.Disk.faults g.D.Disk.losses g.D.Disk.arms g.D.Disk.armed c.args.now (Visits c.in-Visit.visit c.in_ok-answer-in-Visit.answer)) c.in-Visit.shard c.args.hosts.now.parts.items
+    (changes_within (LeadsSlot g.D.Disk.seen c.args.now (Visits c.in-Visit.visit c.in_ok-answer-in-Visit.answer)) c.in-Visit.shard c.args.hosts.now.parts.items
     c.visit_at.new.parts.items c.in_ok-answer-in-Visit.ensures.ok)
 
 pub returns-in_ok-looked-in-Look-clause-ok : goal.returns-in_ok-looked-in-Look-clause-ok
-returns-in_ok-looked-in-Look-clause-ok g c = λ s k. leads_to g.D.Disk.content g.D.Disk.image g.D.Disk.starved g.D.Disk.faults g.D.Disk.losses g.D.Disk.arms g.D.Disk.armed
+returns-in_ok-looked-in-Look-clause-ok g c = λ s k. leads_to g.D.Disk.seen
     (parts_of c.args.hosts.now) (parts_of c.args.hosts.now) s _ _
-    (look_does g.D.Disk.content g.D.Disk.image g.D.Disk.starved g.D.Disk.faults g.D.Disk.losses g.D.Disk.arms g.D.Disk.armed _ _ c.args.now c.in-Look.shard c.args.part.now c.in-Look.group c.in-Look.is c.in_ok-looked-in-Look.looked)
-    (part_leads g.D.Disk.content g.D.Disk.image g.D.Disk.starved g.D.Disk.faults g.D.Disk.losses g.D.Disk.arms g.D.Disk.armed (parts_of c.args.hosts.now) c.args.hosts.now.parts.items c.in-Look.shard c.args.now (Looks c.in-Look.group c.in_ok-looked-in-Look.looked)
-    (looked_at g.D.Disk.content g.D.Disk.image g.D.Disk.starved g.D.Disk.faults g.D.Disk.losses g.D.Disk.arms g.D.Disk.armed c.in-Look.shard _ c.args.hosts.now.parts.items
-    (subst (λ l. HoldsAt c.in-Look.shard (λ slot. LeadsSlot g.D.Disk.content g.D.Disk.image g.D.Disk.starved g.D.Disk.faults g.D.Disk.losses g.D.Disk.arms g.D.Disk.armed c.args.now (Looks c.in-Look.group c.in_ok-looked-in-Look.looked) slot slot) l) c.deref.ensures.value
+    (look_does g.D.Disk.seen _ _ c.args.now c.in-Look.shard c.args.part.now c.in-Look.group c.in-Look.is c.in_ok-looked-in-Look.looked)
+    (part_leads g.D.Disk.seen (parts_of c.args.hosts.now) c.args.hosts.now.parts.items c.in-Look.shard c.args.now (Looks c.in-Look.group c.in_ok-looked-in-Look.looked)
+    (looked_at g.D.Disk.seen c.in-Look.shard _ c.args.hosts.now.parts.items
+    (subst (λ l. HoldsAt c.in-Look.shard (λ slot. LeadsSlot g.D.Disk.seen c.args.now (Looks c.in-Look.group c.in_ok-looked-in-Look.looked) slot slot) l) c.deref.ensures.value
     (c.in_ok-looked-in-Look.ensures.ok c.args.now))) c.requires.apart s k)
 
 pub returns-in_err-looked-in-Look-clause-stopped : goal.returns-in_err-looked-in-Look-clause-stopped
-returns-in_err-looked-in-Look-clause-stopped g c = on_err c.from_residual-in_err-looked-in-Look.result (λ s k. halts_still g.D.Disk.content g.D.Disk.image g.D.Disk.starved g.D.Disk.faults g.D.Disk.losses g.D.Disk.arms g.D.Disk.armed (parts_of c.args.hosts.now) s _ _ k)
+returns-in_err-looked-in-Look-clause-stopped g c = on_err c.from_residual-in_err-looked-in-Look.result (λ s k. halts_still g.D.Disk.seen (parts_of c.args.hosts.now) s _ _ k)
 
 pub returns-in_ok-looked-in-Look-clause-disks : goal.returns-in_ok-looked-in-Look-clause-disks
-returns-in_ok-looked-in-Look-clause-disks g c = go_on_same g.D.Disk.content g.D.Disk.image g.D.Disk.starved g.D.Disk.faults g.D.Disk.losses g.D.Disk.arms g.D.Disk.armed (disks_in (parts_of c.args.hosts.now))
+returns-in_ok-looked-in-Look-clause-disks g c = go_on_same g.D.Disk.seen (disks_in (parts_of c.args.hosts.now))
 
 pub returns-in_err-looked-in-Look-clause-disks : goal.returns-in_err-looked-in-Look-clause-disks
-returns-in_err-looked-in-Look-clause-disks g c = go_on_same g.D.Disk.content g.D.Disk.image g.D.Disk.starved g.D.Disk.faults g.D.Disk.losses g.D.Disk.arms g.D.Disk.armed (disks_in (parts_of c.args.hosts.now))
+returns-in_err-looked-in-Look-clause-disks g c = go_on_same g.D.Disk.seen (disks_in (parts_of c.args.hosts.now))
 
 pub returns-in_ok-reply-in-Heartbeat-clause-ok : goal.returns-in_ok-reply-in-Heartbeat-clause-ok
-returns-in_ok-reply-in-Heartbeat-clause-ok g c = λ s k. leads_to g.D.Disk.content g.D.Disk.image g.D.Disk.starved g.D.Disk.faults g.D.Disk.losses g.D.Disk.arms g.D.Disk.armed
+returns-in_ok-reply-in-Heartbeat-clause-ok g c = λ s k. leads_to g.D.Disk.seen
     (parts_of c.args.hosts.now) (record { parts = c.args.hosts.now.parts.items; members = c.heartbeat.new.self; foreign = c.args.hosts.now.foreign }) s _ _
-    (beat_does g.D.Disk.content g.D.Disk.image g.D.Disk.starved g.D.Disk.faults g.D.Disk.losses g.D.Disk.arms g.D.Disk.armed (counts_in g.D.Disk.faults g.D.Disk.losses g.D.Disk.arms g.D.Disk.armed (disks_in (parts_of c.args.hosts.now)) (disks_in (record { parts = c.args.hosts.now.parts.items; members = c.heartbeat.new.self; foreign = c.args.hosts.now.foreign }))) (ends_over (parts_of c.args.hosts.now) (record { parts = c.args.hosts.now.parts.items; members = c.heartbeat.new.self; foreign = c.args.hosts.now.foreign })) c.args.now c.args.part.now c.in-Heartbeat.request c.in-Heartbeat.is c.in_ok-reply-in-Heartbeat.reply)
-    (members_lead g.D.Disk.content g.D.Disk.image g.D.Disk.starved g.D.Disk.faults g.D.Disk.losses g.D.Disk.arms g.D.Disk.armed (parts_of c.args.hosts.now) c.heartbeat.new.self (Beats c.in-Heartbeat.request c.in_ok-reply-in-Heartbeat.reply) c.args.now
+    (beat_does g.D.Disk.seen (counts_in g.D.Disk.seen (disks_in (parts_of c.args.hosts.now)) (disks_in (record { parts = c.args.hosts.now.parts.items; members = c.heartbeat.new.self; foreign = c.args.hosts.now.foreign }))) (ends_over (parts_of c.args.hosts.now) (record { parts = c.args.hosts.now.parts.items; members = c.heartbeat.new.self; foreign = c.args.hosts.now.foreign })) c.args.now c.args.part.now c.in-Heartbeat.request c.in-Heartbeat.is c.in_ok-reply-in-Heartbeat.reply)
+    (members_lead g.D.Disk.seen (parts_of c.args.hosts.now) c.heartbeat.new.self (Beats c.in-Heartbeat.request c.in_ok-reply-in-Heartbeat.reply) c.args.now
     (c.in_ok-reply-in-Heartbeat.ensures.told, c.in_ok-reply-in-Heartbeat.ensures.after) s k)
 
 pub returns-in_err-reply-in-Heartbeat-clause-stopped : goal.returns-in_err-reply-in-Heartbeat-clause-stopped
 returns-in_err-reply-in-Heartbeat-clause-stopped g c = on_err c.from_residual-in_err-reply-in-Heartbeat.result
-    (λ s k. members_halt g.D.Disk.content g.D.Disk.image g.D.Disk.starved g.D.Disk.faults g.D.Disk.losses g.D.Disk.arms g.D.Disk.armed (parts_of c.args.hosts.now) c.heartbeat.new.self s _ _ c.in_err-reply-in-Heartbeat.ensures.memory k)
+    (λ s k. members_halt g.D.Disk.seen (parts_of c.args.hosts.now) c.heartbeat.new.self s _ _ c.in_err-reply-in-Heartbeat.ensures.memory k)
 
 pub returns-in_ok-reply-in-Heartbeat-clause-disks : goal.returns-in_ok-reply-in-Heartbeat-clause-disks
-returns-in_ok-reply-in-Heartbeat-clause-disks g c = go_on_same g.D.Disk.content g.D.Disk.image g.D.Disk.starved g.D.Disk.faults g.D.Disk.losses g.D.Disk.arms g.D.Disk.armed (disks_in (parts_of c.args.hosts.now))
+returns-in_ok-reply-in-Heartbeat-clause-disks g c = go_on_same g.D.Disk.seen (disks_in (parts_of c.args.hosts.now))
 
 pub returns-in_err-reply-in-Heartbeat-clause-disks : goal.returns-in_err-reply-in-Heartbeat-clause-disks
-returns-in_err-reply-in-Heartbeat-clause-disks g c = go_on_same g.D.Disk.content g.D.Disk.image g.D.Disk.starved g.D.Disk.faults g.D.Disk.losses g.D.Disk.arms g.D.Disk.armed (disks_in (parts_of c.args.hosts.now))
+returns-in_err-reply-in-Heartbeat-clause-disks g c = go_on_same g.D.Disk.seen (disks_in (parts_of c.args.hosts.now))

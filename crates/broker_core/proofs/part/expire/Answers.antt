@@ -10,22 +10,22 @@ use Rattle.broker_core.proofs.part.expire.Goals as goal
 pub returns-in_err-answer-clause-stopped : goal.returns-in_err-answer-clause-stopped
 returns-in_err-answer-clause-stopped g c =
     let is : c.expire.result ≡ Err c.in_err-answer.field-0.0 = search rules in
-    let memory : ((t : PartShardState) → Carries g.D.Disk.image holding c.args.part.now t → Carries g.D.Disk.image holding c.expire.new.self t ⊎ PartStands g.D.Disk.image g.D.Disk.faults holding c.args.now c.args.part.now c.expire.new.self t) = subst (λ r. OnErr r ((t : PartShardState) → Carries g.D.Disk.image holding c.args.part.now t → Carries g.D.Disk.image holding c.expire.new.self t ⊎ PartStands g.D.Disk.image g.D.Disk.faults holding c.args.now c.args.part.now c.expire.new.self t)) is c.expire.ensures.once.memory in
+    let memory : ((t : PartShardState) → Carries g.D.Disk.seen holding c.args.part.now t → Carries g.D.Disk.seen holding c.expire.new.self t ⊎ PartStands g.D.Disk.seen holding c.args.now c.args.part.now c.expire.new.self t) = subst (λ r. OnErr r ((t : PartShardState) → Carries g.D.Disk.seen holding c.args.part.now t → Carries g.D.Disk.seen holding c.expire.new.self t ⊎ PartStands g.D.Disk.seen holding c.args.now c.args.part.now c.expire.new.self t)) is c.expire.ensures.once.memory in
     on_err c.from_residual.result
-    (expire_refused g.D.Disk.content g.D.Disk.image g.D.Disk.starved g.D.Disk.faults g.D.Disk.losses g.D.Disk.arms g.D.Disk.armed c.args.part.now c.expire.new.self c.args.now
+    (expire_refused g.D.Disk.seen c.args.part.now c.expire.new.self c.args.now
     (record { runs = c.expire.ensures.runs; ends = c.expire.ensures.once.ends; log = c.expire.ensures.once.log; idle = c.expire.ensures.once.idle; conf = c.expire.ensures.once.conf }) memory)
 
 pub returns-then-starved-clause-stopped : goal.returns-then-starved-clause-stopped
 returns-then-starved-clause-stopped g c =
     let is : c.expire.result ≡ Ok c.in_ok-answer.answer = search rules in
-    let steps : Expired g.D.Disk.image g.D.Disk.faults holding c.args.now c.args.part.now c.expire.new.self c.in_ok-answer.answer = subst (λ r. IfOk r (Expired g.D.Disk.image g.D.Disk.faults holding c.args.now c.args.part.now c.expire.new.self)) is c.expire.ensures.once.steps in
-    expire_whole g.D.Disk.content g.D.Disk.image g.D.Disk.starved g.D.Disk.faults g.D.Disk.losses g.D.Disk.arms g.D.Disk.armed c.args.part.now c.expire.new.self c.args.now c.in_ok-answer.answer _
+    let steps : Expired g.D.Disk.seen holding c.args.now c.args.part.now c.expire.new.self c.in_ok-answer.answer = subst (λ r. IfOk r (Expired g.D.Disk.seen holding c.args.now c.args.part.now c.expire.new.self)) is c.expire.ensures.once.steps in
+    expire_whole g.D.Disk.seen c.args.part.now c.expire.new.self c.args.now c.in_ok-answer.answer _
     (record { runs = c.expire.ensures.runs; ends = c.expire.ensures.once.ends; log = c.expire.ensures.once.log; idle = c.expire.ensures.once.idle; conf = c.expire.ensures.once.conf }) steps
 
 pub returns-clause-ok : goal.returns-clause-ok
 returns-clause-ok g c =
     let no : c.starved.result ≡ false = search rules in
     let is : c.expire.result ≡ Ok c.in_ok-answer.answer = search rules in
-    let steps : Expired g.D.Disk.image g.D.Disk.faults holding c.args.now c.args.part.now c.expire.new.self c.in_ok-answer.answer = subst (λ r. IfOk r (Expired g.D.Disk.image g.D.Disk.faults holding c.args.now c.args.part.now c.expire.new.self)) is c.expire.ensures.once.steps in
-    expire_leads g.D.Disk.content g.D.Disk.image g.D.Disk.starved g.D.Disk.faults g.D.Disk.losses g.D.Disk.arms g.D.Disk.armed c.args.part.now c.expire.new.self c.args.now c.in_ok-answer.answer
+    let steps : Expired g.D.Disk.seen holding c.args.now c.args.part.now c.expire.new.self c.in_ok-answer.answer = subst (λ r. IfOk r (Expired g.D.Disk.seen holding c.args.now c.args.part.now c.expire.new.self)) is c.expire.ensures.once.steps in
+    expire_leads g.D.Disk.seen c.args.part.now c.expire.new.self c.args.now c.in_ok-answer.answer
     (record { runs = c.expire.ensures.runs; ends = c.expire.ensures.once.ends; log = c.expire.ensures.once.log; idle = c.expire.ensures.once.idle; conf = c.expire.ensures.once.conf }) steps (fed_three c.starved.result _ _ _ no c.starved.ensures)

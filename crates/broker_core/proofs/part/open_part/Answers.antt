@@ -6,7 +6,7 @@ pub returns-else-starved-clause-opens : goal.returns-else-starved-clause-opens
 returns-else-starved-clause-opens g c = λ l a b is is_first is_second.
     (let not : c.starved.result ≡ false = c.if-starved.false in
     let fed = fed_three c.starved.result _ _ _ not c.starved.ensures in
-    opened_part g.D.Disk.content g.D.Disk.image g.D.Disk.starved g.D.Disk.faults g.D.Disk.losses g.D.Disk.arms g.D.Disk.armed
+    opened_part g.D.Disk.seen
     c.args.conf c.args.disks.0 c.args.disks.1 c.args.disks.2 l a b c.in-Ok.part is is_first is_second c.in-Ok.ensures.opened
     c.in-Ok.ensures.runs c.in-Ok.ensures.both.runs c.in-Ok.ensures.both.second_runs fed.0 fed.1 fed.2)
 

@@ -10,22 +10,22 @@ use Rattle.broker_core.proofs.part.visit.Goals as goal
 pub returns-in_err-answer-clause-stopped : goal.returns-in_err-answer-clause-stopped
 returns-in_err-answer-clause-stopped g c =
     let is : c.visit.result ≡ Err c.in_err-answer.field-0.0 = search rules in
-    let memory : ((t : PartShardState) → Carries g.D.Disk.image holding c.args.part.now t → Carries g.D.Disk.image holding c.visit.new.self t ⊎ AcksStand g.D.Disk.image g.D.Disk.faults holding c.args.visit.now c.args.part.now c.visit.new.self t) = subst (λ r. OnErr r ((t : PartShardState) → Carries g.D.Disk.image holding c.args.part.now t → Carries g.D.Disk.image holding c.visit.new.self t ⊎ AcksStand g.D.Disk.image g.D.Disk.faults holding c.args.visit.now c.args.part.now c.visit.new.self t)) is c.visit.ensures.once.memory in
+    let memory : ((t : PartShardState) → Carries g.D.Disk.seen holding c.args.part.now t → Carries g.D.Disk.seen holding c.visit.new.self t ⊎ AcksStand g.D.Disk.seen holding c.args.visit.now c.args.part.now c.visit.new.self t) = subst (λ r. OnErr r ((t : PartShardState) → Carries g.D.Disk.seen holding c.args.part.now t → Carries g.D.Disk.seen holding c.visit.new.self t ⊎ AcksStand g.D.Disk.seen holding c.args.visit.now c.args.part.now c.visit.new.self t)) is c.visit.ensures.once.memory in
     on_err c.from_residual.result
-    (visit_refused g.D.Disk.content g.D.Disk.image g.D.Disk.starved g.D.Disk.faults g.D.Disk.losses g.D.Disk.arms g.D.Disk.armed c.args.part.now c.visit.new.self c.args.now c.args.visit.now
+    (visit_refused g.D.Disk.seen c.args.part.now c.visit.new.self c.args.now c.args.visit.now
     (record { runs = c.visit.ensures.runs; ends = c.visit.ensures.once.ends; log = c.visit.ensures.once.log; idle = c.visit.ensures.once.idle; conf = c.visit.ensures.once.conf }) memory)
 
 pub returns-then-starved-clause-stopped : goal.returns-then-starved-clause-stopped
 returns-then-starved-clause-stopped g c =
     let is : c.visit.result ≡ Ok c.in_ok-answer.answer = search rules in
-    let steps : Visited g.D.Disk.image g.D.Disk.faults holding c.args.now c.args.visit.now c.args.part.now c.visit.new.self c.in_ok-answer.answer = subst (λ r. IfOk r (Visited g.D.Disk.image g.D.Disk.faults holding c.args.now c.args.visit.now c.args.part.now c.visit.new.self)) is c.visit.ensures.once.steps in
-    visit_whole g.D.Disk.content g.D.Disk.image g.D.Disk.starved g.D.Disk.faults g.D.Disk.losses g.D.Disk.arms g.D.Disk.armed c.args.part.now c.visit.new.self c.args.now c.args.visit.now c.in_ok-answer.answer _
+    let steps : Visited g.D.Disk.seen holding c.args.now c.args.visit.now c.args.part.now c.visit.new.self c.in_ok-answer.answer = subst (λ r. IfOk r (Visited g.D.Disk.seen holding c.args.now c.args.visit.now c.args.part.now c.visit.new.self)) is c.visit.ensures.once.steps in
+    visit_whole g.D.Disk.seen c.args.part.now c.visit.new.self c.args.now c.args.visit.now c.in_ok-answer.answer _
     (record { runs = c.visit.ensures.runs; ends = c.visit.ensures.once.ends; log = c.visit.ensures.once.log; idle = c.visit.ensures.once.idle; conf = c.visit.ensures.once.conf }) steps
 
 pub returns-clause-ok : goal.returns-clause-ok
 returns-clause-ok g c =
     let no : c.starved.result ≡ false = search rules in
     let is : c.visit.result ≡ Ok c.in_ok-answer.answer = search rules in
-    let steps : Visited g.D.Disk.image g.D.Disk.faults holding c.args.now c.args.visit.now c.args.part.now c.visit.new.self c.in_ok-answer.answer = subst (λ r. IfOk r (Visited g.D.Disk.image g.D.Disk.faults holding c.args.now c.args.visit.now c.args.part.now c.visit.new.self)) is c.visit.ensures.once.steps in
-    visit_leads g.D.Disk.content g.D.Disk.image g.D.Disk.starved g.D.Disk.faults g.D.Disk.losses g.D.Disk.arms g.D.Disk.armed c.args.part.now c.visit.new.self c.args.now c.args.visit.now c.in_ok-answer.answer
+    let steps : Visited g.D.Disk.seen holding c.args.now c.args.visit.now c.args.part.now c.visit.new.self c.in_ok-answer.answer = subst (λ r. IfOk r (Visited g.D.Disk.seen holding c.args.now c.args.visit.now c.args.part.now c.visit.new.self)) is c.visit.ensures.once.steps in
+    visit_leads g.D.Disk.seen c.args.part.now c.visit.new.self c.args.now c.args.visit.now c.in_ok-answer.answer
     (record { runs = c.visit.ensures.runs; ends = c.visit.ensures.once.ends; log = c.visit.ensures.once.log; idle = c.visit.ensures.once.idle; conf = c.visit.ensures.once.conf }) steps (fed_three c.starved.result _ _ _ no c.starved.ensures)

@@ -4,7 +4,7 @@ use Rattle.broker_core.proofs.Places.{DoneTo}
 use Rattle.broker_core.proofs.power.lose_parts.Given as goal
 
 abbrev pub invariant-parts : goal.invariant-parts
-invariant-parts g l = DoneTo l.place (ReopensSlot g.D.Disk.content g.D.Disk.image g.D.Disk.starved g.D.Disk.faults g.D.Disk.losses g.D.Disk.arms g.D.Disk.armed l.choice) l.fn.parts.items l.parts.items
+invariant-parts g l = DoneTo l.place (ReopensSlot g.D.Disk.seen l.choice) l.fn.parts.items l.parts.items
 
 abbrev pub decreases-parts : goal.decreases-parts
 decreases-parts g l = length l.parts.items - l.place

@@ -7,7 +7,7 @@ pub returns-else-starved-clause-opens : goal.returns-else-starved-clause-opens
 returns-else-starved-clause-opens g c = λ a b is is_second.
     (let no : c.starved.result ≡ false = search rules in
     let fed = fed_both c.starved.result _ _ no c.starved.ensures in
-    opened g.D.Disk.content g.D.Disk.image g.D.Disk.starved g.D.Disk.faults g.D.Disk.losses g.D.Disk.arms g.D.Disk.armed
+    opened g.D.Disk.seen
     c.args.first c.args.second a b c.in-Ok.shard is is_second c.in-Ok.ensures.opened.opens c.in-Ok.ensures.opened.only c.in-Ok.ensures.carries
     c.in-Ok.ensures.both.runs c.in-Ok.ensures.both.second_runs fed.0 fed.1)
 

@@ -10,9 +10,9 @@ pub returns-in-Some-clause-ok : goal.returns-in-Some-clause-ok
 returns-in-Some-clause-ok g c =
     let found : shard_named c.args.topic.now c.args.part c.args.conf.now.topics ≡ Some c.in-Some.shard = search rules in
     ok_weaker _ _ c.expire_shard.result
-    (λ outcomes h s k. leads_to g.D.Disk.content g.D.Disk.image g.D.Disk.starved g.D.Disk.faults g.D.Disk.losses g.D.Disk.arms g.D.Disk.armed
+    (λ outcomes h s k. leads_to g.D.Disk.seen
     (parts_of c.args.hosts.now) (parts_of c.expire_shard.new.hosts) s _ _
-    (expired_at (counts_in g.D.Disk.faults g.D.Disk.losses g.D.Disk.arms g.D.Disk.armed (disks_in (parts_of c.args.hosts.now)) (disks_in (parts_of c.expire_shard.new.hosts))) (ends_over (parts_of c.args.hosts.now) (parts_of c.expire_shard.new.hosts)) c.args.now c.in-Some.shard outcomes.items _ found)
+    (expired_at (counts_in g.D.Disk.seen (disks_in (parts_of c.args.hosts.now)) (disks_in (parts_of c.expire_shard.new.hosts))) (ends_over (parts_of c.args.hosts.now) (parts_of c.expire_shard.new.hosts)) c.args.now c.in-Some.shard outcomes.items _ found)
     (h s k))
     c.expire_shard.ensures.ok
 
@@ -20,9 +20,9 @@ pub returns-in-Some-clause-stopped : goal.returns-in-Some-clause-stopped
 returns-in-Some-clause-stopped g c =
     let found : shard_named c.args.topic.now c.args.part c.args.conf.now.topics ≡ Some c.in-Some.shard = search rules in
     on_err_weaker c.expire_shard.result
-    (λ h s k. halts_so g.D.Disk.content g.D.Disk.image g.D.Disk.starved g.D.Disk.faults g.D.Disk.losses g.D.Disk.arms g.D.Disk.armed
+    (λ h s k. halts_so g.D.Disk.seen
     (parts_of c.expire_shard.new.hosts) s _ _ _ _
-    (λ a call b d. (d.0, expired_at (counts_in g.D.Disk.faults g.D.Disk.losses g.D.Disk.arms g.D.Disk.armed (disks_in (parts_of c.args.hosts.now)) (disks_in (parts_of c.expire_shard.new.hosts))) (ends_over (parts_of c.args.hosts.now) (parts_of c.expire_shard.new.hosts)) c.args.now c.in-Some.shard d.0 _ found a call b d.1))
+    (λ a call b d. (d.0, expired_at (counts_in g.D.Disk.seen (disks_in (parts_of c.args.hosts.now)) (disks_in (parts_of c.expire_shard.new.hosts))) (ends_over (parts_of c.args.hosts.now) (parts_of c.expire_shard.new.hosts)) c.args.now c.in-Some.shard d.0 _ found a call b d.1))
     (λ a b half. (c.in-Some.shard, found, half))
     (h s k))
     c.expire_shard.ensures.stopped
@@ -33,10 +33,10 @@ returns-in-Some-clause-told g c = ok_weaker _ _ c.expire_shard.result (λ outcom
 pub returns-in-None-clause-ok : goal.returns-in-None-clause-ok
 returns-in-None-clause-ok g c =
     let none : shard_named c.args.topic.now c.args.part c.args.conf.now.topics ≡ None = search rules in
-    λ s k. stays g.D.Disk.content g.D.Disk.image g.D.Disk.starved g.D.Disk.faults g.D.Disk.losses g.D.Disk.arms g.D.Disk.armed (parts_of c.args.hosts.now) s _ k (not_expired (counts_in g.D.Disk.faults g.D.Disk.losses g.D.Disk.arms g.D.Disk.armed (disks_in (parts_of c.args.hosts.now)) (disks_in (parts_of c.args.hosts.now))) (ends_over (parts_of c.args.hosts.now) (parts_of c.args.hosts.now)) c.args.now c.new.result.items _ none c.new.ensures.items s)
+    λ s k. stays g.D.Disk.seen (parts_of c.args.hosts.now) s _ k (not_expired (counts_in g.D.Disk.seen (disks_in (parts_of c.args.hosts.now)) (disks_in (parts_of c.args.hosts.now))) (ends_over (parts_of c.args.hosts.now) (parts_of c.args.hosts.now)) c.args.now c.new.result.items _ none c.new.ensures.items s)
 
 pub returns-in-None-clause-disks : goal.returns-in-None-clause-disks
-returns-in-None-clause-disks g c = go_on_same g.D.Disk.content g.D.Disk.image g.D.Disk.starved g.D.Disk.faults g.D.Disk.losses g.D.Disk.arms g.D.Disk.armed (disks_in (parts_of c.args.hosts.now))
+returns-in-None-clause-disks g c = go_on_same g.D.Disk.seen (disks_in (parts_of c.args.hosts.now))
 
 pub returns-in-None-clause-told : goal.returns-in-None-clause-told
 returns-in-None-clause-told g c = none_told c.args.conf.now.topics c.new.result.items c.new.ensures.items

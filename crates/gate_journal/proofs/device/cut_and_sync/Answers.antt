@@ -9,22 +9,22 @@ pub returns-in_err-cut-clause-images : goal.returns-in_err-cut-clause-images
 returns-in_err-cut-clause-images g c = c.cut.ensures.images.follows
 
 pub returns-in_err-cut-clause-any_moment : goal.returns-in_err-cut-clause-any_moment
-returns-in_err-cut-clause-any_moment g c = one_step g.D.Disk.image g.D.Disk.moment g.D.Disk.since g.met.D.Disk.only_now _
+returns-in_err-cut-clause-any_moment g c = one_step g.D.Disk.seen g.met.D.Disk.only_now _
     (cut_same _) _ _ c.cut.ensures.time c.cut.ensures.images.follows
 
 pub returns-in_err-cut-clause-size : goal.returns-in_err-cut-clause-size
 returns-in_err-cut-clause-size g c = c.in_err-cut.ensures.size.0
 
 pub returns-in_err-cut-clause-runs : goal.returns-in_err-cut-clause-runs
-returns-in_err-cut-clause-runs g c = call_runs g.D.Disk.content g.D.Disk.losses g.D.Disk.arms g.D.Disk.armed g.D.Disk.starved g.D.Disk.faults _ c.args.disk.now c.cut.new.self _ c.cut.ensures.content.told c.cut.ensures.events c.cut.ensures.fails c.cut.ensures.cause
+returns-in_err-cut-clause-runs g c = call_runs g.D.Disk.seen _ c.args.disk.now c.cut.new.self _ c.cut.ensures.content.told c.cut.ensures.events c.cut.ensures.fails c.cut.ensures.cause
 
 pub returns-in_err-cut-clause-fails : goal.returns-in_err-cut-clause-fails
 returns-in_err-cut-clause-fails g c = on_err c.from_residual.result _
-    (first_fails g.D.Disk.content g.D.Disk.losses g.D.Disk.arms g.D.Disk.armed g.D.Disk.starved g.D.Disk.faults false c.args.disk.now c.cut.new.self _ c.in_err-cut.ensures.fails)
+    (first_fails g.D.Disk.seen false c.args.disk.now c.cut.new.self _ c.in_err-cut.ensures.fails)
 
 pub returns-in_err-cut-clause-memory : goal.returns-in_err-cut-clause-memory
 returns-in_err-cut-clause-memory g c = on_err c.from_residual.result _
-    (first_starves g.D.Disk.content g.D.Disk.losses g.D.Disk.arms g.D.Disk.armed g.D.Disk.starved g.D.Disk.faults false c.args.disk.now c.cut.new.self _ c.in_err-cut.ensures.fails)
+    (first_starves g.D.Disk.seen false c.args.disk.now c.cut.new.self _ c.in_err-cut.ensures.fails)
 
 pub returns-in_err-cut-clause-cause : goal.returns-in_err-cut-clause-cause
 returns-in_err-cut-clause-cause g c = cause_of _ _ _ c.from_residual.result c.in_err-cut.ensures.cause
@@ -36,26 +36,26 @@ pub returns-clause-images : goal.returns-clause-images
 returns-clause-images g c = λ x now. c.cut.ensures.images.follows x (c.sync.ensures.images x now)
 
 pub returns-clause-any_moment : goal.returns-clause-any_moment
-returns-clause-any_moment g c = step_and_sync g.D.Disk.image g.D.Disk.moment g.D.Disk.since g.met.D.Disk.only_now _
+returns-clause-any_moment g c = step_and_sync g.D.Disk.seen g.met.D.Disk.only_now _
     (cut_same _) _ _ _ c.cut.ensures.time c.cut.ensures.images.follows c.sync.ensures.time c.sync.ensures.images
 
 pub returns-clause-size : goal.returns-clause-size
 returns-clause-size g c = omega (arith, c.in_ok-cut.ensures.size, c.sync.ensures.stays.size)
 
 pub returns-clause-runs : goal.returns-clause-runs
-returns-clause-runs g c = both_run g.D.Disk.content g.D.Disk.losses g.D.Disk.arms g.D.Disk.armed g.D.Disk.starved g.D.Disk.faults false c.args.disk.now c.cut.new.self c.sync.new.self tt c.cut.ensures.content.told c.in_ok-cut.ensures.fails
+returns-clause-runs g c = both_run g.D.Disk.seen false c.args.disk.now c.cut.new.self c.sync.new.self tt c.cut.ensures.content.told c.in_ok-cut.ensures.fails
     c.sync.result c.cut.ensures.events c.in_ok-cut.ensures.cause c.sync.ensures.stays.content c.sync.ensures.events c.sync.ensures.fails c.sync.ensures.cause
 
 pub returns-clause-calls : goal.returns-clause-calls
-returns-clause-calls g c = both_done g.D.Disk.content g.D.Disk.losses g.D.Disk.arms g.D.Disk.armed g.D.Disk.starved g.D.Disk.faults false c.args.disk.now c.cut.new.self c.sync.new.self tt c.cut.ensures.content.told c.in_ok-cut.ensures.fails
+returns-clause-calls g c = both_done g.D.Disk.seen false c.args.disk.now c.cut.new.self c.sync.new.self tt c.cut.ensures.content.told c.in_ok-cut.ensures.fails
     c.sync.result c.sync.ensures.fails
 
 pub returns-clause-fails : goal.returns-clause-fails
-returns-clause-fails g c = second_fails g.D.Disk.content g.D.Disk.losses g.D.Disk.arms g.D.Disk.armed g.D.Disk.starved g.D.Disk.faults false c.args.disk.now c.cut.new.self c.sync.new.self tt c.cut.ensures.content.told c.in_ok-cut.ensures.fails
+returns-clause-fails g c = second_fails g.D.Disk.seen false c.args.disk.now c.cut.new.self c.sync.new.self tt c.cut.ensures.content.told c.in_ok-cut.ensures.fails
     c.sync.result c.sync.ensures.fails
 
 pub returns-clause-memory : goal.returns-clause-memory
-returns-clause-memory g c = second_starves g.D.Disk.content g.D.Disk.losses g.D.Disk.arms g.D.Disk.armed g.D.Disk.starved g.D.Disk.faults false c.args.disk.now c.cut.new.self c.sync.new.self tt c.cut.ensures.content.told c.in_ok-cut.ensures.fails
+returns-clause-memory g c = second_starves g.D.Disk.seen false c.args.disk.now c.cut.new.self c.sync.new.self tt c.cut.ensures.content.told c.in_ok-cut.ensures.fails
     c.sync.result c.sync.ensures.fails
 
 pub returns-clause-cause : goal.returns-clause-cause

@@ -5,7 +5,7 @@ use Rattle.gate_journal.proofs.repair.repair.Goals as goal
 
 pub returns-in_err-write_and_sync-clause-any_moment : goal.returns-in_err-write_and_sync-clause-any_moment
 returns-in_err-write_and_sync-clause-any_moment g c = λ frames read synced.
-    weakened g.D.Disk.moment g.D.Disk.since _ _ _ _ c.write_and_sync.ensures.any_moment
+    weakened g.D.Disk.seen _ _ _ _ c.write_and_sync.ensures.any_moment
     (λ x p. let r = read p.0 (synced p.0 p.1) in (
       p.0,
       p.1,
@@ -15,7 +15,7 @@ returns-in_err-write_and_sync-clause-any_moment g c = λ frames read synced.
 
 pub returns-then-len-le1-clause-any_moment : goal.returns-then-len-le1-clause-any_moment
 returns-then-len-le1-clause-any_moment g c = λ frames read synced.
-    weakened g.D.Disk.moment g.D.Disk.since _ _ _ _ c.write_and_sync.ensures.any_moment
+    weakened g.D.Disk.seen _ _ _ _ c.write_and_sync.ensures.any_moment
     (λ x p. let r = read p.0 (synced p.0 p.1) in (
       p.0,
       p.1,
@@ -25,7 +25,7 @@ returns-then-len-le1-clause-any_moment g c = λ frames read synced.
 
 pub returns-in_err-cut_and_sync-clause-any_moment : goal.returns-in_err-cut_and_sync-clause-any_moment
 returns-in_err-cut_and_sync-clause-any_moment g c = λ frames read synced.
-    weakened g.D.Disk.moment g.D.Disk.since _ _ _ _ c.cut_and_sync.ensures.any_moment
+    weakened g.D.Disk.seen _ _ _ _ c.cut_and_sync.ensures.any_moment
     (λ x p. let r = read p.0 (synced p.0 p.1) in (
       p.0,
       p.1,
@@ -35,7 +35,7 @@ returns-in_err-cut_and_sync-clause-any_moment g c = λ frames read synced.
 
 pub returns-then-end-len-clause-any_moment : goal.returns-then-end-len-clause-any_moment
 returns-then-end-len-clause-any_moment g c = λ frames read synced.
-    weakened g.D.Disk.moment g.D.Disk.since _ _ _ _ c.cut_and_sync.ensures.any_moment
+    weakened g.D.Disk.seen _ _ _ _ c.cut_and_sync.ensures.any_moment
     (λ x p. let r = read p.0 (synced p.0 p.1) in (
       p.0,
       p.1,

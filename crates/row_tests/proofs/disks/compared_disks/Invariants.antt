@@ -1,6 +1,6 @@
-use Rattle.edge_mem.specs.Bays.{out_at}
+use Rattle.edge_mem.specs.Seen.{bay_view}
 use Rattle.share_top.specs.Loading.{NoneIsOut}
 use Rattle.row_tests.proofs.disks.compared_disks.Given as goal
 
 abbrev pub invariant-loop-line : goal.invariant-loop-line
-invariant-loop-line l = NoneIsOut out_at l.bay
+invariant-loop-line l = NoneIsOut bay_view l.bay

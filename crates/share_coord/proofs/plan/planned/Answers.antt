@@ -41,3 +41,25 @@ returns-in-Ok-snapshot-clause-written c =
       few = omega (arith, two, c.max-count.ensures, c.if-count-gt-MAX_RUNS.false);
       is = search rules;
     }
+
+pub returns-then-kept-lt500-clause-one : goal.returns-then-kept-lt500-clause-one
+returns-then-kept-lt500-clause-one c = λ old known. record {
+  kept = c.args.kept.now;
+  written = c.in-Ok.over;
+  laid = c.in-Ok-laid.rows;
+  known = known;
+  are_written = c.in-Ok.ensures;
+  are_laid = search rules;
+  is = search rules;
+}
+
+pub returns-in-Ok-snapshot-clause-one : goal.returns-in-Ok-snapshot-clause-one
+returns-in-Ok-snapshot-clause-one c = λ old known. record {
+  kept = c.args.kept.now;
+  written = c.in-Ok.over;
+  laid = c.in-Ok-laid.rows;
+  known = known;
+  are_written = c.in-Ok.ensures;
+  are_laid = search rules;
+  is = search rules;
+}

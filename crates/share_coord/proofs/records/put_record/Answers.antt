@@ -3,6 +3,8 @@ use Rattle.gate_journal.specs.Frames.{frame_in}
 use Rattle.share_model.specs.Pending.{WithPending, WithinWrite}
 use Rattle.coord_checkpoint.specs.Lists.{IsListed, Keeps, and_pending}
 use Rattle.share_coord.proofs.Faults.{same_fault}
+use Rattle.share_coord.proofs.Numeric.{memory_apart}
+use Rattle.share_coord.proofs.Storing.{unstored, put_ok, put_err}
 use Rattle.edge_io.proofs.Runs.{runs_none}
 use Rattle.edge_io.proofs.Moments.{paired, started}
 use Rattle.share_coord.proofs.records.put_record.Goals as goal
@@ -24,25 +26,25 @@ returns-clause-full g c = λ end e.
     (bounds.0, c.in-Ok.ensures.valid, omega (arith, bounds.1, whole, c.in-Ok-buffer_of.ensures.len, len), c.append.ensures.untouched end is)
 
 pub returns-in_default-clause-runs : goal.returns-in_default-clause-runs
-returns-in_default-clause-runs g c = runs_none g.D.Disk.content g.D.Disk.losses g.D.Disk.arms g.D.Disk.armed g.D.Disk.starved g.D.Disk.faults c.args.journal.now.live.disk
+returns-in_default-clause-runs g c = runs_none g.D.Disk.seen c.args.journal.now.live.disk
 
 pub returns-in_default-clause-any_moment : goal.returns-in_default-clause-any_moment
 returns-in_default-clause-any_moment g c = λ frames pending k.
-    paired g.D.Disk.moment g.D.Disk.since g.D.Disk.moment g.D.Disk.since c.args.journal.now.live.disk c.args.journal.now.live.disk c.args.journal.now.idle c.args.journal.now.idle
-    (g.D.Disk.image c.args.journal.now.live.disk) (g.D.Disk.image c.args.journal.now.idle) _
-    (started g.D.Disk.moment g.D.Disk.since c.args.journal.now.live.disk (g.D.Disk.image c.args.journal.now.live.disk) (λ a left. g.met.D.Disk.only_now _ a left))
-    (started g.D.Disk.moment g.D.Disk.since c.args.journal.now.idle (g.D.Disk.image c.args.journal.now.idle) (λ b left. g.met.D.Disk.only_now _ b left))
+    paired g.D.Disk.seen c.args.journal.now.live.disk c.args.journal.now.live.disk c.args.journal.now.idle c.args.journal.now.idle
+    (g.D.Disk.seen c.args.journal.now.live.disk).image (g.D.Disk.seen c.args.journal.now.idle).image _
+    (started g.D.Disk.seen c.args.journal.now.live.disk (g.D.Disk.seen c.args.journal.now.live.disk).image (λ a left. g.met.D.Disk.only_now _ a left))
+    (started g.D.Disk.seen c.args.journal.now.idle (g.D.Disk.seen c.args.journal.now.idle).image (λ b left. g.met.D.Disk.only_now _ b left))
     (λ a b on_a on_b. inl (k.images a b on_a on_b))
 
 pub returns-in_default-buffer_of-clause-runs : goal.returns-in_default-buffer_of-clause-runs
-returns-in_default-buffer_of-clause-runs g c = runs_none g.D.Disk.content g.D.Disk.losses g.D.Disk.arms g.D.Disk.armed g.D.Disk.starved g.D.Disk.faults c.args.journal.now.live.disk
+returns-in_default-buffer_of-clause-runs g c = runs_none g.D.Disk.seen c.args.journal.now.live.disk
 
 pub returns-in_default-buffer_of-clause-any_moment : goal.returns-in_default-buffer_of-clause-any_moment
 returns-in_default-buffer_of-clause-any_moment g c = λ frames pending k.
-    paired g.D.Disk.moment g.D.Disk.since g.D.Disk.moment g.D.Disk.since c.args.journal.now.live.disk c.args.journal.now.live.disk c.args.journal.now.idle c.args.journal.now.idle
-    (g.D.Disk.image c.args.journal.now.live.disk) (g.D.Disk.image c.args.journal.now.idle) _
-    (started g.D.Disk.moment g.D.Disk.since c.args.journal.now.live.disk (g.D.Disk.image c.args.journal.now.live.disk) (λ a left. g.met.D.Disk.only_now _ a left))
-    (started g.D.Disk.moment g.D.Disk.since c.args.journal.now.idle (g.D.Disk.image c.args.journal.now.idle) (λ b left. g.met.D.Disk.only_now _ b left))
+    paired g.D.Disk.seen c.args.journal.now.live.disk c.args.journal.now.live.disk c.args.journal.now.idle c.args.journal.now.idle
+    (g.D.Disk.seen c.args.journal.now.live.disk).image (g.D.Disk.seen c.args.journal.now.idle).image _
+    (started g.D.Disk.seen c.args.journal.now.live.disk (g.D.Disk.seen c.args.journal.now.live.disk).image (λ a left. g.met.D.Disk.only_now _ a left))
+    (started g.D.Disk.seen c.args.journal.now.idle (g.D.Disk.seen c.args.journal.now.idle).image (λ b left. g.met.D.Disk.only_now _ b left))
     (λ a b on_a on_b. inl (k.images a b on_a on_b))
 
 pub returns-clause-any_moment : goal.returns-clause-any_moment
@@ -69,5 +71,27 @@ pub returns-clause-failed : goal.returns-clause-failed
 returns-clause-failed g c = λ frames pending k.
     let is = ap frame_in c.deref_mut.ensures.value ∙ c.in-Ok-buffer_of.ensures.frame ∙ (c.as_slice.ensures ∙ c.in-Ok.ensures.value) in
     ⊎_elim (λ was. inl was)
-    (λ now. inr (c.in-Ok.ensures.valid, subst (λ (f : List ℕ). Keeps g.D.Disk.image c.append.new.self frames (Some f)) is now))
+    (λ now. inr (c.in-Ok.ensures.valid, subst (λ (f : List ℕ). Keeps g.D.Disk.seen c.append.new.self frames (Some f)) is now))
     (c.in-Err.ensures.failed frames pending k)
+
+pub returns-in_default-clause-stored : goal.returns-in_default-clause-stored
+returns-in_default-clause-stored g c = unstored g.D.Disk.seen _ _ _ memory_apart
+
+pub returns-in_default-buffer_of-clause-stored : goal.returns-in_default-buffer_of-clause-stored
+returns-in_default-buffer_of-clause-stored g c = unstored g.D.Disk.seen _ _ _ memory_apart
+
+pub returns-in-Ok-append-clause-stored : goal.returns-in-Ok-append-clause-stored
+returns-in-Ok-append-clause-stored g c =
+    let is = ap frame_in c.deref_mut.ensures.value ∙ c.in-Ok-buffer_of.ensures.frame ∙ (c.as_slice.ensures ∙ c.in-Ok.ensures.value) in
+    let len = ap (λ (l : List ℕ). length l) (c.as_slice.ensures ∙ c.in-Ok.ensures.value) in
+    let whole = ap (λ (l : List ℕ). length l) c.deref_mut.ensures.value in
+    put_ok g.D.Disk.seen c.args.journal.now c.append.new.self c.args.written.now _ _ is (omega (arith, whole, c.in-Ok-buffer_of.ensures.len, len))
+    c.append.result c.append.ensures.full _ c.in-Ok-append.is c.in-Ok-append.ensures.kept
+
+pub returns-clause-stored : goal.returns-clause-stored
+returns-clause-stored g c =
+    let is = ap frame_in c.deref_mut.ensures.value ∙ c.in-Ok-buffer_of.ensures.frame ∙ (c.as_slice.ensures ∙ c.in-Ok.ensures.value) in
+    let len = ap (λ (l : List ℕ). length l) (c.as_slice.ensures ∙ c.in-Ok.ensures.value) in
+    let whole = ap (λ (l : List ℕ). length l) c.deref_mut.ensures.value in
+    put_err g.D.Disk.seen c.args.journal.now c.append.new.self c.args.written.now _ _ is (omega (arith, whole, c.in-Ok-buffer_of.ensures.len, len))
+    c.append.result c.append.ensures.full c.in-Err.fault c.in-Err.is c.in-Err.ensures.failed

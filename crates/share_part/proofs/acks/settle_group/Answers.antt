@@ -31,11 +31,11 @@ pub returns-in_err-fault-clause-settles : goal.returns-in_err-fault-clause-settl
 returns-in_err-fault-clause-settles g c =
     let held = held_in g.W.Window.held c.args.windows.now.entries in
     let acts = kind_at c.args.visit.now.acks in
-    unsettled g.D.Disk.image g.D.Disk.moment g.D.Disk.since (HasFailed g.D.Disk.content g.D.Disk.armed g.D.Disk.starved g.D.Disk.faults)
+    unsettled g.D.Disk.seen (HasFailed g.D.Disk.seen)
     c.args.states.now c.store_change.new.states c.args.conf.now c.args.log.now.batches c.args.visit.now.group acts (held c.args.visit.now.group)
     ((other : List ℕ) → held other ≡ held other)
     ((other : List ℕ) → held other ≡ with_held held c.args.visit.now.group (held_after acts (held c.args.visit.now.group)) other)
-    (unstored g.D.Disk.image g.D.Disk.moment g.D.Disk.since (HasFailed g.D.Disk.content g.D.Disk.armed g.D.Disk.starved g.D.Disk.faults)
+    (unstored g.D.Disk.seen (HasFailed g.D.Disk.seen)
     c.args.states.now c.store_change.new.states _ c.store_change.result _ c.in_err-fault.was c.store_change.ensures.once) (λ other. refl)
     c.args.visit.now.member c.from_residual-in_err-fault.result c.from_residual-in_err-fault.ensures.0
 
@@ -49,7 +49,7 @@ returns-in-Some-clause-settles g c = (
         c.requires.sound c.requires.limit.few c.requires.hosted c.requires.well c.in-Changes.change
         (change_there c.args.conf.now.limit c.args.visit.now.member (kind_at c.args.visit.now.acks) c.args.log.now.batches (held_in g.W.Window.held c.args.windows.now.entries c.args.visit.now.group)
         (share_state_at (states_of c.args.states.now.entries) (key_of c.args.conf.now c.args.visit.now.group)) c.in_ok-judged.judged c.in-Changes.change c.in-Changes.is c.in_ok-judged.ensures) c.key-key.result c.deref.result.now c.key-key.ensures c.deref.ensures.value
-        g.D.Disk.image g.D.Disk.moment g.D.Disk.since (HasFailed g.D.Disk.content g.D.Disk.armed g.D.Disk.starved g.D.Disk.faults) c.store_change.new.states c.in_ok-fault.fault c.in-Some.fault c.in-Some.is c.in_ok-fault.ensures.once,
+        g.D.Disk.seen (HasFailed g.D.Disk.seen) c.store_change.new.states c.in_ok-fault.fault c.in-Some.fault c.in-Some.is c.in_ok-fault.ensures.once,
     λ other. refl,
   ),
 )
@@ -64,7 +64,7 @@ returns-clause-settles g c = (
         c.requires.sound c.requires.limit.few c.requires.hosted c.requires.well c.in-Changes.change
         (change_there c.args.conf.now.limit c.args.visit.now.member (kind_at c.args.visit.now.acks) c.args.log.now.batches (held_in g.W.Window.held c.args.windows.now.entries c.args.visit.now.group)
         (share_state_at (states_of c.args.states.now.entries) (key_of c.args.conf.now c.args.visit.now.group)) c.in_ok-judged.judged c.in-Changes.change c.in-Changes.is c.in_ok-judged.ensures) c.key-key.result c.deref.result.now c.key-key.ensures c.deref.ensures.value
-        g.D.Disk.image g.D.Disk.moment g.D.Disk.since (HasFailed g.D.Disk.content g.D.Disk.armed g.D.Disk.starved g.D.Disk.faults) c.store_change.new.states c.in_ok-fault.fault c.in_default.is c.in_ok-fault.ensures.once,
+        g.D.Disk.seen (HasFailed g.D.Disk.seen) c.store_change.new.states c.in_ok-fault.fault c.in_default.is c.in_ok-fault.ensures.once,
     subst (λ (l : List AckBatch). (other : List ℕ) → held_in g.W.Window.held c.end_acknowledged.new.windows.entries other ≡ with_held (held_in g.W.Window.held c.args.windows.now.entries) c.args.visit.now.group
         (held_after (kind_at l) (held_in g.W.Window.held c.args.windows.now.entries c.args.visit.now.group)) other) c.as_slice.ensures.items c.end_acknowledged.ensures,
   ),

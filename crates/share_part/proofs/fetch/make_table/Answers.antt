@@ -6,7 +6,7 @@ use Rattle.share_part.proofs.Planning.{made_table}
 use Rattle.share_part.proofs.fetch.make_table.Goals as goal
 
 pub returns-clause-made : goal.returns-clause-made
-returns-clause-made g c = made_table g.D.Disk.image g.D.Disk.moment g.D.Disk.since (HasFailed g.D.Disk.content g.D.Disk.armed g.D.Disk.starved g.D.Disk.faults)
+returns-clause-made g c = made_table g.D.Disk.seen (HasFailed g.D.Disk.seen)
     c.args.conf.now c.args.group.now c.args.end c.args.states.now c.store_state.new.states c.store_state.result c.key-key.result c.first_start.result
     c.key-key.ensures (c.first_start.ensures.start ∙ ap (λ (r : Reset). first_start r c.args.end) c.reset.ensures)
     c.store_state.ensures.there c.store_state.ensures.absent

@@ -13,11 +13,11 @@ pub returns-in_err-fault-clause-once : goal.returns-in_err-fault-clause-once
 returns-in_err-fault-clause-once g c =
     let held = held_in g.W.Window.held c.args.windows.now.entries in
     let acts = releasing (is_chosen c.args.whose.now) (held c.args.group.now) in
-    unreleased g.D.Disk.image g.D.Disk.moment g.D.Disk.since (HasFailed g.D.Disk.content g.D.Disk.armed g.D.Disk.starved g.D.Disk.faults)
+    unreleased g.D.Disk.seen (HasFailed g.D.Disk.seen)
     c.args.states.now c.store_change.new.states c.args.conf.now c.args.log.now.batches c.args.group.now acts (held c.args.group.now)
     ((other : List ℕ) → held other ≡ held other)
     ((other : List ℕ) → held other ≡ with_held held c.args.group.now (held_after acts (held c.args.group.now)) other)
-    (unstored g.D.Disk.image g.D.Disk.moment g.D.Disk.since (HasFailed g.D.Disk.content g.D.Disk.armed g.D.Disk.starved g.D.Disk.faults)
+    (unstored g.D.Disk.seen (HasFailed g.D.Disk.seen)
     c.args.states.now c.store_change.new.states _ c.store_change.result _ c.in_err-fault.was c.store_change.ensures.once) (λ other. refl)
     c.from_residual-in_err-fault.result c.from_residual-in_err-fault.ensures.0
 
@@ -52,7 +52,7 @@ returns-in-Some-fault-clause-once g c = (
       c.requires.sound c.requires.limit.few c.requires.hosted c.requires.well c.in-Some.change
       (change_of_group c.args.conf.now.limit (is_chosen c.args.whose.now) c.args.log.now.batches (held_in g.W.Window.held c.args.windows.now.entries c.args.group.now)
       (share_state_at (states_of c.args.states.now.entries) (key_of c.args.conf.now c.args.group.now)) c.in_ok-judged.judged c.in-Some.change c.in-Some.is c.in_ok-judged.ensures.judged) c.key-key.result c.deref.result.now c.key-key.ensures c.deref.ensures.value
-      g.D.Disk.image g.D.Disk.moment g.D.Disk.since (HasFailed g.D.Disk.content g.D.Disk.armed g.D.Disk.starved g.D.Disk.faults) c.store_change.new.states c.in_ok-fault.fault c.in-Some-fault.fault c.in-Some-fault.is c.in_ok-fault.ensures.once,
+      g.D.Disk.seen (HasFailed g.D.Disk.seen) c.store_change.new.states c.in_ok-fault.fault c.in-Some-fault.fault c.in-Some-fault.is c.in_ok-fault.ensures.once,
   λ other. refl,
 )
 
@@ -64,6 +64,6 @@ returns-clause-once g c = inr (
       c.requires.sound c.requires.limit.few c.requires.hosted c.requires.well c.in-Some.change
       (change_of_group c.args.conf.now.limit (is_chosen c.args.whose.now) c.args.log.now.batches (held_in g.W.Window.held c.args.windows.now.entries c.args.group.now)
       (share_state_at (states_of c.args.states.now.entries) (key_of c.args.conf.now c.args.group.now)) c.in_ok-judged.judged c.in-Some.change c.in-Some.is c.in_ok-judged.ensures.judged) c.key-key.result c.deref.result.now c.key-key.ensures c.deref.ensures.value
-      g.D.Disk.image g.D.Disk.moment g.D.Disk.since (HasFailed g.D.Disk.content g.D.Disk.armed g.D.Disk.starved g.D.Disk.faults) c.store_change.new.states c.in_ok-fault.fault c.in_default-fault.is c.in_ok-fault.ensures.once,
+      g.D.Disk.seen (HasFailed g.D.Disk.seen) c.store_change.new.states c.in_ok-fault.fault c.in_default-fault.is c.in_ok-fault.ensures.once,
   c.end_released.ensures.held,
 )

@@ -13,11 +13,11 @@ told_fault-requires g c =
 pub returns-in-Ok-clause-once : goal.returns-in-Ok-clause-once
 returns-in-Ok-clause-once g c =
     let same : to_z w64 (of_z w64 c.start_number.result) ≡ c.start_number.result = grind (arith, to_z-of_z) in
-    stored_by g.D.Disk.image g.D.Disk.moment g.D.Disk.since (HasFailed g.D.Disk.content g.D.Disk.armed g.D.Disk.starved g.D.Disk.faults)
+    stored_by g.D.Disk.seen (HasFailed g.D.Disk.seen)
     c.args.states.now.entries c.args.key.now c.args.start _ c.args.runs.now (same ∙ c.start_number.ensures) c.args.states.now c.write.new.self _ (Ok c.in-Ok.field-0) refl c.in-Ok.ensures.once
 
 pub returns-in-Err-clause-once : goal.returns-in-Err-clause-once
 returns-in-Err-clause-once g c =
     let same : to_z w64 (of_z w64 c.start_number.result) ≡ c.start_number.result = grind (arith, to_z-of_z) in
-    stored_by g.D.Disk.image g.D.Disk.moment g.D.Disk.since (HasFailed g.D.Disk.content g.D.Disk.armed g.D.Disk.starved g.D.Disk.faults)
+    stored_by g.D.Disk.seen (HasFailed g.D.Disk.seen)
     c.args.states.now.entries c.args.key.now c.args.start _ c.args.runs.now (same ∙ c.start_number.ensures) c.args.states.now c.write.new.self _ (Err c.in-Err.fault) c.told_fault.ensures c.in-Err.ensures.once

@@ -9,5 +9,5 @@ pub returns-clause-runs : goal.returns-clause-runs
 returns-clause-runs g c = λ name at.
     let there : IsLogDisk c.args.conf.now.topics c.args.shard c.in-Some.name =
     subst (λ (ts : List Topic). IsLogDisk ts c.args.shard c.in-Some.name) c.topics.ensures.same c.in-Some.ensures in
-    (subst (λ (n : List ℕ). RunsDisk g.B.Bay.disk g.B.D.Disk.content g.B.D.Disk.losses g.B.D.Disk.arms g.B.D.Disk.armed g.B.D.Disk.starved g.B.D.Disk.faults n
+    (subst (λ (n : List ℕ). RunsDisk g.B.Bay.seen g.B.D.Disk.seen n
     c.args.bay.now c.load_on.new.bay) (one_disk c.args.conf.now.topics c.args.shard c.in-Some.name name there at) c.load_on.ensures.runs)

@@ -6,10 +6,10 @@ use Rattle.share_top.proofs.load.load_all.Given as goal
 
 abbrev pub invariant-batches : goal.invariant-batches
 invariant-batches g l = record {
-  loaded : HasLoaded g.D.Disk.image l.fn.log l.log (g.I.Source.left l.fn.input) (g.I.Source.left l.input) l.reader;
+  loaded : HasLoaded g.D.Disk.seen l.fn.log l.log (g.I.Source.left l.fn.input) (g.I.Source.left l.input) l.reader;
   within : l.reader.place ≤ longest;
   read : g.I.Source.faults l.fn.input ≤ g.I.Source.faults l.input;
-  runs : RunsOn g.D.Disk.content g.D.Disk.losses g.D.Disk.arms g.D.Disk.armed g.D.Disk.starved g.D.Disk.faults l.fn.log.journal.disk l.log.journal.disk;
+  runs : RunsOn g.D.Disk.seen l.fn.log.journal.disk l.log.journal.disk;
 }
 
 abbrev pub decreases-batches : goal.decreases-batches

@@ -17,16 +17,16 @@ returns-in-Ok-open-clause-loads g c =
     let given = c.in-Ok.ensures.given in
     inl (weakens (input_change g.I.Source.left g.I.Source.ended g.I.Source.faults c.args.input.now c.load_into-status.new.input)
     (output_change g.O.Sink.held g.O.Sink.faults c.args.output.now c.load_into-status.new.output)
-    (IsGrown g.B.D.Disk.image c.in-Ok-open.log c.load_into-status.new.log)
-    (StoresIn g.B.Bay.disk g.B.D.Disk.content g.B.D.Disk.image c.args.name.now c.args.bay.now c.put_back.new.self)
-    (Rose (g.B.D.Disk.faults c.in-Ok-open.log.journal.disk) (g.B.D.Disk.faults last))
-    (DiskCountRose g.B.Bay.disk g.B.D.Disk.faults g.B.Bay.faults c.args.name.now c.args.bay.now c.put_back.new.self)
-    (stores g.B.Bay.disk g.B.D.Disk.content g.B.D.Disk.image g.B.D.Disk.faults g.B.Bay.faults c.args.name.now c.args.bay.now c.take.new.self c.put_back.new.self
+    (IsGrown g.B.D.Disk.seen c.in-Ok-open.log c.load_into-status.new.log)
+    (StoresIn g.B.Bay.seen g.B.D.Disk.seen c.args.name.now c.args.bay.now c.put_back.new.self)
+    (Rose (g.B.D.Disk.seen c.in-Ok-open.log.journal.disk).faults (g.B.D.Disk.seen last).faults)
+    (DiskCountRose g.B.Bay.seen c.args.name.now c.args.bay.now c.put_back.new.self)
+    (stores g.B.Bay.seen g.B.D.Disk.seen c.args.name.now c.args.bay.now c.take.new.self c.put_back.new.self
     c.in-Ok.disk c.into_disk.result given c.in-Ok.ensures.told c.put_back.ensures.there
-    (ap (λ (d : g.row.B-D.Denot). is_some (g.B.D.Disk.content d)) c.into_disk.ensures ∙ run.told ∙ opened.told)
+    (ap (λ (d : g.row.B-D.Denot). is_some (g.B.D.Disk.seen d).content) c.into_disk.ensures ∙ run.told ∙ opened.told)
     (λ d x e. (g.met.B.D.Disk.read_is_image d x e).0) c.in-Ok-open.log c.load_into-status.new.log c.into_disk.ensures c.in-Ok-open.ensures.opens)
-    (λ rose. rises g.B.Bay.disk g.B.D.Disk.content g.B.D.Disk.image g.B.D.Disk.faults g.B.Bay.faults c.args.name.now c.args.bay.now c.take.new.self c.put_back.new.self
-    c.in-Ok.disk (g.B.Bay.taken c.take.new.self c.args.name.now) (g.B.D.Disk.faults last) given c.in-Ok.ensures.is_out.1 c.in-Ok.ensures.cause.later
+    (λ rose. rises g.B.Bay.seen g.B.D.Disk.seen c.args.name.now c.args.bay.now c.take.new.self c.put_back.new.self
+    c.in-Ok.disk ((g.B.Bay.seen c.take.new.self).taken c.args.name.now) (g.B.D.Disk.seen last).faults c.put_back.ensures.taken c.in-Ok.ensures.is_out.1 c.in-Ok.ensures.cause.later
     (rw (← c.into_disk.ensures) c.put_back.ensures.counts) (rose_on _ _ _ opened.later rose))
     c.load_into-status.result c.load_into-status.ensures.loaded)
 
@@ -36,16 +36,16 @@ returns-in-Err-clause-loads g c =
     let runs = c.in-Err.ensures.runs in
     inr (
       refl,
-      stays g.B.Bay.disk g.B.D.Disk.content g.B.D.Disk.image g.B.D.Disk.faults g.B.Bay.faults c.args.name.now c.args.bay.now c.take.new.self c.put_back-in-Err.new.self
-          c.in-Ok.disk c.in-Err.disk given c.in-Ok.ensures.told c.put_back-in-Err.ensures.there runs.told g.B.D.Disk.moment g.B.D.Disk.since g.met.B.D.Disk.counts_now
+      stays g.B.Bay.seen g.B.D.Disk.seen c.args.name.now c.args.bay.now c.take.new.self c.put_back-in-Err.new.self
+          c.in-Ok.disk c.in-Err.disk given c.in-Ok.ensures.told c.put_back-in-Err.ensures.there runs.told g.met.B.D.Disk.counts_now
           c.in-Err.ensures.any_moment,
       not_loaded (output_change g.O.Sink.held g.O.Sink.faults c.args.output.now c.refuse_log.new.output) c.args.name.now c.in-Err.fault
-          (DamagesIn g.B.Bay.disk g.B.D.Disk.content c.args.name.now c.args.bay.now)
-          (DiskCountRose g.B.Bay.disk g.B.D.Disk.faults g.B.Bay.faults c.args.name.now c.args.bay.now c.put_back-in-Err.new.self)
-          (damages g.B.Bay.disk g.B.D.Disk.content g.B.D.Disk.image g.B.D.Disk.faults g.B.Bay.faults c.args.name.now c.args.bay.now c.take.new.self c.put_back-in-Err.new.self
+          (DamagesIn g.B.Bay.seen g.B.D.Disk.seen c.args.name.now c.args.bay.now)
+          (DiskCountRose g.B.Bay.seen c.args.name.now c.args.bay.now c.put_back-in-Err.new.self)
+          (damages g.B.Bay.seen g.B.D.Disk.seen c.args.name.now c.args.bay.now c.take.new.self c.put_back-in-Err.new.self
           c.in-Ok.disk given c.in-Err.fault c.in-Err.ensures.damaged)
-          (λ is. rises g.B.Bay.disk g.B.D.Disk.content g.B.D.Disk.image g.B.D.Disk.faults g.B.Bay.faults c.args.name.now c.args.bay.now c.take.new.self c.put_back-in-Err.new.self
-          c.in-Ok.disk (g.B.Bay.taken c.take.new.self c.args.name.now) (g.B.D.Disk.faults c.in-Err.disk) given c.in-Ok.ensures.is_out.1 c.in-Ok.ensures.cause.later
+          (λ is. rises g.B.Bay.seen g.B.D.Disk.seen c.args.name.now c.args.bay.now c.take.new.self c.put_back-in-Err.new.self
+          c.in-Ok.disk ((g.B.Bay.seen c.take.new.self).taken c.args.name.now) (g.B.D.Disk.seen c.in-Err.disk).faults c.put_back-in-Err.ensures.taken c.in-Ok.ensures.is_out.1 c.in-Ok.ensures.cause.later
           c.put_back-in-Err.ensures.counts (c.in-Err.ensures.device is).0)
           c.refuse_log.result c.refuse_log.ensures.refusal,
     )
@@ -54,24 +54,24 @@ returns-in-Err-clause-loads g c =
 
 pub returns-in-Ok-open-clause-others : goal.returns-in-Ok-open-clause-others
 returns-in-Ok-open-clause-others g c = λ m not.
-    slot_then g.B.Bay.disk g.B.Bay.out g.B.Bay.taken m c.args.bay.now c.take.new.self c.put_back.new.self (c.take.ensures.others m not) (c.put_back.ensures.others m not)
+    slot_then g.B.Bay.seen m c.args.bay.now c.take.new.self c.put_back.new.self (c.take.ensures.others m not) (c.put_back.ensures.others m not)
 
 pub returns-in-Err-clause-others : goal.returns-in-Err-clause-others
 returns-in-Err-clause-others g c = λ m not.
-    slot_then g.B.Bay.disk g.B.Bay.out g.B.Bay.taken m c.args.bay.now c.take.new.self c.put_back-in-Err.new.self (c.take.ensures.others m not)
+    slot_then g.B.Bay.seen m c.args.bay.now c.take.new.self c.put_back-in-Err.new.self (c.take.ensures.others m not)
     (c.put_back-in-Err.ensures.others m not)
 
 pub returns-in-Ok-open-clause-runs : goal.returns-in-Ok-open-clause-runs
 returns-in-Ok-open-clause-runs g c =
-    runs_back g.B.Bay.disk g.B.D.Disk.content g.B.D.Disk.losses g.B.D.Disk.arms g.B.D.Disk.armed g.B.D.Disk.starved g.B.D.Disk.faults c.args.name.now
+    runs_back g.B.Bay.seen g.B.D.Disk.seen c.args.name.now
     c.args.bay.now c.put_back.new.self c.take.new.self c.in-Ok.disk c.into_disk.result c.in-Ok.ensures.given c.take.ensures.told c.put_back.ensures.there
-    (subst (λ (d : g.row.B-D.Denot). RunsOn g.B.D.Disk.content g.B.D.Disk.losses g.B.D.Disk.arms g.B.D.Disk.armed g.B.D.Disk.starved g.B.D.Disk.faults c.in-Ok.disk d)
+    (subst (λ (d : g.row.B-D.Denot). RunsOn g.B.D.Disk.seen c.in-Ok.disk d)
     (sym c.into_disk.ensures)
-    (runs_then g.B.D.Disk.content g.B.D.Disk.losses g.B.D.Disk.arms g.B.D.Disk.armed g.B.D.Disk.starved g.B.D.Disk.faults c.in-Ok.disk
+    (runs_then g.B.D.Disk.seen c.in-Ok.disk
     c.in-Ok-open.log.journal.disk c.load_into-status.new.log.journal.disk c.in-Ok-open.ensures.runs c.load_into-status.ensures.runs))
 
 pub returns-in-Err-clause-runs : goal.returns-in-Err-clause-runs
 returns-in-Err-clause-runs g c =
-    runs_back g.B.Bay.disk g.B.D.Disk.content g.B.D.Disk.losses g.B.D.Disk.arms g.B.D.Disk.armed g.B.D.Disk.starved g.B.D.Disk.faults c.args.name.now
+    runs_back g.B.Bay.seen g.B.D.Disk.seen c.args.name.now
     c.args.bay.now c.put_back-in-Err.new.self c.take.new.self c.in-Ok.disk c.in-Err.disk c.in-Ok.ensures.given c.take.ensures.told
     c.put_back-in-Err.ensures.there c.in-Err.ensures.runs

@@ -16,7 +16,7 @@ use Rattle.share_top.proofs.replay.replay.Goals as goal
 
 pub events-init : goal.events-init
 events-init g c = record {
-  going = rw c.new-reader.ensures (starts g.D.Disk.content g.D.Disk.image g.D.Disk.starved g.D.Disk.faults g.D.Disk.losses g.D.Disk.arms g.D.Disk.armed
+  going = rw c.new-reader.ensures (starts g.D.Disk.seen
       (g.I.Source.left c.args.input.now) c.args.core.now (Writes c.args.core.now.conf (output_change g.O.Sink.held g.O.Sink.faults c.args.output.now c.args.output.now)) c.requires
       (appends_none (g.O.Sink.held c.args.output.now)));
   read = omega arith;
@@ -28,13 +28,13 @@ returns-in-Ok-End-clause-played g c =
     let taken : Takes c.events.reader c.take_event.new.self (g.I.Source.left c.events.input) (g.I.Source.left c.take_event.new.source) end_line =
     rw c.in-Ok-End.field-0-is at c.in-Ok-End.ensures.taken in
     let says = rw c.in-Ok-End.field-0-is at c.in-Ok-End.ensures.answer in
-    done g.D.Disk.content g.D.Disk.image g.D.Disk.starved g.D.Disk.faults g.D.Disk.losses g.D.Disk.arms g.D.Disk.armed
+    done g.D.Disk.seen
     _ _ _ _ _ _ _ c.events.invariant.going taken says.0 says.1 says.3 says.2
 
 pub returns-in-Ok-clause-played : goal.returns-in-Ok-clause-played
 returns-in-Ok-clause-played g c =
     let says = rw c.in-Err-Malformed.field-0-is at c.in-Err-Malformed.ensures.answer in
-    malformed g.D.Disk.content g.D.Disk.image g.D.Disk.starved g.D.Disk.faults g.D.Disk.losses g.D.Disk.arms g.D.Disk.armed
+    malformed g.D.Disk.seen
     _ _ _ _ _ _ _ c.events.invariant.going
     (λ (fault : ℕ). WritesThen c.args.core.now.conf (malformed_line fault) (output_change g.O.Sink.held g.O.Sink.faults c.args.output.now c.write_malformed.new.output)) _
     (λ (xs : List Outcome) told. line_behind (g.O.Sink.held c.args.output.now) (g.O.Sink.held c.events.output) (g.O.Sink.held c.write_malformed.new.output)
@@ -46,7 +46,7 @@ returns-in-Err-Write-clause-played g c =
     let f = text_front (g.O.Sink.held c.events.output) (g.O.Sink.held c.write_malformed.new.output) _ _ _ _ c.in-Err-Write.ensures in (
       subst (λ (n : ℕ). Rose n (g.O.Sink.faults c.write_malformed.new.output)) c.events.invariant.counted
           (c.in-Err-Write.ensures.cause (ap (λ (e : LineFault). Err e) c.in-Err-Write.field-0-is)),
-      inr (malformed g.D.Disk.content g.D.Disk.image g.D.Disk.starved g.D.Disk.faults g.D.Disk.losses g.D.Disk.arms g.D.Disk.armed
+      inr (malformed g.D.Disk.seen
           _ _ _ _ _ _ _ c.events.invariant.going
           (λ (fault : ℕ). WritesPart c.args.core.now.conf (malformed_line fault) (output_change g.O.Sink.held g.O.Sink.faults c.args.output.now c.write_malformed.new.output)) _
           (λ (xs : List Outcome) told. (
@@ -60,7 +60,7 @@ returns-in-Err-Write-clause-played g c =
 
 pub returns-in-Err-NoMemory-write_malformed-clause-played : goal.returns-in-Err-NoMemory-write_malformed-clause-played
 returns-in-Err-NoMemory-write_malformed-clause-played g c =
-    still g.D.Disk.content g.D.Disk.image g.D.Disk.starved g.D.Disk.faults g.D.Disk.losses g.D.Disk.arms g.D.Disk.armed
+    still g.D.Disk.seen
     _ _ _ _ _ _ _ c.events.invariant.going
     (WritesFront c.args.core.now.conf (output_change g.O.Sink.held g.O.Sink.faults c.args.output.now c.write_malformed.new.output))
     (λ (xs : List Outcome) told. kept_behind (g.O.Sink.held c.args.output.now) (g.O.Sink.held c.events.output) (g.O.Sink.held c.write_malformed.new.output)
@@ -72,13 +72,13 @@ returns-in-Err-Read-clause-played g c =
     let says = rw c.in-Err-Read.field-0-is at c.in-Err-Read.ensures.answer in
     let rose : Rose (g.I.Source.faults c.args.input.now) (g.I.Source.faults c.take_event.new.source) = search rules in (
       rose,
-      cut g.D.Disk.content g.D.Disk.image g.D.Disk.starved g.D.Disk.faults g.D.Disk.losses g.D.Disk.arms g.D.Disk.armed
+      cut g.D.Disk.seen
           _ _ _ _ _ _ _ c.events.invariant.going c.in-Err-Read.ensures.taken says,
     )
 
 pub returns-in-Err-NoMemory-clause-played : goal.returns-in-Err-NoMemory-clause-played
 returns-in-Err-NoMemory-clause-played g c =
-    still g.D.Disk.content g.D.Disk.image g.D.Disk.starved g.D.Disk.faults g.D.Disk.losses g.D.Disk.arms g.D.Disk.armed
+    still g.D.Disk.seen
     _ _ _ _ _ _ _ c.events.invariant.going
     (WritesFront c.args.core.now.conf (output_change g.O.Sink.held g.O.Sink.faults c.args.output.now c.events.output))
     (λ (xs : List Outcome) told. kept_behind (g.O.Sink.held c.args.output.now) (g.O.Sink.held c.events.output) (g.O.Sink.held c.events.output)
@@ -89,7 +89,7 @@ returns-in-Err-clause-played g c =
     let taken : Takes c.events.reader c.take_event.new.self (g.I.Source.left c.events.input) (g.I.Source.left c.take_event.new.source)
     (line_of c.in-Ok-Event.event) = rw c.in-Ok-Event.field-0-is at c.in-Ok-Event.ensures.taken in
     let says = rw c.in-Ok-Event.field-0-is at c.in-Ok-Event.ensures.answer in
-    stopped g.D.Disk.content g.D.Disk.image g.D.Disk.starved g.D.Disk.faults g.D.Disk.losses g.D.Disk.arms g.D.Disk.armed
+    stopped g.D.Disk.seen
     _ _ _ _ _ _ _ c.events.invariant.going
     (output_change g.O.Sink.held g.O.Sink.faults c.events.output c.play_event.new.output)
     (output_change g.O.Sink.held g.O.Sink.faults c.args.output.now c.play_event.new.output) c.in-Ok-Event.event c.play_event.new.core
@@ -105,7 +105,7 @@ events-preserved g c =
     (line_of c.in-Ok-Event.event) = rw c.in-Ok-Event.field-0-is at c.in-Ok-Event.ensures.taken in
     let says = rw c.in-Ok-Event.field-0-is at c.in-Ok-Event.ensures.answer in
     record {
-      going = goes g.D.Disk.content g.D.Disk.image g.D.Disk.starved g.D.Disk.faults g.D.Disk.losses g.D.Disk.arms g.D.Disk.armed
+      going = goes g.D.Disk.seen
           _ _ _ _ _ _ _ c.events.invariant.going _ _ _
           (text_behind (g.O.Sink.held c.args.output.now) (g.O.Sink.held c.events.output) (g.O.Sink.held c.play_event.new.output)
           c.args.core.now.conf c.events.core.conf c.events.invariant.going.conf)
@@ -115,5 +115,5 @@ events-preserved g c =
     }
 
 pub returns-in-Err-clause-disks : goal.returns-in-Err-clause-disks
-returns-in-Err-clause-disks g c = go_on_then g.D.Disk.content g.D.Disk.faults (disks_in c.args.core.now.hosts) (disks_in c.events.core.hosts)
+returns-in-Err-clause-disks g c = go_on_then g.D.Disk.seen (disks_in c.args.core.now.hosts) (disks_in c.events.core.hosts)
     (disks_in c.play_event.new.core.hosts) c.events.invariant.going.disks c.play_event.ensures.disks

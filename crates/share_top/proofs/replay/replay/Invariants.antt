@@ -6,7 +6,7 @@ use Rattle.share_top.proofs.replay.replay.Given as goal
 
 abbrev pub invariant-events : goal.invariant-events
 invariant-events g l = record {
-  going : Going g.D.Disk.content g.D.Disk.image g.D.Disk.starved g.D.Disk.faults g.D.Disk.losses g.D.Disk.arms g.D.Disk.armed
+  going : Going g.D.Disk.seen
       (g.I.Source.left l.fn.input) (g.I.Source.left l.input) l.reader (Writes l.fn.core.conf (output_change g.O.Sink.held g.O.Sink.faults l.fn.output l.output)) l.fn.core l.core;
   read : g.I.Source.faults l.fn.input ≤ g.I.Source.faults l.input;
   counted : g.O.Sink.faults l.output ≡ g.O.Sink.faults l.fn.output;

@@ -8,9 +8,9 @@ pub advance-requires-clause-hosted : goal.advance-requires-clause-hosted
 advance-requires-clause-hosted g c = parts_many (core_of c.self.inside.conf c.self.inside.clients.entries (parts_of c.self.inside.hosts)) c.self.invariant
 
 pub invariant_of-self : goal.invariant_of-self
-invariant_of-self g c = still_whole g.D.Disk.content g.D.Disk.image g.D.Disk.starved g.D.Disk.faults g.D.Disk.losses g.D.Disk.arms g.D.Disk.armed
+invariant_of-self g c = still_whole g.D.Disk.seen
     (core_of c.self.inside.conf c.self.inside.clients.entries (parts_of c.self.inside.hosts)) _ c.self.invariant refl c.advance.ensures.stays c.advance.ensures.held
 
 pub returns-clause-ok : goal.returns-clause-ok
-returns-clause-ok g c = subst (λ (x : CoreParts g.row.D.Denot). IfOk c.advance.result (λ outcomes. Advances g.D.Disk.content g.D.Disk.image g.D.Disk.starved g.D.Disk.faults g.D.Disk.losses g.D.Disk.arms g.D.Disk.armed x c.args.event.now outcomes.items
+returns-clause-ok g c = subst (λ (x : CoreParts g.row.D.Denot). IfOk c.advance.result (λ outcomes. Advances g.D.Disk.seen x c.args.event.now outcomes.items
     (core_of c.self.inside.conf c.advance.new.clients.entries (parts_of c.advance.new.hosts)))) c.self.view_is c.advance.ensures.ok

@@ -1,7 +1,7 @@
 use Rattle.std.proofs.Common.{◌≡◌, refl, sym, subst, List, [], Some, false, arith, rules}
 use Rattle.edge_io.specs.Bays.{IsSound}
-use Rattle.edge_mem.specs.Bays.{disk_at, fresh}
-use Rattle.edge_mem.specs.Past.{content}
+use Rattle.edge_mem.specs.Bays.{fresh}
+use Rattle.edge_mem.specs.Seen.{bay_view, disk_view}
 use Rattle.edge_mem.specs.declared.bay.Slot.{Slot}
 use Rattle.edge_mem.proofs.bay.MemBay.new.Goals as goal
 
@@ -9,8 +9,7 @@ pub returns-clause-sound : goal.returns-clause-sound
 returns-clause-sound c none =
     let bare : c.new.result.items ≡ [] = search rules in
     subst
-    (λ (slots : List Slot). IsSound (λ b name. Some (disk_at b name)) (λ b. b.failing ≡ []) (λ d. Some (content d.past)) (λ d. d.armed)
-    (λ d. d.arms) (λ d. d.starved) (λ d. d.faults) (record { slots = slots; failing = c.args.failing.items; calls = 0; starved = false; faults = 0 }))
+    (λ (slots : List Slot). IsSound bay_view disk_view (record { slots = slots; failing = c.args.failing.items; calls = 0; starved = false; faults = 0 }))
     (sym bare)
     (record {
       each = λ name is. (

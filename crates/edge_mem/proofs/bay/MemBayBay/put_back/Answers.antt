@@ -19,6 +19,10 @@ returns-clause-there c = λ told. ap (λ (d : DiskState). Some d) (put_there _ _
 pub returns-clause-is_in : goal.returns-clause-is_in
 returns-clause-is_in c = (put_there _ _ _ _ (at c) some_slot _ (c.put_at-rose.ensures.put some_slot)).1
 
+pub returns-clause-taken : goal.returns-clause-taken
+returns-clause-taken c = (put_there _ _ _ _ (at c) some_slot _ (c.put_at-rose.ensures.put some_slot)).2
+    ∙ ap (λ (b : BayState). taken_at b c.args.name.now) c.self.view_is
+
 pub returns-clause-disk : goal.returns-clause-disk
 returns-clause-disk c = (put_there _ _ _ _ (at c) some_slot _ (c.put_at-rose.ensures.put some_slot)).0
 

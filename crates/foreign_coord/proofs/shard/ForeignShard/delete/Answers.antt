@@ -11,5 +11,5 @@ returns-clause-once g c =
       | in-Ok w ↦ tells_ok c.remove.result _ c.match-remove.result w.in-Ok.is (w.result-is ∙ ap (λ (a : ForeignAnswer). Ok a) w.alone.ensures)
       | in-Err w ↦ tells_err c.remove.result w.in-Err.fault c.match-remove.result w.in-Err.is (subst (λ r. TellsFault w.in-Err.fault r) (sym w.result-is) w.refusal.ensures.tells)
     ] in
-    delete_acts g.D.Disk.content g.D.Disk.image g.D.Disk.moment g.D.Disk.since g.D.Disk.armed g.D.Disk.starved g.D.Disk.faults c.self.inside.coord c.args.self.now c.remove.new.self c.args.key.now c.match-remove.result c.self.view_is g.met.D.Disk.only_now
-    c.remove.result tells c.remove.ensures.absent c.remove.ensures.causes c.remove.ensures.once
+    delete_acts g.D.Disk.seen c.self.inside.coord c.args.self.now c.remove.new.self c.args.key.now c.match-remove.result c.self.view_is g.met.D.Disk.only_now
+    c.remove.result tells c.remove.ensures.absent c.remove.ensures.causes c.remove.ensures.once c.remove.ensures.stored

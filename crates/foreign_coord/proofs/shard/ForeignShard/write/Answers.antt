@@ -10,11 +10,11 @@ returns-clause-once g c =
     let are : runs_of c.args.batches.now ≡ Some c.deref.result.now =
     ap runs_of (sym c.as_slice.ensures.items) ∙ (sym c.in_ok-runs.ensures ∙ (ap (option_map (λ v. v.items)) c.in-Some.is
     ∙ ap (λ (l : List Run). Some l) (sym c.deref.ensures.value))) in
-    write_acts g.D.Disk.content g.D.Disk.image g.D.Disk.moment g.D.Disk.since g.D.Disk.armed g.D.Disk.starved g.D.Disk.faults c.self.inside.coord c.args.self.now c.write-done.new.self c.args.key.now c.answer.result c.self.view_is
+    write_acts g.D.Disk.seen c.self.inside.coord c.args.self.now c.write-done.new.self c.args.key.now c.answer.result c.self.view_is
     c.write-done.result c.args.state_epoch c.args.leader_epoch c.args.start c.args.batches.now c.deref.result.now are
-    c.ranges.state_epoch c.ranges.leader_epoch c.ranges.start c.answer.ensures.tells c.write-done.ensures.causes c.write-done.ensures.once
+    c.ranges.state_epoch c.ranges.leader_epoch c.ranges.start c.answer.ensures.tells c.write-done.ensures.causes c.write-done.ensures.once c.write-done.ensures.stored
 
 pub returns-in_default-clause-once : goal.returns-in_default-clause-once
-returns-in_default-clause-once g c = bad_acts g.D.Disk.content g.D.Disk.image g.D.Disk.moment g.D.Disk.since g.D.Disk.armed g.D.Disk.starved g.D.Disk.faults g.met.D.Disk.only_now
+returns-in_default-clause-once g c = bad_acts g.D.Disk.seen g.met.D.Disk.only_now
     c.args.self.now c.args.key.now c.args.state_epoch c.args.leader_epoch c.args.start c.args.batches.now c.alone.result
     (ap runs_of (sym c.as_slice.ensures.items) ∙ (sym c.in_ok-runs.ensures ∙ ap (option_map (λ v. v.items)) c.in_default.is)) c.alone.ensures

@@ -12,18 +12,18 @@ use Rattle.gate_journal.proofs.journal.Journal.append.Goals as goal
 
 pub returns-in-Err-add-clause-failed : goal.returns-in-Err-add-clause-failed
 returns-in-Err-add-clause-failed g c = λ frames pending s.
-    let left = subst (λ (w : Writer _). Stands g.D.Disk.image w frames pending) (sym c.self.view_is) s in
+    let left = subst (λ (w : Writer _). Stands g.D.Disk.seen w frames pending) (sym c.self.view_is) s in
     let clean = c.in_default.ensures.ok frames pending left.mends in
-    inr (stands_by g.D.Disk.image c.add.new.self frames (Some (frame_in c.args.buffer.now))
+    inr (stands_by g.D.Disk.seen c.add.new.self frames (Some (frame_in c.args.buffer.now))
     (c.in-Err-add.ensures.kept frames (frame_in c.args.buffer.now) clean c.requires c.set_frame.ensures))
 
 pub returns-in-Err-add-clause-any_moment : goal.returns-in-Err-add-clause-any_moment
 returns-in-Err-add-clause-any_moment g c = λ frames pending s.
-    let left = subst (λ (w : Writer _). Stands g.D.Disk.image w frames pending) (sym c.self.view_is) s in
+    let left = subst (λ (w : Writer _). Stands g.D.Disk.seen w frames pending) (sym c.self.view_is) s in
     let clean = c.in_default.ensures.ok frames pending left.mends in
-    subst (λ (w : Writer _). LeavesOnly g.D.Disk.moment g.D.Disk.since w.disk c.add.new.self.disk
+    subst (λ (w : Writer _). LeavesOnly g.D.Disk.seen w.disk c.add.new.self.disk
     (λ x. IsWithPending frames pending x ⊎ IsBeforeOrAfter frames (frame_in c.args.buffer.now) x)) c.self.view_is
-    (joined g.D.Disk.moment g.D.Disk.since c.self.inside.writer.disk c.mend.new.self.disk c.add.new.self.disk (IsWithPending frames pending)
+    (joined g.D.Disk.seen c.self.inside.writer.disk c.mend.new.self.disk c.add.new.self.disk (IsWithPending frames pending)
     (IsBeforeOrAfter frames (frame_in c.args.buffer.now)) _
     (c.mend.ensures.any_moment frames pending left.mends) (c.add.ensures.any_moment frames
     (frame_in c.args.buffer.now) clean c.requires c.set_frame.ensures) (λ x p. inl p) (λ x p. inr p))
@@ -31,61 +31,61 @@ returns-in-Err-add-clause-any_moment g c = λ frames pending s.
 pub returns-clause-ok : goal.returns-clause-ok
 returns-clause-ok g c = record {
   rests = λ frames pending s.
-      let left = subst (λ (w : Writer _). Stands g.D.Disk.image w frames pending) (sym c.self.view_is) s in
+      let left = subst (λ (w : Writer _). Stands g.D.Disk.seen w frames pending) (sym c.self.view_is) s in
       let clean = c.in_default.ensures.ok frames pending left.mends in
-      rests_by_text g.D.Disk.image c.add.new.self _ c.in_default-add.ensures.done.0
+      rests_by_text g.D.Disk.seen c.add.new.self _ c.in_default-add.ensures.done.0
       (c.in_default-add.ensures.ok frames (frame_in c.args.buffer.now) clean c.requires c.set_frame.ensures);
   text = λ frames pending s.
-      let left = subst (λ (w : Writer _). Stands g.D.Disk.image w frames pending) (sym c.self.view_is) s in
+      let left = subst (λ (w : Writer _). Stands g.D.Disk.seen w frames pending) (sym c.self.view_is) s in
       let clean = c.in_default.ensures.ok frames pending left.mends in
       (c.in_default-add.ensures.ok frames (frame_in c.args.buffer.now) clean c.requires c.set_frame.ensures).each;
 }
 
 pub returns-clause-any_moment : goal.returns-clause-any_moment
 returns-clause-any_moment g c = λ frames pending s.
-    let left = subst (λ (w : Writer _). Stands g.D.Disk.image w frames pending) (sym c.self.view_is) s in
+    let left = subst (λ (w : Writer _). Stands g.D.Disk.seen w frames pending) (sym c.self.view_is) s in
     let clean = c.in_default.ensures.ok frames pending left.mends in
-    subst (λ (w : Writer _). LeavesOnly g.D.Disk.moment g.D.Disk.since w.disk c.add.new.self.disk
+    subst (λ (w : Writer _). LeavesOnly g.D.Disk.seen w.disk c.add.new.self.disk
     (λ x. IsWithPending frames pending x ⊎ IsBeforeOrAfter frames (frame_in c.args.buffer.now) x)) c.self.view_is
-    (joined g.D.Disk.moment g.D.Disk.since c.self.inside.writer.disk c.mend.new.self.disk c.add.new.self.disk (IsWithPending frames pending)
+    (joined g.D.Disk.seen c.self.inside.writer.disk c.mend.new.self.disk c.add.new.self.disk (IsWithPending frames pending)
     (IsBeforeOrAfter frames (frame_in c.args.buffer.now)) _
     (c.mend.ensures.any_moment frames pending left.mends) (c.add.ensures.any_moment frames
     (frame_in c.args.buffer.now) clean c.requires c.set_frame.ensures) (λ x p. inl p) (λ x p. inr p))
 
 pub returns-in-Err-clause-disk : goal.returns-in-Err-clause-disk
 returns-in-Err-clause-disk g c =
-    subst (λ (w : Writer _). MakesCalls g.D.Disk.content g.D.Disk.losses g.D.Disk.arms g.D.Disk.armed g.D.Disk.starved g.D.Disk.faults (calls_to_mend w.mending + 4)
+    subst (λ (w : Writer _). MakesCalls g.D.Disk.seen (calls_to_mend w.mending + 4)
     w.disk c.mend.new.self.disk device (Err device)) c.self.view_is
-    (mend_failed g.D.Disk.content g.D.Disk.losses g.D.Disk.arms g.D.Disk.armed g.D.Disk.starved g.D.Disk.faults (calls_to_mend c.self.inside.writer.mending)
+    (mend_failed g.D.Disk.seen (calls_to_mend c.self.inside.writer.mending)
     c.self.inside.writer.disk c.mend.new.self.disk _ c.mend.ensures.runs c.in-Err.ensures.fails c.in-Err.ensures.cause)
 
 pub returns-in-Err-add-clause-disk : goal.returns-in-Err-add-clause-disk
 returns-in-Err-add-clause-disk g c =
-    subst (λ (w : Writer _). MakesCalls g.D.Disk.content g.D.Disk.losses g.D.Disk.arms g.D.Disk.armed g.D.Disk.starved g.D.Disk.faults (calls_to_mend w.mending + 4)
+    subst (λ (w : Writer _). MakesCalls g.D.Disk.seen (calls_to_mend w.mending + 4)
     w.disk c.add.new.self.disk device (Err device)) c.self.view_is
-    (add_failed g.D.Disk.content g.D.Disk.losses g.D.Disk.arms g.D.Disk.armed g.D.Disk.starved g.D.Disk.faults (calls_to_mend c.self.inside.writer.mending)
+    (add_failed g.D.Disk.seen (calls_to_mend c.self.inside.writer.mending)
     c.self.inside.writer.disk c.mend.new.self.disk c.add.new.self.disk _ c.mend.ensures.runs c.in_default.ensures.calls
     c.add.ensures.runs c.in-Err-add.ensures.fails c.in-Err-add.ensures.cause)
 
 pub returns-clause-disk : goal.returns-clause-disk
 returns-clause-disk g c =
-    subst (λ (w : Writer _). MakesCalls g.D.Disk.content g.D.Disk.losses g.D.Disk.arms g.D.Disk.armed g.D.Disk.starved g.D.Disk.faults (calls_to_mend w.mending + 4)
+    subst (λ (w : Writer _). MakesCalls g.D.Disk.seen (calls_to_mend w.mending + 4)
     w.disk c.add.new.self.disk device (Ok c.mend.new.self.count)) c.self.view_is
-    (both_made g.D.Disk.content g.D.Disk.losses g.D.Disk.arms g.D.Disk.armed g.D.Disk.starved g.D.Disk.faults (calls_to_mend c.self.inside.writer.mending)
+    (both_made g.D.Disk.seen (calls_to_mend c.self.inside.writer.mending)
     c.self.inside.writer.disk c.mend.new.self.disk c.add.new.self.disk _ c.mend.ensures.runs c.in_default.ensures.calls
     c.add.ensures.runs c.in_default-add.ensures.calls)
 
 pub returns-in-Err-clause-failed : goal.returns-in-Err-clause-failed
 returns-in-Err-clause-failed g c = λ frames pending s.
-    let left = subst (λ (w : Writer _). Stands g.D.Disk.image w frames pending) (sym c.self.view_is) s in
-    inl (stands_by g.D.Disk.image c.mend.new.self frames pending (c.in-Err.ensures.kept frames pending left.mends))
+    let left = subst (λ (w : Writer _). Stands g.D.Disk.seen w frames pending) (sym c.self.view_is) s in
+    inl (stands_by g.D.Disk.seen c.mend.new.self frames pending (c.in-Err.ensures.kept frames pending left.mends))
 
 pub returns-in-Err-clause-any_moment : goal.returns-in-Err-clause-any_moment
 returns-in-Err-clause-any_moment g c = λ frames pending s.
-    let left = subst (λ (w : Writer _). Stands g.D.Disk.image w frames pending) (sym c.self.view_is) s in
-    subst (λ (w : Writer _). LeavesOnly g.D.Disk.moment g.D.Disk.since w.disk c.mend.new.self.disk
+    let left = subst (λ (w : Writer _). Stands g.D.Disk.seen w frames pending) (sym c.self.view_is) s in
+    subst (λ (w : Writer _). LeavesOnly g.D.Disk.seen w.disk c.mend.new.self.disk
     (λ x. IsWithPending frames pending x ⊎ IsBeforeOrAfter frames (frame_in c.args.buffer.now) x)) c.self.view_is
-    (weakened g.D.Disk.moment g.D.Disk.since _ _ _ _ (c.mend.ensures.any_moment frames pending left.mends) (λ x p. inl p))
+    (weakened g.D.Disk.seen _ _ _ _ (c.mend.ensures.any_moment frames pending left.mends) (λ x p. inl p))
 
 pub returns-in-Err-clause-full : goal.returns-in-Err-clause-full
 returns-in-Err-clause-full g c = not_full _ _ _ _ _ (λ end is. cc)

@@ -10,11 +10,11 @@ use Rattle.gate_journal.proofs.writer.Writer.add.Goals as goal
 
 pub returns-in_err-stage-clause-kept : goal.returns-in_err-stage-clause-kept
 returns-in_err-stage-clause-kept g c = on_err c.from_residual.result _ (λ frames frame s one is.
-    from_behind g.D.Disk.image c.stage.new.self _ frames (Some frame) c.in_err-stage.ensures.err (c.stage.ensures.kept frames s))
+    from_behind g.D.Disk.seen c.stage.new.self _ frames (Some frame) c.in_err-stage.ensures.err (c.stage.ensures.kept frames s))
 
 pub returns-in_err-stage-clause-any_moment : goal.returns-in_err-stage-clause-any_moment
 returns-in_err-stage-clause-any_moment g c = λ frames frame s one is.
-    weakened g.D.Disk.moment g.D.Disk.since _ _ _ _ (c.stage.ensures.any_moment frames s) (λ x stands. inl stands)
+    weakened g.D.Disk.seen _ _ _ _ (c.stage.ensures.any_moment frames s) (λ x stands. inl stands)
 
 pub returns-in_err-stage-clause-err : goal.returns-in_err-stage-clause-err
 returns-in_err-stage-clause-err g c = on_err c.from_residual.result _ c.stage.ensures.same
@@ -27,7 +27,7 @@ returns-in_err-stage-clause-runs g c = c.stage.ensures.runs
 
 pub returns-in_err-stage-clause-fails : goal.returns-in_err-stage-clause-fails
 returns-in_err-stage-clause-fails g c = on_err c.from_residual.result _
-    (fails_in_more g.D.Disk.content g.D.Disk.armed g.D.Disk.starved g.D.Disk.faults 2 4 c.args.self.now.disk c.stage.new.self.disk (omega arith) c.in_err-stage.ensures.fails)
+    (fails_in_more g.D.Disk.seen 2 4 c.args.self.now.disk c.stage.new.self.disk (omega arith) c.in_err-stage.ensures.fails)
 
 pub returns-in_err-stage-clause-cause : goal.returns-in_err-stage-clause-cause
 returns-in_err-stage-clause-cause g c = cause_of _ _ _ c.from_residual.result c.in_err-stage.ensures.cause
@@ -38,12 +38,12 @@ returns-clause-ok g c = on_ok_weaker c.open_gate.result
 
 pub returns-clause-kept : goal.returns-clause-kept
 returns-clause-kept g c = on_err_both c.open_gate.result _ _ _ c.open_gate.ensures.kept c.open_gate.ensures.err (λ kept err frames frame s one is.
-    from_gate g.D.Disk.image c.open_gate.new.self _ frames (Some frame) err.0 frame refl one
+    from_gate g.D.Disk.seen c.open_gate.new.self _ frames (Some frame) err.0 frame refl one
     (kept frames frame (c.in_ok-stage.ensures.ok frames frame s is)))
 
 pub returns-clause-any_moment : goal.returns-clause-any_moment
 returns-clause-any_moment g c = λ frames frame s one is.
-    joined g.D.Disk.moment g.D.Disk.since c.args.self.now.disk c.stage.new.self.disk c.open_gate.new.self.disk
+    joined g.D.Disk.seen c.args.self.now.disk c.stage.new.self.disk c.open_gate.new.self.disk
     (λ x. StandsFor x frames) (IsBeforeOrAfter frames frame) (IsBeforeOrAfter frames frame) (c.stage.ensures.any_moment frames s)
     (c.open_gate.ensures.any_moment frames frame (c.in_ok-stage.ensures.ok frames frame s is) one) (λ x p. inl p) (λ x p. p)
 
@@ -61,17 +61,17 @@ pub returns-clause-room_kept : goal.returns-clause-room_kept
 returns-clause-room_kept g c = c.open_gate.ensures.room_kept
 
 pub returns-clause-runs : goal.returns-clause-runs
-returns-clause-runs g c = runs_then g.D.Disk.content g.D.Disk.losses g.D.Disk.arms g.D.Disk.armed g.D.Disk.starved g.D.Disk.faults c.args.self.now.disk c.stage.new.self.disk c.open_gate.new.self.disk
+returns-clause-runs g c = runs_then g.D.Disk.seen c.args.self.now.disk c.stage.new.self.disk c.open_gate.new.self.disk
     c.stage.ensures.runs c.open_gate.ensures.runs
 
 pub returns-clause-calls : goal.returns-clause-calls
 returns-clause-calls g c = on_ok_weaker c.open_gate.result
-    (does_then g.D.Disk.content g.D.Disk.armed g.D.Disk.starved g.D.Disk.faults 2 2 c.args.self.now.disk c.stage.new.self.disk c.open_gate.new.self.disk (λ told. c.stage.ensures.runs.told ∙ told)
+    (does_then g.D.Disk.seen 2 2 c.args.self.now.disk c.stage.new.self.disk c.open_gate.new.self.disk (λ told. c.stage.ensures.runs.told ∙ told)
     c.in_ok-stage.ensures.calls) c.open_gate.ensures.calls
 
 pub returns-clause-fails : goal.returns-clause-fails
 returns-clause-fails g c = on_err_weaker c.open_gate.result
-    (does_then_fails g.D.Disk.content g.D.Disk.armed g.D.Disk.starved g.D.Disk.faults 2 2 c.args.self.now.disk c.stage.new.self.disk c.open_gate.new.self.disk (λ told. c.stage.ensures.runs.told ∙ told)
+    (does_then_fails g.D.Disk.seen 2 2 c.args.self.now.disk c.stage.new.self.disk c.open_gate.new.self.disk (λ told. c.stage.ensures.runs.told ∙ told)
     c.in_ok-stage.ensures.calls) c.open_gate.ensures.fails
 
 pub returns-clause-cause : goal.returns-clause-cause

@@ -21,12 +21,12 @@ returns-clause-kept g c = λ frames frame s. record {
 
 pub returns-in_err-write_and_sync-clause-any_moment : goal.returns-in_err-write_and_sync-clause-any_moment
 returns-in_err-write_and_sync-clause-any_moment g c = λ frames frame s one.
-    at_moments g.D.Disk.image g.D.Disk.moment g.D.Disk.since _ _ (IsAjar frames frame)
+    at_moments g.D.Disk.seen _ _ (IsAjar frames frame)
     (IsBeforeOrAfter frames frame) _ s.each c.write_and_sync.ensures.any_moment
     (λ d e was step. ajar_stands frames frame e s.fit one (swinging frames frame _ d e s.end was step))
 
 pub returns-clause-any_moment : goal.returns-clause-any_moment
 returns-clause-any_moment g c = λ frames frame s one.
-    at_moments g.D.Disk.image g.D.Disk.moment g.D.Disk.since _ _ (IsAjar frames frame)
+    at_moments g.D.Disk.seen _ _ (IsAjar frames frame)
     (IsBeforeOrAfter frames frame) _ s.each c.write_and_sync.ensures.any_moment
     (λ d e was step. ajar_stands frames frame e s.fit one (swinging frames frame _ d e s.end was step))

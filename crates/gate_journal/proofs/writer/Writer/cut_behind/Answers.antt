@@ -30,10 +30,10 @@ returns-clause-kept g c = λ frames s. record {
 
 pub returns-in_err-cut_and_sync-clause-any_moment : goal.returns-in_err-cut_and_sync-clause-any_moment
 returns-in_err-cut_and_sync-clause-any_moment g c = λ frames s.
-    at_moments g.D.Disk.image g.D.Disk.moment g.D.Disk.since _ _ (IsShut frames) (λ x. StandsFor x frames) _ s.each c.cut_and_sync.ensures.any_moment
+    at_moments g.D.Disk.seen _ _ (IsShut frames) (λ x. StandsFor x frames) _ s.each c.cut_and_sync.ensures.any_moment
     (λ d e was step. shut_stands frames e s.fit (cutting frames _ d e s.end was step))
 
 pub returns-clause-any_moment : goal.returns-clause-any_moment
 returns-clause-any_moment g c = λ frames s.
-    at_moments g.D.Disk.image g.D.Disk.moment g.D.Disk.since _ _ (IsShut frames) (λ x. StandsFor x frames) _ s.each c.cut_and_sync.ensures.any_moment
+    at_moments g.D.Disk.seen _ _ (IsShut frames) (λ x. StandsFor x frames) _ s.each c.cut_and_sync.ensures.any_moment
     (λ d e was step. shut_stands frames e s.fit (cutting frames _ d e s.end was step))

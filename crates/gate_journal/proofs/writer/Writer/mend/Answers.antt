@@ -11,31 +11,31 @@ use Rattle.gate_journal.proofs.Shaped.{on_err, at_mending, at_gate, from_gate, f
 use Rattle.gate_journal.proofs.writer.Writer.mend.Goals as goal
 
 pub returns-in-Nothing-clause-ok : goal.returns-in-Nothing-clause-ok
-returns-in-Nothing-clause-ok g c = λ frames pending h. (at_mending g.D.Disk.image c.args.self.now _ _ frames pending c.in-Nothing.is h).1
+returns-in-Nothing-clause-ok g c = λ frames pending h. (at_mending g.D.Disk.seen c.args.self.now _ _ frames pending c.in-Nothing.is h).1
 
 pub returns-in-Nothing-clause-any_moment : goal.returns-in-Nothing-clause-any_moment
 returns-in-Nothing-clause-any_moment g c = λ frames pending h.
-    started g.D.Disk.moment g.D.Disk.since c.args.self.now.disk (IsWithPending frames pending)
-    (λ x left. mends_images g.D.Disk.image c.args.self.now _ frames pending h x (g.met.D.Disk.only_now _ x left))
+    started g.D.Disk.seen c.args.self.now.disk (IsWithPending frames pending)
+    (λ x left. mends_images g.D.Disk.seen c.args.self.now _ frames pending h x (g.met.D.Disk.only_now _ x left))
 
 pub returns-in-Nothing-clause-calls : goal.returns-in-Nothing-clause-calls
-returns-in-Nothing-clause-calls g c = subst (λ (n : ℕ). DoesCalls g.D.Disk.content g.D.Disk.armed g.D.Disk.starved g.D.Disk.faults n c.args.self.now.disk c.args.self.now.disk) (sym (ap calls_to_mend c.in-Nothing.is))
-    (calls_none g.D.Disk.content g.D.Disk.armed g.D.Disk.starved g.D.Disk.faults c.args.self.now.disk)
+returns-in-Nothing-clause-calls g c = subst (λ (n : ℕ). DoesCalls g.D.Disk.seen n c.args.self.now.disk c.args.self.now.disk) (sym (ap calls_to_mend c.in-Nothing.is))
+    (calls_none g.D.Disk.seen c.args.self.now.disk)
 
 pub returns-in-Nothing-clause-runs : goal.returns-in-Nothing-clause-runs
-returns-in-Nothing-clause-runs g c = runs_none g.D.Disk.content g.D.Disk.losses g.D.Disk.arms g.D.Disk.armed g.D.Disk.starved g.D.Disk.faults c.args.self.now.disk
+returns-in-Nothing-clause-runs g c = runs_none g.D.Disk.seen c.args.self.now.disk
 
 pub returns-in-Behind-clause-ok : goal.returns-in-Behind-clause-ok
 returns-in-Behind-clause-ok g c = on_ok_weaker c.cut_behind.result (λ cuts frames pending h.
-    cuts frames (at_mending g.D.Disk.image c.args.self.now _ _ frames pending c.in-Behind.is h)) c.cut_behind.ensures.ok
+    cuts frames (at_mending g.D.Disk.seen c.args.self.now _ _ frames pending c.in-Behind.is h)) c.cut_behind.ensures.ok
 
 pub returns-in-Behind-clause-kept : goal.returns-in-Behind-clause-kept
 returns-in-Behind-clause-kept g c = on_err_weaker c.cut_behind.result (λ is frames pending h.
-    from_behind g.D.Disk.image c.cut_behind.new.self _ frames pending is (c.cut_behind.ensures.kept frames (at_mending g.D.Disk.image c.args.self.now _ _ frames pending c.in-Behind.is h))) c.cut_behind.ensures.err
+    from_behind g.D.Disk.seen c.cut_behind.new.self _ frames pending is (c.cut_behind.ensures.kept frames (at_mending g.D.Disk.seen c.args.self.now _ _ frames pending c.in-Behind.is h))) c.cut_behind.ensures.err
 
 pub returns-in-Behind-clause-any_moment : goal.returns-in-Behind-clause-any_moment
 returns-in-Behind-clause-any_moment g c = λ frames pending h.
-    weakened g.D.Disk.moment g.D.Disk.since _ _ _ _ (c.cut_behind.ensures.any_moment frames (at_mending g.D.Disk.image c.args.self.now _ _ frames pending c.in-Behind.is h))
+    weakened g.D.Disk.seen _ _ _ _ (c.cut_behind.ensures.any_moment frames (at_mending g.D.Disk.seen c.args.self.now _ _ frames pending c.in-Behind.is h))
     (λ x p. without frames pending x p)
 
 pub returns-in-Behind-clause-done : goal.returns-in-Behind-clause-done
@@ -48,49 +48,49 @@ pub returns-in-Behind-clause-cause : goal.returns-in-Behind-clause-cause
 returns-in-Behind-clause-cause g c = c.cut_behind.ensures.cause
 
 pub returns-in-Behind-clause-calls : goal.returns-in-Behind-clause-calls
-returns-in-Behind-clause-calls g c = subst (λ (n : ℕ). OnOk c.cut_behind.result (DoesCalls g.D.Disk.content g.D.Disk.armed g.D.Disk.starved g.D.Disk.faults n c.args.self.now.disk c.cut_behind.new.self.disk))
+returns-in-Behind-clause-calls g c = subst (λ (n : ℕ). OnOk c.cut_behind.result (DoesCalls g.D.Disk.seen n c.args.self.now.disk c.cut_behind.new.self.disk))
     (sym (ap calls_to_mend c.in-Behind.is)) c.cut_behind.ensures.calls
 
 pub returns-in-Behind-clause-fails : goal.returns-in-Behind-clause-fails
-returns-in-Behind-clause-fails g c = subst (λ (n : ℕ). OnErr c.cut_behind.result (FailsInCalls g.D.Disk.content g.D.Disk.armed g.D.Disk.starved n c.args.self.now.disk c.cut_behind.new.self.disk))
+returns-in-Behind-clause-fails g c = subst (λ (n : ℕ). OnErr c.cut_behind.result (FailsInCalls g.D.Disk.seen n c.args.self.now.disk c.cut_behind.new.self.disk))
     (sym (ap calls_to_mend c.in-Behind.is)) c.cut_behind.ensures.fails
 
 pub returns-in_err-close_gate-in-Gate-clause-kept : goal.returns-in_err-close_gate-in-Gate-clause-kept
 returns-in_err-close_gate-in-Gate-clause-kept g c = on_err c.from_residual.result _ (λ frames pending h.
-    let s = at_gate g.D.Disk.image c.args.self.now _ frames pending c.in-Gate.is h in
-    from_gate g.D.Disk.image c.close_gate.new.self _ frames pending c.in_err-close_gate-in-Gate.ensures.err s.0 s.1 s.2
+    let s = at_gate g.D.Disk.seen c.args.self.now _ frames pending c.in-Gate.is h in
+    from_gate g.D.Disk.seen c.close_gate.new.self _ frames pending c.in_err-close_gate-in-Gate.ensures.err s.0 s.1 s.2
     (c.close_gate.ensures.kept frames s.0 s.3))
 
 pub returns-in_err-close_gate-in-Gate-clause-any_moment : goal.returns-in_err-close_gate-in-Gate-clause-any_moment
 returns-in_err-close_gate-in-Gate-clause-any_moment g c = λ frames pending h.
-    let s = at_gate g.D.Disk.image c.args.self.now _ frames pending c.in-Gate.is h in
-    weakened g.D.Disk.moment g.D.Disk.since _ _ _ _ (c.close_gate.ensures.any_moment frames s.0 s.3 s.2) (λ x p. with_pending frames pending s.0 x s.1 p)
+    let s = at_gate g.D.Disk.seen c.args.self.now _ frames pending c.in-Gate.is h in
+    weakened g.D.Disk.seen _ _ _ _ (c.close_gate.ensures.any_moment frames s.0 s.3 s.2) (λ x p. with_pending frames pending s.0 x s.1 p)
 
 pub returns-in_err-close_gate-in-Gate-clause-runs : goal.returns-in_err-close_gate-in-Gate-clause-runs
 returns-in_err-close_gate-in-Gate-clause-runs g c = c.close_gate.ensures.runs
 
 pub returns-in_err-close_gate-in-Gate-clause-fails : goal.returns-in_err-close_gate-in-Gate-clause-fails
 returns-in_err-close_gate-in-Gate-clause-fails g c = on_err c.from_residual.result _
-    (subst (λ (n : ℕ). FailsInCalls g.D.Disk.content g.D.Disk.armed g.D.Disk.starved n c.args.self.now.disk c.close_gate.new.self.disk)
+    (subst (λ (n : ℕ). FailsInCalls g.D.Disk.seen n c.args.self.now.disk c.close_gate.new.self.disk)
     (sym (ap calls_to_mend c.in-Gate.is))
-    (fails_in_more g.D.Disk.content g.D.Disk.armed g.D.Disk.starved g.D.Disk.faults 2 4 c.args.self.now.disk c.close_gate.new.self.disk (omega arith) c.in_err-close_gate-in-Gate.ensures.fails))
+    (fails_in_more g.D.Disk.seen 2 4 c.args.self.now.disk c.close_gate.new.self.disk (omega arith) c.in_err-close_gate-in-Gate.ensures.fails))
 
 pub returns-in_err-close_gate-in-Gate-clause-cause : goal.returns-in_err-close_gate-in-Gate-clause-cause
 returns-in_err-close_gate-in-Gate-clause-cause g c = cause_of _ _ _ c.from_residual.result c.in_err-close_gate-in-Gate.ensures.cause
 
 pub returns-in_ok-close_gate-in-Gate-clause-ok : goal.returns-in_ok-close_gate-in-Gate-clause-ok
 returns-in_ok-close_gate-in-Gate-clause-ok g c = on_ok_weaker c.cut_behind-in-Gate.result (λ cuts frames pending h.
-    let s = at_gate g.D.Disk.image c.args.self.now _ frames pending c.in-Gate.is h in cuts frames (c.in_ok-close_gate-in-Gate.ensures.ok frames s.0 s.3)) c.cut_behind-in-Gate.ensures.ok
+    let s = at_gate g.D.Disk.seen c.args.self.now _ frames pending c.in-Gate.is h in cuts frames (c.in_ok-close_gate-in-Gate.ensures.ok frames s.0 s.3)) c.cut_behind-in-Gate.ensures.ok
 
 pub returns-in_ok-close_gate-in-Gate-clause-kept : goal.returns-in_ok-close_gate-in-Gate-clause-kept
 returns-in_ok-close_gate-in-Gate-clause-kept g c = on_err_weaker c.cut_behind-in-Gate.result (λ is frames pending h.
-    let s = at_gate g.D.Disk.image c.args.self.now _ frames pending c.in-Gate.is h in
-    from_behind g.D.Disk.image c.cut_behind-in-Gate.new.self _ frames pending is (c.cut_behind-in-Gate.ensures.kept frames (c.in_ok-close_gate-in-Gate.ensures.ok frames s.0 s.3))) c.cut_behind-in-Gate.ensures.err
+    let s = at_gate g.D.Disk.seen c.args.self.now _ frames pending c.in-Gate.is h in
+    from_behind g.D.Disk.seen c.cut_behind-in-Gate.new.self _ frames pending is (c.cut_behind-in-Gate.ensures.kept frames (c.in_ok-close_gate-in-Gate.ensures.ok frames s.0 s.3))) c.cut_behind-in-Gate.ensures.err
 
 pub returns-in_ok-close_gate-in-Gate-clause-any_moment : goal.returns-in_ok-close_gate-in-Gate-clause-any_moment
 returns-in_ok-close_gate-in-Gate-clause-any_moment g c = λ frames pending h.
-    let s = at_gate g.D.Disk.image c.args.self.now _ frames pending c.in-Gate.is h in
-    joined g.D.Disk.moment g.D.Disk.since c.args.self.now.disk c.close_gate.new.self.disk c.cut_behind-in-Gate.new.self.disk
+    let s = at_gate g.D.Disk.seen c.args.self.now _ frames pending c.in-Gate.is h in
+    joined g.D.Disk.seen c.args.self.now.disk c.close_gate.new.self.disk c.cut_behind-in-Gate.new.self.disk
     (IsBeforeOrAfter frames s.0) (λ x. StandsFor x frames) (IsWithPending frames pending)
     (c.close_gate.ensures.any_moment frames s.0 s.3 s.2) (c.cut_behind-in-Gate.ensures.any_moment frames (c.in_ok-close_gate-in-Gate.ensures.ok frames s.0 s.3))
     (λ x p. with_pending frames pending s.0 x s.1 p) (λ x p. without frames pending x p)
@@ -102,18 +102,18 @@ pub returns-in_ok-close_gate-in-Gate-clause-same : goal.returns-in_ok-close_gate
 returns-in_ok-close_gate-in-Gate-clause-same g c = (c.cut_behind-in-Gate.ensures.same.0 ∙ c.close_gate.ensures.same.0, c.cut_behind-in-Gate.ensures.same.1 ∙ c.close_gate.ensures.same.1)
 
 pub returns-in_ok-close_gate-in-Gate-clause-runs : goal.returns-in_ok-close_gate-in-Gate-clause-runs
-returns-in_ok-close_gate-in-Gate-clause-runs g c = runs_then g.D.Disk.content g.D.Disk.losses g.D.Disk.arms g.D.Disk.armed g.D.Disk.starved g.D.Disk.faults c.args.self.now.disk c.close_gate.new.self.disk c.cut_behind-in-Gate.new.self.disk c.close_gate.ensures.runs c.cut_behind-in-Gate.ensures.runs
+returns-in_ok-close_gate-in-Gate-clause-runs g c = runs_then g.D.Disk.seen c.args.self.now.disk c.close_gate.new.self.disk c.cut_behind-in-Gate.new.self.disk c.close_gate.ensures.runs c.cut_behind-in-Gate.ensures.runs
 
 pub returns-in_ok-close_gate-in-Gate-clause-calls : goal.returns-in_ok-close_gate-in-Gate-clause-calls
-returns-in_ok-close_gate-in-Gate-clause-calls g c = subst (λ (n : ℕ). OnOk c.cut_behind-in-Gate.result (DoesCalls g.D.Disk.content g.D.Disk.armed g.D.Disk.starved g.D.Disk.faults n c.args.self.now.disk c.cut_behind-in-Gate.new.self.disk))
+returns-in_ok-close_gate-in-Gate-clause-calls g c = subst (λ (n : ℕ). OnOk c.cut_behind-in-Gate.result (DoesCalls g.D.Disk.seen n c.args.self.now.disk c.cut_behind-in-Gate.new.self.disk))
     (sym (ap calls_to_mend c.in-Gate.is)) (on_ok_weaker c.cut_behind-in-Gate.result
-    (does_then g.D.Disk.content g.D.Disk.armed g.D.Disk.starved g.D.Disk.faults 2 2 c.args.self.now.disk c.close_gate.new.self.disk c.cut_behind-in-Gate.new.self.disk
+    (does_then g.D.Disk.seen 2 2 c.args.self.now.disk c.close_gate.new.self.disk c.cut_behind-in-Gate.new.self.disk
     (λ told. c.close_gate.ensures.runs.told ∙ told) c.in_ok-close_gate-in-Gate.ensures.calls) c.cut_behind-in-Gate.ensures.calls)
 
 pub returns-in_ok-close_gate-in-Gate-clause-fails : goal.returns-in_ok-close_gate-in-Gate-clause-fails
-returns-in_ok-close_gate-in-Gate-clause-fails g c = subst (λ (n : ℕ). OnErr c.cut_behind-in-Gate.result (FailsInCalls g.D.Disk.content g.D.Disk.armed g.D.Disk.starved n c.args.self.now.disk c.cut_behind-in-Gate.new.self.disk))
+returns-in_ok-close_gate-in-Gate-clause-fails g c = subst (λ (n : ℕ). OnErr c.cut_behind-in-Gate.result (FailsInCalls g.D.Disk.seen n c.args.self.now.disk c.cut_behind-in-Gate.new.self.disk))
     (sym (ap calls_to_mend c.in-Gate.is)) (on_err_weaker c.cut_behind-in-Gate.result
-    (does_then_fails g.D.Disk.content g.D.Disk.armed g.D.Disk.starved g.D.Disk.faults 2 2 c.args.self.now.disk c.close_gate.new.self.disk c.cut_behind-in-Gate.new.self.disk
+    (does_then_fails g.D.Disk.seen 2 2 c.args.self.now.disk c.close_gate.new.self.disk c.cut_behind-in-Gate.new.self.disk
     (λ told. c.close_gate.ensures.runs.told ∙ told) c.in_ok-close_gate-in-Gate.ensures.calls) c.cut_behind-in-Gate.ensures.fails)
 
 pub returns-in_ok-close_gate-in-Gate-clause-cause : goal.returns-in_ok-close_gate-in-Gate-clause-cause

@@ -25,12 +25,12 @@ returns-in-Err-clause-kept g c = λ frames frame s. record {
 
 pub returns-in-Err-clause-any_moment : goal.returns-in-Err-clause-any_moment
 returns-in-Err-clause-any_moment g c = λ frames frame s one.
-    at_moments g.D.Disk.image g.D.Disk.moment g.D.Disk.since _ _ (IsHeld frames frame)
+    at_moments g.D.Disk.seen _ _ (IsHeld frames frame)
     (IsBeforeOrAfter frames frame) _ s.each c.write_and_sync.ensures.any_moment
     (λ d e was step. ajar_stands frames frame e s.fit one (swinging frames frame _ d e s.end (held_ajar frames frame d was) step))
 
 pub returns-clause-any_moment : goal.returns-clause-any_moment
 returns-clause-any_moment g c = λ frames frame s one.
-    at_moments g.D.Disk.image g.D.Disk.moment g.D.Disk.since _ _ (IsHeld frames frame)
+    at_moments g.D.Disk.seen _ _ (IsHeld frames frame)
     (IsBeforeOrAfter frames frame) _ s.each c.write_and_sync.ensures.any_moment
     (λ d e was step. ajar_stands frames frame e s.fit one (swinging frames frame _ d e s.end (held_ajar frames frame d was) step))

@@ -31,12 +31,12 @@ returns-clause-kept g c = λ frames s. record {
 
 pub returns-in-Err-clause-any_moment : goal.returns-in-Err-clause-any_moment
 returns-in-Err-clause-any_moment g c = λ frames s.
-    at_moments g.D.Disk.image g.D.Disk.moment g.D.Disk.since _ _ (IsRest frames)
+    at_moments g.D.Disk.seen _ _ (IsRest frames)
     (λ x. StandsFor x frames) _ s.each c.write_and_sync.ensures.any_moment
     (λ d e was step. shut_stands frames e s.fit (staging frames _ _ d e s.end was step))
 
 pub returns-clause-any_moment : goal.returns-clause-any_moment
 returns-clause-any_moment g c = λ frames s.
-    at_moments g.D.Disk.image g.D.Disk.moment g.D.Disk.since _ _ (IsRest frames)
+    at_moments g.D.Disk.seen _ _ (IsRest frames)
     (λ x. StandsFor x frames) _ s.each c.write_and_sync.ensures.any_moment
     (λ d e was step. shut_stands frames e s.fit (staging frames _ _ d e s.end was step))

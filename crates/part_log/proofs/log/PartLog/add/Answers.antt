@@ -40,17 +40,17 @@ pub returns-clause-batch : goal.returns-clause-batch
 returns-clause-batch g c = not_refused Produced c.args.batch.now c.in-Ok.view c.in-Ok.ensures.accepted c.store.result c.store.ensures.no_batch
 
 pub returns-in-Err-clause-once : goal.returns-in-Err-clause-once
-returns-in-Err-clause-once g c = bad g.D.Disk.content g.D.Disk.image g.D.Disk.moment g.D.Disk.since g.D.Disk.armed g.D.Disk.starved g.D.Disk.faults g.met.D.Disk.only_now
+returns-in-Err-clause-once g c = bad g.D.Disk.seen g.met.D.Disk.only_now
     c.args.self.now (batch_in (placed (end_of c.args.self.now.batches) c.args.batch.now)) c.in-Err.fault
 
 pub returns-in_default-clause-once : goal.returns-in_default-clause-once
-returns-in_default-clause-once g c = past g.D.Disk.content g.D.Disk.image g.D.Disk.moment g.D.Disk.since g.D.Disk.armed g.D.Disk.starved g.D.Disk.faults g.met.D.Disk.only_now
+returns-in_default-clause-once g c = past g.D.Disk.seen g.met.D.Disk.only_now
     c.args.self.now (batch_in (placed (end_of c.args.self.now.batches) c.args.batch.now)) c.end-base.result c.end-base.ensures.end
     (subst (λ (n : ℕ). 2 ^ 62 ≤ (batch_in (placed n c.args.batch.now)).last) c.end-base.ensures.end
     (past_there c.args.batch.now c.in-Ok.view c.in-Ok.ensures.accepted c.end-base.result c.end-base.ensures.below c.in_default.ensures))
 
 pub returns-in_default-placed_copy-clause-once : goal.returns-in_default-placed_copy-clause-once
-returns-in_default-placed_copy-clause-once g c = hungry g.D.Disk.content g.D.Disk.image g.D.Disk.moment g.D.Disk.since g.D.Disk.armed g.D.Disk.starved g.D.Disk.faults g.met.D.Disk.only_now
+returns-in_default-placed_copy-clause-once g c = hungry g.D.Disk.seen g.met.D.Disk.only_now
     c.args.self.now (batch_in (placed (end_of c.args.self.now.batches) c.args.batch.now))
 
 pub returns-clause-once : goal.returns-clause-once
@@ -59,20 +59,20 @@ returns-clause-once g c =
     let there = placed_there c.args.batch.now c.in-Ok.view c.in-Ok.ensures.accepted c.args.self.now.batches c.end-base.result c.in-Some.last c.end-base.ensures.end c.in-Some.ensures.0 c.in-Some.ensures.1 in
     let base : c.end-base.result ≡ (batch_in (frame_in c.in-Ok-placed_copy.buffer.items)).base = subst (λ f. c.end-base.result ≡ (batch_in f).base) (sym frame) there.base_is in
     let last : c.in-Some.last ≡ (batch_in (frame_in c.in-Ok-placed_copy.buffer.items)).last = subst (λ f. c.in-Some.last ≡ (batch_in f).last) (sym frame) there.last_is in
-    subst (λ f. AddsOnce g.D.Disk.content g.D.Disk.image g.D.Disk.moment g.D.Disk.since g.D.Disk.armed g.D.Disk.starved g.D.Disk.faults c.args.self.now c.store.new.self (batch_in f) c.store.result)
+    subst (λ f. AddsOnce g.D.Disk.seen c.args.self.now c.store.new.self (batch_in f) c.store.result)
     (frame ∙ ap (λ b. placed b c.args.batch.now) c.end-base.ensures.end)
-    (adds g.D.Disk.content g.D.Disk.image g.D.Disk.moment g.D.Disk.since g.D.Disk.armed g.D.Disk.starved g.D.Disk.faults c.args.self.now c.store.new.self _ _ c.end-base.result c.store.result
+    (adds g.D.Disk.seen c.args.self.now c.store.new.self _ _ c.end-base.result c.store.result
     (omega (arith, last, c.in-Some.ensures.1)) (omega (arith, c.in-Ok-placed_copy.ensures.1, same_size c.args.batch.now c.in-Ok.view c.in-Ok.ensures.accepted c.end-base.result, ap length frame))
-    base c.store.ensures.ok c.store.ensures.base c.store.ensures.device c.store.ensures.unchanged c.store.ensures.full c.store.ensures.room c.store.ensures.any_moment)
+    base c.store.ensures.ok c.store.ensures.quiet c.store.ensures.base c.store.ensures.device c.store.ensures.unchanged c.store.ensures.full c.store.ensures.room c.store.ensures.any_moment)
 
 pub returns-in-Err-clause-runs : goal.returns-in-Err-clause-runs
-returns-in-Err-clause-runs g c = runs_none g.D.Disk.content g.D.Disk.losses g.D.Disk.arms g.D.Disk.armed g.D.Disk.starved g.D.Disk.faults c.args.self.now.journal.disk
+returns-in-Err-clause-runs g c = runs_none g.D.Disk.seen c.args.self.now.journal.disk
 
 pub returns-in_default-clause-runs : goal.returns-in_default-clause-runs
-returns-in_default-clause-runs g c = runs_none g.D.Disk.content g.D.Disk.losses g.D.Disk.arms g.D.Disk.armed g.D.Disk.starved g.D.Disk.faults c.args.self.now.journal.disk
+returns-in_default-clause-runs g c = runs_none g.D.Disk.seen c.args.self.now.journal.disk
 
 pub returns-in_default-placed_copy-clause-runs : goal.returns-in_default-placed_copy-clause-runs
-returns-in_default-placed_copy-clause-runs g c = runs_none g.D.Disk.content g.D.Disk.losses g.D.Disk.arms g.D.Disk.armed g.D.Disk.starved g.D.Disk.faults c.args.self.now.journal.disk
+returns-in_default-placed_copy-clause-runs g c = runs_none g.D.Disk.seen c.args.self.now.journal.disk
 
 pub returns-in-Err-clause-behind : goal.returns-in-Err-clause-behind
 returns-in-Err-clause-behind g c = λ end e. let never : ⊥ = cc in never

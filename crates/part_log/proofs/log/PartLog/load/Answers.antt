@@ -37,7 +37,7 @@ pub store-requires-clause-follows : goal.store-requires-clause-follows
 store-requires-clause-follows g c =
     let from : end_of c.args.self.now.batches ≤ c.in-Ok.view.base = omega (arith, c.if-view-end.false, c.end-end.ensures.end) in
     let there = stored_there c.args.batch.now c.in-Ok.view c.in-Ok.ensures.accepted c.args.self.now.batches _ from refl in
-    subst (λ f. MayFollow c.args.self.now.batches (batch_in f)) (sym c.in-Ok-framed_copy.ensures.0) there.follows
+    subst (λ f. MayFollow c.args.self.now.batches (batch_in f)) (sym c.in-Ok-buffer_of.ensures.frame) there.follows
 
 pub returns-clause-fits : goal.returns-clause-fits
 returns-clause-fits g c = λ end e.
@@ -54,36 +54,36 @@ returns-clause-behind g c = λ end. (
 )
 
 pub returns-in-Err-clause-once : goal.returns-in-Err-clause-once
-returns-in-Err-clause-once g c = bad g.D.Disk.content g.D.Disk.image g.D.Disk.moment g.D.Disk.since g.D.Disk.armed g.D.Disk.starved g.D.Disk.faults g.met.D.Disk.only_now
+returns-in-Err-clause-once g c = bad g.D.Disk.seen g.met.D.Disk.only_now
     c.args.self.now (batch_in c.args.batch.now) c.in-Err.fault
 
 pub returns-then-view-end-clause-once : goal.returns-then-view-end-clause-once
-returns-then-view-end-clause-once g c = behind g.D.Disk.content g.D.Disk.image g.D.Disk.moment g.D.Disk.since g.D.Disk.armed g.D.Disk.starved g.D.Disk.faults g.met.D.Disk.only_now
+returns-then-view-end-clause-once g c = behind g.D.Disk.seen g.met.D.Disk.only_now
     c.args.self.now (batch_in c.args.batch.now) c.end-end.result
 
 pub returns-in_default-clause-once : goal.returns-in_default-clause-once
-returns-in_default-clause-once g c = hungry g.D.Disk.content g.D.Disk.image g.D.Disk.moment g.D.Disk.since g.D.Disk.armed g.D.Disk.starved g.D.Disk.faults g.met.D.Disk.only_now
+returns-in_default-clause-once g c = hungry g.D.Disk.seen g.met.D.Disk.only_now
     c.args.self.now (batch_in c.args.batch.now)
 
 pub returns-clause-once : goal.returns-clause-once
 returns-clause-once g c =
-    let frame = c.in-Ok-framed_copy.ensures.0 in
+    let frame = c.in-Ok-buffer_of.ensures.frame in
     let accepted = c.in-Ok.ensures.accepted in
-    subst (λ f. AddsOnce g.D.Disk.content g.D.Disk.image g.D.Disk.moment g.D.Disk.since g.D.Disk.armed g.D.Disk.starved g.D.Disk.faults c.args.self.now c.store.new.self (batch_in f) c.store.result) frame
-    (adds g.D.Disk.content g.D.Disk.image g.D.Disk.moment g.D.Disk.since g.D.Disk.armed g.D.Disk.starved g.D.Disk.faults c.args.self.now c.store.new.self _ _ c.in-Ok.view.base c.store.result
+    subst (λ f. AddsOnce g.D.Disk.seen c.args.self.now c.store.new.self (batch_in f) c.store.result) frame
+    (adds g.D.Disk.seen c.args.self.now c.store.new.self _ _ c.in-Ok.view.base c.store.result
     (subst (λ f. (batch_in f).last < 2 ^ 62) (sym frame) (omega (arith, view_bound c.args.batch.now c.in-Ok.view accepted, view_last c.args.batch.now c.in-Ok.view accepted)))
-    (omega (arith, c.in-Ok-framed_copy.ensures.1, ap length frame))
+    (omega (arith, c.in-Ok-buffer_of.ensures.len, ap length frame))
     (subst (λ f. c.in-Ok.view.base ≡ (batch_in f).base) (sym frame) accepted.0.base)
-    c.store.ensures.ok c.store.ensures.base c.store.ensures.device c.store.ensures.unchanged c.store.ensures.full c.store.ensures.room c.store.ensures.any_moment)
+    c.store.ensures.ok c.store.ensures.quiet c.store.ensures.base c.store.ensures.device c.store.ensures.unchanged c.store.ensures.full c.store.ensures.room c.store.ensures.any_moment)
 
 pub returns-in-Err-clause-runs : goal.returns-in-Err-clause-runs
-returns-in-Err-clause-runs g c = runs_none g.D.Disk.content g.D.Disk.losses g.D.Disk.arms g.D.Disk.armed g.D.Disk.starved g.D.Disk.faults c.args.self.now.journal.disk
+returns-in-Err-clause-runs g c = runs_none g.D.Disk.seen c.args.self.now.journal.disk
 
 pub returns-then-view-end-clause-runs : goal.returns-then-view-end-clause-runs
-returns-then-view-end-clause-runs g c = runs_none g.D.Disk.content g.D.Disk.losses g.D.Disk.arms g.D.Disk.armed g.D.Disk.starved g.D.Disk.faults c.args.self.now.journal.disk
+returns-then-view-end-clause-runs g c = runs_none g.D.Disk.seen c.args.self.now.journal.disk
 
 pub returns-in_default-clause-runs : goal.returns-in_default-clause-runs
-returns-in_default-clause-runs g c = runs_none g.D.Disk.content g.D.Disk.losses g.D.Disk.arms g.D.Disk.armed g.D.Disk.starved g.D.Disk.faults c.args.self.now.journal.disk
+returns-in_default-clause-runs g c = runs_none g.D.Disk.seen c.args.self.now.journal.disk
 
 pub returns-in_default-clause-behind : goal.returns-in_default-clause-behind
 returns-in_default-clause-behind g c = λ end. (

@@ -1,9 +1,12 @@
 use Rattle.share_coord.proofs.Once.{held_after}
-use Rattle.share_coord.proofs.Seen.{seen_init}
+use Rattle.share_coord.proofs.Seen.{seen_init, stored_init}
 use Rattle.share_coord.proofs.coord.Coord.init.Goals as goal
 
 pub invariant_of-self : goal.invariant_of-self
-invariant_of-self g c = held_after g.D.Disk.image g.D.Disk.moment g.D.Disk.since _ _ _ _ c.init.result c.init.ensures.once c.self.invariant
+invariant_of-self g c = held_after g.D.Disk.seen _ _ _ _ c.init.result c.init.ensures.once c.self.invariant
 
 pub returns-clause-once : goal.returns-clause-once
-returns-clause-once g c = seen_init g.D.Disk.image g.D.Disk.moment g.D.Disk.since _ _ _ _ c.init.result _ c.self.view_is c.args.state_epoch c.args.start c.ranges.state_epoch c.ranges.start c.init.ensures.once
+returns-clause-once g c = seen_init g.D.Disk.seen _ _ _ _ c.init.result _ c.self.view_is c.args.state_epoch c.args.start c.ranges.state_epoch c.ranges.start c.init.ensures.once
+
+pub returns-clause-stored : goal.returns-clause-stored
+returns-clause-stored g c = stored_init g.D.Disk.seen _ _ (record { journal = c.init.new.self.journal; entries = c.init.new.self.map.entries }) c.init.result _ c.self.view_is c.args.state_epoch c.args.start c.ranges.state_epoch c.ranges.start c.init.ensures.stored

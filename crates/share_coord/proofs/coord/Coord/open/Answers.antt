@@ -1,4 +1,6 @@
-use Rattle.std.proofs.Common.{rules, ◌∙◌, sym, subst, ℕ, List, [], false, true}
+use Rattle.std.proofs.Common.{rules, ◌∙◌, refl, sym, subst, ℕ, List, [], false, true}
+use Rattle.coord_checkpoint.specs.Disks.{IsOfFirst}
+use Rattle.gate_journal.proofs.Once.{not_both}
 use Rattle.share_coord.specs.Stored.{AreAccepted, IsRefused}
 use Rattle.share_coord.proofs.Reading.{accepted_once, refused_clash, true_place, unlisted_damaged, refused_damaged, no_device}
 use Rattle.share_coord.proofs.coord.Coord.open.Goals as goal
@@ -9,6 +11,8 @@ returns-in-Err-clause-refused g c = record {
   sound = λ x y entries on_a on_b stored. c.in-Err.ensures.recovers x y stored.frames on_a on_b stored.listed;
   device = c.in-Err.ensures.device;
   second_device = c.in-Err.ensures.second_device;
+  untouched = λ is. c.in-Err.ensures.untouched (subst IsOfFirst (sym is) refl);
+  unread = λ x y place on_a on_b bad is. c.in-Err.ensures.untouched (subst IsOfFirst (sym is) refl);
 }
 
 pub returns-in-Ok-replay-clause-opened : goal.returns-in-Ok-replay-clause-opened
@@ -38,4 +42,6 @@ returns-in-Refused-clause-refused g c =
           (subst (λ (fs : List (List ℕ)). AreAccepted [] fs entries) (sym (c.in-Ok.ensures.recovers x y stored.frames on_a on_b stored.listed)) stored.accepted);
       device = λ e. absurd (no_device false false c.in-Refused.place e);
       second_device = λ e. absurd (no_device false true c.in-Refused.place e);
+      untouched = λ e. absurd (no_device false false c.in-Refused.place e);
+      unread = λ x y place on_a on_b bad e. absurd (not_both x items place (c.in-Ok.ensures.opens x y on_a on_b).listed bad);
     }

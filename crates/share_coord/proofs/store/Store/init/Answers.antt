@@ -9,11 +9,12 @@ use Rattle.share_coord.proofs.Numeric.{causes_in, init_apart, memory_apart}
 use Rattle.share_coord.proofs.Once.{untouched, rewritten}
 use Rattle.share_coord.proofs.Signed.{init_refusal_as, initial_follows, initialised_as}
 use Rattle.share_coord.proofs.Sizes.{snapshot_fits}
+use Rattle.share_coord.proofs.Storing.{unstored, as_this, init_stored}
 use Rattle.edge_io.proofs.Runs.{runs_none}
 use Rattle.share_coord.proofs.store.Store.init.Goals as goal
 
 pub returns-in-Some-clause-once : goal.returns-in-Some-clause-once
-returns-in-Some-clause-once g c = untouched g.D.Disk.image g.D.Disk.moment g.D.Disk.since _ g.met.D.Disk.only_now _ _ c.in-Some.fault
+returns-in-Some-clause-once g c = untouched g.D.Disk.seen _ g.met.D.Disk.only_now _ _ c.in-Some.fault
     (init_apart (option_copied c.get-known.result) (to_z w32 (of_z w32 c.args.state_epoch)) (to_z w64 (of_z w64 c.args.start)) c.in-Some.fault (sym c.init_refusal.ensures ∙ c.in-Some.is))
 
 pub next_snapshot-next-requires : goal.next_snapshot-next-requires
@@ -21,7 +22,7 @@ next_snapshot-next-requires g c = subst (λ (o : Option Kept). next_snapshot o <
     (next_few c.requires.held.1.frames c.args.self.now.map.entries c.args.key.now c.requires.held.1.accepted c.requires.held.1.few)
 
 pub returns-in_default-snapshot-clause-once : goal.returns-in_default-snapshot-clause-once
-returns-in_default-snapshot-clause-once g c = untouched g.D.Disk.image g.D.Disk.moment g.D.Disk.since _ g.met.D.Disk.only_now _ _ _ memory_apart
+returns-in_default-snapshot-clause-once g c = untouched g.D.Disk.seen _ g.met.D.Disk.only_now _ _ _ memory_apart
 
 pub replace-requires-clause-frame : goal.replace-requires-clause-frame
 replace-requires-clause-frame g c =
@@ -36,13 +37,13 @@ add-requires-clause-frame g c =
     snapshot_fits _ _ c.in-Ok.ensures.written c.key_fits.ensures few
 
 pub returns-then-is_known-clause-once : goal.returns-then-is_known-clause-once
-returns-then-is_known-clause-once g c = rewritten g.D.Disk.image g.D.Disk.moment g.D.Disk.since _ _ _ _ _ _
+returns-then-is_known-clause-once g c = rewritten g.D.Disk.seen _ _ _ _ _ _
     (λ es e. initialised_as c.args.self.now.map.entries c.args.key.now c.args.state_epoch c.args.start _ _ _ es (option_copied c.get-known.result) c.ranges.state_epoch c.ranges.start
     c.get-known.ensures.value (sym c.init_refusal.ensures ∙ c.in_default.is) c.new.ensures
     (c.next_snapshot-next.ensures ∙ ap next_snapshot c.get-known.ensures.value) c.in-Ok.ensures.kept e) c.replace.ensures.once
 
 pub returns-else-is_known-clause-once : goal.returns-else-is_known-clause-once
-returns-else-is_known-clause-once g c = rewritten g.D.Disk.image g.D.Disk.moment g.D.Disk.since _ _ _ _ _ _
+returns-else-is_known-clause-once g c = rewritten g.D.Disk.seen _ _ _ _ _ _
     (λ es e. initialised_as c.args.self.now.map.entries c.args.key.now c.args.state_epoch c.args.start _ _ _ es (option_copied c.get-known.result) c.ranges.state_epoch c.ranges.start
     c.get-known.ensures.value (sym c.init_refusal.ensures ∙ c.in_default.is) c.new.ensures
     (c.next_snapshot-next.ensures ∙ ap next_snapshot c.get-known.ensures.value) c.in-Ok.ensures.kept e) c.add.ensures.once
@@ -96,10 +97,10 @@ returns-in_default-snapshot-clause-refused g c =
     λ fault is. absurd (some_none fault (sym is ∙ none))
 
 pub returns-in-Some-clause-runs : goal.returns-in-Some-clause-runs
-returns-in-Some-clause-runs g c = runs_none g.D.Disk.content g.D.Disk.losses g.D.Disk.arms g.D.Disk.armed g.D.Disk.starved g.D.Disk.faults c.args.self.now.journal.live.disk
+returns-in-Some-clause-runs g c = runs_none g.D.Disk.seen c.args.self.now.journal.live.disk
 
 pub returns-in_default-snapshot-clause-runs : goal.returns-in_default-snapshot-clause-runs
-returns-in_default-snapshot-clause-runs g c = runs_none g.D.Disk.content g.D.Disk.losses g.D.Disk.arms g.D.Disk.armed g.D.Disk.starved g.D.Disk.faults c.args.self.now.journal.live.disk
+returns-in_default-snapshot-clause-runs g c = runs_none g.D.Disk.seen c.args.self.now.journal.live.disk
 
 pub replace-requires-clause-follows : goal.replace-requires-clause-follows
 replace-requires-clause-follows g c = initial_follows c.args.self.now.map.entries _ _ _ c.new.ensures
@@ -108,3 +109,20 @@ replace-requires-clause-follows g c = initial_follows c.args.self.now.map.entrie
 pub add-requires-clause-follows : goal.add-requires-clause-follows
 add-requires-clause-follows g c = initial_follows c.args.self.now.map.entries _ _ _ c.new.ensures
     (c.next_snapshot-next.ensures ∙ ap next_snapshot c.get-known.ensures.value) c.in-Ok.ensures.written c.in-Ok.ensures.kept
+
+pub returns-in-Some-clause-stored : goal.returns-in-Some-clause-stored
+returns-in-Some-clause-stored g c = unstored g.D.Disk.seen _ _ c.in-Some.fault
+    (init_apart (option_copied c.get-known.result) (to_z w32 (of_z w32 c.args.state_epoch)) (to_z w64 (of_z w64 c.args.start)) c.in-Some.fault (sym c.init_refusal.ensures ∙ c.in-Some.is))
+
+pub returns-in_default-snapshot-clause-stored : goal.returns-in_default-snapshot-clause-stored
+returns-in_default-snapshot-clause-stored g c = unstored g.D.Disk.seen _ _ _ memory_apart
+
+pub returns-then-is_known-clause-stored : goal.returns-then-is_known-clause-stored
+returns-then-is_known-clause-stored g c = as_this g.D.Disk.seen _ _ _ _
+    (λ one is. is ∙ init_stored c.args.self.now.map.entries c.args.key.now c.args.state_epoch c.args.start _ _ _ c.ranges.state_epoch c.ranges.start
+    c.new.ensures (c.next_snapshot-next.ensures ∙ ap next_snapshot c.get-known.ensures.value) c.in-Ok.ensures.written) c.replace.result c.replace.ensures.stored
+
+pub returns-else-is_known-clause-stored : goal.returns-else-is_known-clause-stored
+returns-else-is_known-clause-stored g c = as_this g.D.Disk.seen _ _ _ _
+    (λ one is. is ∙ init_stored c.args.self.now.map.entries c.args.key.now c.args.state_epoch c.args.start _ _ _ c.ranges.state_epoch c.ranges.start
+    c.new.ensures (c.next_snapshot-next.ensures ∙ ap next_snapshot c.get-known.ensures.value) c.in-Ok.ensures.written) c.add.result c.add.ensures.stored

@@ -8,14 +8,16 @@ use Rattle.share_coord.proofs.Keys.{next_few, some_none}
 use Rattle.share_coord.proofs.Numeric.{write_apart, unknown_apart, plan_apart, causes_in}
 use Rattle.share_coord.proofs.Once.{untouched, rewritten}
 use Rattle.share_coord.proofs.Signed.{epoch_fits, start_fits, in_range, refusal_as, written_as}
+use Rattle.share_coord.specs.Recorded.{IsWriteRecord}
+use Rattle.share_coord.proofs.Storing.{unstored, as_this, write_stored}
 use Rattle.share_coord.proofs.store.Store.write.Goals as goal
 
 pub returns-in-Some-clause-once : goal.returns-in-Some-clause-once
-returns-in-Some-clause-once g c = untouched g.D.Disk.image g.D.Disk.moment g.D.Disk.since _ g.met.D.Disk.only_now _ _ c.in-Some.fault
+returns-in-Some-clause-once g c = untouched g.D.Disk.seen _ g.met.D.Disk.only_now _ _ c.in-Some.fault
     (write_apart (option_copied c.get-known.result) (to_z w32 (of_z w32 c.args.state_epoch)) (to_z w32 (of_z w32 c.args.leader_epoch)) (to_z w64 (of_z w64 c.args.start)) c.args.runs.now c.in-Some.fault (sym c.write_refusal.ensures ∙ c.in-Some.is))
 
 pub returns-in_default-known-clause-once : goal.returns-in_default-known-clause-once
-returns-in_default-known-clause-once g c = untouched g.D.Disk.image g.D.Disk.moment g.D.Disk.since _ g.met.D.Disk.only_now _ _ _ unknown_apart
+returns-in_default-known-clause-once g c = untouched g.D.Disk.seen _ g.met.D.Disk.only_now _ _ _ unknown_apart
 
 pub planned-requires-clause-ranges : goal.planned-requires-clause-ranges
 planned-requires-clause-ranges g c =
@@ -34,10 +36,10 @@ planned-requires-clause-snapshot g c =
     (next_few c.requires.held.1.frames c.args.self.now.map.entries c.args.key.now c.requires.held.1.accepted c.requires.held.1.few)
 
 pub returns-in-Err-clause-once : goal.returns-in-Err-clause-once
-returns-in-Err-clause-once g c = untouched g.D.Disk.image g.D.Disk.moment g.D.Disk.since _ g.met.D.Disk.only_now _ _ c.in-Err.fault (plan_apart c.in-Err.fault c.in-Err.ensures.causes)
+returns-in-Err-clause-once g c = untouched g.D.Disk.seen _ g.met.D.Disk.only_now _ _ c.in-Err.fault (plan_apart c.in-Err.fault c.in-Err.ensures.causes)
 
 pub returns-in-Err-clause-runs : goal.returns-in-Err-clause-runs
-returns-in-Err-clause-runs g c = runs_none g.D.Disk.content g.D.Disk.losses g.D.Disk.arms g.D.Disk.armed g.D.Disk.starved g.D.Disk.faults c.args.self.now.journal.live.disk
+returns-in-Err-clause-runs g c = runs_none g.D.Disk.seen c.args.self.now.journal.live.disk
 
 pub replace-requires-clause-follows : goal.replace-requires-clause-follows
 replace-requires-clause-follows g c =
@@ -53,7 +55,7 @@ returns-clause-causes g c = causes_in c.replace.result _ _
 pub returns-clause-once : goal.returns-clause-once
 returns-clause-once g c =
     let known : kept_at c.args.self.now.map.entries c.args.key.now ≡ Some c.in-Some-known.kept.now = sym c.get-known.ensures.value ∙ ap option_copied c.in-Some-known.is in
-    rewritten g.D.Disk.image g.D.Disk.moment g.D.Disk.since _ _ _ _ _ _
+    rewritten g.D.Disk.seen _ _ _ _ _ _
     (λ es e. written_as _ _ c.args.state_epoch c.args.leader_epoch c.args.start _ _ es c.ranges.state_epoch c.ranges.leader_epoch c.ranges.start
     (c.in-Ok.ensures.written c.args.self.now.map.entries known
     (ap (λ (o : Option Kept). write_refusal o (to_z w32 (of_z w32 c.args.state_epoch)) (to_z w32 (of_z w32 c.args.leader_epoch)) (to_z w64 (of_z w64 c.args.start)) c.args.runs.now) (sym c.get-known.ensures.value)
@@ -76,10 +78,10 @@ returns-in-Err-clause-refused g c =
     λ fault is. absurd (some_none fault (sym is ∙ none))
 
 pub returns-in-Some-clause-runs : goal.returns-in-Some-clause-runs
-returns-in-Some-clause-runs g c = runs_none g.D.Disk.content g.D.Disk.losses g.D.Disk.arms g.D.Disk.armed g.D.Disk.starved g.D.Disk.faults c.args.self.now.journal.live.disk
+returns-in-Some-clause-runs g c = runs_none g.D.Disk.seen c.args.self.now.journal.live.disk
 
 pub returns-in_default-known-clause-runs : goal.returns-in_default-known-clause-runs
-returns-in_default-known-clause-runs g c = runs_none g.D.Disk.content g.D.Disk.losses g.D.Disk.arms g.D.Disk.armed g.D.Disk.starved g.D.Disk.faults c.args.self.now.journal.live.disk
+returns-in_default-known-clause-runs g c = runs_none g.D.Disk.seen c.args.self.now.journal.live.disk
 
 pub planned-requires-clause-runs : goal.planned-requires-clause-runs
 planned-requires-clause-runs g c =
@@ -89,3 +91,22 @@ planned-requires-clause-runs g c =
 
 pub replace-requires-clause-frame : goal.replace-requires-clause-frame
 replace-requires-clause-frame g c = c.in-Ok.ensures.frame
+
+pub returns-in-Some-clause-stored : goal.returns-in-Some-clause-stored
+returns-in-Some-clause-stored g c = unstored g.D.Disk.seen _ _ c.in-Some.fault
+    (write_apart (option_copied c.get-known.result) (to_z w32 (of_z w32 c.args.state_epoch)) (to_z w32 (of_z w32 c.args.leader_epoch)) (to_z w64 (of_z w64 c.args.start)) c.args.runs.now c.in-Some.fault (sym c.write_refusal.ensures ∙ c.in-Some.is))
+
+pub returns-in_default-known-clause-stored : goal.returns-in_default-known-clause-stored
+returns-in_default-known-clause-stored g c = unstored g.D.Disk.seen _ _ _ unknown_apart
+
+pub returns-in-Err-clause-stored : goal.returns-in-Err-clause-stored
+returns-in-Err-clause-stored g c = unstored g.D.Disk.seen _ _ c.in-Err.fault (plan_apart c.in-Err.fault c.in-Err.ensures.causes)
+
+pub returns-clause-stored : goal.returns-clause-stored
+returns-clause-stored g c =
+    let known : kept_at c.args.self.now.map.entries c.args.key.now ≡ Some c.in-Some-known.kept.now = sym c.get-known.ensures.value ∙ ap option_copied c.in-Some-known.is in
+    as_this g.D.Disk.seen _ _ _ _
+    (λ one is. write_stored c.args.self.now.map.entries c.args.key.now c.args.state_epoch c.args.leader_epoch c.args.start c.args.runs.now one
+    c.ranges.state_epoch c.ranges.leader_epoch c.ranges.start
+    (subst (λ o. IsWriteRecord c.args.self.now.map.entries c.args.key.now (to_z w32 (of_z w32 c.args.state_epoch)) (to_z w32 (of_z w32 c.args.leader_epoch)) (to_z w64 (of_z w64 c.args.start)) c.args.runs.now o)
+    (sym is) (c.in-Ok.ensures.one c.args.self.now.map.entries known))) c.replace.result c.replace.ensures.stored

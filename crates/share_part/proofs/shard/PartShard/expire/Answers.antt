@@ -15,54 +15,54 @@ use Rattle.share_part.proofs.Expired.{SoFar, all_ended, begins, none_begins, one
 use Rattle.share_part.proofs.shard.PartShard.expire.Goals as goal
 
 pub returns-in_err-due-clause-once : goal.returns-in_err-due-clause-once
-returns-in_err-due-clause-once g c = rw (← c.self.view_is) (none_begins g.D.Disk.content g.D.Disk.image g.D.Disk.losses g.D.Disk.arms g.D.Disk.armed g.D.Disk.starved g.D.Disk.faults g.W.Window.held c.args.now
+returns-in_err-due-clause-once g c = rw (← c.self.view_is) (none_begins g.D.Disk.seen g.W.Window.held c.args.now
     (record { conf = c.self.inside.conf; log = c.self.inside.log; states = c.self.inside.states; windows = c.self.inside.windows.entries; clock = c.self.inside.clock }) [] c.from_residual.result c.from_residual.ensures.0
     (λ nothing. c.in_err-due.ensures.some (subst (IsNothingDue g.W.Window.held c.self.inside.windows.entries) (sym c.max-clock.ensures) nothing)))
 
 pub loop-group-init : goal.loop-group-init
-loop-group-init g c = rw (← c.self.view_is) (begins g.D.Disk.content g.D.Disk.image g.D.Disk.losses g.D.Disk.arms g.D.Disk.armed g.D.Disk.starved g.D.Disk.faults g.W.Window.held c.args.now
+loop-group-init g c = rw (← c.self.view_is) (begins g.D.Disk.seen g.W.Window.held c.args.now
     (record { conf = c.self.inside.conf; log = c.self.inside.log; states = c.self.inside.states; windows = c.self.inside.windows.entries; clock = c.self.inside.clock }) c.deref-group-items.result.now
     c.in_ok-due.ensures.ordered c.self.invariant.hosted c.self.invariant.holds
     (c.deref-group-items.ensures.value ∙ (c.in_ok-due.ensures.due ∙ ap (λ (n : ℕ). due_groups g.W.Window.held n c.self.inside.windows.entries) c.max-clock.ensures)))
 
 pub loop-group-preserved : goal.loop-group-preserved
-loop-group-preserved g c = subst (SoFar g.D.Disk.content g.D.Disk.image g.D.Disk.losses g.D.Disk.arms g.D.Disk.armed g.D.Disk.starved g.D.Disk.faults g.W.Window.held c.args.now c.args.self.now c.deref-group-items.result.now c.release.new.self (c.loop-group.group-index + 1)) (sym c.saturating_add-freed.ensures)
-    (one_done g.D.Disk.content g.D.Disk.image g.D.Disk.losses g.D.Disk.arms g.D.Disk.armed g.D.Disk.starved g.D.Disk.faults g.W.Window.held c.args.now c.args.self.now c.deref-group-items.result.now
+loop-group-preserved g c = subst (SoFar g.D.Disk.seen g.W.Window.held c.args.now c.args.self.now c.deref-group-items.result.now c.release.new.self (c.loop-group.group-index + 1)) (sym c.saturating_add-freed.ensures)
+    (one_done g.D.Disk.seen g.W.Window.held c.args.now c.args.self.now c.deref-group-items.result.now
     c.loop-group.self c.release.new.self c.loop-group.group-index c.loop-group.freed c.group-item.result c.loop-group.invariant c.loop-group-test.true c.group-item.result (sym c.group-item.is) c.release.ensures.runs
     c.release.result c.in-Done.count (c.in_ok-count.was ∙ ap (λ (r : Released). Ok r) c.in-Done.is)
-    (subst (λ (n : ℕ). ReleasesOnce g.D.Disk.content g.D.Disk.image g.D.Disk.armed g.D.Disk.starved g.D.Disk.faults g.W.Window.held n c.group-item.result (Due n) c.loop-group.self c.release.new.self c.release.result)
+    (subst (λ (n : ℕ). ReleasesOnce g.D.Disk.seen g.W.Window.held n c.group-item.result (Due n) c.loop-group.self c.release.new.self c.release.result)
     (c.max-clock.ensures ∙ ap (λ (p : PartParts g.row.D.Denot g.row.W.Denot). max p.clock c.args.now) c.self.view_is) c.release.ensures.once))
 
 pub returns-in_err-count-clause-once : goal.returns-in_err-count-clause-once
-returns-in_err-count-clause-once g c = one_starves g.D.Disk.content g.D.Disk.image g.D.Disk.losses g.D.Disk.arms g.D.Disk.armed g.D.Disk.starved g.D.Disk.faults g.W.Window.held c.args.now c.args.self.now c.deref-group-items.result.now
+returns-in_err-count-clause-once g c = one_starves g.D.Disk.seen g.W.Window.held c.args.now c.args.self.now c.deref-group-items.result.now
     c.loop-group.self c.release.new.self c.loop-group.group-index c.loop-group.freed c.group-item.result c.loop-group.invariant c.loop-group-test.true c.group-item.result (sym c.group-item.is) c.release.ensures.runs
     (subst (λ (p : PartParts g.row.D.Denot g.row.W.Denot). IsStrictlySortedBy (slice_cmp nat_cmp) (keys_of p.windows)) c.self.view_is c.in_ok-due.ensures.ordered)
     (subst (λ (p : PartParts g.row.D.Denot g.row.W.Denot). c.deref-group-items.result.now ≡ due_groups g.W.Window.held (max p.clock c.args.now) p.windows) c.self.view_is
     (c.deref-group-items.ensures.value ∙ (c.in_ok-due.ensures.due ∙ ap (λ (n : ℕ). due_groups g.W.Window.held n c.self.inside.windows.entries) c.max-clock.ensures)))
     (subst (λ (p : PartParts g.row.D.Denot g.row.W.Denot). AllByRecursion (λ e. IsRising (g.W.Window.held e.1)) p.windows) c.self.view_is c.in_ok-due.ensures.rising)
     c.release.result _ c.in_err-count.was
-    (subst (λ (n : ℕ). ReleasesOnce g.D.Disk.content g.D.Disk.image g.D.Disk.armed g.D.Disk.starved g.D.Disk.faults g.W.Window.held n c.group-item.result (Due n) c.loop-group.self c.release.new.self c.release.result)
+    (subst (λ (n : ℕ). ReleasesOnce g.D.Disk.seen g.W.Window.held n c.group-item.result (Due n) c.loop-group.self c.release.new.self c.release.result)
     (c.max-clock.ensures ∙ ap (λ (p : PartParts g.row.D.Denot g.row.W.Denot). max p.clock c.args.now) c.self.view_is) c.release.ensures.once) c.from_residual-in_err-count.result c.from_residual-in_err-count.ensures.0
 
 pub returns-in-Store-clause-once : goal.returns-in-Store-clause-once
-returns-in-Store-clause-once g c = one_stays g.D.Disk.content g.D.Disk.image g.D.Disk.losses g.D.Disk.arms g.D.Disk.armed g.D.Disk.starved g.D.Disk.faults g.W.Window.held c.args.now c.args.self.now c.deref-group-items.result.now
+returns-in-Store-clause-once g c = one_stays g.D.Disk.seen g.W.Window.held c.args.now c.args.self.now c.deref-group-items.result.now
     c.loop-group.self c.release.new.self c.loop-group.group-index c.loop-group.freed c.group-item.result c.loop-group.invariant c.loop-group-test.true c.group-item.result (sym c.group-item.is) c.release.ensures.runs
     (subst (λ (p : PartParts g.row.D.Denot g.row.W.Denot). IsStrictlySortedBy (slice_cmp nat_cmp) (keys_of p.windows)) c.self.view_is c.in_ok-due.ensures.ordered)
     (subst (λ (p : PartParts g.row.D.Denot g.row.W.Denot). c.deref-group-items.result.now ≡ due_groups g.W.Window.held (max p.clock c.args.now) p.windows) c.self.view_is
     (c.deref-group-items.ensures.value ∙ (c.in_ok-due.ensures.due ∙ ap (λ (n : ℕ). due_groups g.W.Window.held n c.self.inside.windows.entries) c.max-clock.ensures)))
     (subst (λ (p : PartParts g.row.D.Denot g.row.W.Denot). AllByRecursion (λ e. IsRising (g.W.Window.held e.1)) p.windows) c.self.view_is c.in_ok-due.ensures.rising)
     c.release.result c.in-Store.fault (c.in_ok-count.was ∙ ap (λ (r : Released). Ok r) c.in-Store.is)
-    (subst (λ (n : ℕ). ReleasesOnce g.D.Disk.content g.D.Disk.image g.D.Disk.armed g.D.Disk.starved g.D.Disk.faults g.W.Window.held n c.group-item.result (Due n) c.loop-group.self c.release.new.self c.release.result)
+    (subst (λ (n : ℕ). ReleasesOnce g.D.Disk.seen g.W.Window.held n c.group-item.result (Due n) c.loop-group.self c.release.new.self c.release.result)
     (c.max-clock.ensures ∙ ap (λ (p : PartParts g.row.D.Denot g.row.W.Denot). max p.clock c.args.now) c.self.view_is) c.release.ensures.once)
 
 pub returns-clause-once : goal.returns-clause-once
 returns-clause-once g c =
     let past : length c.deref-group-items.result.now ≤ c.loop-group.group-index = omega (arith, c.loop-group-test.false) in
-    subst (λ (n : ℕ). ExpiresOnce g.D.Disk.content g.D.Disk.image g.D.Disk.armed g.D.Disk.starved g.D.Disk.faults g.W.Window.held c.args.now c.args.self.now
+    subst (λ (n : ℕ). ExpiresOnce g.D.Disk.seen g.W.Window.held c.args.now c.args.self.now
     (record { conf = c.self-2.inside.conf; log = c.self-2.inside.log; states = c.self-2.inside.states; windows = c.self-2.inside.windows.entries; clock = n }) (Ok (Done c.loop-group.freed))) (sym (c.max-clock.ensures ∙ ap (λ (p : PartParts g.row.D.Denot g.row.W.Denot). max p.clock c.args.now) c.self.view_is))
-    (subst (λ (p : PartParts g.row.D.Denot g.row.W.Denot). ExpiresOnce g.D.Disk.content g.D.Disk.image g.D.Disk.armed g.D.Disk.starved g.D.Disk.faults g.W.Window.held c.args.now c.args.self.now
+    (subst (λ (p : PartParts g.row.D.Denot g.row.W.Denot). ExpiresOnce g.D.Disk.seen g.W.Window.held c.args.now c.args.self.now
     (record { conf = p.conf; log = p.log; states = p.states; windows = p.windows; clock = max c.args.self.now.clock c.args.now }) (Ok (Done c.loop-group.freed))) (sym c.self-2.view_is)
-    (all_ended g.D.Disk.content g.D.Disk.image g.D.Disk.losses g.D.Disk.arms g.D.Disk.armed g.D.Disk.starved g.D.Disk.faults g.W.Window.held c.args.now c.args.self.now c.deref-group-items.result.now
+    (all_ended g.D.Disk.seen g.W.Window.held c.args.now c.args.self.now c.deref-group-items.result.now
     c.loop-group.self c.loop-group.group-index c.loop-group.freed c.loop-group.invariant past
     (subst (λ (p : PartParts g.row.D.Denot g.row.W.Denot). IsStrictlySortedBy (slice_cmp nat_cmp) (keys_of p.windows)) c.self.view_is c.in_ok-due.ensures.ordered)
     (subst (λ (p : PartParts g.row.D.Denot g.row.W.Denot). c.deref-group-items.result.now ≡ due_groups g.W.Window.held (max p.clock c.args.now) p.windows) c.self.view_is

@@ -4,7 +4,7 @@ use Rattle.share_part.proofs.Visiting.{idly}
 use Rattle.share_part.proofs.shard.PartShard.follow.Goals as goal
 
 pub returns-in-Nothing-clause-once : goal.returns-in-Nothing-clause-once
-returns-in-Nothing-clause-once g c = idly g.D.Disk.content g.D.Disk.image g.D.Disk.moment g.D.Disk.since g.D.Disk.armed g.D.Disk.starved g.D.Disk.faults g.W.Window.held c.args.now c.args.visit.now c.args.self.now c.pass.new.self
+returns-in-Nothing-clause-once g c = idly g.D.Disk.seen g.W.Window.held c.args.now c.args.visit.now c.args.self.now c.pass.new.self
     (ap (λ (p : PartParts g.row.D.Denot g.row.W.Denot). p.conf) c.pass.ensures.clock) (ap (λ (p : PartParts g.row.D.Denot g.row.W.Denot). p.log) c.pass.ensures.clock)
     (ap (λ (p : PartParts g.row.D.Denot g.row.W.Denot). p.states.journal.idle) c.pass.ensures.clock) c.pass.result c.pass.ensures.ack c.pass.ensures.answer c.in-Nothing.is
     (ap (λ (p : PartParts g.row.D.Denot g.row.W.Denot). p.states) c.pass.ensures.clock) (ap (λ (p : PartParts g.row.D.Denot g.row.W.Denot). p.windows) c.pass.ensures.clock)

@@ -8,19 +8,19 @@ use Rattle.share_part.proofs.shard.PartShard.open.Goals as goal
 
 pub returns-in-Err-clause-refused : goal.returns-in-Err-clause-refused
 returns-in-Err-clause-refused g c =
-    subst (λ (f : PartFault). IsNotOpened g.D.Disk.content g.D.Disk.armed g.D.Disk.starved g.D.Disk.faults c.args.conf c.args.disks.0 c.args.disks.1 c.args.disks.2
+    subst (λ (f : PartFault). IsNotOpened g.D.Disk.seen c.args.conf c.args.disks.0 c.args.disks.1 c.args.disks.2
     c.in-Err.disk c.args.disks.1 c.args.disks.2 f) (sym c.fault_of_log.ensures)
-    (by_log g.D.Disk.content g.D.Disk.image g.W.Window.held g.D.Disk.armed g.D.Disk.starved g.D.Disk.faults c.args.conf c.args.disks.0 c.args.disks.1 c.args.disks.2 c.in-Err.disk c.in-Err.fault c.in-Err.ensures.damaged c.in-Err.ensures.recovers c.in-Err.ensures.device)
+    (by_log g.D.Disk.seen g.W.Window.held c.args.conf c.args.disks.0 c.args.disks.1 c.args.disks.2 c.in-Err.disk c.in-Err.fault c.in-Err.ensures.damaged c.in-Err.ensures.recovers c.in-Err.ensures.device)
 
 pub returns-in-Err-open-clause-refused : goal.returns-in-Err-open-clause-refused
 returns-in-Err-open-clause-refused g c =
-    subst (λ (f : PartFault). IsNotOpened g.D.Disk.content g.D.Disk.armed g.D.Disk.starved g.D.Disk.faults c.args.conf c.args.disks.0 c.args.disks.1 c.args.disks.2
+    subst (λ (f : PartFault). IsNotOpened g.D.Disk.seen c.args.conf c.args.disks.0 c.args.disks.1 c.args.disks.2
     c.into_disk.result c.in-Err-open.a c.in-Err-open.b f) (sym c.fault_of_states.ensures)
-    (by_states g.D.Disk.content g.D.Disk.image g.W.Window.held g.D.Disk.armed g.D.Disk.starved g.D.Disk.faults c.args.conf c.args.disks.0 c.args.disks.1 c.args.disks.2 c.into_disk.result c.in-Err-open.a c.in-Err-open.b c.in-Err-open.fault
+    (by_states g.D.Disk.seen g.W.Window.held c.args.conf c.args.disks.0 c.args.disks.1 c.args.disks.2 c.into_disk.result c.in-Err-open.a c.in-Err-open.b c.in-Err-open.fault
     c.in-Ok.log.batches c.in-Ok.ensures.opens c.in-Err-open.ensures.refused)
 
 pub returns-then-not-are_hosted-clause-refused : goal.returns-then-not-are_hosted-clause-refused
-returns-then-not-are_hosted-clause-refused g c = misplaced g.D.Disk.content g.D.Disk.image g.W.Window.held g.D.Disk.armed g.D.Disk.starved g.D.Disk.faults c.args.conf c.args.disks.0 c.args.disks.1 c.args.disks.2 _ _ _ c.in-Ok.log c.in-Ok-open.states
+returns-then-not-are_hosted-clause-refused g c = misplaced g.D.Disk.seen g.W.Window.held c.args.conf c.args.disks.0 c.args.disks.1 c.args.disks.2 _ _ _ c.in-Ok.log c.in-Ok-open.states
     c.in-Ok.ensures.opens (λ content batches at text. c.in-Ok.ensures.recovers content batches at text) c.in-Ok-open.ensures.opened
     (λ h. let is = c.are_hosted.ensures.1 h in let clash : ⊥ = cc in clash)
 
@@ -33,6 +33,6 @@ invariant_of-result g c = record {
 }
 
 pub returns-clause-opened : goal.returns-clause-opened
-returns-clause-opened g c = opened g.D.Disk.content g.D.Disk.image g.W.Window.held g.D.Disk.armed g.D.Disk.starved g.D.Disk.faults c.args.conf c.args.disks.0 c.args.disks.1 c.args.disks.2 _ refl c.new.ensures.empty refl c.in-Ok.ensures.kept
+returns-clause-opened g c = opened g.D.Disk.seen g.W.Window.held c.args.conf c.args.disks.0 c.args.disks.1 c.args.disks.2 _ refl c.new.ensures.empty refl c.in-Ok.ensures.kept
     c.in-Ok.ensures.opens (λ content batches at text. c.in-Ok.ensures.recovers content batches at text) c.in-Ok-open.ensures.opened
     (c.are_hosted.ensures.0 c.if-not-are_hosted.false)

@@ -6,18 +6,18 @@ use Rattle.share_part.proofs.Producing.{has_grown, hungry, produced, stays_hoste
 use Rattle.share_part.proofs.shard.PartShard.produce.Goals as goal
 
 pub returns-then-has_no_memory-clause-once : goal.returns-then-has_no_memory-clause-once
-returns-then-has_no_memory-clause-once g c = rw (← c.self.view_is) (hungry g.D.Disk.content g.D.Disk.image g.D.Disk.moment g.D.Disk.since g.D.Disk.armed g.D.Disk.starved g.D.Disk.faults g.W.Window.held c.args.now c.args.batch.now (record { conf = c.self.inside.conf; log = c.self.inside.log; states = c.self.inside.states; windows = c.self.inside.windows.entries; clock = c.self.inside.clock }) c.append-result.new.self c.self.inside.clock c.append-result.result c.append-result.ensures.once (c.has_no_memory.ensures.0 c.if-has_no_memory.true) refl)
+returns-then-has_no_memory-clause-once g c = rw (← c.self.view_is) (hungry g.D.Disk.seen g.W.Window.held c.args.now c.args.batch.now (record { conf = c.self.inside.conf; log = c.self.inside.log; states = c.self.inside.states; windows = c.self.inside.windows.entries; clock = c.self.inside.clock }) c.append-result.new.self c.self.inside.clock c.append-result.result c.append-result.ensures.once (c.has_no_memory.ensures.0 c.if-has_no_memory.true) refl)
 
 pub invariant_of-self-2 : goal.invariant_of-self-2
 invariant_of-self-2 g c = record {
-  log_is = stays_sound g.D.Disk.content g.D.Disk.image g.D.Disk.moment g.D.Disk.since g.D.Disk.armed g.D.Disk.starved g.D.Disk.faults g.W.Window.held c.args.now c.args.batch.now (record { conf = c.self.inside.conf; log = c.self.inside.log; states = c.self.inside.states; windows = c.self.inside.windows.entries; clock = c.self.inside.clock }) c.append-result.new.self c.max-self-inside.result c.append-result.result c.append-result.ensures.once c.self.invariant.log_is;
-  hosted = stays_hosted g.D.Disk.content g.D.Disk.image g.D.Disk.moment g.D.Disk.since g.D.Disk.armed g.D.Disk.starved g.D.Disk.faults g.W.Window.held c.args.now c.args.batch.now (record { conf = c.self.inside.conf; log = c.self.inside.log; states = c.self.inside.states; windows = c.self.inside.windows.entries; clock = c.self.inside.clock }) c.append-result.new.self c.max-self-inside.result c.append-result.result c.append-result.ensures.once _ c.self.invariant.hosted;
+  log_is = stays_sound g.D.Disk.seen g.W.Window.held c.args.now c.args.batch.now (record { conf = c.self.inside.conf; log = c.self.inside.log; states = c.self.inside.states; windows = c.self.inside.windows.entries; clock = c.self.inside.clock }) c.append-result.new.self c.max-self-inside.result c.append-result.result c.append-result.ensures.once c.self.invariant.log_is;
+  hosted = stays_hosted g.D.Disk.seen g.W.Window.held c.args.now c.args.batch.now (record { conf = c.self.inside.conf; log = c.self.inside.log; states = c.self.inside.states; windows = c.self.inside.windows.entries; clock = c.self.inside.clock }) c.append-result.new.self c.max-self-inside.result c.append-result.result c.append-result.ensures.once _ c.self.invariant.hosted;
   holds = all_later c.self.inside.conf c.self.inside.log.batches c.append-result.new.self.batches (states_of c.self.inside.states.entries) (held_in g.W.Window.held c.self.inside.windows.entries)
-      (has_grown g.D.Disk.content g.D.Disk.image g.D.Disk.moment g.D.Disk.since g.D.Disk.armed g.D.Disk.starved g.D.Disk.faults g.W.Window.held c.args.now c.args.batch.now (record { conf = c.self.inside.conf; log = c.self.inside.log; states = c.self.inside.states; windows = c.self.inside.windows.entries; clock = c.self.inside.clock }) c.append-result.new.self c.max-self-inside.result c.append-result.result c.append-result.ensures.once) c.self.invariant.holds;
+      (has_grown g.D.Disk.seen g.W.Window.held c.args.now c.args.batch.now (record { conf = c.self.inside.conf; log = c.self.inside.log; states = c.self.inside.states; windows = c.self.inside.windows.entries; clock = c.self.inside.clock }) c.append-result.new.self c.max-self-inside.result c.append-result.result c.append-result.ensures.once) c.self.invariant.holds;
   moment = omega (arith, c.self.invariant.moment, c.requires, c.max-self-inside.ensures);
 }
 
 pub returns-clause-once : goal.returns-clause-once
-returns-clause-once g c = rw (← c.self.view_is) (produced g.D.Disk.content g.D.Disk.image g.D.Disk.moment g.D.Disk.since g.D.Disk.armed g.D.Disk.starved g.D.Disk.faults g.W.Window.held c.args.now c.args.batch.now (record { conf = c.self.inside.conf; log = c.self.inside.log; states = c.self.inside.states; windows = c.self.inside.windows.entries; clock = c.self.inside.clock }) c.append-result.new.self c.max-self-inside.result c.append-result.result c.append-result.ensures.once
+returns-clause-once g c = rw (← c.self.view_is) (produced g.D.Disk.seen g.W.Window.held c.args.now c.args.batch.now (record { conf = c.self.inside.conf; log = c.self.inside.log; states = c.self.inside.states; windows = c.self.inside.windows.entries; clock = c.self.inside.clock }) c.append-result.new.self c.max-self-inside.result c.append-result.result c.append-result.ensures.once
     (λ is. let clash : true ≡ false = sym (c.has_no_memory.ensures.1 is) ∙ c.if-has_no_memory.false in let never : ⊥ = cc in never)
     c.max-self-inside.ensures c.append-result.ensures.steps)

@@ -4,38 +4,38 @@ use Rattle.share_part.proofs.shard.PartShard.visit.Goals as goal
 
 pub invariant_of-self : goal.invariant_of-self
 invariant_of-self g c =
-    let s = stands g.D.Disk.content g.D.Disk.image g.D.Disk.moment g.D.Disk.since g.D.Disk.armed g.D.Disk.starved g.D.Disk.faults g.W.Window.held c.args.visit.now
+    let s = stands g.D.Disk.seen g.W.Window.held c.args.visit.now
     (record { conf = c.self.inside.conf; log = c.self.inside.log; states = c.self.inside.states; windows = c.self.inside.windows.entries; clock = c.self.inside.clock })
     c.acknowledge_visit.new.states c.acknowledge_visit.new.windows.entries c.self.invariant.log_is c.acknowledge_visit.ensures.range.few c.self.invariant.hosted c.self.invariant.holds c.acknowledge_visit.result c.acknowledge_visit.ensures.once in
     record { log_is = c.self.invariant.log_is; hosted = s.0; holds = s.1; moment = c.self.invariant.moment }
 
 pub returns-in_err-ack-clause-once : goal.returns-in_err-ack-clause-once
-returns-in_err-ack-clause-once g c = rw (← c.self.view_is) (none_acked g.D.Disk.content g.D.Disk.image g.D.Disk.moment g.D.Disk.since g.D.Disk.armed g.D.Disk.starved g.D.Disk.faults g.W.Window.held c.args.visit.now
+returns-in_err-ack-clause-once g c = rw (← c.self.view_is) (none_acked g.D.Disk.seen g.W.Window.held c.args.visit.now
     (record { conf = c.self.inside.conf; log = c.self.inside.log; states = c.self.inside.states; windows = c.self.inside.windows.entries; clock = c.self.inside.clock })
     c.acknowledge_visit.new.states c.acknowledge_visit.new.windows.entries c.self.invariant.log_is c.acknowledge_visit.ensures.range.few c.self.invariant.hosted c.self.invariant.holds c.args.now c.acknowledge_visit.result _ c.in_err-ack.was c.acknowledge_visit.ensures.once
     c.acknowledge_visit.ensures.idle c.from_residual.result c.from_residual.ensures.0)
 
 pub invariant_of-self-2 : goal.invariant_of-self-2
 invariant_of-self-2 g c =
-    let s = stands g.D.Disk.content g.D.Disk.image g.D.Disk.moment g.D.Disk.since g.D.Disk.armed g.D.Disk.starved g.D.Disk.faults g.W.Window.held c.args.visit.now
+    let s = stands g.D.Disk.seen g.W.Window.held c.args.visit.now
     (record { conf = c.self.inside.conf; log = c.self.inside.log; states = c.self.inside.states; windows = c.self.inside.windows.entries; clock = c.self.inside.clock })
     c.acknowledge_visit.new.states c.acknowledge_visit.new.windows.entries c.self.invariant.log_is c.acknowledge_visit.ensures.range.few c.self.invariant.hosted c.self.invariant.holds c.acknowledge_visit.result c.acknowledge_visit.ensures.once in
     record { log_is = c.self.invariant.log_is; hosted = s.0; holds = s.1; moment = c.self.invariant.moment }
 
 pub returns-in_err-then-clause-once : goal.returns-in_err-then-clause-once
-returns-in_err-then-clause-once g c = rw (← c.self.view_is) (unfollowed g.D.Disk.content g.D.Disk.image g.D.Disk.moment g.D.Disk.since g.D.Disk.armed g.D.Disk.starved g.D.Disk.faults g.W.Window.held c.args.visit.now
+returns-in_err-then-clause-once g c = rw (← c.self.view_is) (unfollowed g.D.Disk.seen g.W.Window.held c.args.visit.now
     (record { conf = c.self.inside.conf; log = c.self.inside.log; states = c.self.inside.states; windows = c.self.inside.windows.entries; clock = c.self.inside.clock })
-    c.acknowledge_visit.new.states c.acknowledge_visit.new.windows.entries c.self.invariant.log_is c.acknowledge_visit.ensures.range.few c.self.invariant.hosted c.self.invariant.holds g.D.Disk.losses g.D.Disk.arms c.args.now c.follow.new.self c.acknowledge_visit.result c.in_ok-ack.ack c.in_ok-ack.was
+    c.acknowledge_visit.new.states c.acknowledge_visit.new.windows.entries c.self.invariant.log_is c.acknowledge_visit.ensures.range.few c.self.invariant.hosted c.self.invariant.holds c.args.now c.follow.new.self c.acknowledge_visit.result c.in_ok-ack.ack c.in_ok-ack.was
     c.acknowledge_visit.ensures.once c.acknowledge_visit.ensures.idle c.acknowledge_visit.ensures.runs c.follow.ensures.runs
     _ c.follow.result c.from_residual-in_err-then.result c.in_err-then.was c.from_residual-in_err-then.ensures.0 c.follow.ensures.once)
 
 pub returns-clause-once : goal.returns-clause-once
-returns-clause-once g c = rw (← c.self.view_is) (visited g.D.Disk.content g.D.Disk.image g.D.Disk.moment g.D.Disk.since g.D.Disk.armed g.D.Disk.starved g.D.Disk.faults g.W.Window.held c.args.visit.now
+returns-clause-once g c = rw (← c.self.view_is) (visited g.D.Disk.seen g.W.Window.held c.args.visit.now
     (record { conf = c.self.inside.conf; log = c.self.inside.log; states = c.self.inside.states; windows = c.self.inside.windows.entries; clock = c.self.inside.clock })
-    c.acknowledge_visit.new.states c.acknowledge_visit.new.windows.entries c.self.invariant.log_is c.acknowledge_visit.ensures.range.few c.self.invariant.hosted c.self.invariant.holds g.D.Disk.losses g.D.Disk.arms c.args.now c.follow.new.self c.acknowledge_visit.result c.in_ok-ack.ack c.in_ok-ack.was
+    c.acknowledge_visit.new.states c.acknowledge_visit.new.windows.entries c.self.invariant.log_is c.acknowledge_visit.ensures.range.few c.self.invariant.hosted c.self.invariant.holds c.args.now c.follow.new.self c.acknowledge_visit.result c.in_ok-ack.ack c.in_ok-ack.was
     c.acknowledge_visit.ensures.once c.acknowledge_visit.ensures.idle c.acknowledge_visit.ensures.runs c.follow.ensures.runs
     _ c.follow.result c.in_ok-then.was c.follow.ensures.once)
 
 pub returns-clause-runs : goal.returns-clause-runs
-returns-clause-runs g c = rw (← c.self.view_is) (runs_then g.D.Disk.content g.D.Disk.losses g.D.Disk.arms g.D.Disk.armed g.D.Disk.starved g.D.Disk.faults
+returns-clause-runs g c = rw (← c.self.view_is) (runs_then g.D.Disk.seen
     c.self.inside.states.journal.live.disk c.acknowledge_visit.new.states.journal.live.disk c.follow.new.self.states.journal.live.disk c.acknowledge_visit.ensures.runs c.follow.ensures.runs)
