@@ -447,9 +447,9 @@ module _ {D : Type 0} (seen : D → DiskView) where
 
   pub half_of_visit : (counts : Counts) (ends : Ends) (now : ℕ) (asked : Part) (shard : ℕ) (visit : Visit) → asked ≡ PartVisit shard visit
       → (begun : Begun) → begun ≡ BeginsVisit visit → (a b : Shards)
-      → IsLeftIn shard (Halves seen counts ends now begun) a b → IsHalfDone counts ends asked a b
+      → IsLeftIn shard (Halves seen counts ends now begun) a b → IsHalfDone counts ends now asked a b
   half_of_visit counts ends now asked shard visit is begun begins a b left =
-      subst (λ (p : Part). IsHalfDone counts ends p a b) (sym is)
+      subst (λ (p : Part). IsHalfDone counts ends now p a b) (sym is)
       (subst (λ (g : Begun). IsLeftIn shard (Halves seen counts ends now g) a b) begins left)
 
   -- an expiry that was left half done

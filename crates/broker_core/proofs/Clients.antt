@@ -50,13 +50,13 @@ pub asks_next : (counts : Counts) (ends : Ends) (id now : ℕ) (part : Part) (tu
 asks_next counts ends id now part turn conn after outcomes is a call b does =
     subst (λ (n : Next). Does counts ends id now n conn a b call outcomes after) (sym is) does
 
-pub halves_asked : (counts : Counts) (ends : Ends) (part : Part) (next : Next) → next ≡ Ask part → (a b : Shards) → HalvesNext counts ends (Ask part) a b
-    → HalvesNext counts ends next a b
-halves_asked counts ends part next is a b h = subst (λ (n : Next). HalvesNext counts ends n a b) (sym is) h
+pub halves_asked : (counts : Counts) (ends : Ends) (now : ℕ) (part : Part) (next : Next) → next ≡ Ask part → (a b : Shards)
+    → HalvesNext counts ends now (Ask part) a b → HalvesNext counts ends now next a b
+halves_asked counts ends now part next is a b h = subst (λ (n : Next). HalvesNext counts ends now n a b) (sym is) h
 
-pub halves_turn : (counts : Counts) (ends : Ends) (t : Turn) (next : Next) (conn : ConnParts) → Tells t next conn → (a b : Shards)
-    → HalvesNext counts ends next a b → HalvesNext counts ends t.next a b
-halves_turn counts ends t next conn told a b h = subst (λ (n : Next). HalvesNext counts ends n a b) told.0 h
+pub halves_turn : (counts : Counts) (ends : Ends) (now : ℕ) (t : Turn) (next : Next) (conn : ConnParts) → Tells t next conn → (a b : Shards)
+    → HalvesNext counts ends now next a b → HalvesNext counts ends now t.next a b
+halves_turn counts ends now t next conn told a b h = subst (λ (n : Next). HalvesNext counts ends now n a b) told.0 h
 
 -- ---- what is told
 

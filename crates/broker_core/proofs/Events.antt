@@ -410,8 +410,8 @@ module _ {D : Type 0} (seen : D → DiskView) where
   -- a connection that is there is left in its visit
   left_in : (old : CoreParts D) (new : HostsParts D) (before : Machine) (id now : ℕ) (asked : Part) (conn : ConnParts) (b : Shards)
       → conn_at id before.connections ≡ Some conn → (turn old.conf conn).next ≡ Ask asked
-      → IsHalfDone (N old.hosts new) (ends_over old.hosts new) asked before.shards b
-      → IsLeftInVisit old.conf (N old.hosts new) (ends_over old.hosts new) id before (record { connections = before.connections; shards = b })
+      → IsHalfDone (N old.hosts new) (ends_over old.hosts new) now asked before.shards b
+      → IsLeftInVisit old.conf (N old.hosts new) (ends_over old.hosts new) id now before (record { connections = before.connections; shards = b })
   left_in old new before id now (Foreign op) conn b there asks half = absurd half
   left_in old new before id now (Produce shard batch) conn b there asks half = absurd half
   left_in old new before id now (PartVisit shard visit) conn b there asks half = record {
@@ -426,21 +426,21 @@ module _ {D : Type 0} (seen : D → DiskView) where
   left_in old new before id now (Heartbeat request) conn b there asks half = absurd half
 
   halved : (old : CoreParts D) (new : HostsParts D) (before : Machine) (id now : ℕ) (at : Option ConnParts) (b : Shards)
-      → conn_at id before.connections ≡ at → HalvesServe old.conf (N old.hosts new) (ends_over old.hosts new) at before.shards b
-      → IsLeftInVisit old.conf (N old.hosts new) (ends_over old.hosts new) id before (record { connections = before.connections; shards = b })
+      → conn_at id before.connections ≡ at → HalvesServe old.conf (N old.hosts new) (ends_over old.hosts new) now at before.shards b
+      → IsLeftInVisit old.conf (N old.hosts new) (ends_over old.hosts new) id now before (record { connections = before.connections; shards = b })
   halved old new before id now None b there half = absurd half
   halved old new before id now (Some conn) b there half = left_in old new before id now half.0 conn b there half.1 half.2
 
   pub stops_step : (old new : CoreParts D) (before : Machine) (id now : ℕ) → C old before
       → Halts seen old.hosts before.shards new.hosts
       (λ a call b. (outcomes : List Outcome) × (m : Machine) × (m.shards ≡ b) × ServesIn old id now call outcomes new.hosts a m)
-      (HalvesServe old.conf (N old.hosts new.hosts) (ends_over old.hosts new.hosts) (conn_at id old.connections))
+      (HalvesServe old.conf (N old.hosts new.hosts) (ends_over old.hosts new.hosts) now (conn_at id old.connections))
       → S old before (Step id now) new
   stops_step old new before id now k h = go h.does
     where
       go : (h.after ≡ before.shards) ⊎ (((call : Option ShardCall) × ((outcomes : List Outcome) × (m : Machine) × (m.shards ≡ h.after)
           × ServesIn old id now call outcomes new.hosts before.shards m))
-          ⊎ HalvesServe old.conf (N old.hosts new.hosts) (ends_over old.hosts new.hosts) (conn_at id old.connections) before.shards h.after)
+          ⊎ HalvesServe old.conf (N old.hosts new.hosts) (ends_over old.hosts new.hosts) now (conn_at id old.connections) before.shards h.after)
           → S old before (Step id now) new
       go (inl same) = record {
         after = before;

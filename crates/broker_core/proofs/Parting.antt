@@ -16,9 +16,12 @@ use Rattle.share_model.specs.declared.visit.Visit.{Visit}
 use Rattle.share_model.specs.declared.visit.VisitAnswer.{VisitAnswer}
 use Rattle.part_log.specs.Logs.{LogParts}
 use Rattle.share_coord.specs.Parts.{StoreParts}
-use Rattle.share_part.specs.Hosting.{PartConfParts, key_of, states_of}
+use Rattle.share_coord.specs.Holding.{Holds}
+use Rattle.share_coord.specs.States.{states_of}
+use Rattle.part_log.specs.Shards.{CarriesLog}
+use Rattle.share_part.specs.Hosting.{PartConfParts, AreHosted, key_of}
 use Rattle.share_part.specs.Once.{AcksStand, Expired, PartStands, Produced as ProducedSo, Visited}
-use Rattle.share_part.specs.Shards.{Carries, PartShardState}
+use Rattle.share_part.specs.Shards.{Carries, IsPendingHosted, IsUntouched, PartShardState}
 use Rattle.share_part.specs.Walks.{IsSmallGrant}
 use Rattle.call_fold.specs.Parts.{IsTellableGrant}
 use Rattle.call_fold.specs.declared.part.Looked.{Looked}
@@ -178,24 +181,38 @@ module _ {D : Type 0} (seen : D → DiskView) where
       → HaltsPart seen old.conf now (IsVisit visit) Half old s new
   visit_whole old new now visit answer Half o steps = states_whole old new now (Visits visit answer) (IsVisit visit) Half (answer, refl) o steps
 
+  -- where nothing of it has changed, it stands for what it stood for
+  untouched : (old new : OpenPart D) → IsUntouched holding old new → (s : PartShardState) → Carries seen holding old s → Carries seen holding new s
+  untouched old new same s k = record {
+    log = subst (λ (l : LogParts D). CarriesLog seen l s.log) (sym same.log) k.log;
+    pending = k.pending;
+    holds = subst (λ (t : StoreParts D). Holds seen t k.pending) (sym same.states) k.holds;
+    states = k.states ∙ ap (λ (t : StoreParts D). states_of t.entries) (sym same.states);
+    pending_is = k.pending_is;
+    held = λ group. k.held group ∙ sym (same.held group);
+    clock = k.clock ∙ sym same.clock;
+    hosted = subst (λ (p : PartConfParts). AreHosted p s.log.batches s.states) (sym same.conf) k.hosted;
+    pending_hosted = subst (λ (p : PartConfParts). IsPendingHosted p s.log.batches s.pending) (sym same.conf) k.pending_hosted;
+  }
+
   pub visit_refused : (old new : OpenPart D) (now : ℕ) (visit : Visit) → OnStates old new
-      → ((t : PartShardState) → Carries seen holding old t → Carries seen holding new t ⊎ AcksStand seen holding visit old new t)
+      → (IsUntouched holding old new ⊎ ((t : PartShardState) → Carries seen holding old t → AcksStand seen holding now visit old new t))
       → (s : PartShardState) → Carried old.conf old s
       → HaltsPart seen old.conf now (IsVisit visit) (λ begun. begun ≡ BeginsVisit visit) old s new
-  visit_refused old new now visit o memory s k = go (memory s k.carries) where
-    go : Carries seen holding new s ⊎ AcksStand seen holding visit old new s
-        → HaltsPart seen old.conf now (IsVisit visit) (λ begun. begun ≡ BeginsVisit visit) old s new
-    go (inl same) = states_none old new now (IsVisit visit) (λ begun. begun ≡ BeginsVisit visit) o s k same
-    go (inr a) = record {
-      after = a.1;
-      conf_is = o.conf;
-      carries = a.2;
-      does = inr (inr (BeginsVisit visit, refl, (a.0, a.3)));
-      ends = states_end old new o s k.carries;
-      log_told = log_told old new o k.log.told;
-      first_told = o.runs.told ∙ k.first.told;
-      second_told = second_told old new o k.second.told;
-    }
+  visit_refused old new now visit o (inl same) s k =
+      states_none old new now (IsVisit visit) (λ begun. begun ≡ BeginsVisit visit) o s k (untouched old new same s k.carries)
+  visit_refused old new now visit o (inr stands) s k =
+      let a = stands s k.carries in
+      record {
+        after = a.0;
+        conf_is = o.conf;
+        carries = a.1;
+        does = inr (inr (BeginsVisit visit, refl, a.2));
+        ends = states_end old new o s k.carries;
+        log_told = log_told old new o k.log.told;
+        first_told = o.runs.told ∙ k.first.told;
+        second_told = second_told old new o k.second.told;
+      }
 
   pub expire_leads : (old new : OpenPart D) (now : ℕ) (answer : ExpireAnswer) → OnStates old new
       → Expired seen holding now old new answer → Fed new → (s : PartShardState) → Carried old.conf old s
@@ -211,23 +228,23 @@ module _ {D : Type 0} (seen : D → DiskView) where
   expire_whole old new now answer Half o steps = states_whole old new now (Expires answer) IsExpiry Half (answer, refl) o steps
 
   pub expire_refused : (old new : OpenPart D) (now : ℕ) → OnStates old new
-      → ((t : PartShardState) → Carries seen holding old t → Carries seen holding new t ⊎ PartStands seen holding now old new t)
+      → ((new ≡ old) ⊎ ((t : PartShardState) → Carries seen holding old t → PartStands seen holding now old new t))
       → (s : PartShardState) → Carried old.conf old s
       → HaltsPart seen old.conf now IsExpiry (λ begun. begun ≡ BeginsExpiry) old s new
-  expire_refused old new now o memory s k = go (memory s k.carries) where
-    go : Carries seen holding new s ⊎ PartStands seen holding now old new s
-        → HaltsPart seen old.conf now IsExpiry (λ begun. begun ≡ BeginsExpiry) old s new
-    go (inl same) = states_none old new now IsExpiry (λ begun. begun ≡ BeginsExpiry) o s k same
-    go (inr a) = record {
-      after = a.0;
-      conf_is = o.conf;
-      carries = a.1;
-      does = inr (inr (BeginsExpiry, refl, a.2));
-      ends = states_end old new o s k.carries;
-      log_told = log_told old new o k.log.told;
-      first_told = o.runs.told ∙ k.first.told;
-      second_told = second_told old new o k.second.told;
-    }
+  expire_refused old new now o (inl same) s k = states_none old new now IsExpiry (λ begun. begun ≡ BeginsExpiry) o s k
+      (subst (λ (p : OpenPart D). Carries seen holding p s) (sym same) k.carries)
+  expire_refused old new now o (inr stands) s k =
+      let a = stands s k.carries in
+      record {
+        after = a.0;
+        conf_is = o.conf;
+        carries = a.1;
+        does = inr (inr (BeginsExpiry, refl, a.2));
+        ends = states_end old new o s k.carries;
+        log_told = log_told old new o k.log.told;
+        first_told = o.runs.told ∙ k.first.told;
+        second_told = second_told old new o k.second.told;
+      }
 
   -- ---- batches
 

@@ -10,7 +10,8 @@ use Rattle.gate_journal.proofs.Once.{once}
 use Rattle.share_model.specs.ForeignRules.{ShareStates}
 use Rattle.share_model.specs.Logs.{Batch as LogBatch}
 use Rattle.part_log.specs.Logs.{IsLogText, and_pending, frames_of}
-use Rattle.share_part.specs.Hosting.{ArePartText, AreStates, PartConfParts, states_of}
+use Rattle.share_coord.specs.States.{AreStates, states_of}
+use Rattle.share_part.specs.Hosting.{ArePartText, PartConfParts}
 use Rattle.share_part.specs.Leaving.{IsLeftOf, IsOneOf}
 use Rattle.share_part.specs.Opening.{IsOpened}
 use Rattle.share_part.specs.Shards.{Carries, PartShardState}

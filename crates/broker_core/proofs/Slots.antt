@@ -6,12 +6,11 @@ use Rattle.edge_io.specs.declared.fault.Armed.{Armed}
 use Rattle.edge_io.specs.declared.name.DiskPlace.{DiskPlace}
 use Rattle.edge_io.specs.declared.name.DiskPlace.TheVariants.{Log, StateA, StateB}
 use Rattle.edge_io.specs.Causes.{Rose}
-use Rattle.share_model.specs.declared.visit.AckOutcome.{AckOutcome}
 use Rattle.part_log.specs.Logs.{LogParts}
 use Rattle.share_coord.specs.Parts.{StoreParts}
 use Rattle.share_part.specs.Expiring.{ExpiresPart, StepsExpire}
 use Rattle.share_part.specs.Shards.{PartShardState, StepsProduce}
-use Rattle.share_part.specs.Visits.{StepsAcks, StepsVisit}
+use Rattle.share_part.specs.Visits.{StepsVisit, VisitsPart}
 use Rattle.broker_model.specs.Hosted.{Hosted, HoldsAt, first_of, log_of, part_disks, same_name, second_of}
 use Rattle.broker_model.specs.Shards.{Counts, Ends, PartCall, StepsPart, part_calls, result_of}
 use Rattle.broker_model.specs.Shards.PartCall.{Visits, Produces, Looks, Expires}
@@ -240,18 +239,16 @@ module _ {D : Type 0} (seen : D → DiskView) where
   -- a call that was left half done, by name
   abbrev pub Halves : Counts → Ends → (now : ℕ) → Begun → Hosted → PartShardState → PartShardState → Type 0
   Halves counts ends now (BeginsVisit visit) h old new =
-      (ack : AckOutcome) × StepsAcks h.conf (Rose (counts (first_of h)).0 (counts (first_of h)).1) (ends (first_of h)).0 old visit ack new
+      VisitsPart h.conf (Rose (counts (first_of h)).0 (counts (first_of h)).1) (ends (first_of h)).0 old now visit new
   Halves counts ends now BeginsExpiry h old new = ExpiresPart h.conf (counts (first_of h)).0 (counts (first_of h)).1 (ends (first_of h)).0 (ends (first_of h)).1
       old now new
 
   pub half_named : (h : Hosted) (was is : OpenPart D) (counts : Counts) (ends : Ends) → AreOf h was is counts ends → (now : ℕ) (old : PartShardState)
       (begun : Begun) (new : PartShardState) → HalvesOn seen h.conf was is now old begun new → Halves counts ends now begun h old new
-  half_named h was is counts ends a now old (BeginsVisit visit) new half = (
-    half.0,
-    subst (λ (c : ℕ × ℕ). StepsAcks h.conf (Rose c.0 c.1) (ends (first_of h)).0 old visit half.0 new) (sym a.first)
-        (subst (λ (e : ℕ × ℕ). StepsAcks h.conf (Rose (seen was.states.journal.live.disk).faults (seen is.states.journal.live.disk).faults) e.0 old visit half.0 new)
-        (sym a.first_end) half.1),
-  )
+  half_named h was is counts ends a now old (BeginsVisit visit) new half =
+      subst (λ (c : ℕ × ℕ). VisitsPart h.conf (Rose c.0 c.1) (ends (first_of h)).0 old now visit new) (sym a.first)
+      (subst (λ (e : ℕ × ℕ). VisitsPart h.conf (Rose (seen was.states.journal.live.disk).faults (seen is.states.journal.live.disk).faults) e.0 old now visit new)
+      (sym a.first_end) half)
   half_named h was is counts ends a now old BeginsExpiry new half =
       subst (λ (c : ℕ × ℕ). ExpiresPart h.conf c.0 c.1 (ends (first_of h)).0 (ends (first_of h)).1 old now new) (sym a.first)
       (subst (λ (e : ℕ × ℕ). ExpiresPart h.conf (seen was.states.journal.live.disk).faults (seen is.states.journal.live.disk).faults e.0 e.1 old now new)

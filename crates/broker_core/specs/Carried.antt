@@ -11,7 +11,6 @@ use Rattle.share_model.specs.Held.{Held}
 use Rattle.share_model.specs.declared.fault.StoreFault.{StoreFault}
 use Rattle.share_model.specs.declared.foreign.ForeignAnswer.{ForeignAnswer}
 use Rattle.share_model.specs.declared.foreign.ForeignOp.{ForeignOp}
-use Rattle.share_model.specs.declared.visit.AckOutcome.{AckOutcome}
 use Rattle.share_model.specs.declared.visit.Visit.{Visit}
 use Rattle.share_coord.specs.Parts.{StoreParts}
 use Rattle.foreign_coord.specs.Shards.{ForeignShardState, Carries as CarriesForeign, StepsForeign}
@@ -19,7 +18,7 @@ use Rattle.window_rows.specs.Windows.{WindowParts}
 use Rattle.share_part.specs.Expiring.{ExpiresPart, StepsExpire}
 use Rattle.share_part.specs.Hosting.{PartConfParts, key_of}
 use Rattle.share_part.specs.Shards.{PartParts, PartShardState, Carries, StepsProduce}
-use Rattle.share_part.specs.Visits.{StepsAcks, StepsVisit}
+use Rattle.share_part.specs.Visits.{StepsVisit, VisitsPart}
 use Rattle.broker_model.specs.Hosted.{state_a, same_name}
 use Rattle.broker_model.specs.Shards.{PartCall, look_at, result_of}
 use Rattle.broker_model.specs.Shards.PartCall.{Visits, Produces, Looks, Expires}
@@ -157,8 +156,8 @@ pub data Begun : Type 0 where
 
 -- It was left between two writes: a visit behind its acknowledgements, an expiry behind some of the groups.
 abbrev pub HalvesOn : {D : Type 0} → (D → DiskView) → PartConfParts → OpenPart D → OpenPart D → (now : ℕ) → PartShardState → Begun → PartShardState → Type 0
-HalvesOn seen conf old new now shard (BeginsVisit visit) after = (ack : AckOutcome) × StepsAcks conf
-    (Rose (seen old.states.journal.live.disk).faults (seen new.states.journal.live.disk).faults) old.states.journal.live.end shard visit ack after
+HalvesOn seen conf old new now shard (BeginsVisit visit) after = VisitsPart conf
+    (Rose (seen old.states.journal.live.disk).faults (seen new.states.journal.live.disk).faults) old.states.journal.live.end shard now visit after
 HalvesOn seen conf old new now shard BeginsExpiry after =
     ExpiresPart conf (seen old.states.journal.live.disk).faults (seen new.states.journal.live.disk).faults old.states.journal.live.end new.states.journal.live.end
     shard now after

@@ -26,14 +26,13 @@ use Rattle.session_script.specs.declared.event.Outcome.{Outcome}
 use Rattle.topic_conf.specs.Configs.{ConfigParts}
 use Rattle.foreign_coord.specs.Shards.{ForeignShardState}
 use Rattle.share_members.specs.Groups.{Memberships}
-use Rattle.share_model.specs.declared.visit.AckOutcome.{AckOutcome}
 use Rattle.share_model.specs.declared.visit.ExpireAnswer.{ExpireAnswer}
 use Rattle.share_model.specs.declared.visit.Then.{Then}
 use Rattle.share_part.specs.Expiring.{ExpiresPart}
 use Rattle.share_part.specs.Hosting.{PartConfParts}
 use Rattle.share_part.specs.Leaving.{IsLeftOf}
 use Rattle.share_part.specs.Shards.{PartShardState, Carries}
-use Rattle.share_part.specs.Visits.{StepsAcks}
+use Rattle.share_part.specs.Visits.{VisitsPart}
 use Rattle.broker_model.specs.Hosted.{ChangesAt, Hosted, first_of, log_of, part_disks, second_of, state_a, state_b, same_name}
 use Rattle.broker_model.specs.Shards.{Counts, Ends, HostedPart, PartCall, Shards, ShardCall, StepsShards, answered_by, calls, fault_of_expiry, fault_of_release}
 use Rattle.broker_model.specs.Shards.ShardCall.{CallPart}
@@ -336,22 +335,22 @@ pub record IsLeftIn (shard : ℕ) (Half : Hosted → PartShardState → PartShar
   pub foreign : new.foreign ≡ old.foreign
 
 -- a part in whose midst memory may run out: a visit behind its acknowledgements
-abbrev pub IsHalfDone : Counts → Ends → Part → Shards → Shards → Type 0
-IsHalfDone counts ends (Foreign op) old new = ⊥
-IsHalfDone counts ends (Produce shard batch) old new = ⊥
-IsHalfDone counts ends (PartVisit shard visit) old new = IsLeftIn shard (λ h a b. (ack : AckOutcome)
-    × StepsAcks h.conf (Rose (counts (first_of h)).0 (counts (first_of h)).1) (ends (first_of h)).0 a visit ack b) old new
-IsHalfDone counts ends (Look shard group) old new = ⊥
-IsHalfDone counts ends (Heartbeat request) old new = ⊥
+abbrev pub IsHalfDone : Counts → Ends → (now : ℕ) → Part → Shards → Shards → Type 0
+IsHalfDone counts ends now (Foreign op) old new = ⊥
+IsHalfDone counts ends now (Produce shard batch) old new = ⊥
+IsHalfDone counts ends now (PartVisit shard visit) old new = IsLeftIn shard
+    (λ h a b. VisitsPart h.conf (Rose (counts (first_of h)).0 (counts (first_of h)).1) (ends (first_of h)).0 a now visit b) old new
+IsHalfDone counts ends now (Look shard group) old new = ⊥
+IsHalfDone counts ends now (Heartbeat request) old new = ⊥
 
 -- so is the part that is told to be asked
-abbrev pub HalvesNext : Counts → Ends → Next → Shards → Shards → Type 0
-HalvesNext counts ends next old new = (asked : Part) × (next ≡ Ask asked) × IsHalfDone counts ends asked old new
+abbrev pub HalvesNext : Counts → Ends → (now : ℕ) → Next → Shards → Shards → Type 0
+HalvesNext counts ends now next old new = (asked : Part) × (next ≡ Ask asked) × IsHalfDone counts ends now asked old new
 
 -- so is that which this connection asks, if it is there
-abbrev pub HalvesServe : ConfigParts → Counts → Ends → Option ConnParts → Shards → Shards → Type 0
-HalvesServe conf counts ends None old new = ⊥
-HalvesServe conf counts ends (Some conn) old new = HalvesNext counts ends (turn conf conn).next old new
+abbrev pub HalvesServe : ConfigParts → Counts → Ends → (now : ℕ) → Option ConnParts → Shards → Shards → Type 0
+HalvesServe conf counts ends now None old new = ⊥
+HalvesServe conf counts ends now (Some conn) old new = HalvesNext counts ends now (turn conf conn).next old new
 
 -- an expiry at this moment was left behind some of the groups
 abbrev pub HalvesExpiry : Counts → Ends → (now shard : ℕ) → Shards → Shards → Type 0

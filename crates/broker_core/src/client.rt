@@ -66,7 +66,7 @@ fn ask<D: Disk>(
         × Does (counts_in D.seen (disks_in (parts_of hosts.old)) (disks_in (parts_of hosts.new)))
         (ends_over (parts_of hosts.old) (parts_of hosts.new)) id now (Next.Ask part.now) conn.old a b call outcomes after)
         (HalvesNext (counts_in D.seen (disks_in (parts_of hosts.old)) (disks_in (parts_of hosts.new)))
-        (ends_over (parts_of hosts.old) (parts_of hosts.new)) (Next.Ask part.now))) }
+        (ends_over (parts_of hosts.old) (parts_of hosts.new)) now (Next.Ask part.now))) }
     ensures told { IfOk result (λ outcomes. All (IsTold conf.now.topics) outcomes.items) }
     ensures disks { GoOn D.seen (disks_in (parts_of hosts.old)) (disks_in (parts_of hosts.new)) }
     ensures open { AreOpen (parts_of hosts.new) }
@@ -104,7 +104,7 @@ fn done<D: Disk>(
         × Does (counts_in D.seen (disks_in (parts_of hosts.old)) (disks_in (parts_of hosts.new)))
         (ends_over (parts_of hosts.old) (parts_of hosts.new)) id now next conn.old a b call outcomes after)
         (HalvesNext (counts_in D.seen (disks_in (parts_of hosts.old)) (disks_in (parts_of hosts.new)))
-        (ends_over (parts_of hosts.old) (parts_of hosts.new)) next)) }
+        (ends_over (parts_of hosts.old) (parts_of hosts.new)) now next)) }
     ensures told { IfOk result (λ outcomes. All (IsTold conf.now.topics) outcomes.items) }
     ensures disks { GoOn D.seen (disks_in (parts_of hosts.old)) (disks_in (parts_of hosts.new)) }
     ensures open { AreOpen (parts_of hosts.new) }
@@ -146,7 +146,7 @@ fn step<D: Disk>(
         × DoesTurn (counts_in D.seen (disks_in (parts_of hosts.old)) (disks_in (parts_of hosts.new)))
         (ends_over (parts_of hosts.old) (parts_of hosts.new)) id now (turn conf.now conn.old) a b call outcomes after)
         (HalvesNext (counts_in D.seen (disks_in (parts_of hosts.old)) (disks_in (parts_of hosts.new)))
-        (ends_over (parts_of hosts.old) (parts_of hosts.new)) (turn conf.now conn.old).next)) }
+        (ends_over (parts_of hosts.old) (parts_of hosts.new)) now (turn conf.now conn.old).next)) }
     ensures told { IfOk result (λ did. All (IsTold conf.now.topics) did.0.items) }
     ensures gone { IfOk result (λ did. did.1 ≡ is_gone conn.new) }
     ensures disks { GoOn D.seen (disks_in (parts_of hosts.old)) (disks_in (parts_of hosts.new)) }
@@ -192,7 +192,7 @@ pub fn serve<D: Disk>(
         (ends_over (parts_of hosts.old) (parts_of hosts.new)) (record { connections = clients.old.entries; shards = a }) id now
         (conn_at id clients.old.entries) call outcomes after)
         (HalvesServe conf.now (counts_in D.seen (disks_in (parts_of hosts.old)) (disks_in (parts_of hosts.new)))
-        (ends_over (parts_of hosts.old) (parts_of hosts.new)) (conn_at id clients.old.entries))) }
+        (ends_over (parts_of hosts.old) (parts_of hosts.new)) now (conn_at id clients.old.entries))) }
     ensures told { IfOk result (λ outcomes. All (IsTold conf.now.topics) outcomes.items) }
     ensures disks { GoOn D.seen (disks_in (parts_of hosts.old)) (disks_in (parts_of hosts.new)) }
     ensures open { AreOpen (parts_of hosts.new) }

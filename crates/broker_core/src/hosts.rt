@@ -41,7 +41,7 @@ pub fn act<D: Disk>(
         × Did (counts_in D.seen (disks_in (parts_of hosts.old)) (disks_in (parts_of hosts.new)))
         (ends_over (parts_of hosts.old) (parts_of hosts.new)) now part.now answer a call b)
         (IsHalfDone (counts_in D.seen (disks_in (parts_of hosts.old)) (disks_in (parts_of hosts.new)))
-        (ends_over (parts_of hosts.old) (parts_of hosts.new)) part.now)) }
+        (ends_over (parts_of hosts.old) (parts_of hosts.new)) now part.now)) }
     ensures fair { IfOk result (IsAnswerTo part.now) }
     ensures there { OnOk result (IsThere (length hosts.old.parts.items) part.now) }
     ensures disks { GoOn D.seen (disks_in (parts_of hosts.old)) (disks_in (parts_of hosts.new)) }

@@ -264,7 +264,7 @@ module _ (o : ℕ) (row : Row) (closed : is_closed_state row.state ≡ true) whe
         now = subst Kept (sym p.2.states) k.now;
         lost = λ found at. ⊎_elim
             (λ stays. k.lost found (sym stays ∙ at))
-            (λ own. new_keeps found none k (sym (some_same _ found (sym own ∙ at))))
+            (λ own. new_keeps found none k (sym (some_same own.0 found (sym own.1 ∙ at)) ∙ own.2))
             p.2.pending;
       }
 

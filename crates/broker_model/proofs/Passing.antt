@@ -324,7 +324,7 @@ module _ (o : ℕ) where
         (λ own. record {
           now = λ passed. r.now (subst (λ (x : ShareStates). Passed (table_at conf x group)) p.2.states passed);
           lost = λ found at passed.
-              let is : _ ≡ found = some_same _ found (sym own ∙ at) in
+              let is : _ ≡ found = sym own.2 ∙ some_same own.0 found (sym own.1 ∙ at) in
               ⊎_elim
               (λ one.
               let fresh : table_at conf found group ≡ Some (new_state conf (end_of a.log.batches)) =

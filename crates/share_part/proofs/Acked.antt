@@ -1,11 +1,11 @@
 -- The acknowledgements of a visit as a step of the shard, and what follows them.
-use Rattle.std.proofs.Common.{◌≡◌, ◌∙◌, inl, inr, refl, sym, ap, subst, arith, ℕ, max, ◌≤◌, List, Option, Some, None, Bool}
+use Rattle.std.proofs.Common.{◌≡◌, ◌≢◌, ◌⊎◌, ⊎_elim, ◌∙◌, inl, inr, refl, sym, ap, subst, arith, ℕ, max, ◌≤◌, List, Option, Some, None}
 use Rattle.std.specs.Prelude.{Result, Ok, Err, IsErr, IsSome}
 use Rattle.ack_ranges.specs.Batches.{IsWellFormed, kind_at}
 use Rattle.coord_checkpoint.specs.Disks.{HasFailed}
 use Rattle.edge_io.specs.Armed.{RunsOn, StarvesUnarmed}
 use Rattle.edge_io.specs.Causes.{Rose}
-use Rattle.edge_io.specs.declared.fault.Armed.{Armed}
+use Rattle.gate_journal.specs.Journals.{IsQuiet}
 use Rattle.flex_fields.specs.declared.fault.NoMemory.{NoMemory as want}
 use Rattle.share_model.specs.ForeignRules.{ShareStates, share_state_at}
 use Rattle.share_model.specs.Held.{Held}
@@ -27,17 +27,18 @@ use Rattle.share_coord.specs.Parts.{StoreParts}
 use Rattle.share_coord.specs.Stored.{Entries}
 use Rattle.share_coord.proofs.Ends.{EndsLater, later_same}
 use Rattle.share_part.specs.Acknowledging.{Acknowledges, AreTheirs, NameNone, NameOne, StoresActs}
-use Rattle.share_part.specs.Following.{Acquires, Does, Fetches, HasNothingToWrite, IsEmptyAnswer, MakesTable, releases_of}
-use Rattle.share_part.specs.Hosting.{PartConfParts, AreHosted, key_of, states_of}
-use Rattle.share_part.specs.Once.{FollowsOnce, VisitsOnce}
+use Rattle.share_part.specs.Following.{Acquires, Does, Fetches, HasNothingToWrite, IsEmptyAnswer, MakesTable, TakesMemory, releases_of}
+use Rattle.share_part.specs.Hosting.{PartConfParts, AreHosted, key_of}
+use Rattle.share_coord.specs.States.{states_of}
+use Rattle.share_part.specs.Once.{AcksStand, FollowsOnce, VisitsOnce}
 use Rattle.share_part.specs.Settling.{Acts, AreHeldBy, held_after}
-use Rattle.share_part.specs.Shards.{PartShardState, PartParts, Carries, IsStill, held_in, with_held}
+use Rattle.share_part.specs.Shards.{PartShardState, PartParts, Carries, IsStill, IsUntouched, held_in, raised_to, with_held}
 use Rattle.share_part.specs.Storing.{AcksOnce, SettlesGroup, StoresGroup}
-use Rattle.share_part.specs.Visits.{AreToWrite, StepsAcks}
+use Rattle.share_part.specs.Visits.{AreToWrite, AreWritten, StepsAcks}
 use Rattle.share_part.specs.declared.limits.Limits.{Limits}
 use Rattle.share_part.proofs.Holding.{AreKept}
-use Rattle.share_part.proofs.Storage.{behind, stands_same, stands_stored, still, stored_device, stored_later, stored_steps, unstored_carries}
-use Rattle.share_part.proofs.Visiting.{carried, shard_of}
+use Rattle.share_part.proofs.Storage.{behind, quiet_same, stands_same, stands_stored, still, stored_device, stored_later, stored_quiet, stored_steps}
+use Rattle.share_part.proofs.Visiting.{carried, shard_of, untouched}
 use Rattle.edge_io.specs.Views.{DiskView}
 
 -- ---- an answer with another outcome of the acknowledgements
@@ -247,19 +248,64 @@ module _ {D W : Type 0} (seen : D → DiskView) (holding : W → Held) (visit : 
   device_sound ack (inr (inl n)) is = absurd (let e : Done ≡ Store Device = sym (ok_same ack Done n.2) ∙ is in let clash : ⊥ = cc in clash)
   device_sound ack (inr (inr g)) is = device_settled ack g.2 is
 
+  -- no device call failed, where none is told
+  abbrev Quiet : Type 0
+  Quiet = IsQuiet seen old.states.journal.live.disk states.journal.live.disk
+
+  still_quiet : states ≡ old.states → Quiet
+  still_quiet is = quiet_same seen holding visit.group acts old states windows old.clock sound few hosted kept is
+
+  quiet_settled : (ack : AckOutcome) → Settles (Ok ack) → ((fault : StoreFault) → ack ≢ Store fault) → Quiet
+  quiet_settled (NotHeld o) h none = still_quiet h.1
+  quiet_settled (Malformed f) h none = absurd h
+  quiet_settled Done h none = stored_quiet seen holding visit.group acts old states windows old.clock sound few hosted kept h.1
+  quiet_settled (Store fault) h none = absurd (none fault refl)
+
+  pub quiet_acked : (ack : AckOutcome) → Acked (Ok ack) → ((fault : StoreFault) → ack ≢ Store fault) → Quiet
+  quiet_acked ack (inl m) none = still_quiet m.3.0
+  quiet_acked ack (inr (inl n)) none = still_quiet n.3.0
+  quiet_acked ack (inr (inr g)) none = quiet_settled ack g.2 none
+
+  -- ---- nothing has changed
+
+  same_all : states ≡ old.states → Same → IsUntouched holding old mid
+  same_all is same = record { conf = refl; log = refl; states = is; clock = refl; held = same }
+
+  -- where their write didn't come to the device
+  back_settled : (ack : AckOutcome) → Settles (Ok ack) → (AreWritten visit ack → ⊥) → IsUntouched holding old mid
+  back_settled (NotHeld o) h none = same_all h.1 h.2
+  back_settled (Malformed f) h none = absurd h
+  back_settled Done h none = ⊎_elim (λ n. same_all n.1 n.2) (λ g. absurd (none g.0)) h.1
+  back_settled (Store Device) h none = absurd (none tt)
+  back_settled (Store (Full at)) h none = same_all (h.1.1.once.unchanged (λ e. let clash : ⊥ = cc in clash)) h.1.2
+
+  pub back : (ack : AckOutcome) → Acked (Ok ack) → (AreWritten visit ack → ⊥) → IsUntouched holding old mid
+  back ack (inl m) none = same_all m.3.0 (same_of m.3.1)
+  back ack (inr (inl n)) none = same_all n.3.0 (same_of n.3.1)
+  back ack (inr (inr g)) none = back_settled ack g.2 none
+
+  -- acknowledgements that are done are well formed
+  pub formed_done : (r : Result AckOutcome want) (ack : AckOutcome) → r ≡ Ok ack → Acked r → ack ≡ Done → IsWellFormed visit.acks
+  formed_done r ack is h done = by_case (subst Acked (is ∙ ap (λ (a : AckOutcome). Ok a) done) h)
+    where
+      by_case : Acked (Ok Done) → IsWellFormed visit.acks
+      by_case (inl m) = absurd (let e : Done ≡ Malformed m.0 = ok_same Done (Malformed m.0) m.1 in let clash : ⊥ = cc in clash)
+      by_case (inr (inl n)) = n.0
+      by_case (inr (inr g)) = g.0
+
   -- no memory was found for them
-  pub unanswered : (e : want) → Acked (Err e) → (s : PartShardState) → Carries seen holding old s → Carries seen holding mid s
+  pub unanswered : (e : want) → Acked (Err e) → IsUntouched holding old mid
   unanswered e (inl m) = absurd (not_ok e (Malformed m.0) m.1)
   unanswered e (inr (inl n)) = absurd (not_ok e Done n.2)
-  unanswered e (inr (inr g)) =
-      unstored_carries seen holding visit.group acts old states windows old.clock sound few hosted kept e g.2 refl
+  unanswered e (inr (inr g)) = same_all g.2.0 g.2.1
 
   pub none_acked : (now : ℕ) (r : Result AckOutcome want) (e : want) → r ≡ Err e → Acked r → states.journal.idle ≡ old.states.journal.idle → (result : Result VisitAnswer want) → IsErr result
       → VisitsOnce seen holding now visit old mid result
   none_acked now r e is h idle (Ok answer) none = absurd (let clash : ⊥ = cc in clash)
   none_acked now r e is h idle (Err f) none = record {
     steps = tt;
-    memory = λ s c. inl (unanswered e (subst Acked is h) s c);
+    memory = inl (unanswered e (subst Acked is h));
+    quiet = tt;
     ack_sound = tt;
     sound = tt;
     unwritten = λ s c nothing behind. unwritten r h s c nothing;
@@ -335,6 +381,7 @@ module _ {D W : Type 0} (seen : D → DiskView) (holding : W → Held) (visit : 
                 },
               );
           memory = tt;
+          quiet = λ none none_then told. o.quiet none_then (runs.told ∙ told) ∙ quiet_acked ack acked none told;
           ack_sound = λ fault told bare. more.stays (runs.told ∙ told) (device_sound ack acked fault told bare);
           sound = λ fault told bare. o.sound fault (runs.told ∙ told) (runs.unarmed told bare);
           unwritten = λ s c nothing behind. nothing_at_all o.unwritten s c nothing behind;
@@ -348,23 +395,93 @@ module _ {D W : Type 0} (seen : D → DiskView) (holding : W → Held) (visit : 
           conf = o.conf;
         }
 
-    pub unfollowed : (e : want) (done result : Result VisitAnswer want) → done ≡ Err e → IsErr result → FollowsOnce seen holding now visit mid new done
-        → VisitsOnce seen holding now visit old new result
-    unfollowed e done (Ok answer) is none once = absurd (let clash : ⊥ = cc in clash)
-    unfollowed e done (Err f) is none once =
+    -- no memory was found behind them
+    stopped : (e : want) (done : Result VisitAnswer want) → done ≡ Err e → FollowsOnce seen holding now visit mid new done → (after : PartParts D W)
+        → after.conf ≡ new.conf → after.log ≡ new.log → after.states ≡ new.states
+        → (IsUntouched holding old after ⊎ ((s : PartShardState) → Carries seen holding old s → AcksStand seen holding now visit old after s))
+        → (f : want) → VisitsOnce seen holding now visit old after (Err f)
+    stopped e done is once after conf log same memory f =
         let o = subst (FollowsOnce seen holding now visit mid new) is once in
         record {
           steps = tt;
-          memory = λ s c. let first = steps ack acked s c in inr (ack, first.0, o.memory first.0 first.1, steps_as s first.0 first.2);
+          memory = memory;
+          quiet = tt;
           ack_sound = tt;
           sound = tt;
-          unwritten = λ s c nothing behind. nothing_at_all o.unwritten s c nothing behind;
+          unwritten = λ s c nothing behind. same ∙ nothing_at_all o.unwritten s c nothing behind;
           ends = λ s c.
               let first = steps ack acked s c in
               let before = later r r_acked c.pending c.holds in
               let behind = o.ends first.0 first.1 in
-              omega (arith, before, behind);
-          log = o.log;
-          idle = o.idle ∙ idle;
-          conf = o.conf;
+              let end : after.states.journal.live.end ≡ new.states.journal.live.end = ap (λ (p : StoreParts D). p.journal.live.end) same in
+              omega (arith, before, behind, end);
+          log = log ∙ o.log;
+          idle = ap (λ (p : StoreParts D). p.journal.idle) same ∙ o.idle ∙ idle;
+          conf = conf ∙ o.conf;
         }
+
+    pub unfollowed : (e : want) (done : Result VisitAnswer want) → done ≡ Err e → FollowsOnce seen holding now visit mid new done
+        → (AreWritten visit ack → ⊥) → (f : want) → VisitsOnce seen holding now visit old new (Err f)
+    unfollowed e done is once none f =
+        let o = subst (FollowsOnce seen holding now visit mid new) is once in
+        let b = back ack acked none in
+        let u = o.memory in
+        stopped e done is once new refl refl refl (inl (record {
+          conf = u.conf;
+          log = u.log;
+          states = u.states ∙ b.states;
+          clock = u.clock;
+          held = λ group. u.held group ∙ b.held group;
+        })) f
+
+-- ---- they were written, and what follows found no memory
+
+abbrev pub raised : {D W : Type 0} → ℕ → PartParts D W → PartParts D W
+raised now parts = record { conf = parts.conf; log = parts.log; states = parts.states; windows = parts.windows; clock = max parts.clock now }
+
+module _ {D W : Type 0} (seen : D → DiskView) (holding : W → Held) (visit : Visit) (old : PartParts D W) (states : StoreParts D)
+    (windows : List (List ℕ × W)) (sound : IsStoredLog old.log.batches) (few : old.conf.limit ≤ 10)
+    (hosted : AreHosted old.conf old.log.batches (states_of old.states.entries))
+    (kept : AreKept old.conf old.log.batches (states_of old.states.entries) (held_in holding old.windows))
+    (now : ℕ) (new : PartParts D W) (r : Result AckOutcome want) (ack : AckOutcome) (r_is : r ≡ Ok ack)
+    (r_acked : Acked seen holding visit old states windows sound few hosted kept r)
+    (idle : states.journal.idle ≡ old.states.journal.idle)
+    (runs : RunsOn seen old.states.journal.live.disk states.journal.live.disk)
+    (more : RunsOn seen states.journal.live.disk new.states.journal.live.disk) where
+  raised_carries : (parts : PartParts D W) (s : PartShardState) → Carries seen holding parts s → Carries seen holding (raised now parts) (raised_to now s)
+  raised_carries parts s c = record {
+    log = c.log;
+    pending = c.pending;
+    holds = c.holds;
+    states = c.states;
+    pending_is = c.pending_is;
+    held = c.held;
+    clock = ap (λ (n : ℕ). max n now) c.clock;
+    hosted = c.hosted;
+    pending_hosted = c.pending_hosted;
+  }
+
+  abbrev once : PartParts D W
+  once = raised now old
+
+  pub unfollowed_behind : (e : want) (done : Result VisitAnswer want) → done ≡ Err e
+      → FollowsOnce seen holding now visit (mid seen holding visit old states windows sound few hosted kept) new done
+      → AreWritten visit ack → (f : want) → VisitsOnce seen holding now visit old (raised now new) (Err f)
+  unfollowed_behind e done is follows written f =
+      let o = subst (FollowsOnce seen holding now visit (mid seen holding visit old states windows sound few hosted kept) new) is follows in
+      let u = o.memory in
+      stopped seen holding visit old states windows sound few hosted kept now new r ack r_is r_acked idle runs more e done is follows (raised now new) refl refl refl
+      (inr (λ s c.
+      let first = steps seen holding visit once states windows sound few hosted kept ack (subst (Acked seen holding visit once states windows sound few hosted kept) r_is r_acked)
+      (raised_to now s) (raised_carries old s c) in
+      (
+        first.0,
+        untouched seen holding (mid seen holding visit once states windows sound few hosted kept) (raised now new)
+            (record { conf = u.conf; log = u.log; states = u.states; clock = ap (λ (n : ℕ). max n now) u.clock; held = u.held }) first.0 first.1,
+        record {
+          ack = ack;
+          written = written;
+          acks = steps_as seen holding visit once states windows sound few hosted kept now new r ack r_is r_acked idle runs more (raised_to now s) first.0 first.2;
+          follows = subst (λ (h : Held). TakesMemory visit.member h visit.then) (sym (first.1.held visit.group)) o.follows;
+        },
+      ))) f

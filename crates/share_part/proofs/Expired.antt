@@ -1,5 +1,6 @@
 -- An expiry of a shard in memory: what holds once some of the due groups are done.
 use Rattle.std.proofs.Common.{◌≡◌, ◌⊎◌, ⊎_elim, ◌∙◌, inl, inr, refl, sym, ap, subst, arith, ℕ, zero, suc, max, min, ◌+◌, ◌-◌, ◌^◌, ◌<◌, ◌≤◌, List, [], ◌∷◌, ◌++◌, append_assoc, length, drop, get_or, drop-cons, add-one, Option, Some, None, Bool, false}
+use Rattle.std.proofs.lemmas.Bool.{cases_lt}
 use Rattle.std.specs.Prelude.{filter, Result, Ok, Err, IsErr, if◌then◌else◌}
 use Rattle.std.specs.BTreeMap.{is_at}
 use Rattle.std.specs.Cmp.Lexicographic.{slice_cmp}
@@ -8,8 +9,8 @@ use Rattle.std.specs.Map.{keys_of}
 use Rattle.std.specs.Ordering.{nat_cmp}
 use Rattle.edge_io.specs.Armed.{RunsOn}
 use Rattle.edge_io.specs.Causes.{Rose}
-use Rattle.edge_io.specs.declared.fault.Armed.{Armed}
 use Rattle.edge_io.proofs.Runs.{runs_none, runs_then}
+use Rattle.gate_journal.specs.Journals.{IsQuiet}
 use Rattle.flex_fields.specs.declared.fault.NoMemory.{NoMemory as want}
 use Rattle.share_coord.specs.Parts.{StoreParts}
 use Rattle.share_model.specs.Held.{Held}
@@ -19,7 +20,8 @@ use Rattle.share_model.specs.declared.visit.ExpireAnswer.{ExpireAnswer}
 use Rattle.share_model.specs.declared.visit.ExpireAnswer.TheVariants.{Done, Store}
 use Rattle.share_part.specs.Acknowledging.{NameNone, StoresActs}
 use Rattle.share_part.specs.Expiring.{StepsGroup, StepsGroups, due_count, ending, groups_of, more_freed}
-use Rattle.share_part.specs.Hosting.{AreHosted, PartConfParts, states_of}
+use Rattle.share_part.specs.Hosting.{AreHosted, PartConfParts}
+use Rattle.share_coord.specs.States.{states_of}
 use Rattle.share_part.specs.Once.{ExpiresOnce, IsNothingDue}
 use Rattle.share_part.specs.Releasing.{ReleasesOnce, due_groups, has_due}
 use Rattle.share_part.specs.Settling.{held_after, is_chosen, releasing}
@@ -73,6 +75,7 @@ module _ {D W : Type 0} (seen : D → DiskView) (holding : W → Held) (now : �
     pub log : current.log ≡ entry.log
     pub idle : current.states.journal.idle ≡ entry.states.journal.idle
     pub runs : Runs (disk entry) (disk current)
+    pub quiet : IsQuiet seen (disk entry) (disk current)
     pub none : i ≡ 0 → (current ≡ entry) × (freed ≡ 0)
     pub within : i ≤ length due
     pub few : freed ≤ 2 ^ 64 - 1
@@ -85,6 +88,7 @@ module _ {D W : Type 0} (seen : D → DiskView) (holding : W → Held) (now : �
     log = refl;
     idle = refl;
     runs = runs_none seen (disk entry);
+    quiet = λ told. refl;
     none = λ is. (refl, refl);
     within = omega arith;
     few = omega arith;
@@ -174,6 +178,7 @@ module _ {D W : Type 0} (seen : D → DiskView) (holding : W → Held) (now : �
           log = o.log ∙ h.log;
           idle = o.idle ∙ h.idle;
           runs = runs_then seen (disk entry) (disk current) (disk after) h.runs runs;
+          quiet = λ told. o.quiet (λ fault e. let clash : ⊥ = cc in clash) (h.runs.told ∙ told) ∙ h.quiet told;
           none = λ e. absurd (omega (arith, e));
           within = omega (arith, lt);
           few = (let bound : min (freed + count) (2 ^ 64 - 1) ≤ 2 ^ 64 - 1 = omega arith in bound);
@@ -251,7 +256,8 @@ module _ {D W : Type 0} (seen : D → DiskView) (holding : W → Held) (now : �
                   },
                 );
             memory = tt;
-            quiet = λ nothing. absurd (none_left by_group due_is rising nothing);
+            quiet = λ none. absurd (none freed group fault refl);
+            nothing_due = λ nothing. absurd (none_left by_group due_is rising nothing);
             sound = λ m g told bare unarmed. o.sound (ap unreleased (told_device freed m group g fault Device told)) (h.runs.told ∙ bare) (h.runs.unarmed bare unarmed);
             ends = ends_so o;
             log = o.log ∙ h.log;
@@ -261,6 +267,10 @@ module _ {D W : Type 0} (seen : D → DiskView) (holding : W → Held) (now : �
 
       -- ---- no memory is found for it
 
+      not_first : {P : Type 0} → (i ≡ 0) ⊎ P → 1 ≤ i → P
+      not_first (inl first) behind = absurd (omega (arith, first, behind))
+      not_first (inr more) behind = more
+
       pub one_starves : (result : Result Released want) (e : want) → result ≡ Err e → Once result → (answer : Result ExpireAnswer want) → IsErr answer
           → ExpiresOnce seen holding now entry after answer
       one_starves result e is once (Ok answer) none = absurd (let clash : ⊥ = cc in clash)
@@ -268,13 +278,13 @@ module _ {D W : Type 0} (seen : D → DiskView) (holding : W → Held) (now : �
           let o = subst Once is once in
           record {
             steps = tt;
-            memory = λ s c.
+            memory = ⊎_elim
+                (λ first. inl (o.memory ∙ (h.none (omega (arith, first))).0))
+                (λ behind. inr (λ s c.
                 let f = h.steps s c in
-                ⊎_elim
-                (λ first. inl (o.memory s (subst (λ (p : PartParts D W). Carries seen holding p s) (sym (h.none first).0) c)))
-                (λ more. inr (
+                let more = not_first f.some behind in (
                   f.shard,
-                  o.memory f.shard f.carries,
+                  subst (λ (p : PartParts D W). Carries seen holding p f.shard) (sym o.memory) f.carries,
                   record {
                     clock = more.1 ∙ ap (λ (n : ℕ). max n now) (sym c.clock);
                     log = f.log;
@@ -287,9 +297,10 @@ module _ {D W : Type 0} (seen : D → DiskView) (holding : W → Held) (now : �
                         (all_done entry.conf (seen (disk entry)).faults (end entry) f.done 0 (raised_to now s) (seen (disk current)).faults (end current) freed (raised_to now f.shard) f.to (seen (disk after)).faults (end after) runs.later
                         (o.ends f.shard f.carries));
                   },
-                ))
-                f.some;
-            quiet = λ nothing. absurd (none_left by_group due_is rising nothing);
+                )))
+                (cases_lt i 1);
+            quiet = tt;
+            nothing_due = λ nothing. absurd (none_left by_group due_is rising nothing);
             sound = tt;
             ends = ends_so o;
             log = o.log ∙ h.log;
@@ -342,7 +353,8 @@ module _ {D W : Type 0} (seen : D → DiskView) (holding : W → Held) (now : �
             },
           );
       memory = tt;
-      quiet = λ nothing.
+      quiet = λ none. h.quiet;
+      nothing_due = λ nothing.
           let none : due ≡ [] = due_is ∙ none_due holding clock entry.windows entry.windows (found_all holding clock entry.windows by_group) rising nothing in
           let empty : length due ≡ 0 = ap (λ (l : List (List ℕ)). length l) none in
           let within = h.within in
@@ -358,4 +370,4 @@ module _ {D W : Type 0} (seen : D → DiskView) (holding : W → Held) (now : �
   -- no memory is found for the list of the groups
   pub none_begins : (answer : Result ExpireAnswer want) → IsErr answer → (IsNothingDue holding entry.windows clock → ⊥) → ExpiresOnce seen holding now entry entry answer
   none_begins (Ok answer) none some = absurd (let clash : ⊥ = cc in clash)
-  none_begins (Err e) none some = record { steps = tt; memory = λ s c. inl c; quiet = λ nothing. absurd (some nothing); sound = tt; ends = λ s c. omega arith; log = refl; idle = refl; conf = refl }
+  none_begins (Err e) none some = record { steps = tt; memory = inl refl; quiet = tt; nothing_due = λ nothing. absurd (some nothing); sound = tt; ends = λ s c. omega arith; log = refl; idle = refl; conf = refl }

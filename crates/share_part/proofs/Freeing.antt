@@ -1,9 +1,9 @@
 -- The releases of a group as a step of the shard.
-use Rattle.std.proofs.Common.{◌≡◌, ◌∙◌, refl, sym, ap, subst, ℕ, max, ◌≤◌, List, Option, Some, Bool}
+use Rattle.std.proofs.Common.{◌≡◌, ◌≢◌, ◌∙◌, refl, sym, ap, subst, ℕ, max, ◌≤◌, List, Option, Some}
 use Rattle.std.specs.Prelude.{Result, Ok, Err, IsErr}
 use Rattle.edge_io.specs.Causes.{Rose}
-use Rattle.edge_io.specs.declared.fault.Armed.{Armed}
 use Rattle.flex_fields.specs.declared.fault.NoMemory.{NoMemory as want}
+use Rattle.gate_journal.specs.Journals.{IsQuiet}
 use Rattle.part_log.specs.Logs.{IsStoredLog}
 use Rattle.share_coord.specs.Parts.{StoreParts}
 use Rattle.share_model.specs.Held.{Held}
@@ -12,26 +12,32 @@ use Rattle.share_model.specs.declared.fault.StoreFault.TheVariants.{Device}
 use Rattle.share_model.specs.declared.visit.AckOutcome.TheVariants.{Done as acknowledged}
 use Rattle.share_model.specs.declared.visit.Then.TheVariants.{Release}
 use Rattle.share_model.specs.declared.visit.ThenOutcome.{ThenOutcome}
+use Rattle.share_model.specs.declared.visit.ThenOutcome.TheVariants.{Done as then_done, Store as then_store}
 use Rattle.share_model.specs.declared.visit.Visit.{Visit}
 use Rattle.share_model.specs.declared.visit.VisitAnswer.{VisitAnswer}
-use Rattle.share_part.specs.Acknowledging.{NameNone, StoresActs}
-use Rattle.share_part.specs.Following.{Does, HasNothingToWrite, IsEmptyAnswer, fault_of, releases_of}
-use Rattle.share_part.specs.Hosting.{AreHosted, states_of}
+use Rattle.share_part.specs.Acknowledging.{NameNone, NameOne, StoresActs}
+use Rattle.share_part.specs.Following.{Does, HasNothingToWrite, IsEmptyAnswer, TakesMemory, fault_of, releases_of}
+use Rattle.share_part.specs.Hosting.{AreHosted}
+use Rattle.share_coord.specs.States.{states_of}
 use Rattle.share_part.specs.Once.{FollowsOnce}
 use Rattle.share_part.specs.Releasing.{Counts, ReleasesOnce, fault_in, told_in}
 use Rattle.share_part.specs.Settling.{Acts, is_chosen, releasing}
-use Rattle.share_part.specs.Shards.{PartParts, PartShardState, Carries, held_in}
+use Rattle.share_part.specs.Shards.{PartParts, PartShardState, Carries, IsUntouched, held_in}
 use Rattle.share_part.specs.declared.release.Released.{Released}
 use Rattle.share_part.specs.declared.release.Released.TheVariants.{Done, Store}
 use Rattle.share_part.specs.declared.settle.Whose.{Whose}
 use Rattle.share_part.specs.declared.settle.Whose.TheVariants.{Member}
 use Rattle.share_part.proofs.Holding.{AreKept}
-use Rattle.share_part.proofs.Storage.{Stores, stands_stored, stored_device, stored_later, stored_none, stored_steps, unstored_carries}
+use Rattle.share_part.proofs.Storage.{Stores, stands_stored, stored_device, stored_later, stored_none, stored_quiet, stored_steps}
 use Rattle.edge_io.specs.Views.{DiskView}
 
 is_store : (r : Released) (fault : StoreFault) → fault_in r ≡ Some fault → r ≡ Store fault
 is_store (Done count) fault e = absurd (let clash : ⊥ = cc in clash)
 is_store (Store its) fault e = ap (λ (f : StoreFault). Store f) (let same : its ≡ fault = cc in same)
+
+is_told : (o : ThenOutcome) (fault : StoreFault) → fault_of o ≡ Some fault → o ≡ then_store fault
+is_told then_done fault e = absurd (let clash : ⊥ = cc in clash)
+is_told (then_store its) fault e = ap (λ (f : StoreFault). then_store f) (let same : its ≡ fault = cc in same)
 
 module _ {D W : Type 0} (seen : D → DiskView) (holding : W → Held) (group : List ℕ) (whose : Whose) (old : PartParts D W) (states : StoreParts D)
     (windows : List (List ℕ × W)) (sound : IsStoredLog old.log.batches) (few : old.conf.limit ≤ 10)
@@ -58,6 +64,10 @@ module _ {D W : Type 0} (seen : D → DiskView) (holding : W → Held) (group : 
     abbrev Rises : Type 0
     Rises = Rose (seen old.states.journal.live.disk).faults (seen states.journal.live.disk).faults
 
+    quiet_by : (r : Released) → Told (Ok r) → ((fault : StoreFault) → r ≢ Store fault) → IsQuiet seen old.states.journal.live.disk states.journal.live.disk
+    quiet_by (Done count) h none = stored_quiet seen holding group acts old states windows old.clock sound few hosted kept h
+    quiet_by (Store fault) h none = absurd (none fault refl)
+
     pub released : (clock : ℕ) (result : Result Released want) (r : Released) → result ≡ Ok r → Told result → Counts whose was r
         → ReleasesOnce seen holding clock group whose old (then clock) (Ok r)
     released clock result r is told counts =
@@ -75,7 +85,9 @@ module _ {D W : Type 0} (seen : D → DiskView) (holding : W → Held) (group : 
                 },
               );
           unwritten = stored_none seen holding group acts old states windows clock sound few hosted kept (told_in (Ok r)) h;
+          named = tt;
           memory = tt;
+          quiet = quiet_by r h;
           sound = λ fault. stored_device seen holding group acts old states windows clock sound few hosted kept (fault_in r) h (ap fault_in fault);
           ends = λ s c. stored_later seen holding group acts old states windows clock sound few hosted kept (told_in (Ok r)) h
               c.pending c.holds;
@@ -84,15 +96,17 @@ module _ {D W : Type 0} (seen : D → DiskView) (holding : W → Held) (group : 
           conf = refl;
         }
 
-    pub unreleased : (clock : ℕ) (result : Result Released want) (e : want) → result ≡ Err e → Told result → (answer : Result Released want) → IsErr answer
-        → ReleasesOnce seen holding clock group whose old (then old.clock) answer
-    unreleased clock result e is told (Ok r) none = absurd (let clash : ⊥ = cc in clash)
-    unreleased clock result e is told (Err f) none =
+    pub unreleased : (clock : ℕ) (result : Result Released want) (e : want) → result ≡ Err e → Told result → windows ≡ old.windows → NameOne acts
+        → (answer : Result Released want) → IsErr answer → ReleasesOnce seen holding clock group whose old (then old.clock) answer
+    unreleased clock result e is told same named (Ok r) none = absurd (let clash : ⊥ = cc in clash)
+    unreleased clock result e is told same named (Err f) none =
         let h = subst Told is told in
         record {
           steps = tt;
           unwritten = λ none. h.0;
-          memory = unstored_carries seen holding group acts old states windows old.clock sound few hosted kept e h refl;
+          named = named;
+          memory = λ i. record { conf = old.conf; log = old.log; states = h.0 i; windows = same i; clock = old.clock };
+          quiet = tt;
           sound = tt;
           ends = λ s c. stored_later seen holding group acts old states windows old.clock sound few hosted kept (told_in (Err f)) h
               c.pending c.holds;
@@ -143,7 +157,9 @@ module _ {D W : Type 0} (seen : D → DiskView) (holding : W → Held)
                 does = subst (Does old.conf Rising old.states.journal.live.end s visit answer st.0) (sym is) (told_as s st.0 answer outcome r empty same st.2.stores);
               },
             );
+        follows = tt;
         memory = tt;
+        quiet = λ none. o.quiet (λ fault is. none fault (empty.outcome_is ∙ is_told outcome fault (same ∙ ap fault_in is)));
         sound = λ fault. o.sound (is_store r Device (sym same ∙ (ap fault_of (sym empty.outcome_is) ∙ ap fault_of fault)));
         unwritten = λ s c. none_let_go s c o.unwritten;
         ends = o.ends;
@@ -152,9 +168,18 @@ module _ {D W : Type 0} (seen : D → DiskView) (holding : W → Held)
         conf = o.conf;
       }
 
+  unchanged : new ≡ old → IsUntouched holding old new
+  unchanged same = record {
+    conf = ap (λ (p : PartParts D W). p.conf) same;
+    log = ap (λ (p : PartParts D W). p.log) same;
+    states = ap (λ (p : PartParts D W). p.states) same;
+    clock = ap (λ (p : PartParts D W). p.clock) same;
+    held = λ group. ap (λ (p : PartParts D W). held_in holding p.windows group) same;
+  }
+
   pub kept_back : (result : Result Released want) (e : want) → result ≡ Err e → Once result → (answer : Result VisitAnswer want) → IsErr answer
       → FollowsOnce seen holding now visit old new answer
   kept_back result e none once (Ok answer) failed = absurd (let clash : ⊥ = cc in clash)
   kept_back result e none once (Err f) failed =
       let o = subst Once none once in
-      record { steps = tt; memory = o.memory; sound = tt; unwritten = λ s c. none_let_go s c o.unwritten; ends = o.ends; log = o.log; idle = o.idle; conf = o.conf }
+      record { steps = tt; follows = subst (TakesMemory visit.member (held_in holding old.windows visit.group)) (sym is) o.named; memory = unchanged o.memory; quiet = tt; sound = tt; unwritten = λ s c. none_let_go s c o.unwritten; ends = o.ends; log = o.log; idle = o.idle; conf = o.conf }

@@ -8,10 +8,11 @@ use Rattle.share_model.specs.declared.run.Run.{Run}
 use Rattle.share_coord.specs.Calls.{Causes, IsTooMany, IsWritten, write_refusal}
 use Rattle.share_coord.specs.Holding.{WritesOnce}
 use Rattle.share_coord.specs.Parts.{StoreParts}
+use Rattle.share_coord.specs.Recorded.{IsWriteRecord, StoresOne}
 use Rattle.share_coord.specs.Stored.{Entries, kept_at}
 use Rattle.share_coord.specs.declared.fault.CoordFault.{CoordFault}
 use Rattle.share_coord.specs.declared.fault.CoordFault.TheVariants.{Invalid, Unknown, FencedLeader, FencedState, TooMany, Store, NoMemory}
-use Rattle.share_part.specs.Storing.{IsStored, StoresOnce, TellsStored, start_number}
+use Rattle.share_part.specs.Storing.{IsRecordOf, IsStored, StoresOnce, TellsStored, start_number}
 use Rattle.edge_io.specs.Views.{DiskView}
 
 -- a write that is granted fails at the store alone
@@ -35,9 +36,11 @@ pub stored_by : {D : Type 0} (seen : D → DiskView) (Failed : D → D → Type 
     (es : Entries) (key : KeyParts) (start : Option ℕ) (number : ℤ) (runs : List Run) → number ≡ start_number start
     → (old new : StoreParts D) (result : Result (Option StoreFault) want) (done : Result (Unit {0}) CoordFault) → TellsStored done result
     → WritesOnce seen Failed (IsWritten es key (pos 0) (pos 0) number runs) old new done
-    → StoresOnce seen Failed (IsStored es key start runs) old new result
-stored_by {D} seen Failed es key start number runs is old new result done tells once = record {
+    → StoresOne seen (IsWriteRecord es key (pos 0) (pos 0) number runs) old.journal new.journal done
+    → StoresOnce seen Failed (IsStored es key start runs) (IsRecordOf es key start runs) old new result
+stored_by {D} seen Failed es key start number runs is old new result done tells once one = record {
   done = done;
   tells = tells;
   once = subst (λ (n : ℤ). WritesOnce seen Failed (IsWritten es key (pos 0) (pos 0) n runs) old new done) is once;
+  one = subst (λ (n : ℤ). StoresOne seen (IsWriteRecord es key (pos 0) (pos 0) n runs) old.journal new.journal done) is one;
 }

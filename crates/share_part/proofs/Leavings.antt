@@ -8,7 +8,8 @@ use Rattle.share_model.specs.Logs.{Batch}
 use Rattle.share_model.specs.Pending.{WithPending}
 use Rattle.part_log.specs.Logs.{IsLogText, MayFollow, and_pending}
 use Rattle.share_coord.specs.Stored.{AreStored, Entries}
-use Rattle.share_part.specs.Hosting.{PartConfParts, AreHosted, AreStates, states_of}
+use Rattle.share_part.specs.Hosting.{PartConfParts, AreHosted}
+use Rattle.share_coord.specs.States.{AreStates, states_of}
 use Rattle.share_part.specs.Leaving.{IsLeftOf, IsOneOf}
 use Rattle.share_part.specs.Shards.{PartParts, PartShardState, Carries, IsPendingHosted}
 use Rattle.share_part.proofs.Producing.{hosted_later}

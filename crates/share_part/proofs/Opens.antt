@@ -1,6 +1,5 @@
 -- What is opened of three disks, and why nothing is.
-use Rattle.std.proofs.Common.{◌≡◌, ◌≢◌, ◌∙◌, inl, inr, refl, sym, ap, subst, ℕ, List, [], Option, Some, None, Bool, true, false}
-use Rattle.edge_io.specs.declared.fault.Armed.{Armed}
+use Rattle.std.proofs.Common.{◌≡◌, ◌≢◌, ◌∙◌, inl, inr, refl, sym, ap, subst, ℕ, List, [], Some, None, Bool, true, false}
 use Rattle.edge_io.specs.declared.name.DiskPlace.{DiskPlace}
 use Rattle.edge_io.specs.declared.name.DiskPlace.TheVariants.{Log, StateA, StateB}
 use Rattle.coord_checkpoint.specs.Disks.{HasFailed}
@@ -15,7 +14,8 @@ use Rattle.share_coord.specs.Opening.{IsOpened as states_opened, IsNotOpened as 
 use Rattle.share_coord.specs.Parts.{StoreParts}
 use Rattle.share_coord.specs.Stored.{AreDamaged}
 use Rattle.share_part.specs.Faults.{fault_of_log, fault_of_states, state_disk}
-use Rattle.share_part.specs.Hosting.{PartConfParts, AreHosted, states_of}
+use Rattle.share_part.specs.Hosting.{PartConfParts, AreHosted}
+use Rattle.share_coord.specs.States.{states_of}
 use Rattle.share_part.specs.Opening.{IsOpened, IsNotOpened, AreDamagedAt, StandsForLog}
 use Rattle.share_part.specs.Shards.{PartParts, held_in}
 use Rattle.share_part.specs.declared.opening.PartFault.{PartFault}

@@ -19,7 +19,8 @@ use Rattle.share_model.specs.Logs.{Batch}
 use Rattle.share_model.specs.ShareStates.{ShareState}
 use Rattle.share_part.specs.Acknowledging.{NameNone}
 use Rattle.share_part.specs.Expiring.{ending, groups_of}
-use Rattle.share_part.specs.Hosting.{AreHosted, KeepsHolds, PartConfParts, key_of, states_of}
+use Rattle.share_part.specs.Hosting.{AreHosted, KeepsHolds, PartConfParts, key_of}
+use Rattle.share_coord.specs.States.{states_of}
 use Rattle.share_part.specs.Once.{IsNothingDue}
 use Rattle.share_part.specs.Releasing.{due_groups, has_due}
 use Rattle.share_part.specs.Settling.{is_chosen}

@@ -18,7 +18,8 @@ use Rattle.share_model.specs.declared.visit.ThenOutcome.TheVariants.{Done}
 use Rattle.share_coord.specs.Calls.{IsInitialised}
 use Rattle.share_coord.specs.Parts.{StoreParts}
 use Rattle.share_coord.specs.Stored.{Entries, kept_at}
-use Rattle.share_part.specs.Hosting.{PartConfParts, AreHosted, key_of, states_of}
+use Rattle.share_part.specs.Hosting.{PartConfParts, AreHosted, key_of}
+use Rattle.share_coord.specs.States.{states_of}
 use Rattle.share_part.specs.Making.{MakesOnce, MakesTableOnce, state_for}
 use Rattle.share_part.specs.Shards.{first_start, held_in, held_of, new_state}
 use Rattle.share_part.specs.Tables.{MayGoOut, Table, table_of}

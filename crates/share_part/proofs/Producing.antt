@@ -6,13 +6,13 @@ use Rattle.std.specs.Option.{option_map}
 use Rattle.edge_io.specs.Armed.{StarvesUnarmed}
 use Rattle.edge_io.specs.Causes.{Rose}
 use Rattle.edge_io.specs.Moments.{LeavesOnly}
-use Rattle.edge_io.specs.declared.fault.Armed.{Armed}
-use Rattle.gate_journal.specs.Journals.{Stands}
+use Rattle.gate_journal.specs.Journals.{IsQuiet, Stands}
 use Rattle.share_model.specs.ForeignRules.{ShareStates, size_of}
 use Rattle.share_model.specs.Held.{Held}
 use Rattle.share_model.specs.Logs.{Batch, end_of}
 use Rattle.share_model.specs.declared.fault.LogFault.{LogFault}
 use Rattle.share_model.specs.declared.fault.LogFault.TheVariants.{Batch as BadBatch, Behind, Store, NoMemory}
+use Rattle.share_model.specs.declared.fault.StoreFault.{StoreFault}
 use Rattle.share_model.specs.declared.fault.StoreFault.TheVariants.{Device, Full}
 use Rattle.part_log.specs.Logs.{AddsOnce, IsAdded, IsStoredLog, IsWithin, Keeps, LogParts, MayFollow, frames_of}
 use Rattle.part_log.specs.Shards.{LogShardState, CarriesLog, IsLogOf, StepsLog, at_end}
@@ -195,6 +195,20 @@ module _ {D W : Type 0} (seen : D → DiskView) (holding : W → Held) (now : �
   sound : result ≡ Err (Store Device) → StarvesUnarmed seen old.log.journal.disk log.journal.disk
   sound is = (once.device is).3
 
+  -- no device call failed, where none is told
+  abbrev Quiet : Type 0
+  Quiet = IsQuiet seen old.log.journal.disk log.journal.disk
+
+  quiet_same : log ≡ old.log → Quiet
+  quiet_same same = λ told. ap (λ (l : LogParts D). (seen l.journal.disk).faults) same
+
+  quiet : (r : Result ℕ LogFault) → AddsOnce seen old.log log (at_end old.log.batches bytes) r → ((fault : StoreFault) → r ≢ Err (Store fault)) → Quiet
+  quiet (Ok base) o none = o.quiet
+  quiet (Err (Store fault)) o none = absurd (none fault refl)
+  quiet (Err (BadBatch fault)) o none = quiet_same (o.unchanged (BadBatch fault) refl (λ e. let clash : ⊥ = cc in clash))
+  quiet (Err (Behind at)) o none = quiet_same (o.unchanged (Behind at) refl (λ e. let clash : ⊥ = cc in clash))
+  quiet (Err NoMemory) o none = quiet_same (o.unchanged NoMemory refl (λ e. let clash : ⊥ = cc in clash))
+
   -- no memory was found
   pub hungry : result ≡ Err NoMemory → clock ≡ old.clock → ProducesOnce seen holding now bytes old after result
   hungry is same = record {
@@ -202,6 +216,7 @@ module _ {D W : Type 0} (seen : D → DiskView) (holding : W → Held) (now : �
     memory = λ e.
         let l : log ≡ old.log = once.unchanged NoMemory is (λ f. let clash : ⊥ = cc in clash) in
         λ i. record { conf = old.conf; log = l i; states = old.states; windows = old.windows; clock = same i };
+    quiet = quiet result once;
     sound = sound;
     any_moment = moments;
     ends = ends;
@@ -233,6 +248,7 @@ module _ {D W : Type 0} (seen : D → DiskView) (holding : W → Held) (now : �
           record { clock = at ∙ ap (λ (n : ℕ). max n now) (sym c.clock); log = s.2; still = record { states = refl; pending = refl; held = refl } },
         );
     memory = λ is. absurd (fed is);
+    quiet = quiet result once;
     sound = sound;
     any_moment = moments;
     ends = ends;

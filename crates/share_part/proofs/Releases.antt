@@ -1,6 +1,6 @@
 -- The releases of a group, by what it holds and by its table.
 use Rattle.std.proofs.Common.{◌≡◌, ◌∙◌, refl, sym, ap, subst, ℕ, List, [], Option, Some, None, Bool}
-use Rattle.std.specs.Prelude.{IfOk, IsSome, Result, Ok, Err}
+use Rattle.std.specs.Prelude.{IfOk, OnErr, IsSome, Result, Ok, Err}
 use Rattle.std.specs.BTreeMap.{is_at}
 use Rattle.std.specs.Cmp.Lexicographic.{slice_cmp}
 use Rattle.std.specs.Map.{lookup}
@@ -17,7 +17,8 @@ use Rattle.share_model.specs.ShareStates.{ShareState}
 use Rattle.share_model.specs.declared.hold.Hold.{Hold}
 use Rattle.share_model.specs.declared.run.Run.{Run}
 use Rattle.share_part.specs.Acknowledging.{NameNone, NameOne}
-use Rattle.share_part.specs.Hosting.{HoldsWell, states_of}
+use Rattle.share_part.specs.Hosting.{HoldsWell}
+use Rattle.share_coord.specs.States.{states_of}
 use Rattle.share_part.specs.Releasing.{ReleasesGroup, ReleasesTable}
 use Rattle.share_part.specs.Settling.{AreBelow, IsChange, is_chosen, releasing}
 use Rattle.share_part.specs.Shards.{held_in, held_of}
@@ -28,6 +29,10 @@ use Rattle.share_part.proofs.Seeing.{state_seen, view_of}
 use Rattle.share_part.proofs.Settlement.{HasChange}
 use Rattle.share_part.proofs.Slotting.{slot_below}
 use Rattle.share_part.proofs.Writing.{slot_of}
+
+pub on_err : {T : Type 0} (P : Type 0) (r : Result T want) → P → OnErr r P
+on_err P (Ok x) p = tt
+on_err P (Err e) p = p
 
 -- nothing is held of an empty window
 empty_none : (held : Held) (o : ℕ) (hold : Hold) → held ≡ [] → hold_at held o ≡ Some hold → ⊥

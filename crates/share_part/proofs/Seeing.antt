@@ -14,7 +14,8 @@ use Rattle.share_model.specs.declared.reset.Reset.TheVariants.{Latest, Earliest}
 use Rattle.share_coord.specs.Calls.{IsInitialised}
 use Rattle.share_coord.specs.Stored.{Entries, kept_at, with_kept}
 use Rattle.share_coord.specs.declared.view.Kept.{Kept}
-use Rattle.share_part.specs.Hosting.{PartConfParts, AreHosted, IsHosted, key_of, states_of}
+use Rattle.share_part.specs.Hosting.{PartConfParts, AreHosted, IsHosted, key_of}
+use Rattle.share_coord.specs.States.{states_of}
 use Rattle.share_part.specs.Shards.{first_start, new_state}
 use Rattle.share_part.specs.Tables.{MayGoOut}
 use Rattle.share_coord.proofs.Keys.{some_is}

@@ -5,6 +5,8 @@ use Rattle.flex_fields.specs.declared.fault.NoMemory.{NoMemory as want}
 use Rattle.share_coord.specs.Calls.{IsTooMany, write_refusal}
 use Rattle.share_coord.specs.Holding.{WritesOnce}
 use Rattle.share_coord.specs.Parts.{StoreParts}
+use Rattle.share_coord.specs.Recorded.{StoresOne}
+use Rattle.state_records.specs.declared.record.StateRecord.{StateRecord}
 use Rattle.share_coord.specs.Stored.{Entries, kept_at}
 use Rattle.share_coord.specs.declared.fault.CoordFault.{CoordFault}
 use Rattle.share_coord.specs.declared.fault.CoordFault.TheVariants.{Invalid, Unknown, FencedLeader, FencedState, TooMany, Store, NoMemory}
@@ -18,10 +20,11 @@ use Rattle.share_model.specs.declared.run.Run.{Run}
 use Rattle.share_model.specs.declared.visit.AckOutcome.{AckOutcome}
 use Rattle.part_log.specs.Logs.{IsStoredLog}
 use Rattle.share_part.specs.Acting.{JudgesGroup}
-use Rattle.share_part.specs.Hosting.{PartConfParts, AreHeldWell, AreHosted, HoldsWell, IsHosted, key_of, states_of}
+use Rattle.share_part.specs.Hosting.{PartConfParts, AreHeldWell, AreHosted, HoldsWell, IsHosted, key_of}
+use Rattle.share_coord.specs.States.{states_of}
 use Rattle.share_part.specs.Releasing.{told_in}
 use Rattle.share_part.specs.Settling.{Acts, AreHeldBy, IsChange, Judges}
-use Rattle.share_part.specs.Storing.{IsActsStored, IsStored, SettlesGroup, StoresGroup, StoresOnce, TellsStored, start_number}
+use Rattle.share_part.specs.Storing.{IsActsStored, IsRecordOf, IsStored, SettlesGroup, StoresGroup, StoresOnce, TellsStored, start_number}
 use Rattle.share_part.specs.Tables.{table_of}
 use Rattle.share_part.specs.declared.release.Released.{Released}
 use Rattle.share_part.specs.declared.settle.Change.{Change}
@@ -82,8 +85,9 @@ module _ {D : Type 0} (seen : D → DiskView) (Failed : D → D → Type 0) (old
     by_memory (Err (Store fault)) result none tells once = absurd (let clash : ⊥ = cc in clash)
     by_memory (Err NoMemory) result none tells once = once.unchanged (λ e. let clash : ⊥ = cc in clash)
 
-    pub unstored : (result : Result (Option StoreFault) want) (e : want) → result ≡ Err e → StoresOnce seen Failed Written old new result → new ≡ old
-    unstored result e is once = by_memory once.done result (err_is result e is) once.tells once.once
+    pub unstored : (Is : StateRecord → Type 0) (result : Result (Option StoreFault) want) (e : want) → result ≡ Err e
+        → StoresOnce seen Failed Written Is old new result → new ≡ old
+    unstored Is result e is once = by_memory once.done result (err_is result e is) once.tells once.once
 
   module _ (conf : PartConfParts) (log : List Batch) (group : List ℕ) (acts : Acts) (was : Held) (same ends : Type 0) (stays : new ≡ old) (is_same : same) where
     pub unreleased : (answer : Result Released want) → IsErr answer → StoresGroup seen Failed conf log group acts was old new same ends (told_in answer)
@@ -123,8 +127,9 @@ module _ {D : Type 0} (conf : PartConfParts) (log : List Batch) (group : List �
       abbrev Stored : Result (Unit {0}) CoordFault → Type 0
       Stored done = IsActsStored seen Failed conf log group acts held old new done
 
-      by_done : (done wanted : Result (Unit {0}) CoordFault) → done ≡ wanted → WritesOnce seen Failed (IsStored old.entries key change.start runs) old new done → Stored wanted
-      by_done done wanted same once = record {
+      by_done : (done wanted : Result (Unit {0}) CoordFault) → done ≡ wanted → WritesOnce seen Failed (IsStored old.entries key change.start runs) old new done
+          → StoresOne seen (IsRecordOf old.entries key change.start runs) old.journal new.journal done → Stored wanted
+      by_done done wanted same once one = record {
         state = found.0;
         change = change;
         known = found.1;
@@ -132,13 +137,16 @@ module _ {D : Type 0} (conf : PartConfParts) (log : List Batch) (group : List �
         once = subst (WritesOnce seen Failed (IsStored old.entries (key_of conf group) change.start change.runs.items) old new) same
             (subst (λ (r : List Run). WritesOnce seen Failed (IsStored old.entries (key_of conf group) change.start r) old new done) runs_are
             (subst (λ (k : KeyParts). WritesOnce seen Failed (IsStored old.entries k change.start runs) old new done) key_is once));
+        one = subst (StoresOne seen (IsRecordOf old.entries (key_of conf group) change.start change.runs.items) old.journal new.journal) same
+            (subst (λ (r : List Run). StoresOne seen (IsRecordOf old.entries (key_of conf group) change.start r) old.journal new.journal done) runs_are
+            (subst (λ (k : KeyParts). StoresOne seen (IsRecordOf old.entries k change.start runs) old.journal new.journal done) key_is one));
       }
 
       abbrev Once : Option StoreFault → Type 0
-      Once fault = StoresOnce seen Failed (IsStored old.entries key change.start runs) old new (Ok fault)
+      Once fault = StoresOnce seen Failed (IsStored old.entries key change.start runs) (IsRecordOf old.entries key change.start runs) old new (Ok fault)
 
       pub all_stored : (fault : Option StoreFault) → fault ≡ None → Once fault → Stored (Ok tt)
-      all_stored fault none once = let o = subst Once none once in by_done o.done (Ok tt) (told_done o.done o.tells) o.once
+      all_stored fault none once = let o = subst Once none once in by_done o.done (Ok tt) (told_done o.done o.tells) o.once o.one
 
       pub none_stored : (fault : Option StoreFault) (its : StoreFault) → fault ≡ Some its → Once fault → Stored (Err (Store its))
-      none_stored fault its some once = let o = subst Once some once in by_done o.done (Err (Store its)) (told_fault o.done its o.tells) o.once
+      none_stored fault its some once = let o = subst Once some once in by_done o.done (Err (Store its)) (told_fault o.done its o.tells) o.once o.one

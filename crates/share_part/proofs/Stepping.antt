@@ -12,7 +12,8 @@ use Rattle.share_model.specs.Logs.{Batch}
 use Rattle.share_model.specs.Runs.{row_at}
 use Rattle.share_model.specs.ShareStates.{ShareState, is_below, start_after}
 use Rattle.share_model.specs.declared.row.Row.{Row}
-use Rattle.share_part.specs.Hosting.{PartConfParts, IsHosted, key_of, states_of}
+use Rattle.share_part.specs.Hosting.{PartConfParts, IsHosted, key_of}
+use Rattle.share_coord.specs.States.{states_of}
 use Rattle.share_part.specs.Settling.{Acts, IsChange, IsSettled, acted, stored_after}
 use Rattle.share_part.specs.Storing.{IsStored, start_number}
 use Rattle.share_part.specs.Tables.{table_of}

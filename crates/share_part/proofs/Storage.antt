@@ -1,13 +1,13 @@
 -- Acts on the table of a group, by what came of their write, as a step of the shard.
-use Rattle.std.proofs.Common.{◌≡◌, ⊎_elim, inl, inr, refl, sym, ap, subst, ℕ, ◌+◌, ◌^◌, ◌<◌, ◌≤◌, List, length, Option, Some, None, Bool}
+use Rattle.std.proofs.Common.{◌≡◌, ⊎_elim, inl, inr, refl, sym, ap, subst, ℕ, ◌+◌, ◌^◌, ◌<◌, ◌≤◌, List, length, Option, Some, None}
 use Rattle.std.specs.Prelude.{Result, Ok, Err}
 use Rattle.std.specs.BTreeMap.{insert_entry}
 use Rattle.std.specs.Option.{option_map}
 use Rattle.coord_checkpoint.specs.Disks.{HasFailed}
 use Rattle.edge_io.specs.Armed.{StarvesUnarmed}
 use Rattle.edge_io.specs.Causes.{Rose}
-use Rattle.edge_io.specs.declared.fault.Armed.{Armed}
 use Rattle.flex_fields.specs.declared.fault.NoMemory.{NoMemory as want}
+use Rattle.gate_journal.specs.Journals.{IsQuiet}
 use Rattle.share_model.specs.ForeignRules.{ShareStates}
 use Rattle.share_model.specs.Held.{Held}
 use Rattle.share_model.specs.Keys.{KeyParts, key_cmp}
@@ -24,7 +24,8 @@ use Rattle.share_coord.specs.declared.fault.CoordFault.TheVariants.{Store as coo
 use Rattle.share_coord.proofs.Ends.{EndsLater, later_once, later_same}
 use Rattle.share_coord.proofs.Once.{held_still}
 use Rattle.share_part.specs.Acknowledging.{AreSettled, NameNone, NameOne, StoresActs}
-use Rattle.share_part.specs.Hosting.{AreHosted, IsHosted, KeepsHolds, key_of, states_of}
+use Rattle.share_part.specs.Hosting.{AreHosted, IsHosted, KeepsHolds, key_of}
+use Rattle.share_coord.specs.States.{states_of}
 use Rattle.share_part.specs.Settling.{Acts, IsSettled, held_after}
 use Rattle.share_part.specs.Shards.{PartShardState, PartParts, Carries, IsPendingHosted, held_in, with_held}
 use Rattle.share_part.specs.Storing.{IsActsStored, IsStored, StoresGroup}
@@ -237,18 +238,6 @@ module _ {D W : Type 0} (seen : D → DiskView) (holding : W → Held) (group : 
   stored_none (Ok (Some fault)) h nothing = absurd (let e = nothing h.0.0 in let some = h.0.1 in let clash : ⊥ = cc in clash)
   stored_none (Err e) h nothing = h.0
 
-  -- where no memory was found, the shard is as it was
-  pub unstored_carries : (e : want) → Stores (Err e) → clock ≡ old.clock → (s : PartShardState) → Carries seen holding old s → Carries seen holding behind s
-  unstored_carries e h same = carried seen holding old (λ s. Carries seen holding behind s) (λ batch pending k.
-      subst (λ (n : ℕ). Carries seen holding behind (record {
-        log = record { batches = old.log.batches; pending = batch };
-        states = states_of old.states.entries;
-        pending = option_map states_of pending;
-        held = held_in holding old.windows;
-        clock = n;
-      })) same
-      (same_carried batch pending pending k (ap (λ (s : StoreParts D). s.entries) h.0) (held_still seen old.states states h.0 pending k.holds) k.pending_hosted h.1))
-
   -- the journal never ends before where it did
   pub stored_later : (r : Result (Option StoreFault) want) → Stores r → EndsLater seen old.states states
   stored_later (Ok None) (inl n) = later_same seen old.states states n.1
@@ -261,3 +250,11 @@ module _ {D W : Type 0} (seen : D → DiskView) (holding : W → Held) (group : 
   stored_device None h is = absurd (let clash : ⊥ = cc in clash)
   stored_device (Some Device) h is = (h.1.once.device refl).0.1
   stored_device (Some (Full at)) h is = absurd (let clash : ⊥ = cc in clash)
+
+  -- no device call failed, where none is told
+  pub quiet_same : states ≡ old.states → IsQuiet seen old.states.journal.live.disk states.journal.live.disk
+  quiet_same same = λ told. ap (λ (s : StoreParts D). (seen s.journal.live.disk).faults) same
+
+  pub stored_quiet : Stores (Ok None) → IsQuiet seen old.states.journal.live.disk states.journal.live.disk
+  stored_quiet (inl n) = quiet_same n.1
+  stored_quiet (inr h) = h.1.once.quiet

@@ -21,7 +21,7 @@ use Rattle.share_model.specs.declared.ack.AckKind.{AckKind}
 use Rattle.share_model.specs.declared.run.Run.{Run}
 use Rattle.share_coord.specs.Stored.{Entries, kept_at}
 use Rattle.share_part.specs.Acting.{IsFirstNamed, JudgesGroup}
-use Rattle.share_part.specs.Hosting.{states_of}
+use Rattle.share_coord.specs.States.{states_of}
 use Rattle.share_part.specs.Settling.{Acts, IsHeldBy, IsLeastMissing, Judges}
 use Rattle.share_part.specs.Shards.{held_in, held_of}
 use Rattle.share_part.specs.Tables.{Table, table_of}

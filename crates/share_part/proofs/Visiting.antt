@@ -1,13 +1,13 @@
 -- A visit as a step of the shard.
-use Rattle.std.proofs.Common.{◌≡◌, ◌≢◌, ◌⊎◌, ⊎_elim, ◌∙◌, inl, inr, refl, sym, ap, subst, ℕ, pos, ◌+◌, ◌^◌, ◌<◌, max, List, [], length, Bool}
+use Rattle.std.proofs.Common.{◌≡◌, ◌≢◌, ◌⊎◌, ⊎_elim, ◌∙◌, inl, inr, refl, sym, ap, subst, ℕ, pos, ◌+◌, ◌^◌, ◌<◌, max, List, [], length}
 use Rattle.std.specs.Prelude.{Option, Some, None, Result, Ok, Err, IsErr, IsSome, unwrap_or}
 use Rattle.std.specs.BTreeMap.{insert_entry}
 use Rattle.std.specs.Option.{option_map}
 use Rattle.edge_io.specs.Armed.{StarvesUnarmed}
 use Rattle.edge_io.specs.Causes.{Rose}
-use Rattle.edge_io.specs.declared.fault.Armed.{Armed}
 use Rattle.flex_fields.specs.declared.fault.NoMemory.{NoMemory as want}
 use Rattle.coord_checkpoint.specs.Disks.{HasFailed}
+use Rattle.gate_journal.specs.Journals.{IsQuiet}
 use Rattle.share_model.specs.ForeignRules.{ShareStates, share_state_at}
 use Rattle.share_model.specs.Held.{Held}
 use Rattle.share_model.specs.Keys.{KeyParts, key_cmp}
@@ -33,13 +33,14 @@ use Rattle.share_coord.specs.declared.view.Kept.{Kept}
 use Rattle.share_coord.proofs.Ends.{EndsLater, later_once, later_same}
 use Rattle.share_coord.proofs.Once.{held_still}
 use Rattle.share_part.specs.declared.limits.Limits.{Limits}
-use Rattle.share_part.specs.Hosting.{PartConfParts, AreHosted, HoldsWell, KeepsHolds, key_of, states_of}
+use Rattle.share_part.specs.Hosting.{PartConfParts, AreHosted, HoldsWell, KeepsHolds, key_of}
+use Rattle.share_coord.specs.States.{states_of}
 use Rattle.share_part.specs.declared.plan.Plan.{Plan}
 use Rattle.share_part.specs.Collecting.{IsPlanOf}
 use Rattle.share_part.specs.Making.{MakesOnce, MakesTableOnce, Tells, numbered_bytes, state_for}
 use Rattle.share_part.specs.Once.{Followed, FollowsOnce}
-use Rattle.share_part.specs.Following.{Acquires, Does, Fetches, HasNothingToWrite, IsEmptyAnswer, MakesTable, StepsThen}
-use Rattle.share_part.specs.Shards.{PartShardState, PartParts, Carries, IsStill, IsPendingHosted, held_in, with_held, new_state, first_start}
+use Rattle.share_part.specs.Following.{Acquires, Does, Fetches, HasNothingToWrite, IsEmptyAnswer, MakesTable, StepsThen, TakesMemory}
+use Rattle.share_part.specs.Shards.{PartShardState, PartParts, Carries, IsStill, IsPendingHosted, IsUntouched, held_in, with_held, new_state, first_start}
 use Rattle.share_part.specs.Tables.{table_of, with_holds}
 use Rattle.share_part.specs.Walks.{acquired, AreRunsOf, bytes_in, written_out}
 use Rattle.share_part.proofs.Appending.{numbered_is}
@@ -132,6 +133,20 @@ module _ {D W : Type 0} (seen : D → DiskView) (holding : W → Held) where
     pending_hosted = subst (λ (p : PartConfParts). IsPendingHosted p shard.log.batches shard.pending) (sym conf) c.pending_hosted;
   }
 
+  -- where nothing has changed, what was carried is carried
+  pub untouched : (old new : PartParts D W) → IsUntouched holding old new → (shard : PartShardState) → Carries seen holding old shard
+      → Carries seen holding new shard
+  untouched old new h = carried old (λ s. Carries seen holding new s) (λ batch pending k.
+      subst (λ (c : ℕ). Carries seen holding new (record {
+        log = record { batches = old.log.batches; pending = batch };
+        states = states_of old.states.entries;
+        pending = option_map states_of pending;
+        held = held_in holding old.windows;
+        clock = c;
+      })) h.clock
+      (carries_with old new batch pending pending (held_in holding old.windows) k h.conf h.log (ap (λ (s : StoreParts D). s.entries) h.states)
+      (held_still seen old.states new.states h.states pending k.holds) k.pending_hosted (λ group. sym (h.held group))))
+
 -- ---- a fetch
 
 pub err_is : {T E : Type 0} (r : Result T E) (e : E) → r ≡ Err e → IsErr r
@@ -162,10 +177,19 @@ module _ {D W : Type 0} (seen : D → DiskView) (holding : W → Held) (now : �
   writes_none : new.states ≡ old.states → Writes
   writes_none same = record { later = later_same seen old.states new.states same; unwritten = λ s c nothing. same }
 
-  answered : (answer : VisitAnswer) → Writes → Followed seen holding now visit old new answer → (answer.then ≡ store_outcome Device → Starves) → Once (Ok answer)
-  answered answer writes visited sound = record {
+  abbrev Quiet : Type 0
+  Quiet = IsQuiet seen old.states.journal.live.disk new.states.journal.live.disk
+
+  quiet_same : new.states ≡ old.states → Quiet
+  quiet_same same = λ told. ap (λ (s : StoreParts D). (seen s.journal.live.disk).faults) same
+
+  answered : (answer : VisitAnswer) → Writes → (((fault : StoreFault) → answer.then ≢ store_outcome fault) → Quiet)
+      → Followed seen holding now visit old new answer → (answer.then ≡ store_outcome Device → Starves) → Once (Ok answer)
+  answered answer writes quiet visited sound = record {
     steps = visited;
+    follows = tt;
     memory = tt;
+    quiet = quiet;
     sound = sound;
     unwritten = writes.unwritten;
     ends = λ s c. writes.later c.pending c.holds;
@@ -175,20 +199,13 @@ module _ {D W : Type 0} (seen : D → DiskView) (holding : W → Held) (now : �
   }
 
   -- no memory was found
-  pub hungry : (e : want) → new.states ≡ old.states
+  pub hungry : (limits : Limits) → visit.then ≡ Fetch limits.records limits.bytes limits.first → (e : want) → new.states ≡ old.states
       → ((group : List ℕ) → held_in holding new.windows group ≡ held_in holding old.windows group) → new.clock ≡ old.clock → Once (Err e)
-  hungry e states held clock = record {
+  hungry limits fetch e states held clock = record {
     steps = tt;
-    memory = carried seen holding old (λ s. Carries seen holding new s) (λ batch pending k.
-        subst (λ (c : ℕ). Carries seen holding new (record {
-          log = record { batches = old.log.batches; pending = batch };
-          states = states_of old.states.entries;
-          pending = option_map states_of pending;
-          held = held_in holding old.windows;
-          clock = c;
-        })) clock
-        (carries_with seen holding old new batch pending pending (held_in holding old.windows) k conf log (ap (λ (s : StoreParts D). s.entries) states)
-        (held_still seen old.states new.states states pending k.holds) k.pending_hosted (λ group. sym (held group))));
+    follows = subst (TakesMemory visit.member (held_in holding old.windows visit.group)) (sym fetch) tt;
+    memory = record { conf = conf; log = log; states = states; clock = clock; held = held };
+    quiet = tt;
     sound = tt;
     unwritten = λ s c nothing. states;
     ends = λ s c. later_same seen old.states new.states states c.pending c.holds;
@@ -197,15 +214,15 @@ module _ {D W : Type 0} (seen : D → DiskView) (holding : W → Held) (now : �
     conf = conf;
   }
 
-  pub starved_so : (result : Result VisitAnswer want) → IsErr result → new.states ≡ old.states
+  pub starved_so : (limits : Limits) → visit.then ≡ Fetch limits.records limits.bytes limits.first → (result : Result VisitAnswer want) → IsErr result → new.states ≡ old.states
       → ((group : List ℕ) → held_in holding new.windows group ≡ held_in holding old.windows group) → new.clock ≡ old.clock → Once result
-  starved_so (Ok answer) is states held clock = absurd (let clash : ⊥ = cc in clash)
-  starved_so (Err e) is states held clock = hungry e states held clock
+  starved_so limits fetch (Ok answer) is states held clock = absurd (let clash : ⊥ = cc in clash)
+  starved_so limits fetch (Err e) is states held clock = hungry limits fetch e states held clock
 
   -- nothing is fetched
   pub idly : (answer : VisitAnswer) → answer.ack ≡ acknowledged → IsEmptyAnswer Done answer → visit.then ≡ Nothing
       → new.states ≡ old.states → new.windows ≡ old.windows → new.clock ≡ max old.clock now → Once (Ok answer)
-  idly answer ack empty what states windows clock = answered answer (writes_none states)
+  idly answer ack empty what states windows clock = answered answer (writes_none states) (λ none. quiet_same states)
       (carried seen holding old (Leads answer) (λ batch pending k.
       let t : PartShardState = record {
         log = record { batches = old.log.batches; pending = batch };
@@ -268,7 +285,7 @@ module _ {D W : Type 0} (seen : D → DiskView) (holding : W → Held) (now : �
 
     -- the table was there
     pub acquired_there : (answer : VisitAnswer) (kept : Kept) → kept_at old.states.entries key ≡ Some kept → new.states ≡ old.states → Took answer kept.view → Once (Ok answer)
-    acquired_there answer kept is states took = answered answer (writes_none states)
+    acquired_there answer kept is states took = answered answer (writes_none states) (λ none. quiet_same states)
         (carried seen holding old (Leads answer) (λ batch pending k. (
           shard_then batch (states_of old.states.entries) (option_map states_of pending) kept.view,
           carries_with seen holding old new batch pending pending (held_then kept.view) k conf log (ap (λ (s : StoreParts D). s.entries) states)
@@ -314,7 +331,7 @@ module _ {D W : Type 0} (seen : D → DiskView) (holding : W → Held) (now : �
 
     -- the table was made
     pub acquired_first : (answer : VisitAnswer) (done : Unit {0}) → kept_at old.states.entries key ≡ None → Wrote (Ok done) → Took answer made → Once (Ok answer)
-    acquired_first answer done none once took = answered answer (writes_one none (Ok done) once)
+    acquired_first answer done none once took = answered answer (writes_one none (Ok done) once) (λ told. once.quiet)
         (carried seen holding old (Leads answer) (λ batch pending k. (
           shard_then batch (states_of new.states.entries) None made,
           record {
@@ -378,18 +395,18 @@ module _ {D W : Type 0} (seen : D → DiskView) (holding : W → Held) (now : �
     pub unstored : (answer : VisitAnswer) (fault : StoreFault) → kept_at old.states.entries key ≡ None → Wrote (Err (Store fault)) → Refused answer fault → Once (Ok answer)
     unstored answer Device none once refused =
         let failed = once.device refl in
-        answered answer (writes_one none (Err (Store Device)) once)
+        answered answer (writes_one none (Err (Store Device)) once) (λ told. absurd (told Device refused.empty.outcome_is))
         (carried seen holding old (Leads answer) (λ batch pending k.
         ⊎_elim
         (λ holds. unmade answer Device batch pending pending k refused once.same holds k.pending_hosted none
         (failed.0.0, refused.empty, record { states = refl; pending = inl refl; held = refl }))
         (λ lost. unmade answer Device batch pending (Some lost.0) k refused once.same lost.2 (made_hosted lost.0 lost.1 k.hosted) none
-        (failed.0.0, refused.empty, record { states = refl; pending = inr (ap (λ (s : ShareStates). Some s) (made_states lost.0 lost.1)); held = refl }))
+        (failed.0.0, refused.empty, record { states = refl; pending = inr (states_of lost.0, refl, made_states lost.0 lost.1); held = refl }))
         (once.failed pending k.holds)))
         (λ is. failed.0.1)
     unstored answer (Full at) none once refused =
         let full = once.full at refl in
-        answered answer (writes_one none (Err (Store (Full at))) once)
+        answered answer (writes_one none (Err (Store (Full at))) once) (λ told. absurd (told (Full at) refused.empty.outcome_is))
         (carried seen holding old (Leads answer) (λ batch pending k.
         unmade answer (Full at) batch pending pending k refused once.same (held_still seen old.states new.states (once.unchanged (λ e. let never : ⊥ = cc in never)) pending k.holds) k.pending_hosted none (
           full.0,
@@ -458,7 +475,7 @@ module _ {D W : Type 0} (seen : D → DiskView) (holding : W → Held) (now : �
     pub unanswered : (answer : Result VisitAnswer want) → IsErr answer → (result : Result ThenOutcome want) → IsErr result → (end : ℕ) → end ≡ end_of old.log.batches → Made end result
         → ((group : List ℕ) → held_in holding new.windows group ≡ held_in holding old.windows group) → new.clock ≡ old.clock → Once answer
     unanswered answer none result is end at made held clock =
-        starved_so answer none (stays_told result is (kept_at old.states.entries key) (told result end at made (kept_at old.states.entries key) refl)) held clock
+        starved_so limits is_fetch answer none (stays_told result is (kept_at old.states.entries key) (told result end at made (kept_at old.states.entries key) refl)) held clock
 
     -- it couldn't be stored
     store_done : (done : Result (Unit {0}) CoordFault) (fault : StoreFault) → Tells done (Ok (store_outcome fault)) → Wrote done → Wrote (Err (Store fault))

@@ -21,7 +21,8 @@ use Rattle.share_model.specs.declared.row.Row.{Row}
 use Rattle.share_model.specs.declared.run.Run.{Run}
 use Rattle.part_log.proofs.Rising.{end_bound}
 use Rattle.part_log.specs.Logs.{IsStoredLog}
-use Rattle.share_part.specs.Hosting.{PartConfParts, AreHeldWell, IsHosted, key_of, states_of}
+use Rattle.share_part.specs.Hosting.{PartConfParts, AreHeldWell, IsHosted, key_of}
+use Rattle.share_coord.specs.States.{states_of}
 use Rattle.share_part.specs.Settling.{Acts, IsChange, acted, stored_after}
 use Rattle.share_part.specs.Slots.{and_more, next_slot, slots_from}
 use Rattle.share_part.specs.Storing.{start_number}

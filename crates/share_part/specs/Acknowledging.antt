@@ -18,7 +18,8 @@ use Rattle.share_model.specs.declared.visit.AckOutcome.{AckOutcome}
 use Rattle.share_model.specs.declared.visit.AckOutcome.TheVariants.{Done, Malformed, NotHeld, Store}
 use Rattle.share_model.specs.declared.visit.Visit.{Visit}
 use Rattle.share_coord.specs.Stored.{Entries, Accepts}
-use Rattle.share_part.specs.Hosting.{PartConfParts, key_of, states_of}
+use Rattle.share_part.specs.Hosting.{PartConfParts, key_of}
+use Rattle.share_coord.specs.States.{states_of}
 use Rattle.share_part.specs.Settling.{Acts, AreHeldBy, IsLeastMissing, IsSettled, held_after}
 use Rattle.share_part.specs.Shards.{IsStill, PartShardState, with_held}
 use Rattle.share_part.specs.Tables.{table_of}
@@ -37,22 +38,26 @@ pub record IsActedOn (conf : PartConfParts) (old : PartShardState) (group : List
   pub nothing : new.pending ≡ None
   pub held : new.held ≡ with_held old.held group (held_after acts (old.held group))
 
--- they couldn't be stored: the table is as before, and the pending write is the one from before or this one
-pub record IsNotActedOn (conf : PartConfParts) (old : PartShardState) (group : List ℕ) (acts : Acts) (new : PartShardState) : Type 0 where
+-- A write that would leave such states couldn't be stored: all is as before, and the pending write is the one from before or this one.
+pub record IsNotStored (Leaves : ShareStates → Type 0) (old new : PartShardState) : Type 0 where
   pub states : new.states ≡ old.states
   pub held : new.held ≡ old.held
-  pub pending : (new.pending ≡ old.pending) ⊎ ((lost : ShareStates) × (new.pending ≡ Some lost) × AreSettled conf old group acts lost)
+  pub pending : (new.pending ≡ old.pending) ⊎ ((lost : ShareStates) × (new.pending ≡ Some lost) × Leaves lost)
 
--- their frame would end past the last offset of a journal that ends at `end`
-pub record HasNoRoomFor (conf : PartConfParts) (end : ℕ) (old : PartShardState) (group : List ℕ) (acts : Acts) : Type 0 where
+-- a journal that ends at `end` has no room below 2^62 for the frame of a write that would leave such states
+pub record HasNoRoom (Leaves : ShareStates → Type 0) (end : ℕ) (old : PartShardState) : Type 0 where
   pub before : Entries
   pub after : Entries
   pub frame : List ℕ
   pub is_before : states_of before ≡ old.states
-  pub is_after : AreSettled conf old group acts (states_of after)
+  pub is_after : Leaves (states_of after)
   pub accepted : Accepts before frame after
   pub fits : IsFrame frame
   pub past : 2 ^ 62 < end + (length frame + 5)
+
+-- it has none for acts on a group's table
+abbrev pub HasNoRoomFor : PartConfParts → (end : ℕ) → PartShardState → (group : List ℕ) → Acts → Type 0
+HasNoRoomFor conf end old group acts = HasNoRoom (AreSettled conf old group acts) end old
 
 -- acts that name no offset, and acts that name one
 abbrev pub NameNone : Acts → Type 0
@@ -66,7 +71,7 @@ NameOne acts = (offset : ℕ) × IsSome (acts offset)
 abbrev pub StoresActs : PartConfParts → (rose : Type 0) → (end : ℕ) → PartShardState → (group : List ℕ) → Acts → PartShardState
     → Option StoreFault → Type 0
 StoresActs conf rose end old group acts new None = (NameNone acts × IsStill old new) ⊎ (NameOne acts × IsActedOn conf old group acts new)
-StoresActs conf rose end old group acts new (Some Device) = NameOne acts × rose × IsNotActedOn conf old group acts new
+StoresActs conf rose end old group acts new (Some Device) = NameOne acts × rose × IsNotStored (AreSettled conf old group acts) old new
 StoresActs conf rose end old group acts new (Some (Full at)) = NameOne acts × (at ≡ end) × IsStill old new × HasNoRoomFor conf end old group acts
 
 -- each offset that is named is held by the member

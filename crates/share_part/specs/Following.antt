@@ -6,9 +6,8 @@
 -- of 2 records by `a` at 5000 stores a table with start 0 and no rows, and acquires 0 and 1 with count 1 until 35000. A fetch by `b` at
 -- 1000 acquires 2, until 35000 as well. Each is answered with the whole batch. A release of `a` then stores 0 and 1 as available with
 -- count 1, and `b` still holds 2.
-use Rattle.std.specs.Prelude.{◌≡◌, ◌⊎◌, ◌+◌, ◌<◌, ◌^◌, max, ℕ, List, [], length, Option, Some, None, IsSome}
-use Rattle.gate_journal.specs.Frames.{IsFrame}
-use Rattle.share_model.specs.ForeignRules.{share_state_at}
+use Rattle.std.specs.Prelude.{◌≡◌, ◌+◌, max, ℕ, List, [], Option, Some, None, IsSome}
+use Rattle.share_model.specs.ForeignRules.{ShareStates, share_state_at}
 use Rattle.share_model.specs.Held.{Held}
 use Rattle.share_model.specs.Logs.{end_of}
 use Rattle.share_model.specs.ShareStates.{ShareState}
@@ -21,9 +20,8 @@ use Rattle.share_model.specs.declared.visit.Then.{Then}
 use Rattle.share_model.specs.declared.visit.Then.TheVariants.{Nothing, Release, Fetch}
 use Rattle.share_model.specs.declared.visit.ThenOutcome.{ThenOutcome}
 use Rattle.share_model.specs.declared.visit.ThenOutcome.TheVariants.{Done, Store}
-use Rattle.share_coord.specs.Stored.{Entries, Accepts}
-use Rattle.share_part.specs.Acknowledging.{NameNone, StoresActs}
-use Rattle.share_part.specs.Hosting.{PartConfParts, key_of, states_of}
+use Rattle.share_part.specs.Acknowledging.{HasNoRoom, IsNotStored, NameNone, NameOne, StoresActs}
+use Rattle.share_part.specs.Hosting.{PartConfParts, key_of}
 use Rattle.share_part.specs.Settling.{Acts, is_chosen, releasing}
 use Rattle.share_part.specs.Shards.{PartShardState, IsStill, new_state, with_held, with_new}
 use Rattle.share_part.specs.Tables.{table_of, with_holds}
@@ -63,30 +61,17 @@ pub record FetchesFirst (conf : PartConfParts) (old : PartShardState) (visit : V
   pub states : new.states ≡ with_new conf old visit.group
   pub nothing : new.pending ≡ None
 
--- the table couldn't be stored: nothing is acquired, and the pending write is the one from before or this one
-pub record IsUnmade (conf : PartConfParts) (old : PartShardState) (visit : Visit) (new : PartShardState) : Type 0 where
-  pub states : new.states ≡ old.states
-  pub pending : (new.pending ≡ old.pending) ⊎ (new.pending ≡ Some (with_new conf old visit.group))
-  pub held : new.held ≡ old.held
-
--- the journal of the states, whose last gate ends at `end`, has no room for the record of the new table below 2^62
-pub record HasNoRoom (conf : PartConfParts) (end : ℕ) (old : PartShardState) (visit : Visit) : Type 0 where
-  pub before : Entries
-  pub after : Entries
-  pub frame : List ℕ
-  pub is_before : states_of before ≡ old.states
-  pub is_after : states_of after ≡ with_new conf old visit.group
-  pub accepted : Accepts before frame after
-  pub fits : IsFrame frame
-  pub past : 2 ^ 62 < end + (length frame + 5)
+-- the states that the write of the new table would leave
+abbrev pub IsMade : PartConfParts → PartShardState → Visit → ShareStates → Type 0
+IsMade conf old visit states = states ≡ with_new conf old visit.group
 
 -- a first fetch, by what became of it
 abbrev pub MakesTable : PartConfParts → (rose : Type 0) → (end : ℕ) → PartShardState → Visit → Limits → VisitAnswer → PartShardState
     → ThenOutcome → Type 0
 MakesTable conf rose end old visit limits answer new Done = FetchesFirst conf old visit limits answer new
-MakesTable conf rose end old visit limits answer new (Store Device) = rose × IsEmptyAnswer (Store Device) answer × IsUnmade conf old visit new
+MakesTable conf rose end old visit limits answer new (Store Device) = rose × IsEmptyAnswer (Store Device) answer × IsNotStored (IsMade conf old visit) old new
 MakesTable conf rose end old visit limits answer new (Store (Full at)) =
-    (at ≡ end) × IsEmptyAnswer (Store (Full at)) answer × IsStill old new × HasNoRoom conf end old visit
+    (at ≡ end) × IsEmptyAnswer (Store (Full at)) answer × IsStill old new × HasNoRoom (IsMade conf old visit) end old
 
 abbrev pub Fetches : PartConfParts → (rose : Type 0) → (end : ℕ) → PartShardState → Visit → Limits → VisitAnswer → PartShardState
     → Option ShareState → Type 0
@@ -120,6 +105,12 @@ abbrev pub HasNothingToWrite : PartConfParts → PartShardState → Visit → Th
 HasNothingToWrite conf old visit Nothing = Unit {0}
 HasNothingToWrite conf old visit Release = NameNone (releases_of visit.member (old.held visit.group))
 HasNothingToWrite conf old visit (Fetch records bytes first) = IsSome (share_state_at old.states (key_of conf visit.group))
+
+-- It takes memory: a release by a member who holds something, or a fetch.
+abbrev pub TakesMemory : (member : List ℕ) → Held → Then → Type 0
+TakesMemory member held Nothing = ⊥
+TakesMemory member held Release = NameOne (releases_of member held)
+TakesMemory member held (Fetch records bytes first) = Unit {0}
 
 -- What follows the acknowledgements, at the moment `now`. `rose` says that the count of faults of the first state disk rose, `end` is where
 -- its journal ends.

@@ -1,6 +1,6 @@
 -- Which share-partition states a hosted partition may have on its disks, and what its three disks stand for. This project's own.
 -- Worked example: with an empty log, a state of `g` on this partition with start 0 and no rows may be there, and one with start 1 may not.
-use Rattle.std.specs.Prelude.{◌≡◌, ◌≤◌, ◌^◌, ℕ, pos, List, [], map, Option, Some, None}
+use Rattle.std.specs.Prelude.{◌≡◌, ◌≤◌, ◌^◌, ℕ, pos, List, [], Option, Some, None}
 use Rattle.std.specs.List.{Contains}
 use Rattle.share_model.specs.ForeignRules.{ShareStates, share_state_at, size_of}
 use Rattle.share_model.specs.Held.{Held, hold_at}
@@ -13,7 +13,8 @@ use Rattle.share_model.specs.declared.reset.Reset.{Reset}
 use Rattle.share_model.specs.declared.row.Row.{Row}
 use Rattle.share_model.specs.declared.row.RowState.TheVariants.{Available}
 use Rattle.part_log.specs.Logs.{IsLogText, IsStoredLog}
-use Rattle.share_coord.specs.Stored.{Entries, AreStored}
+use Rattle.share_coord.specs.States.{AreStates, states_of}
+use Rattle.share_coord.specs.Stored.{Entries}
 use Rattle.share_part.specs.Slots.{slots_from}
 
 -- what the shard of a partition is configured with
@@ -66,16 +67,6 @@ AreFree (Some state) held = (offset : ℕ) (hold : Hold) (row : Row) → hold_at
 
 abbrev pub KeepsHolds : List Batch → Option ShareState → Held → Type 0
 KeepsHolds log state held = HoldsWell log state held × AreFree state held
-
--- the states of a store, without what it keeps of their records
-abbrev pub states_of : Entries → ShareStates
-states_of entries = map (λ e. (e.0, e.1.view)) entries
-
--- the contents of the two state disks stand for these states
-pub record AreStates (first second : List ℕ) (states : ShareStates) : Type 0 where
-  pub entries : Entries
-  pub stored : AreStored first second entries
-  pub is : states ≡ states_of entries
 
 -- the contents of the three disks stand for this log and these states
 pub record ArePartText (conf : PartConfParts) (log first second : List ℕ) (batches : List Batch) (states : ShareStates) : Type 0 where

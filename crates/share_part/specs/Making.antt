@@ -13,7 +13,8 @@ use Rattle.share_coord.specs.Parts.{StoreParts}
 use Rattle.share_coord.specs.Stored.{Entries, kept_at}
 use Rattle.share_coord.specs.declared.fault.CoordFault.{CoordFault}
 use Rattle.share_coord.specs.declared.fault.CoordFault.TheVariants.{Invalid, Unknown, FencedLeader, FencedState, TooMany, Store, NoMemory}
-use Rattle.share_part.specs.Hosting.{PartConfParts, key_of, states_of}
+use Rattle.share_part.specs.Hosting.{PartConfParts, key_of}
+use Rattle.share_coord.specs.States.{states_of}
 use Rattle.share_part.specs.Shards.{new_state, first_start}
 use Rattle.edge_io.specs.Views.{DiskView}
 

@@ -1,16 +1,16 @@
 -- What a call on the shard of a partition does, as one record. This project's own.
--- For example a visit without acknowledgements that finds no memory leaves what the shard and its disks stand for.
-use Rattle.std.specs.Prelude.{◌≡◌, ◌≢◌, ◌⊎◌, ◌≤◌, max, ℕ, List, Bool, Option, Some, Result, Ok, Err, IfOk, OnErr}
+-- For example a visit without acknowledgements that finds no memory leaves the shard and its disks as they were.
+use Rattle.std.specs.Prelude.{◌≡◌, ◌≢◌, ◌⊎◌, ◌≤◌, max, ℕ, List, Some, Result, Ok, Err, IfOk, OnErr}
 use Rattle.edge_io.specs.Armed.{StarvesUnarmed}
 use Rattle.edge_io.specs.Causes.{Rose}
 use Rattle.edge_io.specs.Moments.{LeavesOnly}
-use Rattle.edge_io.specs.declared.fault.Armed.{Armed}
 use Rattle.flex_fields.specs.declared.fault.NoMemory.{NoMemory}
 use Rattle.share_model.specs.Held.{Held}
 use Rattle.share_model.specs.declared.fault.LogFault.{LogFault}
 use Rattle.share_model.specs.declared.fault.LogFault.TheVariants.{Store as log_store, NoMemory as log_memory}
+use Rattle.gate_journal.specs.Journals.{IsQuiet}
+use Rattle.share_model.specs.declared.fault.StoreFault.{StoreFault}
 use Rattle.share_model.specs.declared.fault.StoreFault.TheVariants.{Device}
-use Rattle.share_model.specs.declared.visit.AckOutcome.{AckOutcome}
 use Rattle.share_model.specs.declared.visit.AckOutcome.TheVariants.{Store as ack_store}
 use Rattle.share_model.specs.declared.visit.ExpireAnswer.{ExpireAnswer}
 use Rattle.share_model.specs.declared.visit.ExpireAnswer.TheVariants.{Done, Store as expire_store}
@@ -20,10 +20,14 @@ use Rattle.share_model.specs.declared.visit.VisitAnswer.{VisitAnswer}
 use Rattle.part_log.specs.Shards.{IsLogOf, at_end}
 use Rattle.share_part.specs.Acknowledging.{NameNone}
 use Rattle.share_part.specs.Expiring.{ExpiresPart, StepsExpire, ending}
-use Rattle.share_part.specs.Following.{HasNothingToWrite, StepsThen}
-use Rattle.share_part.specs.Shards.{PartShardState, PartParts, Carries, StepsProduce, held_in}
-use Rattle.share_part.specs.Visits.{AreToWrite, StepsAcks, StepsVisit}
+use Rattle.share_part.specs.Following.{HasNothingToWrite, StepsThen, TakesMemory}
+use Rattle.share_part.specs.Shards.{PartShardState, PartParts, Carries, IsUntouched, StepsProduce, held_in}
+use Rattle.share_part.specs.Visits.{AreToWrite, StepsVisit, VisitsPart}
 use Rattle.edge_io.specs.Views.{DiskView}
+
+-- no call of the first state disk failed: where it tells its content, its count of faults is as before
+abbrev pub AreQuiet : {D W : Type 0} → (D → DiskView) → PartParts D W → PartParts D W → Type 0
+AreQuiet seen before after = IsQuiet seen before.states.journal.live.disk after.states.journal.live.disk
 
 -- a shard that carried a state carries one that what follows the acknowledgements leads to
 abbrev pub Followed : {D W : Type 0} → (D → DiskView) → (W → Held) → ℕ → Visit → PartParts D W → PartParts D W → VisitAnswer → Type 0
@@ -35,9 +39,12 @@ Followed seen holding now visit before after answer = (old : PartShardState) →
 -- What follows the acknowledgements.
 pub record FollowsOnce {D W : Type 0} (seen : D → DiskView) (holding : W → Held) (now : ℕ) (visit : Visit) (before after : PartParts D W) (result : Result VisitAnswer NoMemory)
     : Type 0 where
-  -- where it answers, a step was made; where it finds no memory, the shard stands for what it stood for
+  -- where it answers, a step was made; where it finds no memory, nothing has changed
   pub steps : IfOk result (Followed seen holding now visit before after)
-  pub memory : OnErr result ((old : PartShardState) → Carries seen holding before old → Carries seen holding after old)
+  pub memory : OnErr result (IsUntouched holding before after)
+  pub follows : OnErr result (TakesMemory visit.member (held_in holding before.windows visit.group) visit.then)
+  -- where the answer tells no store fault, no device call failed
+  pub quiet : IfOk result (λ answer. ((fault : StoreFault) → answer.then ≢ Store fault) → AreQuiet seen before after)
   -- with nothing armed, a device fault comes only where the disk finds no memory
   pub sound : IfOk result (λ answer. answer.then ≡ Store Device →
       StarvesUnarmed seen before.states.journal.live.disk after.states.journal.live.disk)
@@ -59,19 +66,22 @@ Visited seen holding now visit before after answer = (old : PartShardState) → 
     after.states.journal.live.end old now visit answer new
 
 -- the acknowledgements were done alone
-abbrev pub AcksStand : {D W : Type 0} → (D → DiskView) → (W → Held) → Visit → PartParts D W → PartParts D W → PartShardState → Type 0
-AcksStand seen holding visit before after old = (ack : AckOutcome) × (new : PartShardState) × Carries seen holding after new
-    × StepsAcks before.conf (Rose (seen before.states.journal.live.disk).faults (seen after.states.journal.live.disk).faults) before.states.journal.live.end
-    old visit ack new
+abbrev pub AcksStand : {D W : Type 0} → (D → DiskView) → (W → Held) → ℕ → Visit → PartParts D W → PartParts D W → PartShardState → Type 0
+AcksStand seen holding now visit before after old = (new : PartShardState) × Carries seen holding after new
+    × VisitsPart before.conf (Rose (seen before.states.journal.live.disk).faults (seen after.states.journal.live.disk).faults)
+    before.states.journal.live.end old now visit new
 
 -- A visit.
 pub record VisitsOnce {D W : Type 0} (seen : D → DiskView) (holding : W → Held) (now : ℕ) (visit : Visit) (before after : PartParts D W) (result : Result VisitAnswer NoMemory)
     : Type 0 where
   -- where it answers, a step was made
   pub steps : IfOk result (Visited seen holding now visit before after)
-  -- where it finds no memory, the shard stands for what it stood for, or for what the acknowledgements left
-  pub memory : OnErr result ((old : PartShardState) → Carries seen holding before old →
-      Carries seen holding after old ⊎ AcksStand seen holding visit before after old)
+  -- where it finds no memory, nothing has changed, or what the acknowledgements left stands, where their write came to the device
+  pub memory : OnErr result (IsUntouched holding before after
+      ⊎ ((old : PartShardState) → Carries seen holding before old → AcksStand seen holding now visit before after old))
+  -- where the answer tells no store fault, no device call failed
+  pub quiet : IfOk result (λ answer. ((fault : StoreFault) → answer.ack ≢ ack_store fault) → ((fault : StoreFault) → answer.then ≢ Store fault) →
+      AreQuiet seen before after)
   pub ack_sound : IfOk result (λ answer. answer.ack ≡ ack_store Device →
       StarvesUnarmed seen before.states.journal.live.disk after.states.journal.live.disk)
   -- with nothing armed, a device fault comes only where the disk finds no memory
@@ -108,13 +118,16 @@ IsNothingDue holding windows clock = (group : List ℕ) → NameNone (ending clo
 pub record ExpiresOnce {D W : Type 0} (seen : D → DiskView) (holding : W → Held) (now : ℕ) (before after : PartParts D W) (result : Result ExpireAnswer NoMemory) : Type 0 where
   -- where it answers, a step was made
   pub steps : IfOk result (Expired seen holding now before after)
-  -- where it finds no memory, the shard stands for what it stood for, or for what the groups left that were done
-  pub memory : OnErr result ((old : PartShardState) → Carries seen holding before old →
-      Carries seen holding after old ⊎ PartStands seen holding now before after old)
+  -- where it finds no memory, nothing has changed, or what the groups left stands that were done
+  pub memory : OnErr result ((after ≡ before)
+      ⊎ ((old : PartShardState) → Carries seen holding before old → PartStands seen holding now before after old))
   -- where nothing is due it takes no memory, and raises the clock alone
-  pub quiet : IsNothingDue holding before.windows (max before.clock now) →
+  pub nothing_due : IsNothingDue holding before.windows (max before.clock now) →
       (result ≡ Ok (Done 0))
       × (after ≡ record { conf = before.conf; log = before.log; states = before.states; windows = before.windows; clock = max before.clock now })
+  -- where the answer tells no store fault, no device call failed
+  pub quiet : IfOk result (λ answer. ((freed : ℕ) (group : List ℕ) (fault : StoreFault) → answer ≢ expire_store freed group fault) →
+      AreQuiet seen before after)
   -- with nothing armed, a device fault comes only where the disk finds no memory
   pub sound : IfOk result (λ answer. (freed : ℕ) (group : List ℕ) → answer ≡ expire_store freed group Device →
       StarvesUnarmed seen before.states.journal.live.disk after.states.journal.live.disk)
@@ -136,6 +149,8 @@ pub record ProducesOnce {D W : Type 0} (seen : D → DiskView) (holding : W → 
     (before after : PartParts D W) (result : Result ℕ LogFault) : Type 0 where
   pub steps : result ≢ Err log_memory → Produced seen holding now bytes before after result
   pub memory : result ≡ Err log_memory → after ≡ before
+  -- where it tells no store fault, no call of the log's disk failed
+  pub quiet : ((fault : StoreFault) → result ≢ Err (log_store fault)) → IsQuiet seen before.log.journal.disk after.log.journal.disk
   pub sound : result ≡ Err (log_store Device) → StarvesUnarmed seen before.log.journal.disk after.log.journal.disk
   -- at each moment since it began a crash leaves the log at entry, with or without its pending batch, or with this one
   pub any_moment : (old : PartShardState) → Carries seen holding before old → LeavesOnly seen before.log.journal.disk after.log.journal.disk

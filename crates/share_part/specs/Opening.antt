@@ -1,17 +1,16 @@
 -- What a shard is that was opened, and why none was. This project's own.
 -- For example three empty disks are opened as a shard with an empty log and no tables.
-use Rattle.std.specs.Prelude.{◌≡◌, ◌≢◌, ◌⊎◌, ℕ, List, Some, Bool, true, false}
-use Rattle.std.specs.declared.option.Option.{Option}
+use Rattle.std.specs.Prelude.{◌≡◌, ◌≢◌, ◌⊎◌, ℕ, List, Some, true, false}
 use Rattle.edge_io.specs.declared.name.DiskPlace.{DiskPlace}
 use Rattle.edge_io.specs.declared.name.DiskPlace.TheVariants.{Log, StateA, StateB}
-use Rattle.edge_io.specs.declared.fault.Armed.{Armed}
 use Rattle.coord_checkpoint.specs.Disks.{HasFailed}
 use Rattle.share_model.specs.ForeignRules.{ShareStates}
 use Rattle.share_model.specs.Held.{Held}
 use Rattle.share_model.specs.Logs.{Batch}
 use Rattle.part_log.specs.Logs.{IsLogText, IsNoLogText}
 use Rattle.share_coord.specs.Stored.{AreDamaged}
-use Rattle.share_part.specs.Hosting.{PartConfParts, AreHosted, AreStates, ArePartText, states_of}
+use Rattle.share_part.specs.Hosting.{PartConfParts, AreHosted, ArePartText}
+use Rattle.share_coord.specs.States.{AreStates, states_of}
 use Rattle.share_part.specs.Shards.{PartParts, Carries, shard_with}
 use Rattle.share_part.specs.declared.opening.PartFault.{PartFault}
 use Rattle.share_part.specs.declared.opening.PartFault.TheVariants.{Damaged, Device}

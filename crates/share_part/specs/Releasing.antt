@@ -1,11 +1,11 @@
 -- The releases of what a group holds, whether of a member or by lock end. Private clauses cite this alone.
 -- For example where `a` holds 0 to 2 and `b` holds 3, the releases of `a` are three, and where their write fails none of them is done.
-use Rattle.std.specs.Prelude.{◌≡◌, ◌≤◌, ◌<◌, ℕ, List, Bool, true, false, Option, Some, None, Result, Ok, Err, IfOk, OnErr, not, nat_eq, map, filter}
+use Rattle.std.specs.Prelude.{◌≡◌, ◌≢◌, ◌≤◌, ◌<◌, ℕ, List, Bool, true, false, Option, Some, None, Result, Ok, Err, IfOk, OnErr, not, nat_eq, map, filter}
 use Rattle.std.specs.List.{count_by}
 use Rattle.edge_io.specs.Armed.{StarvesUnarmed}
 use Rattle.edge_io.specs.Causes.{Rose}
-use Rattle.edge_io.specs.declared.fault.Armed.{Armed}
 use Rattle.flex_fields.specs.declared.fault.NoMemory.{NoMemory}
+use Rattle.gate_journal.specs.Journals.{IsQuiet}
 use Rattle.share_model.specs.Held.{Held, hold_at}
 use Rattle.share_model.specs.Logs.{Batch}
 use Rattle.share_model.specs.ShareStates.{ShareState}
@@ -94,7 +94,12 @@ pub record ReleasesOnce {D W : Type 0} (seen : D → DiskView) (holding : W → 
     (result : Result Released NoMemory) : Type 0 where
   pub steps : IfOk result (ReleasedSo seen holding clock group whose before after)
   pub unwritten : NameNone (releasing (is_chosen whose) (held_in holding before.windows group)) → after.states ≡ before.states
-  pub memory : OnErr result ((old : PartShardState) → Carries seen holding before old → Carries seen holding after old)
+  -- where it finds no memory, there is something to release, and nothing has changed
+  pub named : OnErr result (NameOne (releasing (is_chosen whose) (held_in holding before.windows group)))
+  pub memory : OnErr result (after ≡ before)
+  -- where no store fault is told, no device call failed
+  pub quiet : IfOk result (λ released. ((fault : StoreFault) → released ≢ Store fault) →
+      IsQuiet seen before.states.journal.live.disk after.states.journal.live.disk)
   pub sound : IfOk result (λ released. released ≡ Store Device →
       StarvesUnarmed seen before.states.journal.live.disk after.states.journal.live.disk)
   pub ends : (old : PartShardState) → Carries seen holding before old → before.states.journal.live.end ≤ after.states.journal.live.end

@@ -22,7 +22,8 @@ use Rattle.part_log.specs.Shards.{LogShardState, CarriesLog, StepsLog}
 use Rattle.share_coord.specs.Holding.{Holds}
 use Rattle.share_coord.specs.Parts.{StoreParts}
 use Rattle.share_coord.specs.Stored.{Entries}
-use Rattle.share_part.specs.Hosting.{PartConfParts, AreHosted, key_of, states_of}
+use Rattle.share_part.specs.Hosting.{PartConfParts, AreHosted, key_of}
+use Rattle.share_coord.specs.States.{states_of}
 use Rattle.edge_io.specs.Views.{DiskView}
 
 -- ---- the machine
@@ -104,6 +105,15 @@ held_in held windows group = held_of held (lookup (is_at (slice_cmp nat_cmp grou
 abbrev pub IsPendingHosted : PartConfParts → List Batch → Option ShareStates → Type 0
 IsPendingHosted conf log None = Unit {0}
 IsPendingHosted conf log (Some states) = AreHosted conf log states
+
+-- Nothing of a shard has changed: neither its log, its states, the disks of both and its clock, nor what any group holds. A window may have
+-- been made, which holds nothing, or memory set aside in one.
+pub record IsUntouched {D W : Type 0} (holding : W → Held) (before after : PartParts D W) : Type 0 where
+  pub conf : after.conf ≡ before.conf
+  pub log : after.log ≡ before.log
+  pub states : after.states ≡ before.states
+  pub clock : after.clock ≡ before.clock
+  pub held : (group : List ℕ) → held_in holding after.windows group ≡ held_in holding before.windows group
 
 -- A shard in memory and its disks stand for the shard's state.
 pub record Carries {D W : Type 0} (seen : D → DiskView) (holding : W → Held) (parts : PartParts D W) (shard : PartShardState) : Type 0 where

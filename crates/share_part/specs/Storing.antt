@@ -14,7 +14,8 @@ use Rattle.share_model.specs.declared.ack.AckFault.{AckFault}
 use Rattle.share_model.specs.declared.visit.AckOutcome.{AckOutcome}
 use Rattle.share_model.specs.declared.visit.AckOutcome.TheVariants.{Done, Malformed, NotHeld, Store as refused}
 use Rattle.share_part.specs.Acknowledging.{NameNone, NameOne}
-use Rattle.share_part.specs.Hosting.{PartConfParts, key_of, states_of}
+use Rattle.share_part.specs.Hosting.{PartConfParts, key_of}
+use Rattle.share_coord.specs.States.{states_of}
 use Rattle.share_part.specs.Settling.{Acts, AreHeldBy, IsChange, IsLeastMissing}
 use Rattle.share_part.specs.Tables.{table_of}
 use Rattle.share_part.specs.declared.settle.Change.{Change}
@@ -23,6 +24,8 @@ use Rattle.share_model.specs.declared.run.Run.{Run}
 use Rattle.share_coord.specs.Calls.{IsWritten}
 use Rattle.share_coord.specs.Holding.{WritesOnce}
 use Rattle.share_coord.specs.Parts.{StoreParts}
+use Rattle.share_coord.specs.Recorded.{IsWriteRecord, StoresOne}
+use Rattle.state_records.specs.declared.record.StateRecord.{StateRecord}
 use Rattle.share_coord.specs.Stored.{Entries}
 use Rattle.share_coord.specs.declared.fault.CoordFault.{CoordFault}
 use Rattle.share_coord.specs.declared.fault.CoordFault.TheVariants.{Invalid, Unknown, FencedLeader, FencedState, TooMany, Store, NoMemory}
@@ -36,6 +39,10 @@ start_number (Some start) = pos start
 -- what acts write of a key
 abbrev pub IsStored : Entries → KeyParts → Option ℕ → List Run → Entries → Type 0
 IsStored old key start runs new = IsWritten old key (pos 0) (pos 0) (start_number start) runs new
+
+-- the record that it stores: the rows as they are given, and the start, or -1 where it doesn't move
+abbrev pub IsRecordOf : Entries → KeyParts → Option ℕ → List Run → StateRecord → Type 0
+IsRecordOf old key start runs one = IsWriteRecord old key (pos 0) (pos 0) (start_number start) runs one
 
 -- the fault that is told; want of memory is none
 abbrev pub TellsFault : CoordFault → Result (Option StoreFault) want → Type 0
@@ -53,10 +60,11 @@ TellsStored (Err fault) result = TellsFault fault result
 
 -- Acts that are stored, or aren't.
 pub record StoresOnce {D : Type 0} (seen : D → DiskView) (Failed : D → D → Type 0)
-    (Written : Entries → Type 0) (old new : StoreParts D) (result : Result (Option StoreFault) want) : Type 0 where
+    (Written : Entries → Type 0) (Is : StateRecord → Type 0) (old new : StoreParts D) (result : Result (Option StoreFault) want) : Type 0 where
   pub done : Result (Unit {0}) CoordFault
   pub tells : TellsStored done result
   pub once : WritesOnce seen Failed Written old new done
+  pub one : StoresOne seen Is old.journal new.journal done
 
 -- ---- acts on the table of a group
 
@@ -69,6 +77,7 @@ pub record IsActsStored {D : Type 0} (seen : D → DiskView) (Failed : D → D �
   pub known : share_state_at (states_of old.entries) (key_of conf group) ≡ Some state
   pub is : IsChange conf.limit acts log (table_of state held) change
   pub once : WritesOnce seen Failed (IsStored old.entries (key_of conf group) change.start change.runs.items) old new done
+  pub one : StoresOne seen (IsRecordOf old.entries (key_of conf group) change.start change.runs.items) old.journal new.journal done
 
 -- Acts on the table of a group, by the fault that is told: `was` is what the group held, `same` says that all groups hold what they did, and
 -- `ends` that the named offsets aren't held any more.

@@ -4,14 +4,16 @@
 -- 0 ends, and then 2 is acquired.
 use Rattle.std.specs.Prelude.{◌≡◌, ◌≤◌, max, ℕ}
 use Rattle.ack_ranges.specs.Batches.{kind_at}
+use Rattle.share_model.specs.declared.fault.StoreFault.TheVariants.{Device, Full}
 use Rattle.share_model.specs.declared.visit.AckOutcome.{AckOutcome}
+use Rattle.share_model.specs.declared.visit.AckOutcome.TheVariants.{Done, Malformed, NotHeld, Store}
 use Rattle.share_model.specs.declared.visit.Visit.{Visit}
 use Rattle.share_model.specs.declared.visit.VisitAnswer.{VisitAnswer}
 use Rattle.edge_io.specs.Causes.{Rose}
 use Rattle.share_part.specs.Acknowledging.{Acknowledges, AreTheirs, NameOne}
-use Rattle.share_part.specs.Following.{Does, HasNothingToWrite}
+use Rattle.share_part.specs.Following.{Does, HasNothingToWrite, TakesMemory}
 use Rattle.share_part.specs.Hosting.{PartConfParts}
-use Rattle.share_part.specs.Shards.{PartShardState}
+use Rattle.share_part.specs.Shards.{PartShardState, raised_to}
 
 -- the acknowledgements are done, and the log and the clock are as they were
 pub record StepsAcks (conf : PartConfParts) (rose : Type 0) (end : ℕ) (old : PartShardState) (visit : Visit) (ack : AckOutcome)
@@ -19,6 +21,14 @@ pub record StepsAcks (conf : PartConfParts) (rose : Type 0) (end : ℕ) (old : P
   pub log : new.log ≡ old.log
   pub clock : new.clock ≡ old.clock
   pub does : Acknowledges conf rose end old visit new ack
+
+-- Acknowledgements whose write came to the device: they are stored, or it failed.
+abbrev pub AreWritten : Visit → AckOutcome → Type 0
+AreWritten visit Done = NameOne (kind_at visit.acks)
+AreWritten visit (Malformed fault) = ⊥
+AreWritten visit (NotHeld offset) = ⊥
+AreWritten visit (Store Device) = Unit {0}
+AreWritten visit (Store (Full end)) = ⊥
 
 -- there are acknowledgements to write: they are of what the member holds, and name an offset
 abbrev pub AreToWrite : PartShardState → Visit → Type 0
@@ -40,3 +50,12 @@ pub record StepsVisit (conf : PartConfParts) (count later end last : ℕ) (old :
   pub does : Does conf (Rose counted later) at between visit answer new visit.then
   pub clock : new.clock ≡ max old.clock now
   pub log : new.log ≡ old.log
+
+-- Memory ran out behind the acknowledgements of a visit: their write came to the device, and what they left stands, with the clock raised. What
+-- follows them takes memory.
+pub record VisitsPart (conf : PartConfParts) (rose : Type 0) (end : ℕ) (old : PartShardState) (now : ℕ) (visit : Visit)
+    (new : PartShardState) : Type 0 where
+  pub ack : AckOutcome
+  pub written : AreWritten visit ack
+  pub acks : StepsAcks conf rose end (raised_to now old) visit ack new
+  pub follows : TakesMemory visit.member (new.held visit.group) visit.then

@@ -7,7 +7,8 @@ ghost use Rattle.ack_ranges.specs.Batches.{IsWellFormed, kind_at};
 ghost use Rattle.part_log.specs.Logs.{IsStoredLog};
 ghost use Rattle.share_model.specs.ForeignRules.{share_state_at};
 ghost use Rattle.share_part.specs.Acting.{IsFirstNamed, JudgesGroup};
-ghost use Rattle.share_part.specs.Hosting.{AreHosted, HoldsWell, key_of, states_of};
+ghost use Rattle.share_part.specs.Hosting.{AreHosted, HoldsWell, key_of};
+ghost use Rattle.share_coord.specs.States.{states_of};
 ghost use Rattle.share_part.specs.Settling.{held_after};
 ghost use Rattle.share_part.specs.Shards.{held_in, with_held};
 ghost use Rattle.share_part.specs.Storing.{AcksOnce, SettlesGroup};
@@ -27,7 +28,7 @@ use std::collections::BTreeMap;
 use window_rows::Window;
 
 // The least offset that well-formed acknowledgements name. `None` where they name none.
-fn first_named(batches: &[AckBatch]) -> Option<u64>
+pub fn first_named(batches: &[AckBatch]) -> Option<u64>
     requires { IsWellFormed batches.now }
     ensures some { IfSome result (IsFirstNamed (kind_at batches.now)) }
     ensures none { IfNone result ((offset : ℕ) → kind_at batches.now offset ≡ None) }

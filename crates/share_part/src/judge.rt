@@ -3,7 +3,8 @@ ghost use Rattle.std.specs.Prelude.{◌≡◌, ◌↔◌, ◌≤◌, ◌^◌, �
 ghost use Rattle.share_model.specs.Logs.{IsSlot};
 ghost use Rattle.share_model.specs.Runs.{IsCanonical, row_of};
 ghost use Rattle.part_log.specs.Logs.{IsStoredLog};
-ghost use Rattle.share_part.specs.Hosting.{AreHosted, IsHosted, IsHostedRow, states_of};
+ghost use Rattle.share_part.specs.Hosting.{AreHosted, IsHosted, IsHostedRow};
+ghost use Rattle.share_coord.specs.States.{states_of};
 ghost use Rattle.share_part.specs.Judging.{AllIn, IsBefore, MayBeStored, RowsMayStand, slot_behind};
 
 use crate::conf::PartConf;

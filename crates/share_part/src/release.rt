@@ -1,5 +1,5 @@
 // Releases records that are held: those of a member, and those whose lock has ended.
-ghost use Rattle.std.specs.Prelude.{◌≡◌, ◌≤◌, ◌<◌, ◌^◌, ℕ, List, IsSome, IfSome, IfNone, IfOk};
+ghost use Rattle.std.specs.Prelude.{◌≡◌, ◌≤◌, ◌<◌, ◌^◌, ℕ, List, IsSome, IfSome, IfNone, IfOk, OnErr};
 ghost use Rattle.std.specs.BTreeMap.{is_at};
 ghost use Rattle.std.specs.Cmp.Lexicographic.{slice_cmp};
 ghost use Rattle.std.specs.Map.{lookup};
@@ -9,8 +9,10 @@ ghost use Rattle.edge_io.specs.Armed.{RunsOn};
 ghost use Rattle.topic_conf.specs.Configs.{IsLimit};
 ghost use Rattle.part_log.specs.Logs.{IsStoredLog};
 ghost use Rattle.share_model.specs.ForeignRules.{share_state_at};
+ghost use Rattle.share_part.specs.Acknowledging.{NameOne};
 ghost use Rattle.share_part.specs.Following.{fault_of};
-ghost use Rattle.share_part.specs.Hosting.{AreHosted, HoldsWell, key_of, states_of};
+ghost use Rattle.share_part.specs.Hosting.{AreHosted, HoldsWell, key_of};
+ghost use Rattle.share_coord.specs.States.{states_of};
 ghost use Rattle.share_part.specs.Releasing.{AreChosen, AreLeft, Counts, IsNextChosen, ReleasesGroup, chosen_count, fault_in, told_in};
 ghost use Rattle.share_part.specs.Settling.{AreBelow, held_after, is_chosen, releasing};
 ghost use Rattle.share_part.specs.Shards.{held_in, with_held};
@@ -130,6 +132,7 @@ fn judge_release<D: Disk, W: Window>(
         (held_in W.held windows.now.entries group.now) }
     ensures judged { IfOk result (ReleasesGroup conf.now.limit (releasing (is_chosen whose.now) (held_in W.held windows.now.entries group.now))
         log.now.batches (held_in W.held windows.now.entries group.now) (share_state_at (states_of states.now.entries) (key_of conf.now group.now))) }
+    ensures named { OnErr result (NameOne (releasing (is_chosen whose.now) (held_in W.held windows.now.entries group.now))) }
     ensures below { AreBelow (held_in W.held windows.now.entries group.now) }
     ensures rising { IsRising (held_in W.held windows.now.entries group.now) }
 {
@@ -177,6 +180,8 @@ pub fn release_held<D: Disk, W: Window>(
         (held_after (releasing (is_chosen whose.now) (held_in W.held windows.old.entries group.now)) (held_in W.held windows.old.entries group.now))
         other) (told_in result) }
     ensures count { IfOk result (Counts whose.now (held_in W.held windows.old.entries group.now)) }
+    ensures windows { OnErr result (windows.new.entries ≡ windows.old.entries) }
+    ensures named { OnErr result (NameOne (releasing (is_chosen whose.now) (held_in W.held windows.old.entries group.now))) }
     ensures runs { RunsOn D.seen states.old.journal.live.disk states.new.journal.live.disk }
     ensures idle { states.new.journal.idle ≡ states.old.journal.idle }
     ensures range { IsLimit conf.now.limit }

@@ -1,10 +1,11 @@
 // What acts on a table store.
-ghost use Rattle.std.specs.Prelude.{◌≡◌, ◌↔◌, ◌≤◌, ◌<◌, ◌+◌, ◌^◌, ℕ, [], IfSome, IfNone, IfOk, OnOk, Some, IsTrue};
+ghost use Rattle.std.specs.Prelude.{◌≡◌, ◌↔◌, ◌≤◌, ◌<◌, ◌+◌, ◌^◌, ℕ, [], IfSome, IfNone, IfOk, OnOk, OnErr, Some, IsTrue, true};
 ghost use Rattle.ack_ranges.specs.Batches.{IsWellFormed, kind_at};
 ghost use Rattle.ack_ranges.specs.Pieces.{IsCanonical as AreCanonical, piece_at};
 ghost use Rattle.part_log.specs.Logs.{IsStoredLog};
 ghost use Rattle.share_model.specs.Held.{Held, hold_at};
 ghost use Rattle.share_part.specs.Acting.{AreDoneTo, AreRows, AreRowsTo, Comes, Ends, IsHeldWith, IsSaid};
+ghost use Rattle.share_part.specs.Acknowledging.{NameOne};
 ghost use Rattle.share_part.specs.Releasing.{ReleasesTable};
 ghost use Rattle.share_part.specs.Settling.{Acts, AreBelow, IsChange, IsHeldBy, Judges, is_chosen, releasing, settled};
 
@@ -143,9 +144,10 @@ fn release_one(
     whose: &Whose,
     limit: u16,
 ) -> Result<(), NoMemory>
-    ensures { OnOk result ((held : Held) → hold_at held offset ≡ Some hold.now →
+    ensures rows { OnOk result ((held : Held) → hold_at held offset ≡ Some hold.now →
         AreRowsTo limit (releasing (is_chosen whose.now) held) held offset rows.old →
         AreRowsTo limit (releasing (is_chosen whose.now) held) held (offset + 1) rows.new) }
+    ensures chosen { OnErr result (is_chosen whose.now hold.now ≡ true) }
 {
     if !is_chosen(whose, hold) {
         return Ok(());
@@ -163,7 +165,8 @@ fn release_all<W: Window>(
 ) -> Result<(), NoMemory>
     requires none { rows.old ≡ [] }
     requires below { AreBelow (W.held window.now) }
-    ensures { OnOk result (AreRows limit (releasing (is_chosen whose.now) (W.held window.now)) (W.held window.now) rows.new) }
+    ensures rows { OnOk result (AreRows limit (releasing (is_chosen whose.now) (W.held window.now)) (W.held window.now) rows.new) }
+    ensures named { OnErr result (NameOne (releasing (is_chosen whose.now) (W.held window.now))) }
 {
     let mut from = 0;
     while let Some((offset, hold)) = window.next_held(from) {
@@ -217,7 +220,8 @@ pub fn acknowledge<D: Disk, W: Window>(
     }
 }
 
-/// What is to be stored once records of a table are released. `None` where none is. It walks the records that are held once.
+/// What is to be stored once records of a table are released. `None` where none is, and then no memory is taken. It walks the records that
+/// are held once.
 pub fn release<D: Disk, W: Window>(
     alloc: Global,
     log: &PartLog<D>,
@@ -229,8 +233,9 @@ pub fn release<D: Disk, W: Window>(
 ) -> Result<Option<Change>, NoMemory>
     requires sound { IsStoredLog log.now.batches }
     requires below { AreBelow (W.held window.now) }
-    ensures { IfOk result (ReleasesTable limit (releasing (is_chosen whose.now) (W.held window.now)) log.now.batches
+    ensures judged { IfOk result (ReleasesTable limit (releasing (is_chosen whose.now) (W.held window.now)) log.now.batches
         (record { start = start; rows = stored.now; held = W.held window.now })) }
+    ensures named { OnErr result (NameOne (releasing (is_chosen whose.now) (W.held window.now))) }
 {
     let mut rows = Runs::new(alloc);
     release_all(&mut rows, window, whose, limit)?;

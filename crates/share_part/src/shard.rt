@@ -1,4 +1,4 @@
-ghost use Rattle.std.specs.Prelude.{◌≡◌, ◌≢◌, ◌↔◌, ◌≤◌, ◌^◌, ℕ, max, true, IfOk, IfErr, MatchResult, slice_get, ◌⊎◌};
+ghost use Rattle.std.specs.Prelude.{◌≡◌, ◌≢◌, ◌↔◌, ◌≤◌, ◌^◌, ℕ, max, true, false, IfOk, IfErr, MatchResult, slice_get, ◌⊎◌};
 ghost use Rattle.std.specs.List.{AllByRecursion};
 ghost use Rattle.std.specs.Map.{keys_of};
 ghost use Rattle.std.specs.Option.{option_copied, option_map};
@@ -10,14 +10,17 @@ ghost use Rattle.coord_checkpoint.specs.Disks.{RunsBoth};
 ghost use Rattle.edge_io.specs.Moments.{LeavesOnly};
 ghost use Rattle.gate_journal.specs.Frames.{StandsAs};
 ghost use Rattle.share_part.specs.Opening.{IsOpened, IsNotOpened};
-ghost use Rattle.share_part.specs.Hosting.{key_of, states_of};
+ghost use Rattle.share_part.specs.Hosting.{key_of};
+ghost use Rattle.share_coord.specs.States.{states_of};
 ghost use Rattle.share_part.specs.Following.{IsEmptyAnswer};
 ghost use Rattle.share_part.specs.Shards.{Carries, PartShardState};
 ghost use Rattle.share_part.specs.Releasing.{ReleasesOnce};
 ghost use Rattle.share_part.specs.Walks.{IsSmallGrant};
+ghost use Rattle.ack_ranges.specs.Batches.{IsWellFormed};
+ghost use Rattle.share_part.specs.Visits.{AreWritten};
 ghost use Rattle.share_part.specs.Once.{ExpiresOnce, FollowsOnce, VisitsOnce, ProducesOnce};
 
-use crate::acks::acknowledge_visit;
+use crate::acks::{acknowledge_visit, first_named};
 use crate::conf::PartConf;
 use crate::fetch::{append_batches, make_table, planned};
 use crate::judge::are_hosted;
@@ -32,7 +35,8 @@ use flex_fields::Items;
 use part_log::PartLog;
 use share_coord::{Coord, StateView};
 use share_model::{
-    AckOutcome, ExpireAnswer, LogFault, Name, NoMemory, Room, Then, ThenOutcome, Visit, VisitAnswer,
+    AckOutcome, ExpireAnswer, LogFault, Name, NoMemory, Room, StoreFault, Then, ThenOutcome, Visit,
+    VisitAnswer,
 };
 use std::alloc::Global;
 use std::collections::BTreeMap;
@@ -73,6 +77,21 @@ fn empty(alloc: Global, outcome: ThenOutcome) -> VisitAnswer
         then: outcome,
         grants: Items::new(Vec::new(alloc)),
         batches: Room::new(alloc).into_blob(),
+    }
+}
+
+// Whether a write of acknowledgements came to the device, by what they are answered.
+fn are_written(visit: &Visit, ack: AckOutcome) -> bool
+    requires { ack ≡ AckOutcome.Done → IsWellFormed visit.now.acks }
+    ensures written { result ≡ true → AreWritten visit.now ack }
+    ensures not_written { result ≡ false → AreWritten visit.now ack → ⊥ }
+{
+    match ack {
+        AckOutcome::Done => first_named(visit.acks.as_slice()).is_some(),
+        AckOutcome::Malformed(_) => false,
+        AckOutcome::NotHeld { .. } => false,
+        AckOutcome::Store(StoreFault::Device) => true,
+        AckOutcome::Store(StoreFault::Full { .. }) => false,
     }
 }
 
@@ -150,6 +169,14 @@ impl<D: Disk, W: Window> PartShard<D, W> {
         })
     }
 
+    // Raises the clock to a moment.
+    fn raise(&mut self, now: u64)
+        requires { now ≤ 2 ^ 62 }
+        ensures { self.new ≡ record self.old { clock = max self.old.clock now } }
+    {
+        self.clock = self.clock.max(now);
+    }
+
     // Raises the clock, and does nothing else.
     fn pass(&mut self, now: u64) -> VisitAnswer
         requires { now ≤ 2 ^ 62 }
@@ -157,7 +184,7 @@ impl<D: Disk, W: Window> PartShard<D, W> {
         ensures answer { IsEmptyAnswer ThenOutcome.Done result }
         ensures clock { self.new ≡ record self.old { clock = max self.old.clock now } }
     {
-        self.clock = self.clock.max(now);
+        self.raise(now);
         empty(self.alloc, ThenOutcome::Done)
     }
 
@@ -267,8 +294,8 @@ impl<D: Disk, W: Window> PartShard<D, W> {
     ///
     /// A fetch walks the first 2000 slots from the start of the group's table, in order, and acquires those that are available, until
     /// the record limit is used up, or a batch doesn't fit. The first fetch of a group makes its table, which is stored first; where
-    /// that fails nothing is acquired. Want of memory is told before the acknowledgements
-    /// change anything, or behind them, and then nothing else changes.
+    /// that fails nothing is acquired. After want of memory nothing has changed; but where a write of the acknowledgements came to the
+    /// device before, what they left stands, and the clock is raised.
     pub fn visit(&mut self, now: u64, visit: &Visit) -> Result<VisitAnswer, NoMemory>
         requires now { now ≤ 2 ^ 62 }
         ensures once { VisitsOnce D.seen W.held now visit.now self.old self.new result }
@@ -284,18 +311,28 @@ impl<D: Disk, W: Window> PartShard<D, W> {
             &mut self.windows,
             visit,
         )?;
-        let VisitAnswer {
-            then,
-            grants,
-            batches,
-            ..
-        } = self.follow(now, visit)?;
-        Ok(VisitAnswer {
-            ack,
-            then,
-            grants,
-            batches,
-        })
+        match self.follow(now, visit) {
+            Ok(
+                VisitAnswer {
+                    then,
+                    grants,
+                    batches,
+                    ..
+                },
+            ) => Ok(VisitAnswer {
+                ack,
+                then,
+                grants,
+                batches,
+            }),
+            Err(fault) => {
+                if !are_written(visit, ack) {
+                    return Err(fault);
+                }
+                self.raise(now);
+                Err(fault)
+            }
+        }
     }
 
     /// Gives back the records whose acquisition lock has ended. The clock is raised to `now` first, and a lock has ended that ends at the clock
@@ -303,7 +340,8 @@ impl<D: Disk, W: Window> PartShard<D, W> {
     ///
     /// It goes over the groups in byte order. All that has ended of a group is released by one write, and counted once that is stored. The
     /// first write that fails ends it, and the groups from that one on are as they were. Where nothing is due no memory is taken, nothing
-    /// is written and no window is walked. Where it finds no memory, the groups before are done, and no other has changed.
+    /// is written and no window is walked. Where it finds no memory, the groups before are done, with the clock raised, and no other has
+    /// changed; where there is none before, nothing has.
     pub fn expire(&mut self, now: u64) -> Result<ExpireAnswer, NoMemory>
         requires { now ≤ 2 ^ 62 }
         ensures once { ExpiresOnce D.seen W.held now self.old self.new result }

@@ -4,7 +4,7 @@ ghost use Rattle.edge_io.specs.Armed.{RunsOn};
 ghost use Rattle.coord_checkpoint.specs.Disks.{HasFailed};
 ghost use Rattle.share_coord.specs.Calls.{Causes, IsTooMany, write_refusal};
 ghost use Rattle.share_coord.specs.Stored.{kept_at};
-ghost use Rattle.share_part.specs.Storing.{IsStored, StoresOnce, TellsFault, start_number};
+ghost use Rattle.share_part.specs.Storing.{IsRecordOf, IsStored, StoresOnce, TellsFault, start_number};
 
 use edge_io::Disk;
 use share_coord::{Coord, CoordFault};
@@ -48,7 +48,8 @@ pub fn store_change<D: Disk>(
     requires granted { write_refusal (kept_at states.old.entries key.now) (pos 0) (pos 0) (start_number start) runs.now ≡ None }
     requires few { (count : ℕ) → IsTooMany states.old.entries key.now (start_number start) runs.now count → ⊥ }
     ensures once { StoresOnce D.seen (HasFailed D.seen)
-        (IsStored states.old.entries key.now start runs.now) states.old states.new result }
+        (IsStored states.old.entries key.now start runs.now) (IsRecordOf states.old.entries key.now start runs.now)
+        states.old states.new result }
     ensures runs { RunsOn D.seen states.old.journal.live.disk states.new.journal.live.disk }
     ensures idle { states.new.journal.idle ≡ states.old.journal.idle }
 {

@@ -27,7 +27,7 @@ returns-in-Ask-clause-stopped g c = on_err_weaker c.ask.result
           (counts_in g.D.Disk.seen (disks_in (parts_of c.args.hosts.now)) (disks_in (parts_of c.ask.new.hosts))) (ends_over (parts_of c.args.hosts.now) (parts_of c.ask.new.hosts))
           c.args.id c.args.now c.in-Ask.part c.args.next c.args.conn.now does.1 does.0 c.in-Ask.is a call b does.2,
     ))
-    (halves_asked (counts_in g.D.Disk.seen (disks_in (parts_of c.args.hosts.now)) (disks_in (parts_of c.ask.new.hosts))) (ends_over (parts_of c.args.hosts.now) (parts_of c.ask.new.hosts)) c.in-Ask.part c.args.next c.in-Ask.is)
+    (halves_asked (counts_in g.D.Disk.seen (disks_in (parts_of c.args.hosts.now)) (disks_in (parts_of c.ask.new.hosts))) (ends_over (parts_of c.args.hosts.now) (parts_of c.ask.new.hosts)) c.args.now c.in-Ask.part c.args.next c.in-Ask.is)
     (h s k))
     c.ask.ensures.stopped
 

@@ -23,7 +23,7 @@ returns-in_err-outcomes-clause-stopped g c =
           (record { connections = es; shards = a }) c.args.id c.args.now o call h.0 (record { connections = left c.args.id h.1 es; shards = b })) (sym found)
           (record { after = h.1; does = h.2; leaves = refl }),
     ))
-    (λ a b h. subst (λ o. HalvesServe c.args.conf.now (counts_in g.D.Disk.seen (disks_in (parts_of c.args.hosts.now)) (disks_in (parts_of c.step.new.hosts))) (ends_over (parts_of c.args.hosts.now) (parts_of c.step.new.hosts)) o a b) (sym found) h)
+    (λ a b h. subst (λ o. HalvesServe c.args.conf.now (counts_in g.D.Disk.seen (disks_in (parts_of c.args.hosts.now)) (disks_in (parts_of c.step.new.hosts))) (ends_over (parts_of c.args.hosts.now) (parts_of c.step.new.hosts)) c.args.now o a b) (sym found) h)
     (c.in_err-outcomes.ensures.stopped s k))
 
 pub returns-clause-ok : goal.returns-clause-ok

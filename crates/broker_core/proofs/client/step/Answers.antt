@@ -17,7 +17,7 @@ returns-in_err-outcomes-clause-stopped g c = on_err c.from_residual-in_err-outco
           c.args.id c.args.now (turn c.args.conf.now c.args.conn.now) c.in_ok-next.next c.next_part.new.self h.1 h.0
           c.in_ok-next.ensures.next a call b h.2,
     ))
-    (halves_turn (counts_in g.D.Disk.seen (disks_in (parts_of c.args.hosts.now)) (disks_in (parts_of c.done.new.hosts))) (ends_over (parts_of c.args.hosts.now) (parts_of c.done.new.hosts)) (turn c.args.conf.now c.args.conn.now) c.in_ok-next.next c.next_part.new.self c.in_ok-next.ensures.next)
+    (halves_turn (counts_in g.D.Disk.seen (disks_in (parts_of c.args.hosts.now)) (disks_in (parts_of c.done.new.hosts))) (ends_over (parts_of c.args.hosts.now) (parts_of c.done.new.hosts)) c.args.now (turn c.args.conf.now c.args.conn.now) c.in_ok-next.next c.next_part.new.self c.in_ok-next.ensures.next)
     (c.in_err-outcomes.ensures.stopped s k))
 
 pub returns-clause-ok : goal.returns-clause-ok

@@ -10,7 +10,7 @@ use Rattle.broker_core.proofs.part.expire.Goals as goal
 pub returns-in_err-answer-clause-stopped : goal.returns-in_err-answer-clause-stopped
 returns-in_err-answer-clause-stopped g c =
     let is : c.expire.result ≡ Err c.in_err-answer.field-0.0 = search rules in
-    let memory : ((t : PartShardState) → Carries g.D.Disk.seen holding c.args.part.now t → Carries g.D.Disk.seen holding c.expire.new.self t ⊎ PartStands g.D.Disk.seen holding c.args.now c.args.part.now c.expire.new.self t) = subst (λ r. OnErr r ((t : PartShardState) → Carries g.D.Disk.seen holding c.args.part.now t → Carries g.D.Disk.seen holding c.expire.new.self t ⊎ PartStands g.D.Disk.seen holding c.args.now c.args.part.now c.expire.new.self t)) is c.expire.ensures.once.memory in
+    let memory = subst (λ r. OnErr r ((c.expire.new.self ≡ c.args.part.now) ⊎ ((t : PartShardState) → Carries g.D.Disk.seen holding c.args.part.now t → PartStands g.D.Disk.seen holding c.args.now c.args.part.now c.expire.new.self t))) is c.expire.ensures.once.memory in
     on_err c.from_residual.result
     (expire_refused g.D.Disk.seen c.args.part.now c.expire.new.self c.args.now
     (record { runs = c.expire.ensures.runs; ends = c.expire.ensures.once.ends; log = c.expire.ensures.once.log; idle = c.expire.ensures.once.idle; conf = c.expire.ensures.once.conf }) memory)

@@ -1,6 +1,6 @@
 use Rattle.std.proofs.Common.{◌≡◌, ◌⊎◌, false, subst, Ok, Err, IfOk, OnErr, rules}
 use Rattle.share_part.specs.Once.{AcksStand, Expired, PartStands, Visited}
-use Rattle.share_part.specs.Shards.{Carries, PartShardState}
+use Rattle.share_part.specs.Shards.{Carries, IsUntouched, PartShardState}
 use Rattle.broker_core.specs.Carried.{holding}
 use Rattle.broker_core.proofs.Stepping.{on_err}
 use Rattle.broker_core.proofs.Parting.{visit_leads, visit_refused, visit_whole, grants_told, states_go}
@@ -10,7 +10,7 @@ use Rattle.broker_core.proofs.part.visit.Goals as goal
 pub returns-in_err-answer-clause-stopped : goal.returns-in_err-answer-clause-stopped
 returns-in_err-answer-clause-stopped g c =
     let is : c.visit.result ≡ Err c.in_err-answer.field-0.0 = search rules in
-    let memory : ((t : PartShardState) → Carries g.D.Disk.seen holding c.args.part.now t → Carries g.D.Disk.seen holding c.visit.new.self t ⊎ AcksStand g.D.Disk.seen holding c.args.visit.now c.args.part.now c.visit.new.self t) = subst (λ r. OnErr r ((t : PartShardState) → Carries g.D.Disk.seen holding c.args.part.now t → Carries g.D.Disk.seen holding c.visit.new.self t ⊎ AcksStand g.D.Disk.seen holding c.args.visit.now c.args.part.now c.visit.new.self t)) is c.visit.ensures.once.memory in
+    let memory = subst (λ r. OnErr r (IsUntouched holding c.args.part.now c.visit.new.self ⊎ ((t : PartShardState) → Carries g.D.Disk.seen holding c.args.part.now t → AcksStand g.D.Disk.seen holding c.args.now c.args.visit.now c.args.part.now c.visit.new.self t))) is c.visit.ensures.once.memory in
     on_err c.from_residual.result
     (visit_refused g.D.Disk.seen c.args.part.now c.visit.new.self c.args.now c.args.visit.now
     (record { runs = c.visit.ensures.runs; ends = c.visit.ensures.once.ends; log = c.visit.ensures.once.log; idle = c.visit.ensures.once.idle; conf = c.visit.ensures.once.conf }) memory)

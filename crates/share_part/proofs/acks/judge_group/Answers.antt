@@ -5,7 +5,8 @@ use Rattle.share_model.specs.ForeignRules.{share_state_at}
 use Rattle.share_model.specs.Keys.{KeyParts}
 use Rattle.share_model.specs.ShareStates.{ShareState}
 use Rattle.share_coord.specs.Stored.{kept_at}
-use Rattle.share_part.specs.Hosting.{key_of, states_of}
+use Rattle.share_part.specs.Hosting.{key_of}
+use Rattle.share_coord.specs.States.{states_of}
 use Rattle.share_part.specs.Shards.{held_in}
 use Rattle.share_part.proofs.Verdicts.{judged_there, missing_judged, no_state, nothing_held}
 use Rattle.share_part.proofs.Seeing.{view_of}

@@ -3,7 +3,8 @@ use Rattle.ack_ranges.specs.Batches.{kind_at}
 use Rattle.coord_checkpoint.specs.Disks.{HasFailed}
 use Rattle.share_model.specs.ForeignRules.{share_state_at}
 use Rattle.share_model.specs.declared.ack.AckBatch.{AckBatch}
-use Rattle.share_part.specs.Hosting.{key_of, states_of}
+use Rattle.share_part.specs.Hosting.{key_of}
+use Rattle.share_coord.specs.States.{states_of}
 use Rattle.share_part.specs.Settling.{held_after}
 use Rattle.share_part.specs.Shards.{held_in, with_held}
 use Rattle.share_part.proofs.Settlement.{all_stored, change_there, few_there, granted_there, none_stored, start_within, theirs_there, unsettled, unstored}
@@ -36,7 +37,7 @@ returns-in_err-fault-clause-settles g c =
     ((other : List ℕ) → held other ≡ held other)
     ((other : List ℕ) → held other ≡ with_held held c.args.visit.now.group (held_after acts (held c.args.visit.now.group)) other)
     (unstored g.D.Disk.seen (HasFailed g.D.Disk.seen)
-    c.args.states.now c.store_change.new.states _ c.store_change.result _ c.in_err-fault.was c.store_change.ensures.once) (λ other. refl)
+    c.args.states.now c.store_change.new.states _ _ c.store_change.result _ c.in_err-fault.was c.store_change.ensures.once) (λ other. refl)
     c.args.visit.now.member c.from_residual-in_err-fault.result c.from_residual-in_err-fault.ensures.0
 
 pub returns-in-Some-clause-settles : goal.returns-in-Some-clause-settles

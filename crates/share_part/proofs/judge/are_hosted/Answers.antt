@@ -1,7 +1,8 @@
 use Rattle.std.proofs.Common.{◌∙◌, refl}
 use Rattle.std.proofs.lemmas.Map.Iter.{rest_all, rest_more}
 use Rattle.std.specs.Map.Iter.{deref_pair}
-use Rattle.share_part.specs.Hosting.{IsHosted, states_of}
+use Rattle.share_part.specs.Hosting.{IsHosted}
+use Rattle.share_coord.specs.States.{states_of}
 use Rattle.share_part.proofs.Ordered.{walk_begins, walk_ends, walk_meets, walk_on}
 use Rattle.share_part.proofs.judge.are_hosted.Goals as goal
 

@@ -1,4 +1,5 @@
-use Rattle.share_part.specs.Hosting.{IsHosted, states_of}
+use Rattle.share_part.specs.Hosting.{IsHosted}
+use Rattle.share_coord.specs.States.{states_of}
 use Rattle.share_part.proofs.Ordered.{Walks}
 use Rattle.share_part.proofs.judge.are_hosted.Given as goal
 

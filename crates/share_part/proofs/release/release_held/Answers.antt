@@ -1,11 +1,13 @@
 use Rattle.std.proofs.Common.{◌≡◌, inr, refl, sym, ℕ, List}
 use Rattle.coord_checkpoint.specs.Disks.{HasFailed}
 use Rattle.share_model.specs.ForeignRules.{share_state_at}
-use Rattle.share_part.specs.Hosting.{key_of, states_of}
+use Rattle.share_part.specs.Hosting.{key_of}
+use Rattle.share_coord.specs.States.{states_of}
+use Rattle.share_part.specs.Acknowledging.{NameOne}
 use Rattle.share_part.specs.Settling.{held_after, is_chosen, releasing}
 use Rattle.share_part.specs.Shards.{held_in, with_held}
 use Rattle.share_part.proofs.Letting.{none_counted}
-use Rattle.share_part.proofs.Releases.{change_of_group, none_of_group, one_of_group}
+use Rattle.share_part.proofs.Releases.{change_of_group, none_of_group, on_err, one_of_group}
 use Rattle.share_part.proofs.Settlement.{all_stored, few_there, granted_there, none_stored, start_within, unreleased, unstored}
 use Rattle.share_part.proofs.release.release_held.Goals as goal
 
@@ -18,8 +20,14 @@ returns-in_err-fault-clause-once g c =
     ((other : List ℕ) → held other ≡ held other)
     ((other : List ℕ) → held other ≡ with_held held c.args.group.now (held_after acts (held c.args.group.now)) other)
     (unstored g.D.Disk.seen (HasFailed g.D.Disk.seen)
-    c.args.states.now c.store_change.new.states _ c.store_change.result _ c.in_err-fault.was c.store_change.ensures.once) (λ other. refl)
+    c.args.states.now c.store_change.new.states _ _ c.store_change.result _ c.in_err-fault.was c.store_change.ensures.once) (λ other. refl)
     c.from_residual-in_err-fault.result c.from_residual-in_err-fault.ensures.0
+
+pub returns-in_err-fault-clause-named : goal.returns-in_err-fault-clause-named
+returns-in_err-fault-clause-named g c = on_err (NameOne (releasing (is_chosen c.args.whose.now) (held_in g.W.Window.held c.args.windows.now.entries c.args.group.now)))
+    c.from_residual-in_err-fault.result
+    (one_of_group c.args.conf.now.limit (is_chosen c.args.whose.now) c.args.log.now.batches (held_in g.W.Window.held c.args.windows.now.entries c.args.group.now)
+    (share_state_at (states_of c.args.states.now.entries) (key_of c.args.conf.now c.args.group.now)) c.in_ok-judged.judged c.in-Some.change c.in-Some.is c.in_ok-judged.ensures.judged)
 
 pub returns-in_default-clause-count : goal.returns-in_default-clause-count
 returns-in_default-clause-count g c = sym (none_counted (is_chosen c.args.whose.now) (held_in g.W.Window.held c.args.windows.now.entries c.args.group.now) c.in_ok-judged.ensures.rising

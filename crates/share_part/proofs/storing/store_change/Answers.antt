@@ -14,10 +14,10 @@ pub returns-in-Ok-clause-once : goal.returns-in-Ok-clause-once
 returns-in-Ok-clause-once g c =
     let same : to_z w64 (of_z w64 c.start_number.result) ≡ c.start_number.result = grind (arith, to_z-of_z) in
     stored_by g.D.Disk.seen (HasFailed g.D.Disk.seen)
-    c.args.states.now.entries c.args.key.now c.args.start _ c.args.runs.now (same ∙ c.start_number.ensures) c.args.states.now c.write.new.self _ (Ok c.in-Ok.field-0) refl c.in-Ok.ensures.once
+    c.args.states.now.entries c.args.key.now c.args.start _ c.args.runs.now (same ∙ c.start_number.ensures) c.args.states.now c.write.new.self _ (Ok c.in-Ok.field-0) refl c.in-Ok.ensures.once c.in-Ok.ensures.stored
 
 pub returns-in-Err-clause-once : goal.returns-in-Err-clause-once
 returns-in-Err-clause-once g c =
     let same : to_z w64 (of_z w64 c.start_number.result) ≡ c.start_number.result = grind (arith, to_z-of_z) in
     stored_by g.D.Disk.seen (HasFailed g.D.Disk.seen)
-    c.args.states.now.entries c.args.key.now c.args.start _ c.args.runs.now (same ∙ c.start_number.ensures) c.args.states.now c.write.new.self _ (Err c.in-Err.fault) c.told_fault.ensures c.in-Err.ensures.once
+    c.args.states.now.entries c.args.key.now c.args.start _ c.args.runs.now (same ∙ c.start_number.ensures) c.args.states.now c.write.new.self _ (Err c.in-Err.fault) c.told_fault.ensures c.in-Err.ensures.once c.in-Err.ensures.stored

@@ -1,7 +1,8 @@
 use Rattle.std.proofs.Common.{◌≡◌, ◌∙◌, ◌++◌, ◌<◌, ◌+◌, refl, sym, ap, subst, arith, length, List, ℕ, Ok}
 use Rattle.std.specs.List.{AllByRecursion}
 use Rattle.part_log.specs.Logs.{IsStoredLog, LogParts}
-use Rattle.share_part.specs.Hosting.{AreHosted, states_of}
+use Rattle.share_part.specs.Hosting.{AreHosted}
+use Rattle.share_coord.specs.States.{states_of}
 use Rattle.share_part.specs.Making.{numbered_bytes, state_for}
 use Rattle.share_part.specs.Shards.{held_in, with_held}
 use Rattle.share_part.specs.Tables.{with_holds}
@@ -14,20 +15,20 @@ use Rattle.share_part.proofs.Visiting.{wells_after, wells_took, held_by, err_is,
 use Rattle.share_part.proofs.shard.PartShard.fetch.Goals as goal
 
 pub returns-in_err-add_window-clause-once : goal.returns-in_err-add_window-clause-once
-returns-in_err-add_window-clause-once g c = rw (← c.self.view_is) (starved_so g.D.Disk.seen g.W.Window.held c.args.now c.args.visit.now _ _ refl refl refl
+returns-in_err-add_window-clause-once g c = rw (← c.self.view_is) (starved_so g.D.Disk.seen g.W.Window.held c.args.now c.args.visit.now _ _ refl refl refl c.args.limits c.requires.fetch
     c.from_residual.result c.from_residual.ensures.0 refl c.in_err-add_window.ensures.held refl)
 
 pub returns-in_err-plan-clause-once : goal.returns-in_err-plan-clause-once
-returns-in_err-plan-clause-once g c = rw (← c.self.view_is) (starved_so g.D.Disk.seen g.W.Window.held c.args.now c.args.visit.now _ _ refl refl refl
+returns-in_err-plan-clause-once g c = rw (← c.self.view_is) (starved_so g.D.Disk.seen g.W.Window.held c.args.now c.args.visit.now _ _ refl refl refl c.args.limits c.requires.fetch
     c.from_residual-in_err-plan.result c.from_residual-in_err-plan.ensures.0 refl c.in_ok-add_window.ensures.held refl)
 
 pub returns-in_err-set_aside-clause-once : goal.returns-in_err-set_aside-clause-once
-returns-in_err-set_aside-clause-once g c = rw (← c.self.view_is) (starved_so g.D.Disk.seen g.W.Window.held c.args.now c.args.visit.now _ _ refl refl refl
+returns-in_err-set_aside-clause-once g c = rw (← c.self.view_is) (starved_so g.D.Disk.seen g.W.Window.held c.args.now c.args.visit.now _ _ refl refl refl c.args.limits c.requires.fetch
     c.from_residual-in_err-set_aside.result c.from_residual-in_err-set_aside.ensures.0 refl
     (λ group. c.in_err-set_aside.ensures.held group ∙ c.in_ok-add_window.ensures.held group) refl)
 
 pub returns-in_err-reserve-clause-once : goal.returns-in_err-reserve-clause-once
-returns-in_err-reserve-clause-once g c = rw (← c.self.view_is) (starved_so g.D.Disk.seen g.W.Window.held c.args.now c.args.visit.now _ _ refl refl refl
+returns-in_err-reserve-clause-once g c = rw (← c.self.view_is) (starved_so g.D.Disk.seen g.W.Window.held c.args.now c.args.visit.now _ _ refl refl refl c.args.limits c.requires.fetch
     c.from_residual-in_err-reserve.result c.from_residual-in_err-reserve.ensures.0 refl (λ group. c.in_ok-set_aside.ensures.held group ∙ c.in_ok-add_window.ensures.held group) refl)
 
 pub invariant_of-self-in_err-outcome : goal.invariant_of-self-in_err-outcome

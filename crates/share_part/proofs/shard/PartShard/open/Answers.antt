@@ -1,7 +1,7 @@
 use Rattle.std.proofs.Common.{refl, sym, subst, arith}
 use Rattle.share_part.specs.Opening.{IsNotOpened}
 use Rattle.share_part.specs.declared.opening.PartFault.{PartFault}
-use Rattle.share_part.specs.Hosting.{states_of}
+use Rattle.share_coord.specs.States.{states_of}
 use Rattle.share_part.proofs.Holding.{empty_kept}
 use Rattle.share_part.proofs.Opens.{by_log, by_states, misplaced, opened}
 use Rattle.share_part.proofs.shard.PartShard.open.Goals as goal

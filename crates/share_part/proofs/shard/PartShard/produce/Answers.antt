@@ -1,5 +1,5 @@
 use Rattle.std.proofs.Common.{◌≡◌, ◌∙◌, refl, sym, arith, true, false}
-use Rattle.share_part.specs.Hosting.{states_of}
+use Rattle.share_coord.specs.States.{states_of}
 use Rattle.share_part.specs.Shards.{held_in}
 use Rattle.share_part.proofs.Holding.{all_later}
 use Rattle.share_part.proofs.Producing.{has_grown, hungry, produced, stays_hosted, stays_sound}

@@ -1,5 +1,9 @@
+use Rattle.std.proofs.Common.{rules, subst, sym}
+use Rattle.std.specs.Prelude.{Err}
 use Rattle.edge_io.proofs.Runs.{runs_then}
-use Rattle.share_part.proofs.Acked.{none_acked, stands, unfollowed, visited}
+use Rattle.share_part.specs.Once.{VisitsOnce}
+use Rattle.share_part.specs.Shards.{PartParts}
+use Rattle.share_part.proofs.Acked.{formed_done, none_acked, stands, unfollowed, unfollowed_behind, visited}
 use Rattle.share_part.proofs.shard.PartShard.visit.Goals as goal
 
 pub invariant_of-self : goal.invariant_of-self
@@ -22,20 +26,35 @@ invariant_of-self-2 g c =
     c.acknowledge_visit.new.states c.acknowledge_visit.new.windows.entries c.self.invariant.log_is c.acknowledge_visit.ensures.range.few c.self.invariant.hosted c.self.invariant.holds c.acknowledge_visit.result c.acknowledge_visit.ensures.once in
     record { log_is = c.self.invariant.log_is; hosted = s.0; holds = s.1; moment = c.self.invariant.moment }
 
-pub returns-in_err-then-clause-once : goal.returns-in_err-then-clause-once
-returns-in_err-then-clause-once g c = rw (← c.self.view_is) (unfollowed g.D.Disk.seen g.W.Window.held c.args.visit.now
+pub are_written-requires : goal.are_written-requires
+are_written-requires g c = formed_done g.D.Disk.seen g.W.Window.held c.args.visit.now
+    (record { conf = c.self.inside.conf; log = c.self.inside.log; states = c.self.inside.states; windows = c.self.inside.windows.entries; clock = c.self.inside.clock })
+    c.acknowledge_visit.new.states c.acknowledge_visit.new.windows.entries c.self.invariant.log_is c.acknowledge_visit.ensures.range.few c.self.invariant.hosted c.self.invariant.holds
+    c.acknowledge_visit.result c.in_ok-ack.ack c.in_ok-ack.was c.acknowledge_visit.ensures.once
+
+pub returns-then-not-are_written-clause-once : goal.returns-then-not-are_written-clause-once
+returns-then-not-are_written-clause-once g c = rw (← c.self.view_is) (unfollowed g.D.Disk.seen g.W.Window.held c.args.visit.now
     (record { conf = c.self.inside.conf; log = c.self.inside.log; states = c.self.inside.states; windows = c.self.inside.windows.entries; clock = c.self.inside.clock })
     c.acknowledge_visit.new.states c.acknowledge_visit.new.windows.entries c.self.invariant.log_is c.acknowledge_visit.ensures.range.few c.self.invariant.hosted c.self.invariant.holds c.args.now c.follow.new.self c.acknowledge_visit.result c.in_ok-ack.ack c.in_ok-ack.was
     c.acknowledge_visit.ensures.once c.acknowledge_visit.ensures.idle c.acknowledge_visit.ensures.runs c.follow.ensures.runs
-    _ c.follow.result c.from_residual-in_err-then.result c.in_err-then.was c.from_residual-in_err-then.ensures.0 c.follow.ensures.once)
+    _ c.follow.result c.in-Err.is c.follow.ensures.once (c.are_written.ensures.not_written (search rules)) c.in-Err.fault)
 
-pub returns-clause-once : goal.returns-clause-once
-returns-clause-once g c = rw (← c.self.view_is) (visited g.D.Disk.seen g.W.Window.held c.args.visit.now
+pub returns-else-not-are_written-clause-once : goal.returns-else-not-are_written-clause-once
+returns-else-not-are_written-clause-once g c = rw (← c.self.view_is) (subst (λ (p : PartParts g.row.D.Denot g.row.W.Denot). VisitsOnce g.D.Disk.seen g.W.Window.held c.args.now c.args.visit.now
+    (record { conf = c.self.inside.conf; log = c.self.inside.log; states = c.self.inside.states; windows = c.self.inside.windows.entries; clock = c.self.inside.clock }) p (Err c.in-Err.fault)) (sym c.raise.ensures)
+    (unfollowed_behind g.D.Disk.seen g.W.Window.held c.args.visit.now
     (record { conf = c.self.inside.conf; log = c.self.inside.log; states = c.self.inside.states; windows = c.self.inside.windows.entries; clock = c.self.inside.clock })
     c.acknowledge_visit.new.states c.acknowledge_visit.new.windows.entries c.self.invariant.log_is c.acknowledge_visit.ensures.range.few c.self.invariant.hosted c.self.invariant.holds c.args.now c.follow.new.self c.acknowledge_visit.result c.in_ok-ack.ack c.in_ok-ack.was
     c.acknowledge_visit.ensures.once c.acknowledge_visit.ensures.idle c.acknowledge_visit.ensures.runs c.follow.ensures.runs
-    _ c.follow.result c.in_ok-then.was c.follow.ensures.once)
+    _ c.follow.result c.in-Err.is c.follow.ensures.once (c.are_written.ensures.written (search rules)) c.in-Err.fault))
 
-pub returns-clause-runs : goal.returns-clause-runs
-returns-clause-runs g c = rw (← c.self.view_is) (runs_then g.D.Disk.seen
+pub returns-in-Ok-clause-once : goal.returns-in-Ok-clause-once
+returns-in-Ok-clause-once g c = rw (← c.self.view_is) (visited g.D.Disk.seen g.W.Window.held c.args.visit.now
+    (record { conf = c.self.inside.conf; log = c.self.inside.log; states = c.self.inside.states; windows = c.self.inside.windows.entries; clock = c.self.inside.clock })
+    c.acknowledge_visit.new.states c.acknowledge_visit.new.windows.entries c.self.invariant.log_is c.acknowledge_visit.ensures.range.few c.self.invariant.hosted c.self.invariant.holds c.args.now c.follow.new.self c.acknowledge_visit.result c.in_ok-ack.ack c.in_ok-ack.was
+    c.acknowledge_visit.ensures.once c.acknowledge_visit.ensures.idle c.acknowledge_visit.ensures.runs c.follow.ensures.runs
+    _ c.follow.result c.in-Ok.is c.follow.ensures.once)
+
+pub returns-in-Ok-clause-runs : goal.returns-in-Ok-clause-runs
+returns-in-Ok-clause-runs g c = rw (← c.self.view_is) (runs_then g.D.Disk.seen
     c.self.inside.states.journal.live.disk c.acknowledge_visit.new.states.journal.live.disk c.follow.new.self.states.journal.live.disk c.acknowledge_visit.ensures.runs c.follow.ensures.runs)
