@@ -1,0 +1,4 @@
+pub mod Locks
+pub mod Places
+pub mod Runs
+pub mod Windows
