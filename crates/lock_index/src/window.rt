@@ -73,7 +73,6 @@ pub trait Window: Sized + Drop {
 
     /// Does what `end_hold` does, and counts its steps: they are at most four for each run that the range meets, and sixteen.
     fn end_hold_counted<L: Ledger>(&mut self, first: u64, last: u64, steps: &mut Steps<L>)
-        requires { length (held self.old) ≤ 2000 }
         ensures held { held self.new ≡ without_range first last (held self.old) }
         ensures spare { spare self.old ≤ spare self.new }
         ensures steps { (runs : List HoldRun) → IsRunList (held self.old) runs → steps.new ≤ steps.old + 4 * met_count first last runs + 16 };

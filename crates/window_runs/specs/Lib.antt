@@ -1,0 +1,4 @@
+pub mod Cuts
+pub mod Kept
+pub mod Searches
+pub mod Puts
