@@ -2,7 +2,7 @@
 -- acquisition locks of KIP-932).
 -- For example what `a` holds at 3, 4 and 5 by one lock, and at 6 by a later one, are the runs from 3 to 5 and from 6 to 6. The range from
 -- 5 to 9 meets both.
-use Rattle.std.specs.Prelude.{◌≡◌, ◌≢◌, ◌+◌, ◌-◌, ◌≤◌, ◌<◌, ◌++◌, ℕ, zero, suc, List, [], ◌∷◌, nat_le, ◌&&◌, if◌then◌else◌}
+use Rattle.std.specs.Prelude.{◌≡◌, ◌≢◌, ◌+◌, ◌-◌, ◌≤◌, ◌<◌, ◌++◌, ℕ, zero, suc, List, [], ◌∷◌, nat_le, min, max, if◌then◌else◌}
 use Rattle.share_model.specs.Held.{Held}
 use Rattle.share_model.specs.declared.hold.Hold.{Hold}
 use Rattle.lock_index.specs.declared.run.HoldRun.{HoldRun}
@@ -36,7 +36,7 @@ pub record IsRunList (held : Held) (runs : List HoldRun) : Type 0 where
 abbrev pub met_count : ℕ → ℕ → List HoldRun → ℕ
 met_count first last [] = 0
 met_count first last (run ∷ runs) =
-    if nat_le run.first last && nat_le first run.last then suc (met_count first last runs) else met_count first last runs
+    if nat_le (max first run.first) (min last run.last) then suc (met_count first last runs) else met_count first last runs
 
 -- what a contract sees of a list of runs: the runs, and how many there can be with no memory
 pub record RunsInRoom : Type 0 where

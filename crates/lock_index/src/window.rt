@@ -71,9 +71,11 @@ pub trait Window: Sized + Drop {
         ensures held { held self.new ≡ without_range first last (held self.old) }
         ensures spare { spare self.old ≤ spare self.new };
 
-    /// Does what `end_hold` does, and counts its steps: they are at most four for each run that the range meets, and sixteen.
+    /// Does what `end_hold` does, and counts its steps: for each run that the range meets there are at least one and at most four, and beside
+    /// these at most sixteen.
     fn end_hold_counted<L: Ledger>(&mut self, first: u64, last: u64, steps: &mut Steps<L>)
         ensures held { held self.new ≡ without_range first last (held self.old) }
         ensures spare { spare self.old ≤ spare self.new }
-        ensures steps { (runs : List HoldRun) → IsRunList (held self.old) runs → steps.new ≤ steps.old + 4 * met_count first last runs + 16 };
+        ensures at_most { (runs : List HoldRun) → IsRunList (held self.old) runs → steps.new ≤ steps.old + 4 * met_count first last runs + 16 }
+        ensures at_least { (runs : List HoldRun) → IsRunList (held self.old) runs → steps.old + met_count first last runs ≤ steps.new };
 }

@@ -3,7 +3,7 @@ use Rattle.std.proofs.Common.{◌≡◌, ℕ, zero, suc, ◌+◌, ◌-◌, ◌<�
 use Rattle.std.proofs.lemmas.Bool.{cases_lt}
 use Rattle.std.proofs.lemmas.Bool.Decides.{nat_tests}
 use Rattle.std.proofs.lemmas.List.{append_assoc}
-use Rattle.std.specs.Prelude.{nat_le, ◌&&◌, min, max}
+use Rattle.std.specs.Prelude.{nat_le, min, max}
 use Rattle.std.specs.List.{slice_get}
 use Rattle.lock_index.specs.declared.run.HoldRun.{HoldRun}
 use Rattle.lock_index.specs.Runs.{IsCanonical, held_of, met_count}
@@ -139,29 +139,66 @@ all_cut first last n xs order canonical ended =
 
 -- ---- how many runs the range meets
 
-meets : (first last a b : ℕ) → a ≤ last → first ≤ b → (nat_le a last && nat_le first b) ≡ true
-meets first last a b begins ends = grind (arith, nat_tests)
+meets : (first last a b : ℕ) → first ≤ last → a ≤ b → a ≤ last → first ≤ b → nat_le (max first a) (min last b) ≡ true
+meets first last a b order some begins ends = let le : max first a ≤ min last b = omega arith in grind (arith, nat_tests)
 
-pub met_next : (first last n : ℕ) (xs : List HoldRun) (r : HoldRun) → slice_get xs n ≡ Some r → r.first ≤ last → first ≤ r.last
+ends_first : (first last a b : ℕ) → b < first → nat_le (max first a) (min last b) ≡ false
+ends_first first last a b ended = let gt : min last b < max first a = omega arith in grind (arith, nat_tests)
+
+begins_later : (first last a b : ℕ) → last < a → nat_le (max first a) (min last b) ≡ false
+begins_later first last a b later = let gt : min last b < max first a = omega arith in grind (arith, nat_tests)
+
+never_met : (first last a b : ℕ) → last < first → nat_le (max first a) (min last b) ≡ false
+never_met first last a b empty = let gt : min last b < max first a = omega arith in grind (arith, nat_tests)
+
+-- a range that ends before it begins meets none
+pub none_met : (first last : ℕ) (xs : List HoldRun) → last < first → met_count first last xs ≡ 0
+none_met first last [] empty = refl
+none_met first last (x ∷ xs) empty =
+    ap (λ (b : Bool). cond b (suc (met_count first last xs)) (met_count first last xs)) (never_met first last x.first x.last empty) ∙ none_met first last xs empty
+
+-- it meets none of those that end before it
+pub met_ended : (first last n : ℕ) (xs : List HoldRun) → ((k : ℕ) (r : HoldRun) → slice_get xs k ≡ Some r → k < n → r.last < first) → met_count first last (take n xs) ≡ 0
+met_ended first last zero xs ended = refl
+met_ended first last (suc n) [] ended = refl
+met_ended first last (suc n) (x ∷ xs) ended =
+    ap (λ (b : Bool). cond b (suc (met_count first last (take n xs))) (met_count first last (take n xs))) (ends_first first last x.first x.last (ended 0 x refl (omega arith)))
+    ∙ met_ended first last n xs (λ k r is lo. ended (suc k) r is (omega arith))
+
+-- and none of those that begin behind it
+pub met_back : (first last n : ℕ) (xs : List HoldRun) → ((k : ℕ) (r : HoldRun) → slice_get xs k ≡ Some r → n ≤ k → last < r.first) → met_count first last xs ≡ met_count first last (take n xs)
+met_back first last zero [] later = refl
+met_back first last zero (x ∷ xs) later =
+    ap (λ (b : Bool). cond b (suc (met_count first last xs)) (met_count first last xs)) (begins_later first last x.first x.last (later 0 x refl (omega arith)))
+    ∙ met_back first last zero xs (λ k r is hi. later (suc k) r is (omega arith))
+met_back first last (suc n) [] later = refl
+met_back first last (suc n) (x ∷ xs) later =
+    elim (nat_le (max first x.first) (min last x.last)) as (λ b. cond b (suc (met_count first last xs)) (met_count first last xs)
+    ≡ cond b (suc (met_count first last (take n xs))) (met_count first last (take n xs))) [
+      | true ↦ ap suc (met_back first last n xs (λ k r is hi. later (suc k) r is (omega arith)))
+      | false ↦ met_back first last n xs (λ k r is hi. later (suc k) r is (omega arith))
+    ]
+
+pub met_next : (first last n : ℕ) (xs : List HoldRun) (r : HoldRun) → slice_get xs n ≡ Some r → first ≤ last → r.first ≤ r.last → r.first ≤ last → first ≤ r.last
     → met_count first last (take (suc n) xs) ≡ suc (met_count first last (take n xs))
-met_next first last n [] r is begins ends = absurd (cc)
-met_next first last zero (x ∷ xs) r is begins ends =
+met_next first last n [] r is order some begins ends = absurd (cc)
+met_next first last zero (x ∷ xs) r is order some begins ends =
     let same = one_of x r is in
     let lo : x.first ≤ last = subst (λ (z : HoldRun). z.first ≤ last) (sym same) begins in
     let hi : first ≤ x.last = subst (λ (z : HoldRun). first ≤ z.last) (sym same) ends in
-    ap (λ (b : Bool). cond b 1 0) (meets first last x.first x.last lo hi)
-met_next first last (suc n) (x ∷ xs) r is begins ends =
-    elim (nat_le x.first last && nat_le first x.last) as (λ b. cond b (suc (met_count first last (take (suc n) xs))) (met_count first last (take (suc n) xs))
+    ap (λ (b : Bool). cond b 1 0) (meets first last x.first x.last order (subst (λ (z : HoldRun). z.first ≤ z.last) (sym same) some) lo hi)
+met_next first last (suc n) (x ∷ xs) r is order some begins ends =
+    elim (nat_le (max first x.first) (min last x.last)) as (λ b. cond b (suc (met_count first last (take (suc n) xs))) (met_count first last (take (suc n) xs))
     ≡ suc (cond b (suc (met_count first last (take n xs))) (met_count first last (take n xs)))) [
-      | true ↦ ap suc (met_next first last n xs r is begins ends)
-      | false ↦ met_next first last n xs r is begins ends
+      | true ↦ ap suc (met_next first last n xs r is order some begins ends)
+      | false ↦ met_next first last n xs r is order some begins ends
     ]
 
 pub met_front : (first last n : ℕ) (xs : List HoldRun) → met_count first last (take n xs) ≤ met_count first last xs
 met_front first last zero xs = omega arith
 met_front first last (suc n) [] = omega arith
 met_front first last (suc n) (x ∷ xs) =
-    elim (nat_le x.first last && nat_le first x.last) as (λ b. cond b (suc (met_count first last (take n xs))) (met_count first last (take n xs))
+    elim (nat_le (max first x.first) (min last x.last)) as (λ b. cond b (suc (met_count first last (take n xs))) (met_count first last (take n xs))
     ≤ cond b (suc (met_count first last xs)) (met_count first last xs)) [
       | true ↦ omega (arith, met_front first last n xs)
       | false ↦ met_front first last n xs
@@ -211,9 +248,9 @@ one_more first last (suc n) xs now new r some is there made =
     ∙ next_cut first last n xs r (sym (ap (slice_get xs) back) ∙ there)
     ∙ ap (λ (k : ℕ). take k xs ++ cut first last (drop k xs)) (sym back)
 
-pub one_more_met : (first last place : ℕ) (xs : List HoldRun) (r : HoldRun) → 0 < place → slice_get xs (place - 1) ≡ Some r → r.first ≤ last → first ≤ r.last
+pub one_more_met : (first last place : ℕ) (xs : List HoldRun) (r : HoldRun) → 0 < place → slice_get xs (place - 1) ≡ Some r → first ≤ last → r.first ≤ r.last → r.first ≤ last → first ≤ r.last
     → met_count first last (take place xs) ≡ suc (met_count first last (take (place - 1) xs))
-one_more_met first last zero xs r some there begins ends = absurd (omega arith)
-one_more_met first last (suc n) xs r some there begins ends =
+one_more_met first last zero xs r some there order own begins ends = absurd (omega arith)
+one_more_met first last (suc n) xs r some there order own begins ends =
     let back : suc n - 1 ≡ n = omega arith in
-    met_next first last n xs r (sym (ap (slice_get xs) back) ∙ there) begins ends ∙ ap (λ (k : ℕ). suc (met_count first last (take k xs))) (sym back)
+    met_next first last n xs r (sym (ap (slice_get xs) back) ∙ there) order own begins ends ∙ ap (λ (k : ℕ). suc (met_count first last (take k xs))) (sym back)

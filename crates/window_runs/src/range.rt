@@ -77,7 +77,8 @@ fn cut_run<L: Ledger>(
     ensures paired { index.new.pairs ≡ indexed list.new.runs }
     ensures list_room { list.old.room ≤ list.new.room }
     ensures index_room { index.old.room ≤ index.new.room }
-    ensures steps { steps.new ≤ steps.old + 2 }
+    ensures at_most { steps.new ≤ steps.old + 2 }
+    ensures at_least { steps.old ≤ steps.new }
 {
     if run.first < first {
         if last < run.last {
@@ -114,7 +115,8 @@ fn cut_at<L: Ledger>(
     ensures paired { index.new.pairs ≡ indexed list.new.runs }
     ensures list_room { list.old.room ≤ list.new.room }
     ensures index_room { index.old.room ≤ index.new.room }
-    ensures steps { steps.new ≤ steps.old + 3 }
+    ensures at_most { steps.new ≤ steps.old + 3 }
+    ensures at_least { steps.old + 1 ≤ steps.new }
 {
     let run = *list.at(place, steps);
     let gone = overlap(&run, first, last);
@@ -140,7 +142,8 @@ pub(crate) fn end_range<L: Ledger>(
     ensures paired { index.new.pairs ≡ indexed list.new.runs }
     ensures list_room { list.old.room ≤ list.new.room }
     ensures index_room { index.old.room ≤ index.new.room }
-    ensures steps { steps.new ≤ steps.old + 3 * met_count first last list.old.runs }
+    ensures at_most { steps.new ≤ steps.old + 3 * met_count first last list.old.runs }
+    ensures at_least { steps.old + met_count first last list.old.runs ≤ steps.new }
 {
     let start = count_ended(list.list(), first);
     let end = count_begun(list.list(), last);

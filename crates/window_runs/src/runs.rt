@@ -67,7 +67,8 @@ impl WindowRuns {
     fn end<L: Ledger>(&mut self, first: u64, last: u64, steps: &mut Steps<L>)
         ensures held { self.new.held ≡ without_range first last self.old.held }
         ensures spare { self.old.spare ≤ self.new.spare }
-        ensures steps { (runs : List HoldRun) → IsRunList self.old.held runs → steps.new ≤ steps.old + 3 * met_count first last runs }
+        ensures at_most { (runs : List HoldRun) → IsRunList self.old.held runs → steps.new ≤ steps.old + 3 * met_count first last runs }
+        ensures at_least { (runs : List HoldRun) → IsRunList self.old.held runs → steps.old + met_count first last runs ≤ steps.new }
     {
         if last < first {
             return;

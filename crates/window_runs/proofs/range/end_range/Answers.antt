@@ -4,7 +4,7 @@ use Rattle.lock_index.specs.Runs.{IsCanonical}
 use Rattle.lock_index.specs.declared.run.HoldRun.{HoldRun}
 use Rattle.window_runs.proofs.Splits.{same_get}
 use Rattle.window_runs.proofs.Cuts.{canonical_behind, each_holds}
-use Rattle.window_runs.proofs.Ranges.{all_cut, met_front, next_place, none_cut, one_more, one_more_met}
+use Rattle.window_runs.proofs.Ranges.{all_cut, met_back, met_ended, met_front, next_place, none_cut, one_more, one_more_met, run_order}
 use Rattle.window_runs.proofs.range.end_range.Goals as goal
 
 pub loop-place-init : goal.loop-place-init
@@ -19,6 +19,7 @@ loop-place-init g c =
       omega arith,
       omega arith,
       omega (arith, met_front c.args.first c.args.last n xs),
+      omega (arith, met_back c.args.first c.args.last n xs (λ k r is hi. c.count_begun-end.ensures.others k r (ap (λ (l : List HoldRun). slice_get l k) c.list-2.ensures ∙ is) hi)),
     )
 
 pub overflow_cast-place : goal.overflow_cast-place
@@ -72,14 +73,15 @@ loop-place-preserved g c =
     (omega (arith, c.loop-place-test.true, c.loop-place.invariant.1)) in
     let ends : c.args.first ≤ next.run.last = c.count_ended-start.ensures.others (c.loop-place.place - 1) next.run (ap (λ (l : List HoldRun). slice_get l (c.loop-place.place - 1)) c.list.ensures ∙ next.there)
     (omega (arith, c.loop-place-test.true)) in
-    let met = one_more_met c.args.first c.args.last c.loop-place.place xs next.run some next.there begins ends in (
+    let met = one_more_met c.args.first c.args.last c.loop-place.place xs next.run some next.there c.requires.order (run_order xs (c.loop-place.place - 1) next.run c.requires.canonical next.there) begins ends in (
       one_more c.args.first c.args.last c.loop-place.place xs c.loop-place.list.runs c.cut_at-gone.new.list.runs next.run some c.loop-place.invariant.0 next.there (c.cut_at-gone.ensures.runs next.run next.same),
       omega (arith, c.loop-place.invariant.1),
       omega (arith, c.loop-place.invariant.2, c.cut_at-gone.ensures.gone),
       c.cut_at-gone.ensures.paired,
       omega (arith, c.loop-place.invariant.4, c.cut_at-gone.ensures.list_room),
       omega (arith, c.loop-place.invariant.5, c.cut_at-gone.ensures.index_room),
-      omega (arith, c.loop-place.invariant.6, c.cut_at-gone.ensures.steps, met),
+      omega (arith, c.loop-place.invariant.6, c.cut_at-gone.ensures.at_most, met),
+      omega (arith, c.loop-place.invariant.7, c.cut_at-gone.ensures.at_least, met),
     )
 
 pub returns-clause-runs : goal.returns-clause-runs
@@ -87,3 +89,12 @@ returns-clause-runs g c =
     c.loop-place.invariant.0
     ∙ all_cut c.args.first c.args.last c.loop-place.place c.args.list.now.runs c.requires.order c.requires.canonical
     (λ k r is lo. c.count_ended-start.ensures.ended k r (ap (λ (l : List HoldRun). slice_get l k) c.list.ensures ∙ is) (omega (arith, lo, c.loop-place-test.false)))
+
+pub returns-clause-at_least : goal.returns-clause-at_least
+returns-clause-at_least g c =
+    omega (
+      arith,
+      c.loop-place.invariant.7,
+      met_ended c.args.first c.args.last c.loop-place.place c.args.list.now.runs
+          (λ k r is lo. c.count_ended-start.ensures.ended k r (ap (λ (l : List HoldRun). slice_get l k) c.list.ensures ∙ is) (omega (arith, lo, c.loop-place-test.false))),
+    )

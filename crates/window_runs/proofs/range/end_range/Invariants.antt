@@ -10,6 +10,7 @@ invariant-loop-place g l =
     × (l.gone + length (held_of l.list.runs) ≡ length (held_of l.fn.list.runs)) × (l.index.pairs ≡ indexed l.list.runs)
     × (l.fn.list.room ≤ l.list.room) × (l.fn.index.room ≤ l.index.room)
     × (l.steps + 3 * met_count l.first l.last (take l.place l.fn.list.runs) ≤ l.fn.steps + 3 * met_count l.first l.last l.fn.list.runs)
+    × (l.fn.steps + met_count l.first l.last l.fn.list.runs ≤ l.steps + met_count l.first l.last (take l.place l.fn.list.runs))
 
 abbrev pub decreases-loop-place : goal.decreases-loop-place
 decreases-loop-place g l = l.place - l.start
