@@ -2,6 +2,7 @@
 use crate::adapters::Adapters;
 use crate::formats::Formats;
 use crate::stores::Stores;
+use crate::windows::Windows;
 use row_text::{Rows, Taken, compared, shortened};
 use std::alloc::Global;
 use std::io;
@@ -11,6 +12,7 @@ enum Layer {
     Formats,
     Stores,
     Adapters,
+    Windows,
 }
 
 #[derive(Drop)]
@@ -19,6 +21,7 @@ pub struct Case {
     formats: Formats,
     stores: Stores,
     adapters: Adapters,
+    windows: Windows,
 }
 
 fn layer_of(name: &str) -> Option<Layer> {
@@ -26,6 +29,7 @@ fn layer_of(name: &str) -> Option<Layer> {
         "formats" => Some(Layer::Formats),
         "stores" => Some(Layer::Stores),
         "adapters" => Some(Layer::Adapters),
+        "windows" => Some(Layer::Windows),
         _ => None,
     }
 }
@@ -45,6 +49,7 @@ impl Case {
             formats: Formats::new(alloc),
             stores: Stores::new(alloc),
             adapters: Adapters::None,
+            windows: Windows::new(alloc),
         }
     }
 
@@ -66,6 +71,7 @@ impl Case {
             Layer::Formats => self.formats.told(alloc, kind, words),
             Layer::Stores => self.stores.told(alloc, kind, words),
             Layer::Adapters => self.adapters.told(alloc, kind, words),
+            Layer::Windows => self.windows.told(alloc, kind, words),
         }
     }
 }
@@ -74,6 +80,7 @@ impl Rows for Case {
     fn begin(&mut self, alloc: Global) -> io::Result<()> {
         self.stores.set(Stores::new(alloc));
         self.adapters.set(Adapters::None);
+        self.windows.set(Windows::new(alloc));
         self.formats.begin(alloc)
     }
 

@@ -1,7 +1,7 @@
-//! Worked examples of the lower layers: formats, stores on disks in memory, and what adapters ask of the system.
+//! Worked examples of the lower layers: formats, stores on disks in memory, what adapters ask of the system, and windows.
 //!
-//! A line `layer NAME` before the cases of a file says which they are about: `formats`, `stores` or `adapters`. The heads of
-//! `formats.rt`, `stores.rt` and `adapters.rt` say which lines there are.
+//! A line `layer NAME` before the cases of a file says which they are about: `formats`, `stores`, `adapters` or `windows`. The
+//! heads of `formats.rt`, `stores.rt`, `adapters.rt` and `windows.rt` say which lines there are.
 #![tactic(auto)]
 
 mod acks;
@@ -22,6 +22,7 @@ mod sessions;
 mod stores;
 mod streams;
 mod values;
+mod windows;
 
 use case::Case;
 use row_text::run_files;
