@@ -1,8 +1,7 @@
 -- Openings and restarts of the shard.
-use Rattle.std.proofs.Common.{◌≡◌, ◌≢◌, ◌⊎◌, inl, inr, refl, sym, ap, ◌∙◌, subst, ℕ, List, Bool, true, false, Some, None, is_some, Result, Ok, Err, IsErr, IfErr, MatchResult}
+use Rattle.std.proofs.Common.{◌≡◌, ◌≢◌, ◌⊎◌, inl, inr, refl, sym, ap, ◌∙◌, subst, ℕ, List, true, false, Some, None, is_some, Result, Ok, Err, IsErr, IfErr, MatchResult}
 use Rattle.std.specs.declared.option.Option.{Option}
 use Rattle.std.specs.Option.{option_map}
-use Rattle.edge_io.specs.declared.fault.Armed.{Armed}
 use Rattle.edge_io.specs.declared.fault.Armed.TheVariants.{Nothing}
 use Rattle.edge_io.specs.Armed.{RunsOn}
 use Rattle.edge_io.specs.Disk.{IsTold, Within, LosesPower}

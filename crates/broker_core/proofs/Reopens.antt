@@ -1,7 +1,5 @@
 -- Openings and restarts of a hosted partition.
 use Rattle.std.proofs.Common.{◌≡◌, ◌≢◌, ◌≤◌, ◌⊎◌, arith, inl, inr, refl, sym, ◌∙◌, subst, ℕ, List, Bool, true, false, Some, is_some, Result, Ok, Err, IfErr, MatchResult, ◌↔◌}
-use Rattle.std.specs.declared.option.Option.{Option}
-use Rattle.edge_io.specs.declared.fault.Armed.{Armed}
 use Rattle.edge_io.specs.declared.fault.Armed.TheVariants.{Nothing}
 use Rattle.edge_io.specs.Armed.{RunsOn}
 use Rattle.edge_io.specs.Disk.{IsTold, Within}

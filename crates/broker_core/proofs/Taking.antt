@@ -5,7 +5,6 @@ use Rattle.std.specs.List.{AllByRecursion}
 use Rattle.std.specs.declared.option.Option.{Option}
 use Rattle.edge_io.specs.Bays.{Holds, IsAsTold, SameSlot}
 use Rattle.edge_io.specs.Causes.{Rose}
-use Rattle.gate_journal.specs.Frames.{StandsAs}
 use Rattle.broker_model.specs.Hosted.{IsOneOf, same_name}
 use Rattle.broker_core.specs.Bays.{HoldsIf, IsLeftAs, OneRisen, RisenIf, StaysAs, TellsStill}
 use Rattle.broker_core.specs.Hosts.{AreDistinct, NotIn}

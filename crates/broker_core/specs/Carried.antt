@@ -1,9 +1,8 @@
 -- How a shard in memory and on its disks stands for the machine's, and what a call makes of both. This project's own.
 -- For example a store of no keys whose write of `g1` failed at its last sync stands for a shard of no keys with the state of `g1` pending,
 -- and a partition whose append of a batch failed so for one with that batch pending.
-use Rattle.std.specs.Prelude.{◌≡◌, ◌≤◌, ◌⊎◌, ℕ, List, Bool, false, is_some, if◌then◌else◌}
+use Rattle.std.specs.Prelude.{◌≡◌, ◌≤◌, ◌⊎◌, ℕ, List, false, is_some, if◌then◌else◌}
 use Rattle.std.specs.declared.option.Option.{Option}
-use Rattle.edge_io.specs.declared.fault.Armed.{Armed}
 use Rattle.edge_io.specs.Causes.{Rose}
 use Rattle.edge_io.specs.Disk.{IsTold}
 use Rattle.share_model.specs.ForeignRules.{share_state_at}

@@ -1,10 +1,9 @@
 -- How a broker in memory and on its disks stands for the machine. This project's own.
 -- For example one that was just started stands for the opening of its disks' contents, to which nobody has connected.
-use Rattle.std.specs.Prelude.{◌≡◌, ◌⊎◌, ◌≤◌, ◌^◌, ◌-◌, ◌∷◌, ◌++◌, ℕ, List, [], length, Bool, if◌then◌else◌}
+use Rattle.std.specs.Prelude.{◌≡◌, ◌⊎◌, ◌≤◌, ◌^◌, ◌-◌, ◌∷◌, ◌++◌, ℕ, List, [], length, if◌then◌else◌}
 use Rattle.std.specs.List.{AllByRecursion}
 use Rattle.edge_io.specs.declared.fault.FaultMode.{FaultMode}
 use Rattle.std.specs.declared.option.Option.{Option}
-use Rattle.edge_io.specs.declared.fault.Armed.{Armed}
 use Rattle.session_script.specs.declared.event.Event.{Event}
 use Rattle.session_script.specs.declared.event.Event.TheVariants.{Open, Bytes, Close, Step, Expire, Tick, Arm, Power}
 use Rattle.session_script.specs.declared.event.Outcome.{Outcome}

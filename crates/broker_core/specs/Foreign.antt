@@ -1,8 +1,6 @@
 -- The slot of foreign state as calls leave it (this project's own).
 -- For example an arm of `foreign/state-b` leaves the first disk, and the states, as they were.
-use Rattle.std.specs.Prelude.{◌≡◌, ◌≢◌, ◌⊎◌, ℕ, List, Bool}
-use Rattle.std.specs.declared.option.Option.{Option}
-use Rattle.edge_io.specs.declared.fault.Armed.{Armed}
+use Rattle.std.specs.Prelude.{◌≡◌, ◌≢◌, ◌⊎◌, ℕ, List}
 use Rattle.edge_io.specs.declared.fault.FaultMode.{FaultMode}
 use Rattle.edge_io.specs.Armed.{ArmsAlone}
 use Rattle.edge_io.specs.Causes.{Rose}

@@ -3,8 +3,6 @@
 -- nothing is pending.
 use Rattle.std.specs.Prelude.{◌≡◌, ◌≢◌, ◌⊎◌, ◌≤◌, ◌∷◌, ◌++◌, [], ℕ, List, Bool, true, false, Some, None}
 use Rattle.std.specs.List.{AllByRecursion}
-use Rattle.std.specs.declared.option.Option.{Option}
-use Rattle.edge_io.specs.declared.fault.Armed.{Armed}
 use Rattle.edge_io.specs.declared.fault.Armed.TheVariants.{Nothing}
 use Rattle.edge_io.specs.declared.name.DiskPlace.{DiskPlace}
 use Rattle.edge_io.specs.Armed.{RunsOn, Spends}

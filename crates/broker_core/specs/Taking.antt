@@ -1,9 +1,8 @@
 -- How the broker's disks are taken from a bay one after another, and put back. This project's own.
 -- For example the three disks of each of two partitions are taken and opened in the order of their shards; where the second partition is
 -- damaged, its disks are put back, and then those of the first.
-use Rattle.std.specs.Prelude.{◌≡◌, ◌≢◌, ◌≤◌, ◌-◌, ◌+◌, ◌^◌, ◌⊎◌, min, ℕ, List, [], ◌∷◌, ◌++◌, Bool, true, false, Some}
+use Rattle.std.specs.Prelude.{◌≡◌, ◌≢◌, ◌≤◌, ◌-◌, ◌+◌, ◌^◌, ◌⊎◌, min, ℕ, List, [], ◌∷◌, ◌++◌, true, false, Some}
 use Rattle.std.specs.declared.option.Option.{Option}
-use Rattle.edge_io.specs.declared.fault.Armed.{Armed}
 use Rattle.edge_io.specs.Bays.{IsAsTold, IsSoundDisk, Holds, SameSlot}
 use Rattle.edge_io.specs.Causes.{Rose}
 use Rattle.share_model.specs.ForeignRules.{ShareStates}

@@ -1,6 +1,6 @@
 -- Counted calls in a row: one call, then others behind it.
 use Rattle.std.proofs.Common.{◌≡◌, inl, inr, ⊎_elim, refl, sym, ap, ◌∙◌, subst, rules, ℕ, ◌+◌, ◌-◌, ◌≤◌, if◌then◌else◌}
-use Rattle.std.proofs.Common.{List, Bool, true, false, Option, Ok, Err, arith}
+use Rattle.std.proofs.Common.{Bool, true, false, Ok, Err, arith}
 use Rattle.std.proofs.lemmas.Bool.{false_from_ne_true}
 use Rattle.std.proofs.lemmas.Bool.Decides.{nat_tests}
 use Rattle.edge_io.specs.declared.fault.Armed.{Armed}

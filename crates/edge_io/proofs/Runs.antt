@@ -1,6 +1,6 @@
 -- What calls of a disk do to its armed fault and its count, one after the other.
 use Rattle.std.proofs.Common.{◌≡◌, ◌⊎◌, inl, inr, ⊎_elim, refl, sym, ap, ◌∙◌, subst, rules, ℕ, ◌-◌, ◌==◌, if◌then◌else◌}
-use Rattle.std.proofs.Common.{List, Bool, true, false, Option, Result, Ok, Err, OnOk, IsErr, is_some, arith}
+use Rattle.std.proofs.Common.{Bool, true, false, Result, Ok, Err, OnOk, IsErr, is_some, arith}
 use Rattle.std.proofs.lemmas.Bool.{false_from_ne_true, cases_Bool}
 use Rattle.edge_io.specs.declared.fault.FaultMode.{FaultMode}
 use Rattle.edge_io.specs.declared.fault.FaultMode.TheVariants.{Once, Torn, Dead}

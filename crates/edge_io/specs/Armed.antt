@@ -1,8 +1,7 @@
 -- What an armed fault does to the calls that it counts: reads, writes, cuts and syncs. This project's own. Worked example:
 -- `wxyz` is written to an empty disk whose next call is broken. By `Once` nothing is written, by `Torn` and `Dead` `wx` is;
 -- the call after it passes by `Once` and `Torn`, and fails by `Dead`.
-use Rattle.std.specs.Prelude.{◌≡◌, ◌⊎◌, ℕ, ◌-◌, ◌≤◌, ◌==◌, if◌then◌else◌, Bool, true, false, List, is_some, Result, OnOk}
-use Rattle.std.specs.declared.option.Option.{Option}
+use Rattle.std.specs.Prelude.{◌≡◌, ◌⊎◌, ℕ, ◌-◌, ◌≤◌, ◌==◌, if◌then◌else◌, Bool, true, false, is_some, Result, OnOk}
 use Rattle.edge_io.specs.declared.fault.FaultMode.{FaultMode}
 use Rattle.edge_io.specs.declared.fault.FaultMode.TheVariants.{Once, Torn, Dead}
 use Rattle.edge_io.specs.declared.fault.Armed.{Armed}

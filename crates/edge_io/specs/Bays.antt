@@ -1,8 +1,7 @@
 -- The disks of a bay, by their names. This project's own. Worked example: a disk that is put back with the
 -- content `kept` has that content when it is taken again, and a disk of another name is as it was.
-use Rattle.std.specs.Prelude.{◌≡◌, ◌<◌, ◌^◌, ℕ, Bool, List, Some, is_some, true, false}
+use Rattle.std.specs.Prelude.{◌≡◌, ◌<◌, ◌^◌, ℕ, List, Some, is_some, true, false}
 use Rattle.std.specs.declared.option.Option.{Option}
-use Rattle.edge_io.specs.declared.fault.Armed.{Armed}
 use Rattle.edge_io.specs.declared.fault.Armed.TheVariants.{Nothing}
 use Rattle.edge_io.specs.Disk.{IsTold}
 use Rattle.edge_io.specs.Names.{IsDiskName}

@@ -1,8 +1,7 @@
 -- Counted calls in a row, on a disk that tells its content, where the first that fails is the last one: reads, writes, cuts
 -- and syncs. This project's own. Worked example: four calls of a disk whose fault is armed after four calls or more pass; of
 -- a disk whose fault is armed after one the second fails, and there is no third.
-use Rattle.std.specs.Prelude.{◌≡◌, ◌⊎◌, ℕ, ◌-◌, ◌≤◌, ◌<◌, Bool, true, List, Result, Err, OnOk}
-use Rattle.std.specs.declared.option.Option.{Option}
+use Rattle.std.specs.Prelude.{◌≡◌, ◌⊎◌, ℕ, ◌-◌, ◌≤◌, ◌<◌, Bool, true, Result, Err, OnOk}
 use Rattle.edge_io.specs.declared.fault.Armed.{Armed}
 use Rattle.edge_io.specs.declared.fault.Armed.TheVariants.{Nothing, After, Broken}
 use Rattle.edge_io.specs.Armed.{breaks, next_armed, RunsOn, StarvesUnarmed}

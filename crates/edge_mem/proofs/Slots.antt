@@ -4,7 +4,7 @@ use Rattle.std.proofs.Common.{if◌then◌else◌, Bool, true, false, List, [], 
 use Rattle.std.proofs.Math.ListN.{set}
 use Rattle.std.proofs.lemmas.Bool.{cases_Bool}
 use Rattle.std.specs.Cmp.Lexicographic.{same_text, other_text}
-use Rattle.edge_mem.specs.Bays.{same_name, slot_index, found, behind, disk_in, out_in, taken_in, is_empty, fresh, BayState, disk_at, out_at, taken_at, Taken, Put}
+use Rattle.edge_mem.specs.Bays.{same_name, slot_index, found, behind, disk_in, out_in, taken_in, is_empty, fresh, BayState, disk_at, out_at, Taken, Put}
 use Rattle.edge_io.specs.Bays.{SameSlot}
 use Rattle.edge_mem.specs.Seen.{bay_view}
 use Rattle.edge_mem.specs.Past.{DiskState}

@@ -3,13 +3,11 @@ use Rattle.std.proofs.Common.{◌≡◌, ◌≢◌, ◌⊎◌, inl, inr, ⊎_eli
 use Rattle.std.proofs.Common.{if◌then◌else◌, Bool, true, false, List, [], ◌∷◌, ◌++◌, length, get_or, Option, Some, None, IfSome, arith, rules}
 use Rattle.std.proofs.Math.ListN.{set}
 use Rattle.std.proofs.lemmas.Bool.{cases_Bool}
-use Rattle.std.proofs.lemmas.List.Elements.{All-set, All-append, All-get_or}
-use Rattle.std.specs.List.{All}
+use Rattle.std.proofs.lemmas.List.Elements.{All-set, All-get_or}
 use Rattle.std.specs.Cmp.Lexicographic.{same_text, other_text}
 use Rattle.edge_real.specs.Files.{FileState}
-use Rattle.edge_real.specs.Folders.{same_name, slot_index, found, behind, out_in, taken_in, FolderState, out_at, taken_at}
+use Rattle.edge_real.specs.Folders.{same_name, slot_index, found, behind, out_in, taken_in, FolderState}
 use Rattle.edge_real.specs.Folders.{IsNamed, AreNamed, Same, Takes, Leaves, Returns}
-use Rattle.edge_io.specs.Bays.{SameSlot}
 use Rattle.edge_real.specs.declared.slots.Slot.{Slot}
 
 same_yes : (a b : List ℕ) → a ≡ b → same_name a b ≡ true

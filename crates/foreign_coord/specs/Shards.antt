@@ -3,7 +3,7 @@
 -- Worked example: a shard has no keys and nothing is pending. An initialisation of `g1` with epoch 3 and start 7 meets a device
 -- fault at its last sync: it is answered with code 56, there is still no key, and the state of `g1` is pending. A read of `g1` is
 -- answered with code 3, and leaves both. The same initialisation again is answered with code 0: `g1` is there, and nothing is pending.
-use Rattle.std.specs.Prelude.{◌≡◌, ◌⊎◌, ◌<◌, ◌+◌, ◌^◌, ℕ, pos, List, length, Bool, true, false, Option, Some, None, is_some, if◌then◌else◌}
+use Rattle.std.specs.Prelude.{◌≡◌, ◌⊎◌, ◌<◌, ◌+◌, ◌^◌, ℕ, List, length, Bool, true, false, Option, Some, None, is_some, if◌then◌else◌}
 use Rattle.std.specs.Option.{option_map}
 use Rattle.std.specs.Ordering.{int_eq}
 use Rattle.share_model.specs.ForeignRules.{code_alone}

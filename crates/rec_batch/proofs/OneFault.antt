@@ -1,6 +1,5 @@
 -- Bytes have one first fault.
 use Rattle.std.proofs.Common.{◌≡◌, ℕ, zero, suc, ◌+◌, ◌<◌, ◌≤◌, List, [], ◌∷◌, ◌++◌, length, inl, inr, refl, sym, ap, subst, ◌∙◌, append_assoc, arith}
-use Rattle.std.specs.Prelude.{pos}
 use Rattle.std.proofs.lemmas.Bool.{cases_lt}
 use Rattle.std.proofs.lemmas.Int.{ints}
 use Rattle.share_model.specs.declared.fault.BatchFault.{BatchFault}
@@ -8,7 +7,7 @@ use Rattle.share_model.specs.declared.fault.BatchFault.TheVariants.{TooLarge, Sh
 use Rattle.share_model.specs.declared.fault.BatchFault.TheVariants.{Control, HasProducer, BadRecord, BadDeltas}
 use Rattle.flex_fields.specs.Grammar.{AreMany}
 use Rattle.rec_batch.specs.declared.form.Form.{Form}
-use Rattle.rec_batch.specs.Fields.{record_count, records_part}
+use Rattle.rec_batch.specs.Fields.{records_part}
 use Rattle.rec_batch.specs.Grammar.{IsRecord, Record}
 use Rattle.rec_batch.specs.Batches.{Applies, BeginsNoRecord, IsBadRecord, IsFirstFault, row}
 use Rattle.rec_batch.proofs.Uniqueness.{same_first}

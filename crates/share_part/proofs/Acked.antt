@@ -473,8 +473,7 @@ module _ {D W : Type 0} (seen : D → DiskView) (holding : W → Held) (visit : 
       stopped seen holding visit old states windows sound few hosted kept now new r ack r_is r_acked idle runs more e done is follows (raised now new) refl refl refl
       (inr (λ s c.
       let first = steps seen holding visit once states windows sound few hosted kept ack (subst (Acked seen holding visit once states windows sound few hosted kept) r_is r_acked)
-      (raised_to now s) (raised_carries old s c) in
-      (
+      (raised_to now s) (raised_carries old s c) in (
         first.0,
         untouched seen holding (mid seen holding visit once states windows sound few hosted kept) (raised now new)
             (record { conf = u.conf; log = u.log; states = u.states; clock = ap (λ (n : ℕ). max n now) u.clock; held = u.held }) first.0 first.1,

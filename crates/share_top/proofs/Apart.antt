@@ -1,7 +1,5 @@
 -- What a command leaves alone, over calls of a bay.
-use Rattle.std.proofs.Common.{◌≡◌, refl, sym, ap, ◌∙◌, subst, ℕ, List, Bool, Some, is_some, true}
-use Rattle.std.specs.declared.option.Option.{Option}
-use Rattle.edge_io.specs.declared.fault.Armed.{Armed}
+use Rattle.std.proofs.Common.{◌≡◌, refl, sym, ap, ◌∙◌, subst, ℕ, List, Some, is_some}
 use Rattle.edge_io.specs.Armed.{RunsOn}
 use Rattle.edge_io.specs.Bays.{IsAsTold, Holds, SameSlot}
 use Rattle.edge_io.proofs.Runs.{runs_none}

@@ -1,6 +1,5 @@
 -- A script is done, unless no memory is found or a stream failed.
 use Rattle.std.proofs.Common.{◌≡◌, ◌≢◌, ◌⊎◌, inl, inr, refl, subst, ℕ, List, Option, Some, None, IfSome}
-use Rattle.edge_io.specs.declared.fault.Armed.{Armed}
 use Rattle.edge_io.specs.Causes.{Rose}
 use Rattle.session_script.specs.declared.event.Event.{Event}
 use Rattle.session_script.specs.declared.event.Outcome.{Outcome}

@@ -3,7 +3,6 @@ use Rattle.std.proofs.Common.{◌≡◌, ◌≢◌, ◌+◌, ◌<◌, ◌≤◌,
 use Rattle.std.proofs.Common.{take, drop, length-append}
 use Rattle.std.proofs.lemmas.List.{take-append-le, take-append-drop, length-take}
 use Rattle.std.proofs.Math.Seq.{take-append_seam}
-use Rattle.edge_io.specs.declared.fault.Armed.{Armed}
 use Rattle.session_script.specs.Unread.{Unread}
 use Rattle.session_script.specs.Reading.{Takes}
 use Rattle.rec_batch.specs.declared.form.Form.TheVariants.{Stored}

@@ -1,8 +1,7 @@
 -- How a replay ends: with its script, or within it.
-use Rattle.std.proofs.Common.{◌≡◌, ◌≤◌, inl, inr, refl, ◌∙◌, ℕ, List, [], ◌∷◌, ◌++◌, Bool, true, IfSome}
+use Rattle.std.proofs.Common.{◌≡◌, ◌≤◌, inl, inr, refl, ◌∙◌, ℕ, List, [], ◌∷◌, ◌++◌, true, IfSome}
 use Rattle.std.specs.declared.option.Option.{Option}
 use Rattle.std.specs.Io.KnownBytes.{Keeps, IsAtEnd}
-use Rattle.edge_io.specs.declared.fault.Armed.{Armed}
 use Rattle.edge_io.specs.Causes.{Rose}
 use Rattle.session_script.specs.declared.event.Event.{Event}
 use Rattle.session_script.specs.declared.event.Outcome.{Outcome}

@@ -1,10 +1,8 @@
 -- What a command leaves alone (this project's own).
 -- For example a `load` of partition 0 of `orders` uses the disk `orders/0/log`, and each other disk is as it was; and what it does to that disk
 -- arms no fault and loses no power.
-use Rattle.std.specs.Prelude.{◌≡◌, ℕ, List, Bool, Some, String}
-use Rattle.std.specs.declared.option.Option.{Option}
+use Rattle.std.specs.Prelude.{◌≡◌, ℕ, List, Some, String}
 use Rattle.std.specs.declared.alloc.Global.{Global}
-use Rattle.edge_io.specs.declared.fault.Armed.{Armed}
 use Rattle.edge_io.specs.Armed.{RunsOn}
 use Rattle.edge_io.specs.Bays.{SameSlot}
 use Rattle.topic_conf.specs.Configs.{ConfigParts}

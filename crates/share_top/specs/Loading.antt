@@ -1,13 +1,12 @@
 -- The loading of a segment into the log of one partition (this project's own).
 -- For example a segment of a batch of 69 bytes with base 0 and one of 61 bytes with base 1000000000000 and last delta 4, loaded into an
 -- empty log, ends with status 0 and the line `loaded 2 1000000000005`.
-use Rattle.std.specs.Prelude.{◌≡◌, ◌⊎◌, ◌<◌, ◌≤◌, ◌+◌, ◌-◌, ◌^◌, ℕ, List, [], ◌∷◌, ◌++◌, Bool, true, false, Some, None, IfSome, String, length, codes}
+use Rattle.std.specs.Prelude.{◌≡◌, ◌⊎◌, ◌<◌, ◌≤◌, ◌+◌, ◌-◌, ◌^◌, ℕ, List, [], ◌∷◌, ◌++◌, true, false, Some, None, IfSome, String, length, codes}
 use Rattle.std.specs.declared.option.Option.{Option}
 use Rattle.std.specs.declared.alloc.Global.{Global}
 use Rattle.std.specs.Option.{option_to_list}
 use Rattle.std.specs.Fmt.{decimal}
 use Rattle.std.specs.Io.KnownBytes.{Appends, Keeps, Consumes, IsAtEnd}
-use Rattle.edge_io.specs.Bays.{IsAsTold}
 use Rattle.edge_io.specs.Causes.{Rose}
 use Rattle.edge_io.specs.Names.{hosted_name}
 use Rattle.edge_io.specs.declared.name.DiskPlace.TheVariants.{Log}

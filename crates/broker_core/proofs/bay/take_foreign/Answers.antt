@@ -1,6 +1,5 @@
-use Rattle.std.proofs.Common.{◌≡◌, ◌∷◌, [], refl, subst, List, ℕ, Some, Err, rules}
-use Rattle.std.specs.declared.option.Option.{Option}
-use Rattle.broker_core.specs.Taking.{GetsAll, GetsNone, RefusesForeign}
+use Rattle.std.proofs.Common.{◌≡◌, ◌∷◌, [], refl, subst, List, ℕ, Err, rules}
+use Rattle.broker_core.specs.Taking.{GetsNone, RefusesForeign}
 use Rattle.broker_core.proofs.Pairs.{gets_states, none_both, put_state, refused_both, taken_both}
 use Rattle.broker_core.proofs.Stepping.{err_at}
 use Rattle.broker_core.proofs.bay.take_foreign.Goals as goal

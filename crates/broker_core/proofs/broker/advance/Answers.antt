@@ -6,7 +6,7 @@ use Rattle.broker_core.specs.Causes.{no_memory}
 use Rattle.broker_core.specs.Hosts.{disks_in, parts_of}
 use Rattle.broker_core.specs.Cores.{core_of}
 use Rattle.broker_core.proofs.Leading.{go_on_same}
-use Rattle.broker_core.proofs.Events.{opens, sends, closes, steps, expires, ticks, arms_one, restarts, stops_still, stops_step, stops_expire, advances_at, memory_stops, power_stops, open_held, moment_at, restarted_told}
+use Rattle.broker_core.proofs.Events.{opens, sends, closes, steps, expires, ticks, arms_one, restarts, stops_still, stops_step, stops_expire, advances_at, memory_stops, power_stops, open_held, moment_at}
 use Rattle.broker_core.proofs.broker.advance.Goals as goal
 
 pub returns-in_err-connect-in-Open-clause-stopped : goal.returns-in_err-connect-in-Open-clause-stopped

@@ -1,9 +1,6 @@
 use Rattle.std.proofs.Common.{◌≡◌, ◌<◌, inr, length, get_or, rules}
 use Rattle.call_fold.specs.declared.part.Produced.{Produced}
-use Rattle.share_model.specs.declared.visit.ExpireAnswer.{ExpireAnswer}
-use Rattle.share_model.specs.declared.visit.VisitAnswer.{VisitAnswer}
 use Rattle.broker_model.specs.Shards.PartCall.{Produces}
-use Rattle.broker_core.specs.Carried.Begun.{BeginsVisit, BeginsExpiry}
 use Rattle.broker_core.specs.Hosts.{LeadsSlot, HaltsSlot}
 use Rattle.broker_core.proofs.Stepping.{ok_weaker, on_err_weaker}
 use Rattle.broker_core.proofs.Places.{changes_set}

@@ -1,12 +1,11 @@
 use Rattle.std.proofs.Common.{◌≡◌, refl, sym, ap, ◌∙◌, subst, ℕ, List, Some, length}
-use Rattle.call_fold.specs.declared.part.Part.{Part}
-use Rattle.call_fold.specs.declared.part.Part.TheVariants.{Produce, Visit as PartVisit, Look, Heartbeat}
-use Rattle.call_fold.specs.declared.part.PartAnswer.TheVariants.{Foreign as AnswerForeign, Produce as AnswerProduce, Visit as AnswerVisit, Look as AnswerLook, Heartbeat as AnswerHeartbeat}
+use Rattle.call_fold.specs.declared.part.Part.TheVariants.{Produce}
+use Rattle.call_fold.specs.declared.part.PartAnswer.TheVariants.{Foreign as AnswerForeign, Produce as AnswerProduce, Visit as AnswerVisit}
 use Rattle.call_fold.specs.declared.part.Produced.{Produced}
 use Rattle.share_model.specs.declared.visit.VisitAnswer.{VisitAnswer}
 use Rattle.broker_model.specs.Shards.PartCall.{Visits, Produces, Looks}
 use Rattle.broker_model.specs.Shards.MembersCall.{Beats}
-use Rattle.broker_model.specs.Shards.ShardCall.{CallPart, CallMembers}
+use Rattle.broker_model.specs.Shards.ShardCall.{CallPart}
 use Rattle.broker_core.specs.Carried.Begun.{BeginsVisit}
 use Rattle.broker_model.specs.Hosted.{HoldsAt}
 use Rattle.broker_core.specs.Hosts.{AreOpen, GoOn, IsThere, LeadsSlot, StaysHosted, counts_in, disks_in, ends_over, parts_of}

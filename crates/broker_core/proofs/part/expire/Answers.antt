@@ -1,9 +1,9 @@
 use Rattle.std.proofs.Common.{◌≡◌, ◌⊎◌, false, subst, Ok, Err, IfOk, OnErr, rules}
-use Rattle.share_part.specs.Once.{AcksStand, Expired, PartStands, Visited}
+use Rattle.share_part.specs.Once.{Expired, PartStands}
 use Rattle.share_part.specs.Shards.{Carries, PartShardState}
 use Rattle.broker_core.specs.Carried.{holding}
 use Rattle.broker_core.proofs.Stepping.{on_err}
-use Rattle.broker_core.proofs.Parting.{expire_leads, expire_refused, expire_whole, grants_told, states_go}
+use Rattle.broker_core.proofs.Parting.{expire_leads, expire_refused, expire_whole}
 use Rattle.broker_core.proofs.Reopens.{fed_three}
 use Rattle.broker_core.proofs.part.expire.Goals as goal
 

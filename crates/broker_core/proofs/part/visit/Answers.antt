@@ -1,9 +1,9 @@
 use Rattle.std.proofs.Common.{◌≡◌, ◌⊎◌, false, subst, Ok, Err, IfOk, OnErr, rules}
-use Rattle.share_part.specs.Once.{AcksStand, Expired, PartStands, Visited}
+use Rattle.share_part.specs.Once.{AcksStand, Visited}
 use Rattle.share_part.specs.Shards.{Carries, IsUntouched, PartShardState}
 use Rattle.broker_core.specs.Carried.{holding}
 use Rattle.broker_core.proofs.Stepping.{on_err}
-use Rattle.broker_core.proofs.Parting.{visit_leads, visit_refused, visit_whole, grants_told, states_go}
+use Rattle.broker_core.proofs.Parting.{visit_leads, visit_refused, visit_whole}
 use Rattle.broker_core.proofs.Reopens.{fed_three}
 use Rattle.broker_core.proofs.part.visit.Goals as goal
 

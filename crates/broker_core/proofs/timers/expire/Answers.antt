@@ -1,4 +1,4 @@
-use Rattle.std.proofs.Common.{◌≡◌, Some, None, sym, rules}
+use Rattle.std.proofs.Common.{◌≡◌, Some, None, rules}
 use Rattle.topic_conf.specs.Topics.{shard_named}
 use Rattle.broker_core.specs.Hosts.{counts_in, disks_in, ends_over, parts_of}
 use Rattle.broker_core.proofs.Clients.{expired_at, none_told, not_expired}

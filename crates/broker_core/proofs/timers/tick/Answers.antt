@@ -1,4 +1,3 @@
-use Rattle.std.proofs.Common.{refl}
 use Rattle.broker_model.specs.Shards.MembersCall.{Ticks}
 use Rattle.broker_core.specs.Hosts.{disks_in, parts_of}
 use Rattle.broker_core.proofs.Leading.{go_on_same, members_lead}

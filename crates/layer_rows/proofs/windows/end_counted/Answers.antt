@@ -1,4 +1,4 @@
-use Rattle.std.proofs.Common.{◌≤◌, ◌∷◌, [], ℕ, Bool, true, false, cond, arith}
+use Rattle.std.proofs.Common.{◌≤◌, ◌∷◌, [], ℕ, true, false, cond, arith}
 use Rattle.std.specs.Prelude.{nat_le, min, max}
 use Rattle.lock_index.specs.Runs.{met_count}
 use Rattle.lock_index.specs.declared.run.HoldRun.{HoldRun}

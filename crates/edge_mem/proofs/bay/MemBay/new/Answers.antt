@@ -1,4 +1,4 @@
-use Rattle.std.proofs.Common.{◌≡◌, refl, sym, subst, List, [], Some, false, arith, rules}
+use Rattle.std.proofs.Common.{◌≡◌, refl, sym, subst, List, [], false, arith, rules}
 use Rattle.edge_io.specs.Bays.{IsSound}
 use Rattle.edge_mem.specs.Bays.{fresh}
 use Rattle.edge_mem.specs.Seen.{bay_view, disk_view}
