@@ -1,1 +1,2 @@
-
+-- Going: a text that is written line by line, from its begin to its end.
+pub mod Going

@@ -1,7 +1,7 @@
-ghost use Rattle.std.specs.Prelude.{◌≡◌, ◌≤◌, ◌++◌, ◌↔◌, [], length, IsTrue, OnOk, OnErr};
+ghost use Rattle.std.specs.Prelude.{◌≡◌, ◌<◌, ◌++◌, [], length, OnOk, OnErr};
 ghost use Rattle.std.specs.Fmt.{decimal, signed_decimal};
 ghost use Rattle.hex.specs.Hex.{encode_lower};
-ghost use Rattle.text_pieces.specs.Pieces.{WritesPieces, piece_size};
+ghost use Rattle.text_pieces.specs.Pieces.{HandsFull, WritesPieces, piece_size};
 
 use crate::fault::GenFault;
 use edge_io::{Sink, write_all};
@@ -72,7 +72,11 @@ impl Pieces {
         ensures err { OnErr result (self.new ≡ self.old) }
     {
         let start = self.waiting.len();
-        let Some(end) = bytes.len().checked_mul(2).and_then(|size| start.checked_add(size)) else {
+        let Some(end) = bytes
+            .len()
+            .checked_mul(2)
+            .and_then(|size| start.checked_add(size))
+        else {
             return Err(NoMemory);
         };
         self.waiting.resize(end, 0)?;
@@ -81,13 +85,6 @@ impl Pieces {
             Ok(()) => Ok(()),
             Err(_) => unreachable!(),
         }
-    }
-
-    /// Whether so much waits that it is time to hand it on: 65536 bytes or more.
-    pub fn is_full(&self) -> bool
-        ensures { IsTrue result ↔ (piece_size ≤ length self.now) }
-    {
-        self.waiting.len() >= PIECE_SIZE
     }
 
     /// Hands what waits to a sink. Then nothing waits, and the memory is kept for what comes next. At an `Err` the sink has
@@ -102,5 +99,16 @@ impl Pieces {
         }
         self.waiting.clear();
         Ok(())
+    }
+
+    /// Hands what waits to a sink, where that is a piece: 65536 bytes or more.
+    pub fn hand_full<O: Sink>(&mut self, output: &mut O) -> Result<(), GenFault>
+        ensures handed { HandsFull (O.held output.old) (O.held output.new) (O.faults output.old) (O.faults output.new) self.old self.new result }
+        ensures small { OnOk result (length self.new < piece_size) }
+    {
+        if self.waiting.len() < PIECE_SIZE {
+            return Ok(());
+        }
+        self.hand_on(output)
     }
 }

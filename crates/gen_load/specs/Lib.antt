@@ -1,0 +1,4 @@
+pub mod Session
+pub mod Frames
+pub mod Scripts
+pub mod Bounds
