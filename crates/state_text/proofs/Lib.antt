@@ -1,0 +1,2 @@
+-- Running: runs that are written one by one.
+pub mod Running
