@@ -1,7 +1,8 @@
--- The requests of the session, in the words of their schemas: Produce 9, ShareFetch 1 and ShareAcknowledge 1 (Kafka message schemas;
--- KIP-932), each in a frame with a request header of version 2 without a client id (KIP-482).
--- For example the second frame of the session of one round is `00000042 004e 0001 00000002 ffff 00 0267 0261 00000000 00000000
--- 00000001 00100000 000001f4 000001f4 02`, the topic's id, `02 00000000 01 00 00 01 00` (layer_rows, `a session of one round`).
+-- The requests of the session, in the words of their schemas: Produce 9, ShareFetch 1 and ShareAcknowledge 1 (Kafka
+-- message schemas; KIP-932), each in a frame with a request header of version 2 without a client id (KIP-482).
+-- For example the second frame of the session of one round is `00000042 004e 0001 00000002 ffff 00 0267 0261 00000000
+-- 00000000 00000001 00100000 000001f4 000001f4 02`, the topic's id, `02 00000000 01 00 00 01 00` (layer_rows, `a
+-- session of one round`).
 use Rattle.std.specs.Prelude.{ℕ, pos, negsuc, ◌+◌, ◌%◌, List, [], ◌∷◌, ◌++◌, length, replicate, codes, Some, None}
 use Rattle.std.specs.Int.{w32, to_be_bytes}
 use Rattle.std.specs.Fmt.{decimal}
@@ -25,7 +26,8 @@ frame_of head body = to_be_bytes w32 (length (request_head.bytes head ++ body)) 
 
 -- the header of this call and version
 abbrev pub head_of : ℕ → ℕ → ℕ → HeadParts
-head_of key version correlation = record { key = pos key; version = pos version; correlation = pos correlation; client = None }
+head_of key version correlation =
+    record { key = pos key; version = pos version; correlation = pos correlation; client = None }
 
 -- a round's batch has one to five records
 abbrev pub batch_size : ℕ → ℕ
@@ -41,7 +43,10 @@ produce_message round = record {
   transactional_id = None;
   acks = negsuc 0;
   timeout_ms = pos 30000;
-  topic_data = record { name = codes "orders"; partition_data = record { index = pos 0; records = Some (batch_bytes (records_of round)) } ∷ [] } ∷ [];
+  topic_data = record {
+    name = codes "orders";
+    partition_data = record { index = pos 0; records = Some (batch_bytes (records_of round)) } ∷ [];
+  } ∷ [];
 }
 
 abbrev pub member_id : Member → List ℕ
@@ -51,7 +56,10 @@ member_id B = codes "b"
 -- partition 0 of the topic `orders`, which has the id 22222222-2222-2222-2222-222222222222
 abbrev pub partition_with : List AcknowledgementBatch → List (ShareTopic SharePartition)
 partition_with batches =
-    record { topic_id = replicate 16 34; partitions = record { partition_index = pos 0; acknowledgement_batches = batches } ∷ [] } ∷ []
+    record {
+      topic_id = replicate 16 34;
+      partitions = record { partition_index = pos 0; acknowledgement_batches = batches } ∷ [];
+    } ∷ []
 
 -- a member of the group `g` asks for at most 500 records and 1048576 bytes, and waits for none
 abbrev pub fetch_message : Member → ℕ → ShareFetchRequest
@@ -81,5 +89,9 @@ ack_message member epoch kind first last = record {
   group_id = Some (codes "g");
   member_id = Some (member_id member);
   share_session_epoch = pos epoch;
-  topics = partition_with (record { first_offset = pos first; last_offset = pos last; acknowledge_types = pos (type_number kind) ∷ [] } ∷ []);
+  topics = partition_with (record {
+    first_offset = pos first;
+    last_offset = pos last;
+    acknowledge_types = pos (type_number kind) ∷ [];
+  } ∷ []);
 }

@@ -1,7 +1,8 @@
--- The session of a number (this project's own): a producer on connection 1 and the members `a` and `b` of the share group `g` on
--- connections 2 and 3 go over partition 0 of `orders` in rounds. In a round a batch is produced and one member fetches it; in each
--- third round it releases it and fetches again, in each seventh its lock expires and it fetches again; then it rejects it in each
--- fifth round, and else accepts it; and behind each round whose number 250 divides power is lost.
+-- The session of a number (this project's own): a producer on connection 1 and the members `a` and `b` of the share
+-- group `g` on connections 2 and 3 go over partition 0 of `orders` in rounds. In a round a batch is produced and one
+-- member fetches it; in each third round it releases it and fetches again, in each seventh its lock expires and it
+-- fetches again; then it rejects it in each fifth round, and else accepts it; and behind each round whose number 250
+-- divides power is lost.
 -- For example round 7 is Produce, Fetch, Expire, Fetch, Settle accept.
 use Rattle.std.specs.Prelude.{ℕ, zero, suc, ◌+◌, ◌-◌, ◌*◌, ◌%◌, nat_eq, if◌then◌else◌, List, [], ◌∷◌, ◌++◌, codes}
 use Rattle.session_script.specs.declared.event.Event.{Event}
@@ -68,10 +69,20 @@ asked_by B counts = counts.asked_b
 
 -- one frame of this member more
 abbrev pub asked_again : Member → Counts → Counts
-asked_again A counts =
-    record { frames = counts.frames + 1; first = counts.first; end = counts.end; asked_a = counts.asked_a + 1; asked_b = counts.asked_b }
-asked_again B counts =
-    record { frames = counts.frames + 1; first = counts.first; end = counts.end; asked_a = counts.asked_a; asked_b = counts.asked_b + 1 }
+asked_again A counts = record {
+  frames = counts.frames + 1;
+  first = counts.first;
+  end = counts.end;
+  asked_a = counts.asked_a + 1;
+  asked_b = counts.asked_b;
+}
+asked_again B counts = record {
+  frames = counts.frames + 1;
+  first = counts.first;
+  end = counts.end;
+  asked_a = counts.asked_a;
+  asked_b = counts.asked_b + 1;
+}
 
 abbrev pub counted : Counts → Act → Counts
 counted counts (produces round) = record {
@@ -84,7 +95,13 @@ counted counts (produces round) = record {
 counted counts (fetches round) = asked_again (member_of round) counts
 counted counts (settles round kind) = asked_again (member_of round) counts
 counted counts (expires round) = counts
-counted counts restarts = record { frames = counts.frames; first = counts.first; end = counts.end; asked_a = 0; asked_b = 0 }
+counted counts restarts = record {
+  frames = counts.frames;
+  first = counts.first;
+  end = counts.end;
+  asked_a = 0;
+  asked_b = 0;
+}
 
 -- ---- the events
 
@@ -101,7 +118,9 @@ events_of counts (produces round) =
     sent 1 round (frame_of (head_of 0 9 (counts.frames + 1)) (produce_request.bytes (produce_message round)))
 events_of counts (fetches round) = sent (conn_of (member_of round)) round (frame_of (head_of 78 1 (counts.frames + 1))
     (share_fetch_request.bytes (fetch_message (member_of round) (asked_by (member_of round) counts))))
-events_of counts (settles round kind) = sent (conn_of (member_of round)) round (frame_of (head_of 79 1 (counts.frames + 1))
-    (share_ack_request.bytes (ack_message (member_of round) (asked_by (member_of round) counts) kind counts.first (counts.end - 1))))
+events_of counts (settles round kind) = sent (conn_of (member_of round)) round
+    (frame_of (head_of 79 1 (counts.frames + 1))
+    (share_ack_request.bytes
+    (ack_message (member_of round) (asked_by (member_of round) counts) kind counts.first (counts.end - 1))))
 events_of counts (expires round) = Expire (codes "orders") 0 (moment_of round + 30000) ∷ []
 events_of counts restarts = Power 0 ∷ opened

@@ -10,8 +10,8 @@ pub enum Member {
     B,
 }
 
-/// What is counted over a session: the frames, where the last batch begins and ends, `end` being the first offset behind it, and how many
-/// requests each member has sent since its connection was opened.
+/// What is counted over a session: the frames, where the last batch begins and ends, `end` being the first offset
+/// behind it, and how many requests each member has sent since its connection was opened.
 #[derive(Clone, Copy)]
 pub struct Counts {
     pub frames: u32,

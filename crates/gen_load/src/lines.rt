@@ -88,7 +88,8 @@ pub(crate) fn put_sent<M: Wire>(
     head: &RequestHead,
     message: &M,
 ) -> Result<(), NoMemory>
-    ensures { OnOk result (text.new ≡ text.old ++ flat_map line_of (sent conn round (frame_of head.now (M.format.bytes message.now)))) }
+    ensures { OnOk result (text.new ≡ text.old
+        ++ flat_map line_of (sent conn round (frame_of head.now (M.format.bytes message.now)))) }
 {
     let content = content_of(alloc, head, message)?;
     let content = content.as_slice();

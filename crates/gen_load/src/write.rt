@@ -31,10 +31,12 @@ fn begin(alloc: Global) -> Result<Script, NoMemory>
     Ok(Script { counts, text })
 }
 
-/// Writes the script of a number of rounds, in pieces of 65536 bytes and more. At an `Err` the sink has taken a front of it.
+/// Writes the script of a number of rounds, in pieces of 65536 bytes and more. At an `Err` the sink has taken a front
+/// of it.
 pub fn write_script<O: Sink>(alloc: Global, n: u32, output: &mut O) -> Result<(), GenFault>
     requires { (1 ≤ n) × (n ≤ 100000) }
-    ensures { WritesPieces (O.held output.old) (O.held output.new) (O.faults output.old) (O.faults output.new) (script_of n) result }
+    ensures { WritesPieces (O.held output.old) (O.held output.new) (O.faults output.old) (O.faults output.new)
+        (script_of n) result }
 {
     let Ok(mut script) = begin(alloc) else {
         return Err(GenFault::NoMemory);

@@ -31,7 +31,8 @@ fn put_number(text: &mut Pieces, word: &str, number: u64, rest: &str) -> Result<
 }
 
 fn put_offsets(text: &mut Pieces, run: &Run) -> Result<(), NoMemory>
-    ensures { OnOk result (text.new ≡ text.old ++ (codes "run " ++ (decimal run.now.first ++ (codes " " ++ (decimal run.now.last ++ codes " "))))) }
+    ensures { OnOk result (text.new ≡ text.old ++ (codes "run " ++ (decimal run.now.first ++ (codes " "
+        ++ (decimal run.now.last ++ codes " "))))) }
 {
     put_number(text, "run ", run.first, " ")?;
     put_number(text, "", run.last, " ")
@@ -97,8 +98,9 @@ fn put_key(text: &mut Pieces, key: &Key) -> Result<(), NoMemory>
 
 // The epochs and the start offset.
 fn put_state(text: &mut Pieces, view: &StateView) -> Result<(), NoMemory>
-    ensures { OnOk result (text.new ≡ text.old ++ (codes " state " ++ (signed_decimal view.now.state_epoch ++ (codes " leader "
-        ++ (signed_decimal view.now.leader_epoch ++ (codes " start " ++ (signed_decimal view.now.start ++ 10 ∷ []))))))) }
+    ensures { OnOk result (text.new ≡ text.old ++ (codes " state " ++ (signed_decimal view.now.state_epoch
+        ++ (codes " leader " ++ (signed_decimal view.now.leader_epoch ++ (codes " start "
+        ++ (signed_decimal view.now.start ++ 10 ∷ []))))))) }
 {
     put_value(text, " state ", i64::from(view.state_epoch), "")?;
     put_value(text, " leader ", i64::from(view.leader_epoch), "")?;

@@ -12,7 +12,8 @@ use text_pieces::{GenFault, Pieces};
 
 // What waits, and the lines of runs behind it.
 fn write_runs<O: Sink>(mut text: Pieces, runs: &[Run], output: &mut O) -> Result<(), GenFault>
-    ensures { WritesPieces (O.held output.old) (O.held output.new) (O.faults output.old) (O.faults output.new) (text ++ run_lines runs.now) result }
+    ensures { WritesPieces (O.held output.old) (O.held output.new) (O.faults output.old) (O.faults output.new)
+        (text ++ run_lines runs.now) result }
 {
     let mut rest = runs;
     while let Some((run, others)) = rest.split_first() {
@@ -28,8 +29,8 @@ fn write_runs<O: Sink>(mut text: Pieces, runs: &[Run], output: &mut O) -> Result
     text.hand_on(output)
 }
 
-/// Writes a group's table on a partition of this topic: its line, and a line for each run. At an `Err` the sink has taken a front
-/// of this text.
+/// Writes a group's table on a partition of this topic: its line, and a line for each run. At an `Err` the sink has
+/// taken a front of this text.
 pub fn write_table<O: Sink>(
     alloc: Global,
     group: &Name,
@@ -48,15 +49,16 @@ pub fn write_table<O: Sink>(
     write_runs(text, view.runs.list(), output)
 }
 
-/// Writes the state of a key of a partition that isn't hosted: its line, and a line for each run. At an `Err` the sink has taken a
-/// front of this text.
+/// Writes the state of a key of a partition that isn't hosted: its line, and a line for each run. At an `Err` the
+/// sink has taken a front of this text.
 pub fn write_foreign<O: Sink>(
     alloc: Global,
     key: &Key,
     view: &StateView,
     output: &mut O,
 ) -> Result<(), GenFault>
-    ensures { WritesPieces (O.held output.old) (O.held output.new) (O.faults output.old) (O.faults output.new) (foreign_text key.now view.now) result }
+    ensures { WritesPieces (O.held output.old) (O.held output.new) (O.faults output.old) (O.faults output.new)
+        (foreign_text key.now view.now) result }
 {
     let mut text = Pieces::new(alloc);
     let Ok(()) = put_foreign(&mut text, key, view) else {

@@ -87,10 +87,11 @@ impl Pieces {
         }
     }
 
-    /// Hands what waits to a sink. Then nothing waits, and the memory is kept for what comes next. At an `Err` the sink has
-    /// taken a front of it, and it waits still.
+    /// Hands what waits to a sink. Then nothing waits, and the memory is kept for what comes next. At an `Err` the
+    /// sink has taken a front of it, and it waits still.
     pub fn hand_on<O: Sink>(&mut self, output: &mut O) -> Result<(), GenFault>
-        ensures written { WritesPieces (O.held output.old) (O.held output.new) (O.faults output.old) (O.faults output.new) self.old result }
+        ensures written { WritesPieces (O.held output.old) (O.held output.new)
+            (O.faults output.old) (O.faults output.new) self.old result }
         ensures ok { OnOk result (self.new ≡ []) }
         ensures err { OnErr result (self.new ≡ self.old) }
     {
@@ -103,7 +104,8 @@ impl Pieces {
 
     /// Hands what waits to a sink, where that is a piece: 65536 bytes or more.
     pub fn hand_full<O: Sink>(&mut self, output: &mut O) -> Result<(), GenFault>
-        ensures handed { HandsFull (O.held output.old) (O.held output.new) (O.faults output.old) (O.faults output.new) self.old self.new result }
+        ensures handed { HandsFull (O.held output.old) (O.held output.new) (O.faults output.old) (O.faults output.new)
+            self.old self.new result }
         ensures small { OnOk result (length self.new < piece_size) }
     {
         if self.waiting.len() < PIECE_SIZE {
