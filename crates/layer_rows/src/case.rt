@@ -2,6 +2,7 @@
 use crate::adapters::Adapters;
 use crate::formats::Formats;
 use crate::stores::Stores;
+use crate::texts::Texts;
 use crate::windows::Windows;
 use row_text::{Rows, Taken, compared, shortened};
 use std::alloc::Global;
@@ -13,6 +14,7 @@ enum Layer {
     Stores,
     Adapters,
     Windows,
+    Texts,
 }
 
 #[derive(Drop)]
@@ -22,6 +24,7 @@ pub struct Case {
     stores: Stores,
     adapters: Adapters,
     windows: Windows,
+    texts: Texts,
 }
 
 fn layer_of(name: &str) -> Option<Layer> {
@@ -30,6 +33,7 @@ fn layer_of(name: &str) -> Option<Layer> {
         "stores" => Some(Layer::Stores),
         "adapters" => Some(Layer::Adapters),
         "windows" => Some(Layer::Windows),
+        "texts" => Some(Layer::Texts),
         _ => None,
     }
 }
@@ -50,6 +54,7 @@ impl Case {
             stores: Stores::new(alloc),
             adapters: Adapters::None,
             windows: Windows::new(alloc),
+            texts: Texts::new(alloc),
         }
     }
 
@@ -72,6 +77,7 @@ impl Case {
             Layer::Stores => self.stores.told(alloc, kind, words),
             Layer::Adapters => self.adapters.told(alloc, kind, words),
             Layer::Windows => self.windows.told(alloc, kind, words),
+            Layer::Texts => self.texts.told(alloc, kind, words),
         }
     }
 }
@@ -81,6 +87,7 @@ impl Rows for Case {
         self.stores.set(Stores::new(alloc));
         self.adapters.set(Adapters::None);
         self.windows.set(Windows::new(alloc));
+        self.texts.set(Texts::new(alloc));
         self.formats.begin(alloc)
     }
 

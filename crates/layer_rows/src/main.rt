@@ -1,7 +1,7 @@
-//! Worked examples of the lower layers: formats, stores on disks in memory, what adapters ask of the system, and windows.
+//! Worked examples of the lower layers: formats, stores on disks in memory, what adapters ask of the system, windows, and texts.
 //!
-//! A line `layer NAME` before the cases of a file says which they are about: `formats`, `stores`, `adapters` or `windows`. The
-//! heads of `formats.rt`, `stores.rt`, `adapters.rt` and `windows.rt` say which lines there are.
+//! A line `layer NAME` before the cases of a file says which they are about: `formats`, `stores`, `adapters`, `windows` or `texts`.
+//! The heads of `formats.rt`, `stores.rt`, `adapters.rt`, `windows.rt` and `texts.rt` say which lines there are.
 #![tactic(auto)]
 
 mod acks;
@@ -21,6 +21,7 @@ mod records;
 mod sessions;
 mod stores;
 mod streams;
+mod texts;
 mod values;
 mod windows;
 
