@@ -39,7 +39,8 @@ table_text group topic part state = table_line group topic part state ++ run_lin
 abbrev pub foreign_line : KeyParts → ShareState → List ℕ
 foreign_line key state = codes "foreign " ++ (encode_lower key.group ++ (codes " " ++ (hyphenated_text lower key.topic
     ++ (codes " " ++ (decimal key.part ++ (codes " state " ++ (signed_decimal state.state_epoch
-    ++ (codes " leader " ++ (signed_decimal state.leader_epoch ++ (codes " start " ++ (signed_decimal state.start ++ 10 ∷ [])))))))))))
+    ++ (codes " leader " ++ (signed_decimal state.leader_epoch
+    ++ (codes " start " ++ (signed_decimal state.start ++ 10 ∷ [])))))))))))
 
 abbrev pub foreign_text : KeyParts → ShareState → List ℕ
 foreign_text key state = foreign_line key state ++ run_lines state.runs
