@@ -4,7 +4,7 @@
 -- none, or that initialisation. Where a write of `g2` was answered with code 0 in between, it alone was completed.
 use Rattle.std.specs.Prelude.{◌≡◌, ◌⊎◌, List, [], ◌∷◌, ◌++◌, Option, None, Some, if◌then◌else◌}
 use Rattle.session_script.specs.declared.event.Event.{Event}
-use Rattle.session_script.specs.declared.event.Event.TheVariants.{Open, Bytes, Close, Step as StepOf, Expire, Tick, Arm, Power}
+use Rattle.session_script.specs.declared.event.Event.TheVariants.{Power}
 use Rattle.share_model.specs.ForeignRules.{code_alone}
 use Rattle.share_model.specs.ForeignRules.{ShareStates}
 use Rattle.share_model.specs.declared.fault.StoreFault.TheVariants.{Device, Full}
@@ -47,14 +47,8 @@ MayLand (Some op) calls = (calls ≡ []) ⊎ (calls ≡ record { op = op; answer
 
 -- the calls that a step completes
 abbrev pub Completes : ShareStates → Option ForeignOp → Event → Option ShardCall → List Call → Option ForeignOp → Type 0
-Completes states old (Open conn) call calls new = CompletesCall states old call calls new
-Completes states old (Bytes conn bytes) call calls new = CompletesCall states old call calls new
-Completes states old (Close conn) call calls new = CompletesCall states old call calls new
-Completes states old (StepOf conn now) call calls new = CompletesCall states old call calls new
-Completes states old (Expire topic part now) call calls new = CompletesCall states old call calls new
-Completes states old (Tick now) call calls new = CompletesCall states old call calls new
-Completes states old (Arm disk after mode) call calls new = CompletesCall states old call calls new
 Completes states old (Power choice) call calls new = MayLand old calls × (new ≡ None)
+Completes states old _ call calls new = CompletesCall states old call calls new
 
 -- the calls that a run completes, in order
 abbrev pub AreCompleted : Option ForeignOp → List Step → List Call → Option ForeignOp → Type 0

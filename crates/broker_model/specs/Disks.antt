@@ -8,7 +8,7 @@ use Rattle.edge_io.specs.declared.fault.Armed.TheVariants.{Nothing, After}
 use Rattle.edge_io.specs.Armed.{Spends}
 use Rattle.edge_io.specs.Causes.{raised}
 use Rattle.session_script.specs.declared.event.Event.{Event}
-use Rattle.session_script.specs.declared.event.Event.TheVariants.{Open, Bytes, Close, Step, Expire, Tick, Arm, Power}
+use Rattle.session_script.specs.declared.event.Event.TheVariants.{Step, Expire, Arm, Power}
 use Rattle.broker_model.specs.Hosted.{same_name}
 use Rattle.broker_model.specs.Shards.{ShardCall, calls}
 use Rattle.edge_io.specs.Views.{DiskView}
@@ -59,11 +59,8 @@ OnCalled false old new = new ≡ old
 
 -- what an event, in which this shard was called, does to the disk of this name
 abbrev pub OnDisk : List ℕ → Event → Option ShardCall → Facts → Facts → Type 0
-OnDisk name (Open conn) call old new = new ≡ old
-OnDisk name (Bytes conn bytes) call old new = new ≡ old
-OnDisk name (Close conn) call old new = new ≡ old
 OnDisk name (Step conn now) call old new = OnCalled (calls call name) old new
 OnDisk name (Expire topic part now) call old new = OnCalled (calls call name) old new
-OnDisk name (Tick now) call old new = new ≡ old
 OnDisk name (Arm disk after mode) call old new = new ≡ (if same_name disk name then with_arm after mode old else old)
 OnDisk name (Power choice) call old new = IsRestarted old new
+OnDisk name _ call old new = new ≡ old

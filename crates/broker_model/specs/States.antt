@@ -4,7 +4,7 @@
 -- refused as full only where the disk holds nearly 2^62 bytes.
 use Rattle.std.specs.Prelude.{◌≡◌, ◌≤◌, ℕ, List, [], ◌∷◌, ◌++◌, length, Option, false}
 use Rattle.session_script.specs.declared.event.Event.{Event}
-use Rattle.session_script.specs.declared.event.Event.TheVariants.{Open, Bytes, Close, Step, Expire, Tick, Arm, Power}
+use Rattle.session_script.specs.declared.event.Event.TheVariants.{Step, Expire, Power}
 use Rattle.session_script.specs.declared.event.Outcome.{Outcome}
 use Rattle.topic_conf.specs.Configs.{ConfigParts}
 use Rattle.broker_model.specs.Hosted.{IsTaken, hosted_of}
@@ -43,25 +43,15 @@ pub record LosesAll (conf : ConfigParts) (choice : ℕ) (ends : List ℕ → ℕ
   pub reach : ReachTo conf contents ends
 
 abbrev pub OnLosses : ConfigParts → Event → (ends : List ℕ → ℕ) → Disks → Disks → Machine → Type 0
-OnLosses conf (Open conn) ends old new machine = Unit {0}
-OnLosses conf (Bytes conn bytes) ends old new machine = Unit {0}
-OnLosses conf (Close conn) ends old new machine = Unit {0}
-OnLosses conf (Step conn now) ends old new machine = Unit {0}
-OnLosses conf (Expire topic part now) ends old new machine = Unit {0}
-OnLosses conf (Tick now) ends old new machine = Unit {0}
-OnLosses conf (Arm disk after mode) ends old new machine = Unit {0}
 OnLosses conf (Power choice) ends old new machine = LosesAll conf choice ends old new machine
+OnLosses conf _ ends old new machine = Unit {0}
 
 -- A journal never ends before where it did, unless it was opened again, and moves its end only where its shard was called.
 abbrev pub OnEnd : List ℕ → Event → Option ShardCall → ℕ → ℕ → Type 0
-OnEnd name (Open conn) call old new = new ≡ old
-OnEnd name (Bytes conn bytes) call old new = new ≡ old
-OnEnd name (Close conn) call old new = new ≡ old
 OnEnd name (Step conn now) call old new = (old ≤ new) × (calls call name ≡ false → new ≡ old)
 OnEnd name (Expire topic part now) call old new = (old ≤ new) × (calls call name ≡ false → new ≡ old)
-OnEnd name (Tick now) call old new = new ≡ old
-OnEnd name (Arm disk after mode) call old new = new ≡ old
 OnEnd name (Power choice) call old new = Unit {0}
+OnEnd name _ call old new = new ≡ old
 
 -- A step of the broker and its disks. It has the partitions of its configuration, and its members subscribe to the configuration's topics.
 pub record IsStep (conf : ConfigParts) (old : State) (event : Event) (call : Option ShardCall) (outcomes : List Outcome) (new : State) : Type 0 where
