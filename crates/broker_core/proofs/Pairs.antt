@@ -1,5 +1,5 @@
 -- The two disks of foreign state are taken from a bay, and put back after a refusal.
-use Rattle.std.proofs.Common.{arith, ◌≡◌, ◌≢◌, ◌≤◌, ◌<◌, ◌-◌, ◌^◌, ◌⊎◌, inl, inr, refl, sym, ap, ◌∙◌, subst, ℕ, List, [], ◌∷◌, Some, is_some}
+use Rattle.std.proofs.Common.{false, arith, ◌≡◌, ◌≢◌, ◌≤◌, ◌<◌, ◌-◌, ◌^◌, ◌⊎◌, inl, inr, refl, sym, ap, ◌∙◌, subst, ℕ, List, [], ◌∷◌, Some, is_some}
 use Rattle.std.specs.declared.option.Option.{Option}
 use Rattle.edge_io.specs.declared.fault.Armed.TheVariants.{Nothing}
 use Rattle.edge_io.specs.Causes.{Rose}
@@ -16,7 +16,8 @@ use Rattle.edge_io.specs.Armed.{RunsOn}
 use Rattle.broker_core.specs.Restarts.{ImagesStandAs, IsOpened, IsDamagedState}
 use Rattle.broker_core.specs.Taking.{GetsAll, GetsNone, PutsAll, PutsBack, RefusesForeign, TakesForeign}
 use Rattle.broker_core.proofs.Naming.{states_apart}
-use Rattle.broker_core.proofs.Taking.{gets_each, gets_moves, gets_others, greater, moves_same, moves_then, puts_hold, puts_in, puts_moves, puts_others, puts_rise, puts_taken, rose_between, slot_then, stays_kept, stays_put}
+use Rattle.broker_core.specs.Bays.{IsOfDevice}
+use Rattle.broker_core.proofs.Taking.{gets_each, gets_moves, gets_others, greater, moves_same, moves_then, not_both, puts_hold, puts_in, puts_moves, puts_others, puts_rise, puts_taken, rose_between, slot_then, stays_kept, stays_put}
 use Rattle.edge_io.specs.Views.{DiskView, BayView}
 
 pub states_distinct : AreDistinct (state_a ∷ state_b ∷ [])
@@ -80,8 +81,9 @@ module _ {B D : Type 0} (bay_seen : B → BayView D) (seen : D → DiskView) (fi
       → ((name : List ℕ) (place : ℕ) → fault ≡ Damaged name place → (a b : List ℕ) → (seen first).content ≡ Some a → (seen second).content ≡ Some b
       → IsDamagedState a b name place)
       → (fault ≡ Device → Rose (seen first).faults (seen first_now).faults ⊎ Rose (seen second).faults (seen second_now).faults) → fault ≢ Bay
-      → ImagesStandAs seen first second first_now second_now → RunsOn seen first first_now → RunsOn seen second second_now → Refuses fault old new
-  refused_both old mid new first_now second_now fault gets puts recovers sound damaged device no_bay images on_first on_second =
+      → ImagesStandAs seen first second first_now second_now → RunsOn seen first first_now → RunsOn seen second second_now
+      → (IsOfDevice fault → ((seen first_now).starved ≡ false) × ((seen second_now).starved ≡ false)) → Refuses fault old new
+  refused_both old mid new first_now second_now fault gets puts recovers sound damaged device no_bay images on_first on_second fed =
       let each = gets_each bay_seen seen both old mid states_distinct gets in
       let holds = puts_hold bay_seen seen (back first_now second_now) mid new states_distinct puts in
       let to_mid = gets_moves bay_seen seen both old mid gets in
@@ -100,10 +102,10 @@ module _ {B D : Type 0} (bay_seen : B → BayView D) (seen : D → DiskView) (fi
         );
         first_in = puts_in bay_seen seen (back first_now second_now) mid new states_distinct puts state_a (inl refl);
         second_in = puts_in bay_seen seen (back first_now second_now) mid new states_distinct puts state_b (inr (inl refl));
-        on_first = stays_put bay_seen seen state_a old mid new first first_now each.0.as_told (to_mid.told state_a) holds.0
-            (record { images = images.on_first; runs = on_first });
-        on_second = stays_put bay_seen seen state_b old mid new second second_now each.1.0.as_told (to_mid.told state_b) holds.1.0
-            (record { images = λ c on. (c, images.on_second c on, inl refl); runs = on_second });
+        on_first = stays_put bay_seen seen (IsOfDevice fault) state_a old mid new first first_now each.0.as_told (to_mid.told state_a) holds.0
+            (record { images = images.on_first; runs = on_first; fed = λ f s. absurd (not_both (fed f).0 s) });
+        on_second = stays_put bay_seen seen (IsOfDevice fault) state_b old mid new second second_now each.1.0.as_told (to_mid.told state_b) holds.1.0
+            (record { images = λ c on. (c, images.on_second c on, inl refl); runs = on_second; fed = λ f s. absurd (not_both (fed f).1 s) });
         others = λ m n k. slot_then bay_seen m old mid new
             (gets_others bay_seen seen both old mid gets m (n, (k, tt)))
             (puts_others bay_seen seen (back first_now second_now) mid new puts m (n, (k, tt)));
@@ -144,8 +146,8 @@ module _ {B D : Type 0} (bay_seen : B → BayView D) (seen : D → DiskView) whe
     sound = λ d f at second_at is second_is still. (g.sound still, no_device);
     first_in = g.are_in state_a (inl refl);
     second_in = g.are_in state_b (inr (inl refl));
-    on_first = stays_kept bay_seen seen state_a old new (λ d was. g.kept state_a d (inl refl) was);
-    on_second = stays_kept bay_seen seen state_b old new (λ d was. g.kept state_b d (inr (inl refl)) was);
+    on_first = stays_kept bay_seen seen (IsOfDevice fault) state_a old new (λ d was. g.kept state_a d (inl refl) was);
+    on_second = stays_kept bay_seen seen (IsOfDevice fault) state_b old new (λ d was. g.kept state_b d (inr (inl refl)) was);
     others = λ m n k. g.others m (n, (k, tt));
     moves = g.moves;
   }

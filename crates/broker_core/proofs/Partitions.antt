@@ -18,13 +18,13 @@ use Rattle.broker_core.specs.declared.fault.CoreOpen.TheVariants.{Damaged, Devic
 use Rattle.broker_core.specs.declared.slot.PartState.{PartState}
 use Rattle.broker_core.specs.declared.slot.PartState.TheVariants as part
 use Rattle.broker_core.specs.declared.slot.PartSlot.{PartSlot}
-use Rattle.broker_core.specs.Bays.{HoldsIf, IsTakenFrom, StaysAs, TakenIf, TellsStill}
+use Rattle.broker_core.specs.Bays.{AreFed, HoldsIf, IsOfDevice, IsTakenFrom, StaysAs, TakenIf, TellsStill}
 use Rattle.broker_core.specs.Carried.{OpenPart}
 use Rattle.broker_core.specs.Hosts.{AreDistinct, AreHeldParts, AreNamed, AreOpenParts, IsHeldState, IsNamed, IsOpenState, NotIn, hosted_slot, hosted_slots, open_disk, part_disk, slot_disks, slots_disks}
 use Rattle.broker_core.specs.Restarts.{IsDamagedPart, IsOpenedPart, PartImagesStandAs, PartRunsOn}
 use Rattle.broker_core.specs.Taking.{GetsAll, GetsNone, Moves, PutsAll, RefusesPart, TakesPart, TakesParts}
 use Rattle.broker_core.proofs.Places.{apart_from, distinct_front, not_in_front, not_in_rest, one_in_either, one_in_rest}
-use Rattle.broker_core.proofs.Taking.{IsGiven, gets_each, gets_moves, gets_others, greater, moves_same, moves_then, named, puts_hold, puts_in, puts_moves, puts_others, puts_rise, puts_taken, puts_then, rose_between, slot_same, slot_then, stays_kept, stays_put}
+use Rattle.broker_core.proofs.Taking.{IsGiven, gets_each, gets_moves, gets_others, greater, moves_same, moves_then, named, not_both, puts_hold, puts_in, puts_moves, puts_others, puts_rise, puts_taken, puts_then, rose_between, slot_same, slot_then, stays_kept, stays_put}
 use Rattle.edge_io.specs.Views.{DiskView, BayView}
 
 -- ---- lists
@@ -126,8 +126,9 @@ module _ {B D : Type 0} (bay_seen : B → BayView D) (seen : D → DiskView) whe
         → GetsAll bay_seen seen three old new → (seen log).faults ≤ (seen shard.log.journal.disk).faults
         → (seen first).faults ≤ (seen shard.states.journal.live.disk).faults → (seen second).faults ≤ (seen shard.states.journal.idle).faults → Opened h log first second shard
         → Stand shard.log.journal.disk shard.states.journal.live.disk shard.states.journal.idle
-        → Run shard.log.journal.disk shard.states.journal.live.disk shard.states.journal.idle → Takes h old slot new
-    taken_part old new shard slot hosted_is is_open gets on_log on_first on_second opens images runs =
+        → Run shard.log.journal.disk shard.states.journal.live.disk shard.states.journal.idle
+        → AreFed seen shard.log.journal.disk shard.states.journal.live.disk shard.states.journal.idle → Takes h old slot new
+    taken_part old new shard slot hosted_is is_open gets on_log on_first on_second opens images runs fed =
         let each = gets_each bay_seen seen three old new apart gets in
         record {
           hosted_is = hosted_is;
@@ -139,6 +140,7 @@ module _ {B D : Type 0} (bay_seen : B → BayView D) (seen : D → DiskView) whe
           opens = opens;
           images = images;
           runs = runs;
+          fed = fed;
           are_out = three_out old new gets;
           others = λ m n. gets_others bay_seen seen three old new gets m n;
           moves = gets_moves bay_seen seen three old new gets;
@@ -154,8 +156,9 @@ module _ {B D : Type 0} (bay_seen : B → BayView D) (seen : D → DiskView) whe
         → ((n : List ℕ) (place : ℕ) → fault ≡ Damaged n place → (l a b : List ℕ) → (seen log).content ≡ Some l → (seen first).content ≡ Some a → (seen second).content ≡ Some b
         → IsDamagedPart h l a b n place)
         → (fault ≡ Device → Rose (seen log).faults (seen log_now).faults ⊎ (Rose (seen first).faults (seen first_now).faults ⊎ Rose (seen second).faults (seen second_now).faults))
-        → fault ≢ Bay → Stand log_now first_now second_now → Run log_now first_now second_now → Refuses h fault old new
-    refused_part old mid new log_now first_now second_now fault gets puts recovers sound damaged device no_bay images runs =
+        → fault ≢ Bay → Stand log_now first_now second_now → Run log_now first_now second_now
+        → (IsOfDevice fault → AreFed seen log_now first_now second_now) → Refuses h fault old new
+    refused_part old mid new log_now first_now second_now fault gets puts recovers sound damaged device no_bay images runs fed =
         let each = gets_each bay_seen seen three old mid apart gets in
         let to_mid = gets_moves bay_seen seen three old mid gets in
         let from_mid = puts_moves bay_seen seen (back log_now first_now second_now) mid new puts in
@@ -196,14 +199,14 @@ module _ {B D : Type 0} (bay_seen : B → BayView D) (seen : D → DiskView) whe
       where
         stays : AllByRecursion (HoldsIf bay_seen mid new) (back log_now first_now second_now) → TellsStill bay_seen old mid → IsAsTold ((bay_seen old).disk (log_of h)) log
             → IsAsTold ((bay_seen old).disk (first_of h)) first → IsAsTold ((bay_seen old).disk (second_of h)) second
-            → (m : List ℕ) → IsOneOf (disks_of h) m → StaysAs bay_seen seen m old new
-        stays holds still tl tf ts m (inl e) = subst (λ (n : List ℕ). StaysAs bay_seen seen n old new) (sym e)
-            (stays_put bay_seen seen (log_of h) old mid new log log_now tl (still (log_of h)) holds.0 (record { images = images.on_log; runs = runs.on_log }))
-        stays holds still tl tf ts m (inr (inl e)) = subst (λ (n : List ℕ). StaysAs bay_seen seen n old new) (sym e)
-            (stays_put bay_seen seen (first_of h) old mid new first first_now tf (still (first_of h)) holds.1.0 (record { images = images.on_first; runs = runs.on_first }))
-        stays holds still tl tf ts m (inr (inr (inl e))) = subst (λ (n : List ℕ). StaysAs bay_seen seen n old new) (sym e)
-            (stays_put bay_seen seen (second_of h) old mid new second second_now ts (still (second_of h)) holds.1.1.0
-            (record { images = λ c on. (c, images.on_second c on, inl refl); runs = runs.on_second }))
+            → (m : List ℕ) → IsOneOf (disks_of h) m → StaysAs bay_seen seen (IsOfDevice fault) m old new
+        stays holds still tl tf ts m (inl e) = subst (λ (n : List ℕ). StaysAs bay_seen seen (IsOfDevice fault) n old new) (sym e)
+            (stays_put bay_seen seen (IsOfDevice fault) (log_of h) old mid new log log_now tl (still (log_of h)) holds.0 (record { images = images.on_log; runs = runs.on_log; fed = λ f s. absurd (not_both (fed f).0 s) }))
+        stays holds still tl tf ts m (inr (inl e)) = subst (λ (n : List ℕ). StaysAs bay_seen seen (IsOfDevice fault) n old new) (sym e)
+            (stays_put bay_seen seen (IsOfDevice fault) (first_of h) old mid new first first_now tf (still (first_of h)) holds.1.0 (record { images = images.on_first; runs = runs.on_first; fed = λ f s. absurd (not_both (fed f).1 s) }))
+        stays holds still tl tf ts m (inr (inr (inl e))) = subst (λ (n : List ℕ). StaysAs bay_seen seen (IsOfDevice fault) n old new) (sym e)
+            (stays_put bay_seen seen (IsOfDevice fault) (second_of h) old mid new second second_now ts (still (second_of h)) holds.1.1.0
+            (record { images = λ c on. (c, images.on_second c on, inl refl); runs = runs.on_second; fed = λ f s. absurd (not_both (fed f).2 s) }))
         stays holds still tl tf ts m (inr (inr (inr never))) = absurd never
 
         rise : (bay_seen mid).taken (log_of h) < (seen log_now).faults ⊎ ((bay_seen mid).taken (first_of h) < (seen first_now).faults ⊎ ((bay_seen mid).taken (second_of h) < (seen second_now).faults ⊎ ⊥))
@@ -242,7 +245,7 @@ module _ {B D : Type 0} (bay_seen : B → BayView D) (seen : D → DiskView) whe
     device = λ e. absurd (no_device e);
     sound = λ tells still. (g.sound still, no_device);
     are_in = g.are_in;
-    stays = λ m one. stays_kept bay_seen seen m old new (λ d was. g.kept m d one was);
+    stays = λ m one. stays_kept bay_seen seen (IsOfDevice fault) m old new (λ d was. g.kept m d one was);
     others = g.others;
     moves = g.moves;
   }
@@ -315,6 +318,7 @@ module _ {B D : Type 0} (bay_seen : B → BayView D) (seen : D → DiskView) whe
         shard.states.journal.idle
     pub runs : PartRunsOn seen on_log.given on_first.given on_second.given shard.log.journal.disk shard.states.journal.live.disk
         shard.states.journal.idle
+    pub fed : AreFed seen shard.log.journal.disk shard.states.journal.live.disk shard.states.journal.idle
 
   abbrev Slots : B → B → List (PartSlot D) → Type 0
   Slots old new slots = AllByRecursion (λ (s : PartSlot D). IsTakenSlot (hosted_slot s) old new s) slots
@@ -345,6 +349,7 @@ module _ {B D : Type 0} (bay_seen : B → BayView D) (seen : D → DiskView) whe
     opens = one.opens;
     images = one.images;
     runs = one.runs;
+    fed = one.fed;
   }
 
   later_slot : (h : Hosted) (old mid new : B) (s : PartSlot D) → ((m : List ℕ) → IsOneOf (disks_of h) m → Same m old mid) → IsTakenSlot h mid new s
@@ -373,6 +378,7 @@ module _ {B D : Type 0} (bay_seen : B → BayView D) (seen : D → DiskView) whe
     opens = t.opens;
     images = t.images;
     runs = t.runs;
+    fed = t.fed;
   }
 
   later_slots : (old mid new : B) (slots : List (PartSlot D)) → ((m : List ℕ) → IsOneOf (part_disks (hosted_slots slots)) m → Same m old mid)
@@ -415,11 +421,11 @@ module _ {B D : Type 0} (bay_seen : B → BayView D) (seen : D → DiskView) whe
       (subst (λ (st : PartState D). IsHeldState st) (sym one.is_open) tt, takes_held hosted mid slots new more)
 
   -- what is told of their disks once they are put back
-  pub slots_stay : (old mid behind new : B) (slots : List (PartSlot D)) → Slots old mid slots → AllByRecursion (HoldsIf bay_seen behind new) (slots_disks slots)
-      → TellsStill bay_seen old behind → (m : List ℕ) → IsOneOf (part_disks (hosted_slots slots)) m → StaysAs bay_seen seen m old new
-  slots_stay old mid behind new [] all holds still m one = absurd one
-  slots_stay old mid behind new (s ∷ slots) all holds still m one =
-      go one (λ more. slots_stay old mid behind new slots all.1 holds.1.1.1 still m more) where
+  pub slots_stay : (Fed : Type 0) (old mid behind new : B) (slots : List (PartSlot D)) → Slots old mid slots → AllByRecursion (HoldsIf bay_seen behind new) (slots_disks slots)
+      → TellsStill bay_seen old behind → (m : List ℕ) → IsOneOf (part_disks (hosted_slots slots)) m → StaysAs bay_seen seen Fed m old new
+  slots_stay Fed old mid behind new [] all holds still m one = absurd one
+  slots_stay Fed old mid behind new (s ∷ slots) all holds still m one =
+      go one (λ more. slots_stay Fed old mid behind new slots all.1 holds.1.1.1 still m more) where
         t : IsTakenSlot (hosted_slot s) old mid s
         t = all.0
 
@@ -427,18 +433,18 @@ module _ {B D : Type 0} (bay_seen : B → BayView D) (seen : D → DiskView) whe
             → HoldsIf bay_seen behind new (name, Some (open_disk t.shard place))
         at state is place name h = subst (λ (p : PartState D). HoldsIf bay_seen behind new (name, part_disk p place)) is h
 
-        go : IsOneOf (part_disks (hosted_slots (s ∷ slots))) m → (IsOneOf (part_disks (hosted_slots slots)) m → StaysAs bay_seen seen m old new)
-            → StaysAs bay_seen seen m old new
-        go (inl e) others = subst (λ (n : List ℕ). StaysAs bay_seen seen n old new) (sym e)
-            (stays_put bay_seen seen (log_of (hosted_slot s)) old behind new t.on_log.given t.shard.log.journal.disk t.on_log.as_told
-            (still (log_of (hosted_slot s))) (at s.state t.is_open Log (log_of (hosted_slot s)) holds.0) (record { images = t.images.on_log; runs = t.runs.on_log }))
-        go (inr (inl e)) others = subst (λ (n : List ℕ). StaysAs bay_seen seen n old new) (sym e)
-            (stays_put bay_seen seen (first_of (hosted_slot s)) old behind new t.on_first.given t.shard.states.journal.live.disk t.on_first.as_told
-            (still (first_of (hosted_slot s))) (at s.state t.is_open StateA (first_of (hosted_slot s)) holds.1.0) (record { images = t.images.on_first; runs = t.runs.on_first }))
-        go (inr (inr (inl e))) others = subst (λ (n : List ℕ). StaysAs bay_seen seen n old new) (sym e)
-            (stays_put bay_seen seen (second_of (hosted_slot s)) old behind new t.on_second.given t.shard.states.journal.idle t.on_second.as_told
+        go : IsOneOf (part_disks (hosted_slots (s ∷ slots))) m → (IsOneOf (part_disks (hosted_slots slots)) m → StaysAs bay_seen seen Fed m old new)
+            → StaysAs bay_seen seen Fed m old new
+        go (inl e) others = subst (λ (n : List ℕ). StaysAs bay_seen seen Fed n old new) (sym e)
+            (stays_put bay_seen seen Fed (log_of (hosted_slot s)) old behind new t.on_log.given t.shard.log.journal.disk t.on_log.as_told
+            (still (log_of (hosted_slot s))) (at s.state t.is_open Log (log_of (hosted_slot s)) holds.0) (record { images = t.images.on_log; runs = t.runs.on_log; fed = λ f s. absurd (not_both t.fed.0 s) }))
+        go (inr (inl e)) others = subst (λ (n : List ℕ). StaysAs bay_seen seen Fed n old new) (sym e)
+            (stays_put bay_seen seen Fed (first_of (hosted_slot s)) old behind new t.on_first.given t.shard.states.journal.live.disk t.on_first.as_told
+            (still (first_of (hosted_slot s))) (at s.state t.is_open StateA (first_of (hosted_slot s)) holds.1.0) (record { images = t.images.on_first; runs = t.runs.on_first; fed = λ f s. absurd (not_both t.fed.1 s) }))
+        go (inr (inr (inl e))) others = subst (λ (n : List ℕ). StaysAs bay_seen seen Fed n old new) (sym e)
+            (stays_put bay_seen seen Fed (second_of (hosted_slot s)) old behind new t.on_second.given t.shard.states.journal.idle t.on_second.as_told
             (still (second_of (hosted_slot s))) (at s.state t.is_open StateB (second_of (hosted_slot s)) holds.1.1.0)
-            (record { images = λ c on. (c, t.images.on_second c on, inl refl); runs = t.runs.on_second }))
+            (record { images = λ c on. (c, t.images.on_second c on, inl refl); runs = t.runs.on_second; fed = λ f s. absurd (not_both t.fed.2 s) }))
         go (inr (inr (inr more))) others = others more
 
   -- each of their disks has the count with which it was taken, or a greater one

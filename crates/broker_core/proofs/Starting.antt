@@ -18,7 +18,7 @@ use Rattle.broker_core.specs.declared.slot.ForeignSlot.{ForeignSlot}
 use Rattle.broker_core.specs.declared.slot.PartState.{PartState}
 use Rattle.broker_core.specs.declared.slot.PartSlot.{PartSlot}
 use Rattle.broker_core.specs.Restarts.{IsDamagedDisk, IsOpened, IsOpenedDisk, StandsForTables}
-use Rattle.broker_core.specs.Bays.{ArePutBack, AreOut, AreTakenFrom, BothHold, BothRisen, BothTaken, HasLastCount, HasName, HasRisen, HoldsIf, IsFirst, StandForAll, StaysAs, TellsDisks}
+use Rattle.broker_core.specs.Bays.{ArePutBack, AreOut, AreTakenFrom, BothHold, BothRisen, BothTaken, HasLastCount, HasName, HasRisen, HoldsIf, IsFirst, IsOfDevice, StandForAll, StaysAs, TellsDisks}
 use Rattle.broker_core.specs.Cores.{IsCore, core_of, state_of}
 use Rattle.broker_core.specs.Hosts.{AreApart, AreCarried, AreDistinct, AreHeld, AreNamed, AreOpen, HostsParts, IsHeld, IsOpen, IsPartSlot, IsPartState, IsSlot, NotIn, all_names, among, disks_in, facts_at, facts_in, foreign_disks, foreign_facts, hosted_slot, hosted_slots, part_disk, slots_disks}
 use Rattle.broker_core.specs.Taking.{Moves, PutsAll, PutsAllBack, PutsBack, RefusesAll, RefusesAt, RefusesForeign, TakesAll, TakesParts, TellsThese}
@@ -350,7 +350,7 @@ module _ {B D : Type 0} (bay_seen : B → BayView D) (seen : D → DiskView) whe
     pub back : AreOut bay_seen [] old → AreOut bay_seen [] new
     pub moves : Goes old new
     pub others : (m : List ℕ) → (IsTaken conf m → ⊥) → Same m old new
-    pub stays : (m : List ℕ) → StaysAs bay_seen seen m old new
+    pub stays : (m : List ℕ) → StaysAs bay_seen seen (IsOfDevice fault) m old new
     pub damaged : (n : List ℕ) (place : ℕ) → fault ≡ Damaged n place → (contents : List ℕ → List ℕ) (was : Disks) → Tells conf old contents was
         → IsDamagedDisk conf contents n place
     pub recovers : (contents : List ℕ → List ℕ) (was : Disks) → Tells conf old contents was → StandForAll conf contents
@@ -359,12 +359,30 @@ module _ {B D : Type 0} (bay_seen : B → BayView D) (seen : D → DiskView) whe
     pub device : fault ≡ Device → Rose (bay_seen old).faults (bay_seen new).faults ⊎ HasLastCount bay_seen conf new
     pub sound : IsSound bay_seen seen old → (fault ≢ Bay) × (fault ≢ Device)
 
+  -- want of memory told in its place
+  pub retold : (conf : ConfigParts) (told fault : CoreOpen) (old new : B) → ((told ≡ fault) ⊎ (told ≡ NoMemory)) → Refused conf fault old new
+      → Refused conf told old new
+  retold conf told fault old new (inl same) r = subst (λ (f : CoreOpen). Refused conf f old new) (sym same) r
+  retold conf told fault old new (inr is) r = record {
+    back = r.back;
+    moves = r.moves;
+    others = r.others;
+    stays = λ m d e was now.
+        let s = r.stays m d e was now in
+        record { images = s.images; runs = s.runs; fed = λ f. absurd (subst IsOfDevice is f) };
+    damaged = λ n place e contents was tells. absurd (let bad : NoMemory ≡ Damaged n place = sym is ∙ e in cc);
+    recovers = λ contents was tells stand n place e. (let bad : NoMemory ≡ Damaged n place = sym is ∙ e in cc);
+    bay = λ e. absurd (let bad : NoMemory ≡ Bay = sym is ∙ e in cc);
+    device = λ e. absurd (let bad : NoMemory ≡ Device = sym is ∙ e in cc);
+    sound = λ s. (λ e. (let bad : NoMemory ≡ Bay = sym is ∙ e in cc), λ e. (let bad : NoMemory ≡ Device = sym is ∙ e in cc));
+  }
+
   want_refused : (conf : ConfigParts) (fault : CoreOpen) (old new : B) → fault ≡ NoMemory → new ≡ old → Refused conf fault old new
   want_refused conf fault old new is same = record {
     back = λ whole. subst (λ (b : B). AreOut bay_seen [] b) (sym same) whole;
     moves = subst (λ (b : B). Goes old b) (sym same) (moves_same bay_seen old);
     others = λ m away. subst (λ (b : B). Same m old b) (sym same) (slot_same bay_seen m old);
-    stays = λ m. stays_same bay_seen seen m old new (ap (λ (b : B). (bay_seen b).disk m) same);
+    stays = λ m. stays_same bay_seen seen (IsOfDevice fault) m old new (ap (λ (b : B). (bay_seen b).disk m) same);
     damaged = λ n place e contents was tells. absurd (let bad : NoMemory ≡ Damaged n place = sym is ∙ e in cc);
     recovers = λ contents was tells stand n place e. (let bad : NoMemory ≡ Damaged n place = sym is ∙ e in cc);
     bay = λ e. absurd (let bad : NoMemory ≡ Bay = sym is ∙ e in cc);
@@ -455,14 +473,14 @@ module _ {B D : Type 0} (bay_seen : B → BayView D) (seen : D → DiskView) whe
           (subst (λ (l : List (List ℕ)). NotIn l m) (sym slots_are) away)
 
       part_stays : (m : List ℕ) → IsOneOf (part_disks r.before) m ⊎ NotIn (part_disks r.before) m → IsOneOf (disks_of r.h) m ⊎ NotIn (disks_of r.h) m
-          → StaysAs bay_seen seen m old new
-      part_stays m (inl one) own = slots_stay bay_seen seen old r.mid r.behind new r.slots before_slots
+          → StaysAs bay_seen seen (IsOfDevice fault) m old new
+      part_stays m (inl one) own = slots_stay bay_seen seen (IsOfDevice fault) old r.mid r.behind new r.slots before_slots
           (puts_hold bay_seen seen (slots_disks r.slots) r.behind new slots_distinct r.puts)
           (moves_then bay_seen old r.mid r.behind to_mid r.refuses.moves).told m
           (subst (λ (l : List Hosted). IsOneOf (part_disks l) m) (sym before_are) one)
       part_stays m (inr away) (inl one) =
-          stays_between bay_seen seen m old r.mid r.behind new (mid_is m one).same_disk (put_others m away).same_disk (r.refuses.stays m one)
-      part_stays m (inr away) (inr n) = stays_same bay_seen seen m old new ((put_others m away).same_disk ∙ (r.refuses.others m n).same_disk
+          stays_between bay_seen seen (IsOfDevice fault) m old r.mid r.behind new (mid_is m one).same_disk (put_others m away).same_disk (r.refuses.stays m one)
+      part_stays m (inr away) (inr n) = stays_same bay_seen seen (IsOfDevice fault) m old new ((put_others m away).same_disk ∙ (r.refuses.others m n).same_disk
           ∙ (takes_others bay_seen seen r.before old r.slots r.mid r.takes m away).same_disk)
 
       part_refused : Refused conf fault old new
@@ -558,19 +576,19 @@ module _ {B D : Type 0} (bay_seen : B → BayView D) (seen : D → DiskView) whe
           (subst (λ (l : List (List ℕ)). NotIn l m) (sym names_are) away)
 
       state_stays : (m : List ℕ) → IsOneOf all m ⊎ NotIn all m → IsOneOf (state_a ∷ state_b ∷ []) m ⊎ NotIn (state_a ∷ state_b ∷ []) m
-          → StaysAs bay_seen seen m old new
-      state_stays m (inl one) own = slots_stay bay_seen seen old mid behind new slots all_slots
+          → StaysAs bay_seen seen (IsOfDevice fault) m old new
+      state_stays m (inl one) own = slots_stay bay_seen seen (IsOfDevice fault) old mid behind new slots all_slots
           (puts_hold bay_seen seen (slots_disks slots) behind new slots_apart puts)
           (moves_then bay_seen old mid behind before r.moves).told m
           (subst (λ (l : List Hosted). IsOneOf (part_disks l) m) (sym all_are) one)
-      state_stays m (inr away) (inl (inl e)) = subst (λ (n : List ℕ). StaysAs bay_seen seen n old new) (sym e)
-          (stays_between bay_seen seen state_a old mid behind new a_same.same_disk
+      state_stays m (inr away) (inl (inl e)) = subst (λ (n : List ℕ). StaysAs bay_seen seen (IsOfDevice fault) n old new) (sym e)
+          (stays_between bay_seen seen (IsOfDevice fault) state_a old mid behind new a_same.same_disk
           (put_away state_a (no_state_a (hosted_of conf) all_apart)).same_disk r.on_first)
-      state_stays m (inr away) (inl (inr (inl e))) = subst (λ (n : List ℕ). StaysAs bay_seen seen n old new) (sym e)
-          (stays_between bay_seen seen state_b old mid behind new b_same.same_disk
+      state_stays m (inr away) (inl (inr (inl e))) = subst (λ (n : List ℕ). StaysAs bay_seen seen (IsOfDevice fault) n old new) (sym e)
+          (stays_between bay_seen seen (IsOfDevice fault) state_b old mid behind new b_same.same_disk
           (put_away state_b (no_state_b (hosted_of conf) all_apart)).same_disk r.on_second)
       state_stays m (inr away) (inl (inr (inr never))) = absurd never
-      state_stays m (inr away) (inr n) = stays_same bay_seen seen m old new
+      state_stays m (inr away) (inr n) = stays_same bay_seen seen (IsOfDevice fault) m old new
           ((put_away m away).same_disk ∙ (r.others m n.0 n.1.0).same_disk ∙ (others_of m away).same_disk)
 
       state_refused : Refused conf fault old new

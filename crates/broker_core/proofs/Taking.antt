@@ -19,28 +19,31 @@ some_told o d e = ap is_some e
 pub same_disk : {D : Type 0} (o : Option D) (d e : D) → o ≡ Some d → o ≡ Some e → d ≡ e
 same_disk o d e is was = let g : Some d ≡ Some e = sym is ∙ was in cc
 
+pub not_both : {b : Bool} → b ≡ false → b ≡ true → ⊥
+not_both is_no is_yes = let bad : false ≡ true = sym is_no ∙ is_yes in cc
+
 -- ---- what is told of a disk that was put back
 
-module _ {B D : Type 0} (bay_seen : B → BayView D) (seen : D → DiskView) (name : List ℕ) where
+module _ {B D : Type 0} (bay_seen : B → BayView D) (seen : D → DiskView) (Fed : Type 0) (name : List ℕ) where
   -- it is the one that it was
-  pub stays_kept : (old new : B) → ((d : D) → (bay_seen old).disk name ≡ Some d → (bay_seen new).disk name ≡ Some d) → StaysAs bay_seen seen name old new
+  pub stays_kept : (old new : B) → ((d : D) → (bay_seen old).disk name ≡ Some d → (bay_seen new).disk name ≡ Some d) → StaysAs bay_seen seen Fed name old new
   stays_kept old new kept d e was is =
       let same : e ≡ d = same_disk ((bay_seen new).disk name) e d is (kept d was) in
-      subst (λ (x : D). IsLeftAs seen d x) (sym same) (record { images = λ c on. (c, on, inl refl); runs = runs_none seen d })
+      subst (λ (x : D). IsLeftAs seen Fed d x) (sym same) (record { images = λ c on. (c, on, inl refl); runs = runs_none seen d; fed = λ f s. s })
 
-  pub stays_same : (old new : B) → (bay_seen new).disk name ≡ (bay_seen old).disk name → StaysAs bay_seen seen name old new
+  pub stays_same : (old new : B) → (bay_seen new).disk name ≡ (bay_seen old).disk name → StaysAs bay_seen seen Fed name old new
   stays_same old new same = stays_kept old new (λ d was. same ∙ was)
 
   -- it was taken and used, and put back
   pub stays_put : (old mid new : B) (given now : D) → IsAsTold ((bay_seen old).disk name) given → (is_some ((bay_seen old).disk name) ≡ true → is_some ((bay_seen mid).disk name) ≡ true)
-      → Holds ((bay_seen mid).disk name) ((bay_seen new).disk name) now → IsLeftAs seen given now → StaysAs bay_seen seen name old new
+      → Holds ((bay_seen mid).disk name) ((bay_seen new).disk name) now → IsLeftAs seen Fed given now → StaysAs bay_seen seen Fed name old new
   stays_put old mid new given now as_told still holds left d e was is =
       let same : e ≡ now = same_disk ((bay_seen new).disk name) e now is (holds (still (some_told ((bay_seen old).disk name) d was))) in
-      subst (λ (x : D). IsLeftAs seen x e) (as_told d was) (subst (λ (x : D). IsLeftAs seen given x) (sym same) left)
+      subst (λ (x : D). IsLeftAs seen Fed x e) (as_told d was) (subst (λ (x : D). IsLeftAs seen Fed given x) (sym same) left)
 
   -- before and behind it stayed
-  pub stays_between : (old mid behind new : B) → (bay_seen mid).disk name ≡ (bay_seen old).disk name → (bay_seen new).disk name ≡ (bay_seen behind).disk name → StaysAs bay_seen seen name mid behind
-      → StaysAs bay_seen seen name old new
+  pub stays_between : (old mid behind new : B) → (bay_seen mid).disk name ≡ (bay_seen old).disk name → (bay_seen new).disk name ≡ (bay_seen behind).disk name → StaysAs bay_seen seen Fed name mid behind
+      → StaysAs bay_seen seen Fed name old new
   stays_between old mid behind new p q s d e was is = s d e (p ∙ was) (sym q ∙ is)
 
 -- a count that rose below its last value is greater

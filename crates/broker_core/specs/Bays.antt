@@ -13,6 +13,8 @@ use Rattle.broker_model.specs.Machine.{Opening, StandForStates}
 use Rattle.broker_model.specs.Disks.{Disks, facts_of}
 use Rattle.broker_model.specs.States.{State}
 use Rattle.broker_core.specs.Hosts.{LeftDisks, NotIn}
+use Rattle.broker_core.specs.declared.fault.CoreOpen.{CoreOpen}
+use Rattle.broker_core.specs.declared.fault.CoreOpen.TheVariants.{Damaged, Device, Bay, NoMemory}
 use Rattle.broker_core.specs.Restarts.{IsOpenedDisk, StandsForTables}
 use Rattle.edge_io.specs.Views.{DiskView, BayView}
 
@@ -45,15 +47,27 @@ abbrev pub TellsStill : {B D : Type 0} → (B → BayView D) → B → B → Typ
 TellsStill bay_seen old new = (name : List ℕ) → is_some ((bay_seen old).disk name) ≡ true → is_some ((bay_seen new).disk name) ≡ true
 
 -- A disk that a start used and gave back: each image of it is one that it had, or stands for the frames of one; no power of it was lost, and
--- no fault was armed on it.
-pub record IsLeftAs {D : Type 0} (seen : D → DiskView) (old new : D) : Type 0 where
+-- no fault was armed on it. Where `Fed`, no call on it found no memory.
+pub record IsLeftAs {D : Type 0} (seen : D → DiskView) (Fed : Type 0) (old new : D) : Type 0 where
   pub images : (c : List ℕ) → (seen new).image c → StandsAs (seen old).image c
   pub runs : RunsOn seen old new
+  pub fed : Fed → (seen new).starved ≡ true → (seen old).starved ≡ true
 
 -- where the bay tells a disk of this name, before and behind, it is left so
-abbrev pub StaysAs : {B D : Type 0} → (B → BayView D) → (D → DiskView) → List ℕ → B → B → Type 0
-StaysAs bay_seen seen name old new =
-    (d e : _) → (bay_seen old).disk name ≡ Some d → (bay_seen new).disk name ≡ Some e → IsLeftAs seen d e
+abbrev pub StaysAs : {B D : Type 0} → (B → BayView D) → (D → DiskView) → (Fed : Type 0) → List ℕ → B → B → Type 0
+StaysAs bay_seen seen Fed name old new =
+    (d e : _) → (bay_seen old).disk name ≡ Some d → (bay_seen new).disk name ≡ Some e → IsLeftAs seen Fed d e
+
+-- three disks have found memory at each call
+abbrev pub AreFed : {D : Type 0} → (D → DiskView) → (log first second : D) → Type 0
+AreFed seen log first second = ((seen log).starved ≡ false) × ((seen first).starved ≡ false) × ((seen second).starved ≡ false)
+
+-- a disk failed, or the bay gave one not
+abbrev pub IsOfDevice : CoreOpen → Type 0
+IsOfDevice Device = Unit {0}
+IsOfDevice Bay = Unit {0}
+IsOfDevice (Damaged name place) = ⊥
+IsOfDevice NoMemory = ⊥
 
 -- ---- counts
 

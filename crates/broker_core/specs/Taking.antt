@@ -16,7 +16,7 @@ use Rattle.broker_core.specs.declared.slot.ForeignSlot.{ForeignSlot}
 use Rattle.broker_core.specs.declared.slot.ForeignSlot.TheVariants as foreign
 use Rattle.broker_core.specs.declared.slot.PartSlot.{PartSlot}
 use Rattle.broker_core.specs.declared.slot.PartState.TheVariants as part
-use Rattle.broker_core.specs.Bays.{IsTakenFrom, StaysAs, TellsStill}
+use Rattle.broker_core.specs.Bays.{AreFed, IsOfDevice, IsTakenFrom, StaysAs, TellsStill}
 use Rattle.broker_core.specs.Carried.{OpenPart}
 use Rattle.broker_core.specs.Hosts.{HostsParts, NotIn, foreign_disks, hosted_slot, slots_disks}
 use Rattle.broker_core.specs.Restarts.{IsOpened, IsOpenedPart, IsDamagedPart, IsDamagedState, PartImagesStandAs, PartRunsOn, StandsForTables}
@@ -92,6 +92,7 @@ pub record TakesPart {B D : Type 0} (bay_seen : B → BayView D) (seen : D → D
       parts.states.journal.idle
   pub runs : PartRunsOn seen on_log.given on_first.given on_second.given parts.log.journal.disk parts.states.journal.live.disk
       parts.states.journal.idle
+  pub fed : AreFed seen parts.log.journal.disk parts.states.journal.live.disk parts.states.journal.idle
   pub are_out : (m : List ℕ) → IsOneOf (disks_of h) m → (bay_seen new).out m ≡ true
   pub others : (m : List ℕ) → NotIn (disks_of h) m → SameSlot bay_seen m old new
   pub moves : Moves bay_seen old new
@@ -108,7 +109,7 @@ pub record RefusesPart {B D : Type 0} (bay_seen : B → BayView D) (seen : D →
   pub sound : ((name : List ℕ) → IsOneOf (disks_of h) name → (d : D) × ((bay_seen old).disk name ≡ Some d) × IsSoundDisk seen d)
       → (bay_seen old).steady → (fault ≢ Bay) × (fault ≢ Device)
   pub are_in : (m : List ℕ) → IsOneOf (disks_of h) m → (bay_seen new).out m ≡ false
-  pub stays : (m : List ℕ) → IsOneOf (disks_of h) m → StaysAs bay_seen seen m old new
+  pub stays : (m : List ℕ) → IsOneOf (disks_of h) m → StaysAs bay_seen seen (IsOfDevice fault) m old new
   pub others : (m : List ℕ) → NotIn (disks_of h) m → SameSlot bay_seen m old new
   pub moves : Moves bay_seen old new
 
@@ -169,8 +170,8 @@ pub record RefusesForeign {B D : Type 0} (bay_seen : B → BayView D) (seen : D 
       → IsSoundDisk seen e → (bay_seen old).steady → (fault ≢ Bay) × (fault ≢ Device)
   pub first_in : (bay_seen new).out state_a ≡ false
   pub second_in : (bay_seen new).out state_b ≡ false
-  pub on_first : StaysAs bay_seen seen state_a old new
-  pub on_second : StaysAs bay_seen seen state_b old new
+  pub on_first : StaysAs bay_seen seen (IsOfDevice fault) state_a old new
+  pub on_second : StaysAs bay_seen seen (IsOfDevice fault) state_b old new
   pub others : (m : List ℕ) → m ≢ state_a → m ≢ state_b → SameSlot bay_seen m old new
   pub moves : Moves bay_seen old new
 

@@ -9,7 +9,7 @@ ghost use Rattle.broker_model.specs.Machine.{Machine};
 ghost use Rattle.broker_model.specs.Disks.{Disks};
 ghost use Rattle.broker_core.specs.Hosts.{AreApart, AreHeld, AreNamed, AreOpen, GoOn, OneRose, StaysHosted, all_names, disks_in, hosted_slots, parts_of};
 ghost use Rattle.broker_core.specs.Restarts.{IsDamagedDisk};
-ghost use Rattle.broker_core.specs.Bays.{AreOut, ArePutBack, AreTakenFrom, HasLastCount, HasRisen, IsFirst, StandForAll, StaysAs, TellsDisks, TellsStill};
+ghost use Rattle.broker_core.specs.Bays.{AreOut, ArePutBack, AreTakenFrom, HasLastCount, HasRisen, IsFirst, IsOfDevice, StandForAll, StaysAs, TellsDisks, TellsStill};
 ghost use Rattle.broker_core.specs.Taking.{RefusesAll, TakesAll, PutsAllBack};
 ghost use Rattle.broker_core.specs.Cores.{Advances, HasMoment, IsCore, IsWhole, StopsIn, core_of, state_of};
 
@@ -83,6 +83,20 @@ fn take_hosts<D: Disk + Drop, B: Bay<D = D>>(
             put_parts_back(parts, bay);
             Err(fault)
         }
+    }
+}
+
+// What is told of a start that was refused: want of memory in place of a fault of a device or of the bay, where the
+// bay has found none.
+fn told_of<B: Bay>(bay: &B, fault: CoreOpen) -> CoreOpen
+    ensures told { (result ≡ fault) ⊎ (result ≡ CoreOpen.NoMemory) }
+    ensures fed { IsOfDevice result → (B.seen bay.now).starved ≡ false }
+{
+    let starved = bay.starved();
+    match fault {
+        CoreOpen::Device if starved => CoreOpen::NoMemory,
+        CoreOpen::Bay if starved => CoreOpen::NoMemory,
+        told => told,
     }
 }
 
@@ -188,7 +202,9 @@ impl<D: Disk + Drop> Core<D> {
         ensures counts { IfOk result (λ core. AreTakenFrom B.seen D.seen conf bay.old bay.new (disks_in core.hosts)) }
         ensures back { OnErr result (AreOut B.seen [] bay.new) }
         // After a refusal each image of a disk is one that it had, or stands for the frames of one. No power is lost and no fault is armed.
-        ensures stays { OnErr result ((name : List ℕ) → StaysAs B.seen D.seen name bay.old bay.new) }
+        // Where a fault of a disk or of the bay is told, no call on a disk found no memory, and the bay has found it at each.
+        ensures stays { IfErr result (λ e. (name : List ℕ) → StaysAs B.seen D.seen (IsOfDevice e) name bay.old bay.new) }
+        ensures fed { IfErr result (λ e. IsOfDevice e → (B.seen bay.new).starved ≡ false) }
         // A disk that isn't the broker's is as it was.
         ensures others { (name : List ℕ) → (IsTaken conf name → ⊥) → SameSlot B.seen name bay.old bay.new }
 
@@ -206,13 +222,15 @@ impl<D: Disk + Drop> Core<D> {
         ensures sound { IsSound B.seen D.seen bay.old →
             (result ≢ Err CoreOpen.Bay) × (result ≢ Err CoreOpen.Device) }
     {
-        let hosts = take_hosts(alloc, bay, &conf)?;
-        Ok(Core {
-            conf,
-            clients: BTreeMap::new(alloc),
-            hosts,
-            alloc,
-        })
+        match take_hosts(alloc, bay, &conf) {
+            Ok(hosts) => Ok(Core {
+                conf,
+                clients: BTreeMap::new(alloc),
+                hosts,
+                alloc,
+            }),
+            Err(fault) => Err(told_of(bay, fault)),
+        }
     }
 
     /// Puts the disks back into the bay from which they were taken, and in which they are still out.

@@ -16,6 +16,7 @@ ghost use Rattle.share_part.specs.Hosting.{ArePartText, key_of};
 ghost use Rattle.share_part.specs.Shards.{PartShardState};
 ghost use Rattle.broker_model.specs.Shards.{look_at, result_of};
 ghost use Rattle.broker_model.specs.Shards.PartCall.{Visits, Produces, Expires};
+ghost use Rattle.broker_core.specs.Bays.{AreFed, IsOfDevice};
 ghost use Rattle.broker_core.specs.Carried.{GoesOn, HaltsPart, IsPartCarried, LeadsPart, PartGoesOn};
 ghost use Rattle.broker_core.specs.Carried.Begun.{BeginsVisit, BeginsExpiry};
 ghost use Rattle.broker_core.specs.Hosts.{PartStandsAlone};
@@ -194,6 +195,9 @@ pub fn open_part<D: Disk>(
     ensures runs { MatchResult result
         (λ part. PartRunsOn D.seen disks.0 disks.1 disks.2 part.log.journal.disk part.states.journal.live.disk part.states.journal.idle)
         (λ e. PartRunsOn D.seen disks.0 disks.1 disks.2 e.0.0 e.0.1 e.0.2) }
+    ensures fed { MatchResult result
+        (λ part. AreFed D.seen part.log.journal.disk part.states.journal.live.disk part.states.journal.idle)
+        (λ e. IsOfDevice e.1 → AreFed D.seen e.0.0 e.0.1 e.0.2) }
     ensures log { MatchResult result (λ part. GoesOn D.seen disks.0 part.log.journal.disk)
         (λ e. GoesOn D.seen disks.0 e.0.0) }
     ensures first { MatchResult result (λ part. GoesOn D.seen disks.1 part.states.journal.live.disk)

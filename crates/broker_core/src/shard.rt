@@ -1,5 +1,5 @@
 // Calls, openings and restarts of the shard of foreign state on its two disks.
-ghost use Rattle.std.specs.Prelude.{◌≡◌, ◌≢◌, ◌⊎◌, List, ℕ, Bool, Some, All, IfOk, IfErr, OnErr, MatchResult};
+ghost use Rattle.std.specs.Prelude.{◌≡◌, ◌≢◌, ◌⊎◌, List, ℕ, Bool, Some, All, IfOk, IfErr, OnErr, MatchResult, false};
 ghost use Rattle.edge_io.specs.declared.fault.Armed.TheVariants.{Nothing};
 ghost use Rattle.edge_io.specs.Armed.{RunsOn};
 ghost use Rattle.edge_io.specs.Causes.{Rose};
@@ -8,6 +8,7 @@ ghost use Rattle.call_fold.specs.Parts.{IsTellable};
 ghost use Rattle.share_model.specs.ForeignRules.{ShareStates};
 ghost use Rattle.foreign_coord.specs.Shards.{ForeignShardState};
 ghost use Rattle.broker_model.specs.Machine.{StandForStates};
+ghost use Rattle.broker_core.specs.Bays.{IsOfDevice};
 ghost use Rattle.broker_core.specs.Carried.{IsCarried, LeadsForeign, HaltsForeign, GoesOn};
 ghost use Rattle.broker_core.specs.Restarts.{IsOpened, IsDamagedState, name_of, IsRestartedShard, IsNotRestarted, ImagesStandAs};
 
@@ -78,6 +79,7 @@ pub fn open<D: Disk>(
     ensures runs { MatchResult result
         (λ new. RunsOn D.seen first new.journal.live.disk × RunsOn D.seen second new.journal.idle)
         (λ e. RunsOn D.seen first e.0 × RunsOn D.seen second e.1) }
+    ensures fed { IfErr result (λ e. IsOfDevice e.2 → ((D.seen e.0).starved ≡ false) × ((D.seen e.1).starved ≡ false)) }
     ensures first { MatchResult result (λ new. GoesOn D.seen first new.journal.live.disk) (λ e. GoesOn D.seen first e.0) }
     ensures second { MatchResult result (λ new. GoesOn D.seen second new.journal.idle) (λ e. GoesOn D.seen second e.1) }
 {

@@ -87,8 +87,8 @@ module _ {B D : Type 0} (bay_seen : B → BayView D) (seen : D → DiskView) (ol
   pub completes_on : (number : ℕ) (status : Status) → number ≡ status_number status → Replay status → status ≢ Damaged → status ≢ Device
       → (Rose input.faults input.faults_after → ⊥) → (Rose output.faults output.faults_after → ⊥)
       → IfSome input.left (λ text. (events : List Event) → IsScript text events → (number ≡ 0) ⊎ (number ≡ 8))
-  completes_on number status is e whole fed read write = completes conf input output Session Untold input.Same (DisksStay bay_seen seen old new) AtEntry Rises number status is e whole fed read write
+  completes_on number status is e whole fed read write = completes conf input output Session Untold input.Same (DisksStay bay_seen seen (status ≡ Device) old new) AtEntry Rises number status is e whole fed read write
 
   pub not_device_on : (status : Status) → Replay status → HoldsStates bay_seen seen conf old → (Rises → ⊥) → status ≢ Device
   not_device_on status e told still =
-      not_device conf input output Session Untold input.Same (DisksStay bay_seen seen old new) AtEntry Rises status e (λ untold. untold told.0 told.1 told.2) still
+      not_device conf input output Session Untold input.Same (DisksStay bay_seen seen (status ≡ Device) old new) AtEntry Rises status e (λ untold. untold told.0 told.1 told.2) still

@@ -26,7 +26,7 @@ use Rattle.broker_model.proofs.Passing.{openings_well}
 use Rattle.broker_core.specs.declared.fault.CoreOpen.{CoreOpen}
 use Rattle.broker_core.specs.declared.fault.CoreOpen.TheVariants as open_fault
 use Rattle.broker_core.specs.declared.slot.PartSlot.{PartSlot}
-use Rattle.broker_core.specs.Bays.{TellsDisks, TellsStill, IsFirst, ArePutBack, HoldsIf, BothHold, HasName}
+use Rattle.broker_core.specs.Bays.{IsOfDevice, StaysAs, TellsDisks, TellsStill, IsFirst, ArePutBack, HoldsIf, BothHold, HasName}
 use Rattle.broker_core.specs.Hosts.{LeftDisks, GoOn, DiskGoesOn, DisksReach, IsPartSlot, StandStill, ForeignStill, PartStill, PartsStill, ReachesTo, among, disk_in, disks_in, facts_at, facts_in, facts_among, foreign_disk, foreign_facts, hosted_slot, hosted_slots, slots_disks}
 use Rattle.broker_core.specs.Cores.{CoreParts, IsCore, state_of}
 use Rattle.broker_core.specs.Restarts.{IsDamagedDisk}
@@ -36,7 +36,7 @@ use Rattle.share_top.specs.declared.status.Status.{Status}
 use Rattle.share_top.specs.declared.status.Status.TheVariants.{Done, Usage, Malformed, ReadFault, WriteFault, Damaged, Device, NoMemory}
 use Rattle.share_top.specs.Changes.{InputChange, OutputChange}
 use Rattle.share_top.specs.Sessions.{Ending, Leaves, LeavesWithin, Ran, IsSession, OfBay, OverBay, CountRose, Writes, WritesThen, WritesFront, WritesPart}
-use Rattle.share_top.specs.Statuses.{ComesNext, IsPlayed, IsNotOpened, IsRefusedScript, IsBegun}
+use Rattle.share_top.specs.Statuses.{ComesNext, DisksStay, IsPlayed, IsNotOpened, IsRefusedScript, IsBegun}
 use Rattle.share_top.specs.Going.{FromCore, NeverFrom, IsRefusal}
 use Rattle.edge_io.specs.Views.{DiskView, BayView}
 
@@ -570,3 +570,22 @@ module _ {B D : Type 0} (bay_seen : B → BayView D) (seen : D → DiskView) whe
 
 pub refusal_damaged : (fault : CoreOpen) (output : OutputChange) (status : Status) → IsRefusal fault output status → status ≡ Damaged → IsRefusal fault output Damaged
 refusal_damaged fault output status r is = subst (λ (s : Status). IsRefusal fault output s) is r
+
+-- a device fault is told where a disk failed, or the bay gave one not
+pub refusal_device : (fault : CoreOpen) (output : OutputChange) (status : Status) → IsRefusal fault output status → status ≡ Device → IsOfDevice fault
+refusal_device fault output status r is = go (subst (λ (s : Status). IsRefusal fault output s) is r).0 where
+  go : (fault ≡ open_fault.Device) ⊎ (fault ≡ open_fault.Bay) → IsOfDevice fault
+  go (inl e) = subst IsOfDevice (sym e) tt
+  go (inr e) = subst IsOfDevice (sym e) tt
+
+-- what a start that was refused leaves of the disks
+pub disks_stay : {B D : Type 0} (bay_seen : B → BayView D) (seen : D → DiskView) (Fed : Type 0) (fault : CoreOpen) (old new : B) → (Fed → IsOfDevice fault)
+    → TellsStill bay_seen old new → ((name : List ℕ) → StaysAs bay_seen seen (IsOfDevice fault) name old new)
+    → (IsOfDevice fault → (bay_seen new).starved ≡ false) → DisksStay bay_seen seen Fed old new
+disks_stay bay_seen seen Fed fault old new why told stays fed = record {
+  told = told;
+  stays = λ name d e was is.
+      let s = stays name d e was is in
+      record { images = s.images; runs = s.runs; fed = λ f. s.fed (why f) };
+  fed = λ f. fed (why f);
+}

@@ -62,4 +62,4 @@ returns-in-Err-clause-err g c = refused_both g.B.Bay.seen g.D.Disk.seen
       ),
     )
     c.in-Err.ensures.recovers c.in-Err.ensures.sound c.in-Err.ensures.damaged c.in-Err.ensures.device c.in-Err.ensures.no_bay c.in-Err.ensures.images
-    c.in-Err.ensures.runs.0 c.in-Err.ensures.runs.1
+    c.in-Err.ensures.runs.0 c.in-Err.ensures.runs.1 c.in-Err.ensures.fed

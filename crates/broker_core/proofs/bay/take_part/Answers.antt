@@ -32,7 +32,8 @@ returns-in-Ok-clause-ok g c =
     (record { topic = c.part.inside.topic; conf = c.part.inside.conf }) (subst (λ (h : Hosted). AreDistinct (disks_of h)) (sym c.part.view_is) c.requires.apart)
     c.in_ok-disks.disks.0 c.in_ok-disks.disks.1 c.in_ok-disks.disks.2 c.names_of-names.result.log c.names_of-names.result.first c.names_of-names.result.second
     c.args.bay.now c.take_three.new.bay c.names_of-names.ensures.log c.names_of-names.ensures.first c.names_of-names.ensures.second c.in_ok-disks.ensures.ok)
-    c.in-Ok.ensures.log.later c.in-Ok.ensures.first.later c.in-Ok.ensures.second.later c.in-Ok.ensures.opens c.in-Ok.ensures.images c.in-Ok.ensures.runs)
+    c.in-Ok.ensures.log.later c.in-Ok.ensures.first.later c.in-Ok.ensures.second.later c.in-Ok.ensures.opens c.in-Ok.ensures.images c.in-Ok.ensures.runs
+    c.in-Ok.ensures.fed)
 
 pub returns-in-Err-clause-err : goal.returns-in-Err-clause-err
 returns-in-Err-clause-err g c =
@@ -50,4 +51,5 @@ returns-in-Err-clause-err g c =
     (record { topic = c.part.inside.topic; conf = c.part.inside.conf }) (subst (λ (h : Hosted). AreDistinct (disks_of h)) (sym c.part.view_is) c.requires.apart)
     c.in-Err.disks.0 c.in-Err.disks.1 c.in-Err.disks.2 c.names_of-names.result.log c.names_of-names.result.first c.names_of-names.result.second
     c.take_three.new.bay c.put_three.new.bay c.names_of-names.ensures.log c.names_of-names.ensures.first c.names_of-names.ensures.second c.put_three.ensures)
-    c.in-Err.ensures.recovers c.in-Err.ensures.sound c.in-Err.ensures.damaged c.in-Err.ensures.device c.in-Err.ensures.no_bay c.in-Err.ensures.images c.in-Err.ensures.runs)
+    c.in-Err.ensures.recovers c.in-Err.ensures.sound c.in-Err.ensures.damaged c.in-Err.ensures.device c.in-Err.ensures.no_bay c.in-Err.ensures.images c.in-Err.ensures.runs
+    c.in-Err.ensures.fed)

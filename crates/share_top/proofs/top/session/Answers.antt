@@ -9,7 +9,8 @@ use Rattle.share_top.specs.Sessions.{CountRose}
 use Rattle.share_top.proofs.Apart.{slot_then}
 use Rattle.share_top.proofs.Counts.{count_rose}
 use Rattle.share_top.specs.Changes.{input_change, output_change}
-use Rattle.share_top.proofs.Ends.{names_stay, played_over, not_opened, sound_tells, never_stopped, refusal_damaged}
+use Rattle.share_top.specs.declared.status.Status.TheVariants.{Device}
+use Rattle.share_top.proofs.Ends.{names_stay, played_over, not_opened, sound_tells, never_stopped, disks_stay, refusal_damaged, refusal_device}
 use Rattle.share_top.proofs.top.session.Goals as goal
 
 those_out : {B D : Type 0} (bay_seen : B → BayView D) (names : List (List ℕ)) (bay : B) → AreOut bay_seen names bay
@@ -59,7 +60,9 @@ returns-in-Ok-clause-sound g c = λ sound is.
 pub returns-in-Err-clause-replay : goal.returns-in-Err-clause-replay
 returns-in-Err-clause-replay g c = inr (
   refl,
-  (c.start.ensures.told, c.in-Err.ensures.stays),
+  disks_stay g.B.Bay.seen g.B.D.Disk.seen (c.refuse.result ≡ Device) c.in-Err.fault c.args.bay.now c.start.new.bay
+      (refusal_device c.in-Err.fault (output_change g.O.Sink.held g.O.Sink.faults c.args.output.now c.refuse.new.output) c.refuse.result c.refuse.ensures.refusal)
+      c.start.ensures.told c.in-Err.ensures.stays c.in-Err.ensures.fed,
   not_opened g.B.Bay.seen g.B.D.Disk.seen
       c.args.bay.now c.start.new.bay c.args.conf (output_change g.O.Sink.held g.O.Sink.faults c.args.output.now c.refuse.new.output) c.in-Err.fault
       (λ name place e. c.start.ensures.damaged name place (c.in-Err.is ∙ ap (λ (f : CoreOpen). Err f) e))
