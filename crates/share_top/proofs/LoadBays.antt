@@ -1,5 +1,5 @@
 -- A load on the disk of a bay: what is said of the log and its disk is said of the bay's.
-use Rattle.std.proofs.Common.{◌≡◌, ◌+◌, ◌-◌, ◌<◌, ◌≤◌, ◌^◌, ◌↔◌, inl, inr, ⊎_elim, ℕ, List, [], ◌∷◌, All, true, Option, Some, None, IfSome, MatchOption, is_some, min, refl, sym, ap, subst, ◌∙◌, arith}
+use Rattle.std.proofs.Common.{◌≡◌, ◌+◌, ◌-◌, ◌<◌, ◌≤◌, ◌^◌, ◌↔◌, inl, inr, ⊎_elim, ℕ, List, [], ◌∷◌, All, Bool, true, false, ◌||◌, Option, Some, None, IfSome, MatchOption, is_some, min, refl, sym, ap, subst, ◌∙◌, arith}
 use Rattle.std.specs.Option.{IsSome}
 use Rattle.std.proofs.lemmas.Bool.{cases_lt}
 use Rattle.std.specs.Io.KnownBytes.{Appends}
@@ -20,7 +20,7 @@ use Rattle.share_top.specs.declared.status.Status.{Status}
 use Rattle.share_top.specs.declared.status.Status.TheVariants.{Done, Usage, Malformed, ReadFault, WriteFault, Damaged, Device, NoMemory}
 use Rattle.share_top.specs.Changes.{InputChange, OutputChange}
 use Rattle.share_top.specs.Sessions.{WritesFrontOf}
-use Rattle.share_top.specs.Loading.{LoadEnding, IsWhole, IsRefusedSegment, IsBegunSegment, WithLine, WithPlace, IsLoaded, IsNotLoaded, IsLogDisk, OverDisk, IsStored, StoresIn, StaysIn, DamagesIn, DiskCountRose}
+use Rattle.share_top.specs.Loading.{LoadEnding, IsWhole, IsRefusedSegment, IsBegunSegment, WithLine, WithPlace, IsLoaded, IsNotLoaded, IsLogDisk, OverDisk, IsStored, StoresIn, StaysIn, DamagesIn, DiskCountRose, FailsWithMemory}
 use Rattle.share_top.specs.Loads.{IsGrown, IsLogRefusal}
 use Rattle.edge_io.specs.Views.{DiskView, BayView}
 
@@ -164,19 +164,43 @@ module _ {B D : Type 0} (bay_seen : B → BayView D) (seen : D → DiskView)
       (λ le. inr (let l : 2 ^ 64 - 1 ≤ (bay_seen new).taken name = omega (arith, kept, noted, le) in l))
       (cases_lt (seen first).faults (2 ^ 64 - 1))
 
+  -- and memory was found
+  pub with_memory : (last : D) (starved : Bool) → is_some ((bay_seen mid).disk name) ≡ is_some ((bay_seen old).disk name)
+      → Holds ((bay_seen mid).disk name) ((bay_seen new).disk name) last → DiskCountRose bay_seen name old new → (seen last).starved ≡ false → starved ≡ false
+      → (bay_seen new).starved ≡ starved → FailsWithMemory bay_seen seen name old new
+  with_memory last starved told there rose fed bay_fed same = record {
+    rose = rose;
+    disk = λ d e was is s.
+        let at : (bay_seen new).disk name ≡ Some last = there (told ∙ ap is_some was) in
+        let one : Some e ≡ Some last = sym is ∙ at in
+        let only : e ≡ last = cc in
+        absurd (let bad : false ≡ true = sym fed ∙ ap (λ (x : D). (seen x).starved) (sym only) ∙ s in cc);
+    bay = same ∙ bay_fed;
+  }
+
+-- neither the bay nor the disk has found no memory
+pub none_starved : (bay disk : Bool) → (bay || disk) ≡ false → (bay ≡ false) × (disk ≡ false)
+none_starved false false none = (refl, refl)
+none_starved false true none = absurd (let bad : true ≡ false = none in cc)
+none_starved true disk none = absurd (let bad : true ≡ false = none in cc)
+
+pub fed_as : (bay told disk : Bool) → told ≡ disk → (bay || told) ≡ false → (bay || disk) ≡ false
+fed_as bay told disk same none = sym (ap (λ (b : Bool). bay || b) same) ∙ none
+
 pub rose_on : (a b c : ℕ) → a ≤ b → Rose b c → Rose a c
 rose_on a b c le r = omega (arith, le, r)
 
 -- ---- a log that was not opened
 
 module _ (output : OutputChange) (name : List ℕ) (fault : OpenFault) (Damages : ℕ → Type 0) (Rises : Type 0)
-    (damaged : (place : ℕ) → fault ≡ open_fault.Damaged place → Damages place) (risen : fault ≡ open_fault.Device → Rises) where
-  pub not_loaded : (status : Status) → IsLogRefusal name fault output status → IsNotLoaded output name Damages Rises status
-  not_loaded Done r = r
-  not_loaded Usage r = r
-  not_loaded Malformed r = r
-  not_loaded ReadFault r = r
-  not_loaded WriteFault r = (r.0, (r.1.0, damaged r.1.0 r.1.1, r.1.2))
-  not_loaded Damaged r = (r.0, damaged r.0 r.1, r.2)
-  not_loaded Device r = (risen r.0, r.1)
-  not_loaded NoMemory r = r
+    (damaged : (place : ℕ) → fault ≡ open_fault.Damaged place → Damages place) (told : Status)
+    (risen : told ≡ Device → fault ≡ open_fault.Device → Rises) where
+  pub not_loaded : (status : Status) → told ≡ status → IsLogRefusal name fault output status → IsNotLoaded output name Damages Rises status
+  not_loaded Done is r = r
+  not_loaded Usage is r = r
+  not_loaded Malformed is r = r
+  not_loaded ReadFault is r = r
+  not_loaded WriteFault is r = (r.0, (r.1.0, damaged r.1.0 r.1.1, r.1.2))
+  not_loaded Damaged is r = (r.0, damaged r.0 r.1, r.2)
+  not_loaded Device is r = (risen is r.0, r.1)
+  not_loaded NoMemory is r = r

@@ -164,13 +164,19 @@ DamagesIn bay_seen seen name old place = (d : _) (c : List ℕ) → (bay_seen ol
 abbrev pub DiskCountRose : {B D : Type 0} → (B → BayView D) → List ℕ → B → B → Type 0
 DiskCountRose bay_seen name old new = Rose (bay_seen old).faults (bay_seen new).faults ⊎ (2 ^ 64 - 1 ≤ (bay_seen new).taken name)
 
+-- So it did where memory was found: no call on the disk found none, and the bay has found it at each.
+pub record FailsWithMemory {B D : Type 0} (bay_seen : B → BayView D) (seen : D → DiskView) (name : List ℕ) (old new : B) : Type 0 where
+  pub rose : DiskCountRose bay_seen name old new
+  pub disk : (d e : D) → (bay_seen old).disk name ≡ Some d → (bay_seen new).disk name ≡ Some e → (seen e).starved ≡ true → (seen d).starved ≡ true
+  pub bay : (bay_seen new).starved ≡ false
+
 -- a load on the disk of this name
 abbrev pub IsLoad : {B D : Type 0} → (B → BayView D) → (D → DiskView)
     → List ℕ → B → B → InputChange → OutputChange → Status → Type 0
 IsLoad bay_seen seen name old new input output status =
-    IsLoaded input output (StoresIn bay_seen seen name old new) (DiskCountRose bay_seen name old new) status
+    IsLoaded input output (StoresIn bay_seen seen name old new) (FailsWithMemory bay_seen seen name old new) status
     ⊎ (input.Same × StaysIn bay_seen seen name old new
-    × IsNotLoaded output name (DamagesIn bay_seen seen name old) (DiskCountRose bay_seen name old new) status)
+    × IsNotLoaded output name (DamagesIn bay_seen seen name old) (FailsWithMemory bay_seen seen name old new) status)
 
 -- ---- the program
 

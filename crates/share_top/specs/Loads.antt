@@ -83,6 +83,12 @@ pub record IsGrown {D : Type 0} (seen : D → DiskView) (first new : LogParts D)
 abbrev pub AtPlace : ℕ → LoadEnding → LoadEnding
 AtPlace place Ends log batches pending = Ends log batches pending × (place ≡ length (segment_of batches))
 
+-- A call on the disk failed where memory was found: neither the disk nor its bay, which `starved` tells of, has found none.
+pub record FailsFed {D : Type 0} (seen : D → DiskView) (starved : Bool) (old new : D) : Type 0 where
+  pub rose : Rose (seen old).faults (seen new).faults
+  pub disk : (seen new).starved ≡ false
+  pub bay : starved ≡ false
+
 -- all of the segment was loaded, or it was stopped
 abbrev pub LoadsAll : InputChange → LoadEnding → Type 0 → Result (Unit {0}) Stop → Type 0
 LoadsAll input Ends Rises (Ok done) = IsWhole input Ends

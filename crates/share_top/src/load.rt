@@ -1,5 +1,5 @@
 // The loading of a segment into the log of one partition.
-ghost use Rattle.std.specs.Prelude.{◌≡◌, ◌≢◌, ◌≤◌, ◌<◌, None, All, List, ℕ, MatchOption};
+ghost use Rattle.std.specs.Prelude.{◌≡◌, ◌≢◌, ◌≤◌, ◌<◌, None, All, List, ℕ, MatchOption, Err, false};
 ghost use Rattle.edge_io.specs.Armed.{RunsOn};
 ghost use Rattle.edge_io.specs.Bays.{SameSlot};
 ghost use Rattle.edge_io.specs.Causes.{Rose};
@@ -13,7 +13,7 @@ ghost use Rattle.share_top.specs.Apart.{RunsDisk};
 ghost use Rattle.share_top.specs.Changes.{input_change, output_change};
 ghost use Rattle.share_top.specs.Loading.{IsLoad, IsLoaded, IsLogDisk, NoneIsOut, loaded_line};
 ghost use Rattle.share_top.specs.Segments.{HasOneReading};
-ghost use Rattle.share_top.specs.Loads.{LoadsNext, LoadsAll, IsGrown, IsLogRefusal, stop_by};
+ghost use Rattle.share_top.specs.Loads.{FailsFed, LoadsNext, LoadsAll, IsGrown, IsLogRefusal, stop_by};
 
 use crate::segment::{Front, SegmentFault, SegmentReader};
 use crate::status::Status;
@@ -65,6 +65,7 @@ fn load_next<D: Disk, I: Source>(
 ) -> Result<bool, Stop>
     ensures loads { LoadsNext D.seen log.old log.new reader.old reader.new
         (input_change I.left I.ended I.faults input.old input.new) result }
+    ensures fed { result ≡ Err Stop.Device → (D.seen log.new.journal.disk).starved ≡ false }
     ensures later { I.faults input.old ≤ I.faults input.new }
     ensures runs { RunsOn D.seen log.old.journal.disk log.new.journal.disk }
 {
@@ -97,6 +98,7 @@ fn load_all<D: Disk, I: Source>(
     requires { Keeps D.seen log.old None }
     ensures loads { LoadsAll (input_change I.left I.ended I.faults input.old input.new) (IsGrown D.seen log.old log.new)
         (Rose (D.seen log.old.journal.disk).faults (D.seen log.new.journal.disk).faults) result }
+    ensures fed { result ≡ Err Stop.Device → (D.seen log.new.journal.disk).starved ≡ false }
     ensures runs { RunsOn D.seen log.old.journal.disk log.new.journal.disk }
 {
     let mut reader = SegmentReader::new(alloc);
@@ -125,16 +127,17 @@ fn write_loaded<O: Sink>(
     }
 }
 
-// Loads a segment into a log, and tells what came of it.
+// Loads a segment into a log, and tells what came of it. `starved` says that the bay of its disk has found no memory.
 fn load_into<D: Disk, I: Source, O: Sink>(
     alloc: Global,
     log: &mut PartLog<D>,
+    starved: bool,
     input: &mut I,
     output: &mut O,
 ) -> Status
     requires { Keeps D.seen log.old None }
     ensures loaded { IsLoaded (input_change I.left I.ended I.faults input.old input.new) (output_change O.held O.faults output.old output.new)
-        (IsGrown D.seen log.old log.new) (Rose (D.seen log.old.journal.disk).faults (D.seen log.new.journal.disk).faults) result }
+        (IsGrown D.seen log.old log.new) (FailsFed D.seen starved log.old.journal.disk log.new.journal.disk) result }
     ensures counted { result ≢ Status.WriteFault → O.faults output.new ≡ O.faults output.old }
     ensures runs { RunsOn D.seen log.old.journal.disk log.new.journal.disk }
 {
@@ -153,6 +156,7 @@ fn load_into<D: Disk, I: Source, O: Sink>(
             },
             Stop::Read => Status::ReadFault,
             Stop::Full => Status::Device,
+            Stop::Device if starved => Status::NoMemory,
             Stop::Device => Status::Device,
             Stop::NoMemory => Status::NoMemory,
         },
@@ -168,6 +172,7 @@ fn refuse_log<O: Sink>(
     output: &mut O,
 ) -> Status
     ensures refusal { IsLogRefusal disk.now fault (output_change O.held O.faults output.old output.new) result }
+    ensures fed { result ≡ Status.Device → starved ≡ false }
     ensures counted { result ≢ Status.WriteFault → O.faults output.new ≡ O.faults output.old }
 {
     match fault {
@@ -211,14 +216,15 @@ where
             Status::Device
         };
     };
+    let starved = bay.starved();
     match PartLog::open(alloc, disk) {
         Ok(mut log) => {
-            let status = load_into(alloc, &mut log, input, output);
+            let status = load_into(alloc, &mut log, starved, input, output);
             bay.put_back(name, log.into_disk());
             status
         }
         Err((disk, fault)) => {
-            let starved = disk.starved();
+            let starved = starved | disk.starved();
             bay.put_back(name, disk);
             refuse_log(alloc, name, fault, starved, output)
         }

@@ -1,12 +1,11 @@
 use Rattle.std.proofs.Common.{inl, inr, refl, sym, ap, ◌∙◌, subst, is_some}
 use Rattle.edge_io.specs.Armed.{RunsOn}
-use Rattle.edge_io.specs.Causes.{Rose}
 use Rattle.share_top.specs.Changes.{input_change, output_change}
-use Rattle.share_top.specs.Loading.{StoresIn, DamagesIn, DiskCountRose}
-use Rattle.share_top.specs.Loads.{IsGrown}
+use Rattle.share_top.specs.Loading.{StoresIn, DamagesIn, FailsWithMemory}
+use Rattle.share_top.specs.Loads.{FailsFed, IsGrown}
 use Rattle.edge_io.proofs.Runs.{runs_then}
 use Rattle.share_top.proofs.Apart.{runs_back, slot_then}
-use Rattle.share_top.proofs.LoadBays.{weakens, stores, stays, damages, rises, rose_on, not_loaded}
+use Rattle.share_top.proofs.LoadBays.{weakens, stores, stays, damages, none_starved, fed_as, rises, rose_on, not_loaded, with_memory}
 use Rattle.share_top.proofs.load.load_on.Goals as goal
 
 pub returns-in-Ok-open-clause-loads : goal.returns-in-Ok-open-clause-loads
@@ -19,15 +18,19 @@ returns-in-Ok-open-clause-loads g c =
     (output_change g.O.Sink.held g.O.Sink.faults c.args.output.now c.load_into-status.new.output)
     (IsGrown g.B.D.Disk.seen c.in-Ok-open.log c.load_into-status.new.log)
     (StoresIn g.B.Bay.seen g.B.D.Disk.seen c.args.name.now c.args.bay.now c.put_back.new.self)
-    (Rose (g.B.D.Disk.seen c.in-Ok-open.log.journal.disk).faults (g.B.D.Disk.seen last).faults)
-    (DiskCountRose g.B.Bay.seen c.args.name.now c.args.bay.now c.put_back.new.self)
+    (FailsFed g.B.D.Disk.seen c.starved-starved.result c.in-Ok-open.log.journal.disk last)
+    (FailsWithMemory g.B.Bay.seen g.B.D.Disk.seen c.args.name.now c.args.bay.now c.put_back.new.self)
     (stores g.B.Bay.seen g.B.D.Disk.seen c.args.name.now c.args.bay.now c.take.new.self c.put_back.new.self
     c.in-Ok.disk c.into_disk.result given c.in-Ok.ensures.told c.put_back.ensures.there
     (ap (λ (d : g.row.B-D.Denot). is_some (g.B.D.Disk.seen d).content) c.into_disk.ensures ∙ run.told ∙ opened.told)
     (λ d x e. (g.met.B.D.Disk.read_is_image d x e).0) c.in-Ok-open.log c.load_into-status.new.log c.into_disk.ensures c.in-Ok-open.ensures.opens)
-    (λ rose. rises g.B.Bay.seen g.B.D.Disk.seen c.args.name.now c.args.bay.now c.take.new.self c.put_back.new.self
+    (λ fails. with_memory g.B.Bay.seen g.B.D.Disk.seen c.args.name.now c.args.bay.now c.take.new.self c.put_back.new.self
+    c.into_disk.result c.starved-starved.result c.in-Ok.ensures.told c.put_back.ensures.there
+    (rises g.B.Bay.seen g.B.D.Disk.seen c.args.name.now c.args.bay.now c.take.new.self c.put_back.new.self
     c.in-Ok.disk ((g.B.Bay.seen c.take.new.self).taken c.args.name.now) (g.B.D.Disk.seen last).faults c.put_back.ensures.taken c.in-Ok.ensures.is_out.1 c.in-Ok.ensures.cause.later
-    (rw (← c.into_disk.ensures) c.put_back.ensures.counts) (rose_on _ _ _ opened.later rose))
+    (rw (← c.into_disk.ensures) c.put_back.ensures.counts) (rose_on _ _ _ opened.later fails.rose))
+    (ap (λ (d : g.row.B-D.Denot). (g.B.D.Disk.seen d).starved) c.into_disk.ensures ∙ fails.disk) fails.bay
+    (c.put_back.ensures.starved ∙ sym c.starved-starved.ensures))
     c.load_into-status.result c.load_into-status.ensures.loaded)
 
 pub returns-in-Err-clause-loads : goal.returns-in-Err-clause-loads
@@ -41,13 +44,18 @@ returns-in-Err-clause-loads g c =
           c.in-Err.ensures.any_moment,
       not_loaded (output_change g.O.Sink.held g.O.Sink.faults c.args.output.now c.refuse_log.new.output) c.args.name.now c.in-Err.fault
           (DamagesIn g.B.Bay.seen g.B.D.Disk.seen c.args.name.now c.args.bay.now)
-          (DiskCountRose g.B.Bay.seen c.args.name.now c.args.bay.now c.put_back-in-Err.new.self)
+          (FailsWithMemory g.B.Bay.seen g.B.D.Disk.seen c.args.name.now c.args.bay.now c.put_back-in-Err.new.self)
           (damages g.B.Bay.seen g.B.D.Disk.seen c.args.name.now c.args.bay.now c.take.new.self c.put_back-in-Err.new.self
           c.in-Ok.disk given c.in-Err.fault c.in-Err.ensures.damaged)
-          (λ is. rises g.B.Bay.seen g.B.D.Disk.seen c.args.name.now c.args.bay.now c.take.new.self c.put_back-in-Err.new.self
+          c.refuse_log.result
+          (λ told is.
+          let fed = none_starved c.starved-starved.result (g.B.D.Disk.seen c.in-Err.disk).starved (fed_as c.starved-starved.result _ _ c.starved-in-Err.ensures (c.refuse_log.ensures.fed told)) in
+          with_memory g.B.Bay.seen g.B.D.Disk.seen c.args.name.now c.args.bay.now c.take.new.self c.put_back-in-Err.new.self
+          c.in-Err.disk c.starved-starved.result c.in-Ok.ensures.told c.put_back-in-Err.ensures.there
+          (rises g.B.Bay.seen g.B.D.Disk.seen c.args.name.now c.args.bay.now c.take.new.self c.put_back-in-Err.new.self
           c.in-Ok.disk ((g.B.Bay.seen c.take.new.self).taken c.args.name.now) (g.B.D.Disk.seen c.in-Err.disk).faults c.put_back-in-Err.ensures.taken c.in-Ok.ensures.is_out.1 c.in-Ok.ensures.cause.later
-          c.put_back-in-Err.ensures.counts (c.in-Err.ensures.device is).0)
-          c.refuse_log.result c.refuse_log.ensures.refusal,
+          c.put_back-in-Err.ensures.counts (c.in-Err.ensures.device is).0) fed.1 fed.0 (c.put_back-in-Err.ensures.starved ∙ sym c.starved-starved.ensures))
+          c.refuse_log.result refl c.refuse_log.ensures.refusal,
     )
 
 -- ---- other disks, and arms of this one
