@@ -28,7 +28,7 @@ use Rattle.share_coord.specs.States.{states_of, AreStates}
 use Rattle.state_records.specs.Spelling.{record_bytes}
 use Rattle.foreign_coord.specs.Codes.{Tells, TellsFault, code_in}
 use Rattle.foreign_coord.specs.Once.{ActsOnce, Carried, FailsToPut, PutsRecord}
-use Rattle.foreign_coord.specs.Shards.{ForeignShardState, StepsForeign, Grants, IsFull, Carries, IsFound, IsRecordOf, writes}
+use Rattle.foreign_coord.specs.Shards.{ForeignShardState, StepsForeign, Grants, HasNoRoom, Carries, IsFound, IsRecordOf, writes}
 use Rattle.share_coord.proofs.Ends.{later_once}
 use Rattle.share_coord.proofs.Keys.{clash}
 use Rattle.share_coord.proofs.Once.{held_still}
@@ -121,7 +121,7 @@ module _ {D : Type 0} (seen : D → DiskView)
     (op : ForeignOp) (old new : StoreParts D) where
   abbrev Sound : ForeignAnswer → Type 0
   Sound answer = answer.code ≡ KAFKA_STORAGE_ERROR →
-      StarvesUnarmed seen old.journal.live.disk new.journal.live.disk ⊎ IsFull old.journal.live.end (states_of old.entries) op
+      StarvesUnarmed seen old.journal.live.disk new.journal.live.disk ⊎ HasNoRoom old.journal.live.end (states_of old.entries) op
 
   abbrev Unwritten : ForeignAnswer → Type 0
   Unwritten answer = writes (states_of old.entries) op answer ≡ false → answer.code ≢ KAFKA_STORAGE_ERROR → new ≡ old
@@ -164,7 +164,7 @@ module _ {D T : Type 0} (seen : D → DiskView) (op : ForeignOp) (old new : Stor
   ))
 
   full_by : (end : ℕ) → Once (Err (Store (Full end))) → Puts (Err (Store (Full end)))
-      → (end ≡ old.journal.live.end) × IsFull old.journal.live.end (states_of old.entries) op
+      → (end ≡ old.journal.live.end) × HasNoRoom old.journal.live.end (states_of old.entries) op
   full_by end once puts =
       let f = once.full end refl in
       let p = puts.full end refl in (

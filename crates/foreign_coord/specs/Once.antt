@@ -15,7 +15,7 @@ use Rattle.share_coord.specs.Recorded.{HasRoomFor, IsPending, IsStored}
 use Rattle.share_coord.specs.States.{states_of}
 use Rattle.state_records.specs.Spelling.{record_bytes}
 use Rattle.state_records.specs.declared.record.StateRecord.{StateRecord}
-use Rattle.foreign_coord.specs.Shards.{ForeignShardState, StepsForeign, IsFull, Carries, IsFound, IsRecordOf, writes}
+use Rattle.foreign_coord.specs.Shards.{ForeignShardState, StepsForeign, HasNoRoom, Carries, IsFound, IsRecordOf, writes}
 use Rattle.edge_io.specs.Views.{DiskView}
 
 -- a store that carried a state carries one that a step leads to
@@ -39,7 +39,7 @@ pub record ActsOnce {D : Type 0} (seen : D → DiskView) (op : ForeignOp) (befor
   pub ok : IfOk result (Carried seen op before after)
   pub memory : OnErr result (after ≡ before)
   pub sound : IfOk result (λ answer. answer.code ≡ KAFKA_STORAGE_ERROR →
-      StarvesUnarmed seen before.journal.live.disk after.journal.live.disk ⊎ IsFull before.journal.live.end (states_of before.entries) op)
+      StarvesUnarmed seen before.journal.live.disk after.journal.live.disk ⊎ HasNoRoom before.journal.live.end (states_of before.entries) op)
   -- no device call failed, unless the answer tells it
   pub quiet : IfOk result (λ answer. answer.code ≢ KAFKA_STORAGE_ERROR →
       IsQuiet seen before.journal.live.disk after.journal.live.disk)

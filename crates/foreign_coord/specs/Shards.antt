@@ -67,7 +67,7 @@ IsRecordOf old (Write key state_epoch leader_epoch start batches) one =
 IsRecordOf old (Delete key) one = one ≡ Removal key
 
 -- the journal, whose last gate ends at `end`, has no room for the frame of this call's record below 2^62
-pub record IsFull (end : ℕ) (states : ShareStates) (op : ForeignOp) : Type 0 where
+pub record HasNoRoom (end : ℕ) (states : ShareStates) (op : ForeignOp) : Type 0 where
   pub before : Entries
   pub after : ShareStates
   pub one : StateRecord
@@ -81,7 +81,7 @@ pub record IsFull (end : ℕ) (states : ShareStates) (op : ForeignOp) : Type 0 w
 abbrev pub StepsForeign : (rose : Type 0) (end : ℕ) → ForeignShardState → ForeignOp → ForeignAnswer → Option StoreFault → ForeignShardState → Type 0
 StepsForeign rose end old op answer None new = IsDone op answer old new
 StepsForeign rose end old op answer (Some Device) new = (answer ≡ code_alone KAFKA_STORAGE_ERROR) × rose × IsUnstored op old new
-StepsForeign rose end old op answer (Some (Full at)) new = (answer ≡ code_alone KAFKA_STORAGE_ERROR) × (at ≡ end) × (new ≡ old) × IsFull end old.states op
+StepsForeign rose end old op answer (Some (Full at)) new = (answer ≡ code_alone KAFKA_STORAGE_ERROR) × (at ≡ end) × (new ≡ old) × HasNoRoom end old.states op
 
 -- A store in memory and its disks stand for the shard's state.
 pub record Carries {D : Type 0} (seen : D → DiskView) (store : StoreParts D) (shard : ForeignShardState) : Type 0 where

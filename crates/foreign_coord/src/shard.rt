@@ -16,13 +16,13 @@ ghost use Rattle.share_coord.specs.Opening.{IsOpened, IsNotOpened};
 ghost use Rattle.share_coord.specs.States.{states_of};
 ghost use Rattle.foreign_coord.specs.Once.{ActsOnce, FailsToPut, PutsRecord};
 ghost use Rattle.state_records.specs.States.{AreStoredRuns};
-ghost use Rattle.foreign_coord.specs.Shards.{ForeignShardState, StepsForeign, IsFull, Carries, IsFound, writes};
+ghost use Rattle.foreign_coord.specs.Shards.{ForeignShardState, StepsForeign, HasNoRoom, Carries, IsFound, writes};
 
 use crate::batches::runs_of;
 use crate::codes::{alone, answer, refusal};
 use edge_io::{Disk, DiskPlace, FaultMode};
 use flex_fields::Items;
-use share_coord::{Coord, CoordOpen, StateView};
+use share_coord::{Coord, CoordOpen, StateView, States};
 use share_model::{Code, ForeignAnswer, ForeignOp, Key, NoMemory, StateBatchList};
 use std::alloc::Global;
 use std::marker::Model;
@@ -183,7 +183,7 @@ impl<D: Disk> ForeignShard<D> {
         // With nothing armed, a store fault comes only of a full journal, or where the disk finds no memory.
         ensures sound { IfOk result (λ answer. answer.code ≡ Code.KAFKA_STORAGE_ERROR →
             StarvesUnarmed D.seen self.old.journal.live.disk self.new.journal.live.disk
-            ⊎ IsFull self.old.journal.live.end (states_of self.old.entries) op.now) }
+            ⊎ HasNoRoom self.old.journal.live.end (states_of self.old.entries) op.now) }
 
         // Unless it is answered with a store fault, no device call failed.
         ensures quiet { IfOk result (λ answer. answer.code ≢ Code.KAFKA_STORAGE_ERROR →
@@ -217,7 +217,15 @@ impl<D: Disk> ForeignShard<D> {
         self.coord.look(key)
     }
 
-    /// The key at a place, in byte order of group, topic and partition, from place 0 on.
+    /// All states with their keys, in byte order of group, topic and partition. A walk over them is linear.
+    pub fn states(&self) -> States<'_>
+        ensures { result ≡ states_of self.now.entries }
+    {
+        self.coord.states()
+    }
+
+    /// The key at a place, in byte order of group, topic and partition, from place 0 on. It goes past the keys before it;
+    /// [`ForeignShard::states`] is for a walk.
     pub fn key_at(&self, place: u64) -> Option<&Key>
         ensures { option_copied result ≡ slice_get (keys_of self.now.entries) place }
     {

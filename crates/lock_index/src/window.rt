@@ -1,9 +1,9 @@
-ghost use Rattle.std.specs.Prelude.{◌≡◌, ◌≤◌, ◌+◌, ◌*◌, ℕ, List, [], length, option_map, OnOk, OnErr, IsOk};
+ghost use Rattle.std.specs.Prelude.{◌≡◌, ◌≤◌, ◌+◌, ◌-◌, ◌*◌, ℕ, List, [], length, OnOk, OnErr, IsOk};
 ghost use Rattle.std.specs.Option.{option_copied};
 ghost use Rattle.std.specs.BTreeMap.{insert_entry};
 ghost use Rattle.std.specs.Ordering.{nat_cmp};
 ghost use Rattle.share_model.specs.Held.{Held, hold_at, without_range, IsLeastDue};
-ghost use Rattle.lock_index.specs.Windows.{IsRising, IsNextHeld};
+ghost use Rattle.lock_index.specs.Windows.{IsRising, IsRunFrom, holding};
 ghost use Rattle.lock_index.specs.Runs.{IsRunList, met_count};
 ghost use Rattle.lock_index.specs.declared.run.HoldRun.{HoldRun};
 
@@ -37,9 +37,9 @@ pub trait Window: Sized + Drop {
     fn look(&self, offset: u64) -> Option<&Hold>
         ensures { option_copied result ≡ hold_at (held self.now) offset };
 
-    /// The least held offset from `from` on, with its hold. `None` where there is none.
-    fn next_held(&self, from: u64) -> Option<(u64, &Hold)>
-        ensures { IsNextHeld (held self.now) from (option_map (λ next. (next.0, next.1.now)) result) };
+    /// The first run that doesn't end below `from`. `None` where there is none.
+    fn run_from(&self, from: u64) -> Option<&HoldRun>
+        ensures { IsRunFrom (held self.now) from (option_copied result) };
 
     /// The one run list of what is held: the runs are in order, and no two neighbours could be one. It takes no memory.
     fn list(&self) -> &[HoldRun]
@@ -65,6 +65,15 @@ pub trait Window: Sized + Drop {
         ensures err { OnErr result (held self.new ≡ held self.old) }
         ensures keeps { OnErr result (spare self.new ≡ spare self.old) }
         ensures spared { 1 ≤ spare self.old → IsOk result };
+
+    /// Holds the offsets from `first` to `last` in one way, each in place of an older hold of it; there are none where `last` is below
+    /// `first`. After want of memory, which needs that it wasn't set aside for so many, the window is as it was.
+    fn hold_range(&mut self, first: u64, last: u64, hold: Hold) -> Result<(), NoMemory>
+        ensures ok { OnOk result (held self.new ≡ holding first ((last + 1) - first) hold (held self.old)) }
+        ensures spends { OnOk result (spare self.old ≤ spare self.new + ((last + 1) - first)) }
+        ensures err { OnErr result (held self.new ≡ held self.old) }
+        ensures keeps { OnErr result (spare self.new ≡ spare self.old) }
+        ensures spared { (last + 1) - first ≤ spare self.old → IsOk result };
 
     /// Ends the holds of the offsets from `first` to `last`; there are none where `last` is below `first`. It takes no memory.
     fn end_hold(&mut self, first: u64, last: u64)

@@ -10,7 +10,7 @@ use Rattle.share_model.specs.declared.fault.StoreFault.TheVariants.{Device, Full
 use Rattle.rec_batch.specs.declared.form.Form.TheVariants.{Produced}
 use Rattle.rec_batch.specs.Batches.{IsFirstFault}
 use Rattle.part_log.specs.Logs.{AddsOnce, HasRoomFor, IsUnwritten, Keeps, LogParts}
-use Rattle.part_log.specs.Shards.{LogShardState, CarriesLog, HasNoFault, IsFullAt, StepsLog, at_end}
+use Rattle.part_log.specs.Shards.{LogShardState, CarriesLog, HasNoFault, HasNoRoomAt, StepsLog, at_end}
 use Rattle.edge_io.specs.Views.{DiskView}
 
 module _ {D : Type 0} (seen : D → DiskView) (old new : LogParts D) (bytes : List ℕ) where
@@ -88,7 +88,7 @@ module _ {D : Type 0} (seen : D → DiskView) (old new : LogParts D) (bytes : Li
     (
       none_at (Err (Store (Full at))) judged (λ fault e. let never : ⊥ = cc in never),
       refl,
-      subst (λ (log : List Batch). IsFullAt old.journal.end log (at_end log bytes) at) (sym k.batches) (once.full at refl),
+      subst (λ (log : List Batch). HasNoRoomAt old.journal.end log (at_end log bytes) at) (sym k.batches) (once.full at refl),
     ),
   )
   steps (Err NoMemory) judged no_behind is_base once fed shard k = absurd (fed refl)

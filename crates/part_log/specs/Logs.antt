@@ -76,8 +76,8 @@ pub record Keeps {D : Type 0} (seen : D → DiskView) (log : LogParts D) (pendin
 
 -- The batch has no room: its last offset is 2^62 or more, and `end` is the log's end; or the journal, whose last gate ends at `end`,
 -- would end past 2^62 bytes.
-abbrev pub IsFull : {D : Type 0} → LogParts D → Batch → (end : ℕ) → Type 0
-IsFull log b end = ((2 ^ 62 ≤ b.last) × (end ≡ end_of log.batches))
+abbrev pub HasNoRoom : {D : Type 0} → LogParts D → Batch → (end : ℕ) → Type 0
+HasNoRoom log b end = ((2 ^ 62 ≤ b.last) × (end ≡ end_of log.batches))
     ⊎ ((b.last < 2 ^ 62) × (2 ^ 62 < log.journal.end + (length b.bytes + 5)) × (end ≡ log.journal.end))
 
 -- the batch of these numbers covers the offset
@@ -122,7 +122,7 @@ pub record AddsOnce {D : Type 0} (seen : D → DiskView) (old new : LogParts D) 
   pub device : result ≡ Err (Store Device) → IsUnwritten seen old new b × HasRoomFor old b
       × Rose (seen old.journal.disk).faults (seen new.journal.disk).faults × StarvesUnarmed seen old.journal.disk new.journal.disk
   -- it is full only where there is no room, and each other refusal changes nothing
-  pub full : (end : ℕ) → result ≡ Err (Store (Full end)) → IsFull old b end
+  pub full : (end : ℕ) → result ≡ Err (Store (Full end)) → HasNoRoom old b end
   pub unchanged : (fault : LogFault) → result ≡ Err fault → fault ≢ Store Device → new ≡ old
   -- at each moment since it began a crash leaves the log at entry, with or without the pending batch, or with this one
   pub any_moment : (pending : Option Batch) → Keeps seen old pending →

@@ -36,8 +36,8 @@ pub record HasRoomAt (end : ℕ) (b : Batch) : Type 0 where
   pub journal : end + (length b.bytes + 5) ≤ 2 ^ 62
 
 -- it has none; `at` is where the log or the journal ends
-abbrev pub IsFullAt : (end : ℕ) → List Batch → Batch → (at : ℕ) → Type 0
-IsFullAt end log b at = ((2 ^ 62 ≤ b.last) × (at ≡ end_of log)) ⊎ ((b.last < 2 ^ 62) × (2 ^ 62 < end + (length b.bytes + 5)) × (at ≡ end))
+abbrev pub HasNoRoomAt : (end : ℕ) → List Batch → Batch → (at : ℕ) → Type 0
+HasNoRoomAt end log b at = ((2 ^ 62 ≤ b.last) × (at ≡ end_of log)) ⊎ ((b.last < 2 ^ 62) × (2 ^ 62 < end + (length b.bytes + 5)) × (at ≡ end))
 
 -- the batch is stored behind the others, and nothing is pending
 pub record Stores (end : ℕ) (old : LogShardState) (bytes : List ℕ) (base : ℕ) (new : LogShardState) : Type 0 where
@@ -62,7 +62,7 @@ abbrev pub StepsLog : (rose : Type 0) (end : ℕ) → LogShardState → List ℕ
 StepsLog rose end old bytes (Ok base) new = Stores end old bytes base new
 StepsLog rose end old bytes (Err (BadBatch fault)) new = IsFirstFault Produced bytes fault × (new ≡ old)
 StepsLog rose end old bytes (Err (Store Device)) new = rose × IsUnstored end old bytes new
-StepsLog rose end old bytes (Err (Store (Full at))) new = HasNoFault bytes × (new ≡ old) × IsFullAt end old.batches (at_end old.batches bytes) at
+StepsLog rose end old bytes (Err (Store (Full at))) new = HasNoFault bytes × (new ≡ old) × HasNoRoomAt end old.batches (at_end old.batches bytes) at
 StepsLog rose end old bytes (Err (Behind at)) new = ⊥
 StepsLog rose end old bytes (Err NoMemory) new = ⊥
 

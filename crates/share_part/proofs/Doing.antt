@@ -1,5 +1,5 @@
--- Acts, one offset after another.
-use Rattle.std.proofs.Common.{◌≡◌, ◌∙◌, inl, inr, refl, sym, ap, subst, arith, ℕ, ◌+◌, ◌<◌, ◌≤◌, List, [], ◌∷◌, length, Option, Some, None, Bool, true, false}
+-- Acts, run by run.
+use Rattle.std.proofs.Common.{◌≡◌, ◌∙◌, inl, inr, refl, sym, ap, subst, arith, ℕ, ◌+◌, ◌<◌, ◌≤◌, max, List, [], ◌∷◌, length, Option, Some, None, Bool, true, false}
 use Rattle.std.proofs.lemmas.Bool.{cases_lt}
 use Rattle.std.proofs.lemmas.Bool.Decides.{nat_tests}
 use Rattle.std.specs.Prelude.{nat_le, nat_lt, ◌&&◌, is_some, IsSome, unwrap_or, if◌then◌else◌}
@@ -21,11 +21,12 @@ use Rattle.share_model.specs.declared.hold.Hold.{Hold}
 use Rattle.share_model.specs.declared.row.Row.{Row}
 use Rattle.share_model.specs.declared.run.Run.{Run}
 use Rattle.share_model.specs.Logs.{Batch}
-use Rattle.window_rows.specs.Windows.{IsNextHeld}
+use Rattle.lock_index.specs.Windows.{IsRunAt, IsRunFrom}
+use Rattle.lock_index.specs.declared.run.HoldRun.{HoldRun}
 use Rattle.share_part.specs.Acknowledging.{NameNone, NameOne}
 use Rattle.share_part.specs.Tables.{Table}
 use Rattle.share_part.specs.Settling.{Acts, acted, act_row, settled, IsHeldBy, IsLeastMissing, IsNextStart, IsChange, Settles, release_of, releases_if, releasing, stored_after}
-use Rattle.share_part.specs.Acting.{AreDone, AreDoneTo, AreRows, AreRowsTo, Comes, Ends, IsHeldWith, IsSaid, laid}
+use Rattle.share_part.specs.Acting.{AreDone, AreDoneTo, AreHeldSo, AreRows, AreRowsTo, Comes, Ends, IsHeldTo, IsHeldWith, IsSaid, laid}
 use Rattle.share_part.specs.declared.settle.Change.{Change}
 use Rattle.share_part.proofs.Mapping.{at_is, at_self}
 
@@ -37,14 +38,14 @@ below_yes m n h = grind (arith, nat_tests)
 below_no : (m n : ℕ) → n ≤ m → nat_lt m n ≡ false
 below_no m n h = grind (arith, nat_tests)
 
--- what is put at one offset
-put_here : (was now : List Run) (o : ℕ) (row : Row) → PutsRange was now o o row → row_at now o ≡ Some row
-put_here was now o row h =
-    let at : nat_le o o && nat_le o o ≡ true = grind (arith, nat_tests) in
+-- what is put in a range
+put_here : (was now : List Run) (first last : ℕ) (row : Row) → PutsRange was now first last row → (o : ℕ) → first ≤ o → o ≤ last → row_at now o ≡ Some row
+put_here was now first last row h o lo hi =
+    let at : nat_le first o && nat_le o last ≡ true = grind (arith, nat_tests) in
     h o ∙ ap (λ (b : Bool). if b then Some row else row_at was o) at
 
-put_other : (was now : List Run) (o : ℕ) (row : Row) → PutsRange was now o o row → (other : ℕ) → nat_le o other && nat_le other o ≡ false → row_at now other ≡ row_at was other
-put_other was now o row h other apart = h other ∙ ap (λ (b : Bool). if b then Some row else row_at was other) apart
+put_other : (was now : List Run) (first last : ℕ) (row : Row) → PutsRange was now first last row → (other : ℕ) → nat_le first other && nat_le other last ≡ false → row_at now other ≡ row_at was other
+put_other was now first last row h other apart = h other ∙ ap (λ (b : Bool). if b then Some row else row_at was other) apart
 
 module _ (limit : ℕ) (acts : Acts) (held : Held) where
   -- what the rows are up to an offset
@@ -68,16 +69,16 @@ module _ (limit : ℕ) (acts : Acts) (held : Held) where
     ]
   ]
 
-  -- one more row, where something is done
-  pub rows_more : (o : ℕ) (rows next : List Run) (row : Row) → AreRowsTo limit acts held o rows → PutsRange rows next o o row → acted limit acts held o ≡ Some row
-      → AreRowsTo limit acts held (o + 1) next
-  rows_more o rows next row h put is other = elim (cases_lt other o) [
-    | inl lt ↦ put_other rows next o row put other (grind (arith, nat_tests)) ∙ h other ∙ upto_below o other lt ∙ sym (upto_below (o + 1) other (omega (arith, lt)))
-    | inr ge ↦ elim (cases_lt o other) [
-      | inl past ↦ put_other rows next o row put other (grind (arith, nat_tests)) ∙ h other ∙ upto_beyond o other ge ∙ sym (upto_beyond (o + 1) other (omega (arith, past)))
-      | inr le ↦
-          let same : o ≡ other = omega (arith, ge, le) in
-          subst (λ (n : ℕ). row_at next n ≡ upto (o + 1) n) same (put_here rows next o row put ∙ sym is ∙ sym (upto_below (o + 1) o (omega arith)))
+  -- more rows, where the same is done
+  pub rows_more : (first last : ℕ) (rows next : List Run) (row : Row) → first ≤ last → AreRowsTo limit acts held first rows → PutsRange rows next first last row
+      → ((o : ℕ) → first ≤ o → o ≤ last → acted limit acts held o ≡ Some row) → AreRowsTo limit acts held (last + 1) next
+  rows_more first last rows next row order h put is other = elim (cases_lt other first) [
+    | inl lt ↦ put_other rows next first last row put other (grind (arith, nat_tests)) ∙ h other ∙ upto_below first other lt
+        ∙ sym (upto_below (last + 1) other (omega (arith, lt, order)))
+    | inr ge ↦ elim (cases_lt last other) [
+      | inl past ↦ put_other rows next first last row put other (grind (arith, nat_tests)) ∙ h other ∙ upto_beyond first other ge
+          ∙ sym (upto_beyond (last + 1) other (omega (arith, past)))
+      | inr le ↦ put_here rows next first last row put other ge le ∙ sym (is other ge le) ∙ sym (upto_below (last + 1) other (omega (arith, le)))
     ]
   ]
 
@@ -101,14 +102,15 @@ module _ (limit : ℕ) (member : List ℕ) (acts : Acts) (held : Held) where
   theirs_by count None h = absurd h
   theirs_by count (Some hold) h = h.0
 
-  pub done_more : (o : ℕ) (kind : AckKind) (count : ℕ) (rows next : List Run) → AreDoneTo limit member acts held o rows → acts o ≡ Some kind
-      → IsHeldWith member count (hold_at held o) → PutsRange rows next o o (settled limit kind count) → AreDoneTo limit member acts held (o + 1) next
-  done_more o kind count rows next h says theirs put = record {
-    rows_are = rows_more limit acts held o rows next (settled limit kind count) h.rows_are put
-        (ap (λ (k : Option AckKind). act_row limit k (hold_at held o)) says ∙ row_by kind count (hold_at held o) theirs);
-    theirs = λ other lt some. elim (cases_lt other o) [
+  pub done_more : (first last : ℕ) (kind : AckKind) (count : ℕ) (rows next : List Run) → AreDoneTo limit member acts held first rows
+      → ((o : ℕ) → first ≤ o → o ≤ last → acts o ≡ Some kind) → IsHeldTo member held first last count
+      → PutsRange rows next first last (settled limit kind count) → AreDoneTo limit member acts held (last + 1) next
+  done_more first last kind count rows next h says theirs put = record {
+    rows_are = rows_more limit acts held first last rows next (settled limit kind count) theirs.order h.rows_are put
+        (λ o lo hi. ap (λ (k : Option AckKind). act_row limit k (hold_at held o)) (says o lo hi) ∙ row_by kind count (hold_at held o) (theirs.theirs o lo hi));
+    theirs = λ other lt some. elim (cases_lt other first) [
       | inl below ↦ h.theirs other below some
-      | inr ge ↦ let same : o ≡ other = omega (arith, lt, ge) in subst (λ (n : ℕ). IsHeldBy member (hold_at held n)) same (theirs_by count (hold_at held o) theirs)
+      | inr ge ↦ theirs_by count (hold_at held other) (theirs.theirs other ge (omega (arith, lt)))
     ];
   }
 
@@ -254,21 +256,29 @@ module _ (limit : ℕ) (chosen : Hold → Bool) (held : Held) where
   by_choice : (o : ℕ) (hold : Hold) → hold_at held o ≡ Some hold → (b : Bool) → chosen hold ≡ b → acted limit acts held o ≡ act_row limit (release_of b) (Some hold)
   by_choice o hold is b e = act_at o (Some hold) is ∙ ap (λ (t : Bool). act_row limit (release_of t) (Some hold)) e
 
-  -- a hold that isn't chosen
-  pub left_out : (o : ℕ) (hold : Hold) (rows : List Run) → hold_at held o ≡ Some hold → chosen hold ≡ false → AreRowsTo limit acts held o rows → AreRowsTo limit acts held (o + 1) rows
-  left_out o hold rows is not h = rows_further limit acts held o (o + 1) rows h (omega arith)
-      (λ other le lt. let same : o ≡ other = omega (arith, le, lt) in subst (λ (n : ℕ). acted limit acts held n ≡ None) same (by_choice o hold is false not))
+  -- holds that aren't chosen
+  pub left_out : (first last : ℕ) (hold : Hold) (rows : List Run) → first ≤ last → AreHeldSo held first last hold → chosen hold ≡ false
+      → AreRowsTo limit acts held first rows → AreRowsTo limit acts held (last + 1) rows
+  left_out first last hold rows order is not h = rows_further limit acts held first (last + 1) rows h (omega (arith, order))
+      (λ other le lt. by_choice other hold (is other le (omega (arith, lt))) false not)
 
-  -- one that is
-  pub let_go : (o : ℕ) (hold : Hold) (rows next : List Run) (row : Row) → hold_at held o ≡ Some hold → chosen hold ≡ true → Some row ≡ act_row limit (release_of true) (Some hold)
-      → PutsRange rows next o o row → AreRowsTo limit acts held o rows → AreRowsTo limit acts held (o + 1) next
-  let_go o hold rows next row is picked row_is put h = rows_more limit acts held o rows next row h put (by_choice o hold is true picked ∙ sym row_is)
+  -- and holds that are
+  pub let_go : (first last : ℕ) (hold : Hold) (rows next : List Run) (row : Row) → first ≤ last → AreHeldSo held first last hold → chosen hold ≡ true
+      → Some row ≡ act_row limit (release_of true) (Some hold) → PutsRange rows next first last row → AreRowsTo limit acts held first rows
+      → AreRowsTo limit acts held (last + 1) next
+  let_go first last hold rows next row order is picked row_is put h =
+      rows_more limit acts held first last rows next row order h put (λ o lo hi. by_choice o hold (is o lo hi) true picked ∙ sym row_is)
 
-  -- up to the next hold
-  pub up_to_next : (from next : ℕ) (hold : Hold) (rows : List Run) → IsNextHeld held from (Some (next, hold)) → AreRowsTo limit acts held from rows → AreRowsTo limit acts held next rows
-  up_to_next from next hold rows is h = rows_further limit acts held from next rows h is.0 (λ o le lt. unheld o (is.2 o le lt))
+  -- up to the next run
+  pub up_to_next : (from : ℕ) (run : HoldRun) (rows : List Run) → IsRunAt held from run → AreRowsTo limit acts held from rows
+      → AreRowsTo limit acts held (max run.first from) rows
+  up_to_next from run rows is h = rows_further limit acts held from (max run.first from) rows h (omega arith) (λ o le lt. unheld o (is.free o le (omega (arith, le, lt))))
 
-  pub all_released : (from : ℕ) (rows : List Run) → IsNextHeld held from None → AreRowsTo limit acts held from rows → AreRows limit acts held rows
+  -- the offsets of a run from one on are held in its way
+  pub run_so : (from : ℕ) (run : HoldRun) → IsRunAt held from run → AreHeldSo held (max run.first from) run.last run.hold
+  run_so from run is o lo hi = is.holds o (omega (arith, lo)) hi
+
+  pub all_released : (from : ℕ) (rows : List Run) → IsRunFrom held from None → AreRowsTo limit acts held from rows → AreRows limit acts held rows
   all_released from rows is h = all_rows limit acts held from rows h (λ o le. unheld o (is o le))
 
   pub none_released : (rows : List Run) → rows ≡ [] → AreRowsTo limit acts held 0 rows

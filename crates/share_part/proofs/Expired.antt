@@ -32,7 +32,7 @@ use Rattle.share_part.specs.declared.settle.Whose.TheVariants.{Due}
 use Rattle.share_part.proofs.Expiries.{NextIn, StepsTo, all_done, all_pass, apart_from, in_back, in_front, max_again, next_in, none_due_of, none_in, one_fails, one_more, order_behind, some_due_of, stores_as}
 use Rattle.share_part.proofs.Holding.{AreKept}
 use Rattle.share_part.proofs.Ordered.{IsIn, InOrder, due_is_filter, entries_sorted, found_all, groups_order, none_due}
-use Rattle.window_rows.specs.Windows.{IsRising}
+use Rattle.lock_index.specs.Windows.{IsRising}
 use Rattle.edge_io.specs.Views.{DiskView}
 
 module _ {D W : Type 0} (seen : D → DiskView) (holding : W → Held) (now : ℕ) (entry : PartParts D W) (due : List (List ℕ)) where

@@ -1,5 +1,5 @@
 -- The grants of what is taken.
-use Rattle.std.proofs.Common.{◌≡◌, refl, sym, ap, ◌∙◌, arith, ℕ, zero, suc, ◌+◌, ◌-◌, ◌≤◌, List, [], ◌∷◌, ◌++◌, append_assoc, true, false, nat_eq, ◌&&◌}
+use Rattle.std.proofs.Common.{◌≡◌, refl, sym, ap, ◌∙◌, arith, ℕ, zero, suc, ◌+◌, ◌-◌, ◌≤◌, List, [], ◌∷◌, ◌++◌, length, append_assoc, true, false, nat_eq, ◌&&◌}
 use Rattle.std.proofs.lemmas.Bool.Decides.{nat_tests}
 use Rattle.std.specs.List.{AllByRecursion}
 use Rattle.share_model.specs.declared.hold.Grant.{Grant}
@@ -13,11 +13,26 @@ pub all_front : {A : Type 0} (P : A → Type 0) (xs ys : List A) → AllByRecurs
 all_front P [] ys h = tt
 all_front P (y ∷ xs) ys h = (h.0, all_front P xs ys h.1)
 
-offsets_more : (first n count : ℕ) → offsets_with first (suc n) count ≡ offsets_with first n count ++ (first + n, count) ∷ []
-offsets_more first zero count = ap (λ (k : ℕ). (k, count) ∷ []) (let e : first ≡ first + 0 = omega arith in e)
-offsets_more first (suc n) count =
-    ap (λ (l : List (ℕ × ℕ)). (first, count) ∷ l) (offsets_more (first + 1) n count
-    ∙ ap (λ (k : ℕ). offsets_with (first + 1) n count ++ (k, count) ∷ []) (let e : first + 1 + n ≡ first + suc n = omega arith in e))
+-- offsets that follow one another, in two parts
+offsets_both : (m n first count : ℕ) → offsets_with first (m + n) count ≡ offsets_with first m count ++ offsets_with (first + m) n count
+offsets_both zero n first count =
+    let a : 0 + n ≡ n = omega arith in
+    let b : first ≡ first + 0 = omega arith in
+    ap (λ (k : ℕ). offsets_with first k count) a ∙ ap (λ (k : ℕ). offsets_with k n count) b
+offsets_both (suc m) n first count =
+    let all : suc m + n ≡ suc (m + n) = omega arith in
+    let next : (first + 1) + m ≡ first + suc m = omega arith in
+    ap (λ (k : ℕ). offsets_with first k count) all
+    ∙ ap (λ (l : List (ℕ × ℕ)). (first, count) ∷ l) (offsets_both m n (first + 1) count
+    ∙ ap (λ (k : ℕ). offsets_with (first + 1) m count ++ offsets_with k n count) next)
+
+pub offsets_length : (first n count : ℕ) → length (offsets_with first n count) ≡ n
+offsets_length first zero count = refl
+offsets_length first (suc n) count = ap suc (offsets_length (first + 1) n count)
+
+pub nil_right : (xs : List (ℕ × ℕ)) → xs ++ [] ≡ xs
+nil_right [] = refl
+nil_right (x ∷ xs) = ap (λ (l : List (ℕ × ℕ)). x ∷ l) (nil_right xs)
 
 pub written_more : (grants others : List Grant) → written_out (grants ++ others) ≡ written_out grants ++ written_out others
 written_more [] others = refl
@@ -25,30 +40,25 @@ written_more (g ∷ grants) others =
     ap (λ (l : List (ℕ × ℕ)). offsets_with g.first ((g.last + 1) - g.first) g.count ++ l) (written_more grants others)
     ∙ sym (append_assoc (offsets_with g.first ((g.last + 1) - g.first) g.count) (written_out grants) (written_out others))
 
--- one offset alone
-one : (slot count : ℕ) → written_out (record { first = slot; last = slot; count = count } ∷ []) ≡ (slot, count) ∷ []
-one slot count = ap (λ (n : ℕ). offsets_with slot n count ++ []) (let e : (slot + 1) - slot ≡ suc zero = omega arith in e)
+-- one grant alone
+single : (g : Grant) → written_out (g ∷ []) ≡ offsets_with g.first ((g.last + 1) - g.first) g.count
+single g = nil_right (offsets_with g.first ((g.last + 1) - g.first) g.count)
 
-joins_yes : (g : Grant) (slot count : ℕ) → joins g (record { first = slot; last = slot; count = count }) ≡ true → (slot ≡ g.last + 1) × (count ≡ g.count)
-joins_yes g slot count e = (grind (arith, nat_tests), grind (arith, nat_tests))
+joins_yes : (g : Grant) (slot last count : ℕ) → joins g (record { first = slot; last = last; count = count }) ≡ true → (slot ≡ g.last + 1) × (count ≡ g.count)
+joins_yes g slot last count e = (grind (arith, nat_tests), grind (arith, nat_tests))
 
--- the last grant is longer by one
-grown : (g : Grant) (slot count : ℕ) → g.first ≤ g.last → slot ≡ g.last + 1 → count ≡ g.count
-    → written_out (record { first = g.first; last = slot; count = count } ∷ []) ≡ written_out (g ∷ []) ++ (slot, count) ∷ []
-grown g slot count order is same =
-    let n : ℕ = (g.last + 1) - g.first in
-    let more : (slot + 1) - g.first ≡ suc ((g.last + 1) - g.first) = omega (arith, order, is) in
+-- the last grant is longer
+grown : (g : Grant) (slot last count : ℕ) → g.first ≤ g.last → slot ≤ last → slot ≡ g.last + 1 → count ≡ g.count
+    → written_out (record { first = g.first; last = last; count = count } ∷ []) ≡ written_out (g ∷ []) ++ offsets_with slot ((last + 1) - slot) count
+grown g slot last count order longer is same =
+    let all : (last + 1) - g.first ≡ ((g.last + 1) - g.first) + ((last + 1) - slot) = omega (arith, order, longer, is) in
     let at : g.first + ((g.last + 1) - g.first) ≡ slot = omega (arith, order, is) in
-    ap (λ (k : ℕ). offsets_with g.first k count ++ []) more
-    ∙ ap (λ (c : ℕ). offsets_with g.first (suc ((g.last + 1) - g.first)) c ++ []) same
-    ∙ ap (λ (l : List (ℕ × ℕ)). l ++ []) (offsets_more g.first ((g.last + 1) - g.first) g.count)
-    ∙ nil_more (offsets_with g.first ((g.last + 1) - g.first) g.count) (g.first + ((g.last + 1) - g.first), g.count)
-    ∙ ap (λ (k : ℕ). (offsets_with g.first ((g.last + 1) - g.first) g.count ++ []) ++ (k, g.count) ∷ []) at
-    ∙ ap (λ (c : ℕ). (offsets_with g.first ((g.last + 1) - g.first) g.count ++ []) ++ (slot, c) ∷ []) (sym same)
-  where
-    nil_more : (xs : List (ℕ × ℕ)) (x : ℕ × ℕ) → (xs ++ x ∷ []) ++ [] ≡ (xs ++ []) ++ x ∷ []
-    nil_more [] x = refl
-    nil_more (y ∷ xs) x = ap (λ (l : List (ℕ × ℕ)). y ∷ l) (nil_more xs x)
+    single (record { first = g.first; last = last; count = count })
+    ∙ ap (λ (k : ℕ). offsets_with g.first k count) all
+    ∙ offsets_both ((g.last + 1) - g.first) ((last + 1) - slot) g.first count
+    ∙ ap (λ (k : ℕ). offsets_with g.first ((g.last + 1) - g.first) count ++ offsets_with k ((last + 1) - slot) count) at
+    ∙ ap (λ (k : ℕ). offsets_with g.first ((g.last + 1) - g.first) k ++ offsets_with slot ((last + 1) - slot) count) same
+    ∙ ap (λ (l : List (ℕ × ℕ)). l ++ offsets_with slot ((last + 1) - slot) count) (sym (single g))
 
 -- ---- apart
 
@@ -70,42 +80,43 @@ last_order : (front : List Grant) (g : Grant) → AreApart (front ++ g ∷ []) �
 last_order [] g h = h.0
 last_order (f ∷ front) g h = last_order front g h.2
 
--- the last grant, one longer, isn't empty either
-pub grown_order : (front : List Grant) (g : Grant) (slot count : ℕ) → AreApart (front ++ g ∷ []) → joins g (record { first = slot; last = slot; count = count }) ≡ true → g.first ≤ slot
-grown_order front g slot count apart joined =
+-- the last grant, longer, isn't empty either
+pub grown_order : (front : List Grant) (g : Grant) (slot last count : ℕ) → slot ≤ last → AreApart (front ++ g ∷ []) → joins g (record { first = slot; last = last; count = count }) ≡ true → g.first ≤ last
+grown_order front g slot last count longer apart joined =
     let order = last_order front g apart in
-    let is : slot ≡ g.last + 1 = (joins_yes g slot count joined).0 in
-    omega (arith, order, is)
+    let is : slot ≡ g.last + 1 = (joins_yes g slot last count joined).0 in
+    omega (arith, order, is, longer)
 
--- ---- one offset more
+-- ---- more offsets
 
-pub first_run : (slot count : ℕ) (taken : List (ℕ × ℕ)) → AreRunsOf taken [] → AreRunsOf (taken ++ (slot, count) ∷ []) (record { first = slot; last = slot; count = count } ∷ [])
-first_run slot count taken h = record {
-  offsets = one slot count ∙ ap (λ (l : List (ℕ × ℕ)). l ++ (slot, count) ∷ []) h.offsets;
-  apart = (omega arith, tt, tt);
+pub first_run : (slot last count : ℕ) (taken : List (ℕ × ℕ)) → slot ≤ last → AreRunsOf taken []
+    → AreRunsOf (taken ++ offsets_with slot ((last + 1) - slot) count) (record { first = slot; last = last; count = count } ∷ [])
+first_run slot last count taken order h = record {
+  offsets = single (record { first = slot; last = last; count = count }) ∙ ap (λ (l : List (ℕ × ℕ)). l ++ offsets_with slot ((last + 1) - slot) count) h.offsets;
+  apart = (order, tt, tt);
 }
 
-pub run_grown : (front : List Grant) (g : Grant) (slot count : ℕ) (taken : List (ℕ × ℕ)) → AreRunsOf taken (front ++ g ∷ [])
-    → joins g (record { first = slot; last = slot; count = count }) ≡ true
-    → AreRunsOf (taken ++ (slot, count) ∷ []) (front ++ record { first = g.first; last = slot; count = count } ∷ [])
-run_grown front g slot count taken h joined =
-    let j = joins_yes g slot count joined in
+pub run_grown : (front : List Grant) (g : Grant) (slot last count : ℕ) (taken : List (ℕ × ℕ)) → slot ≤ last → AreRunsOf taken (front ++ g ∷ [])
+    → joins g (record { first = slot; last = last; count = count }) ≡ true
+    → AreRunsOf (taken ++ offsets_with slot ((last + 1) - slot) count) (front ++ record { first = g.first; last = last; count = count } ∷ [])
+run_grown front g slot last count taken longer h joined =
+    let j = joins_yes g slot last count joined in
     let order = last_order front g h.apart in
     let is : slot ≡ g.last + 1 = j.0 in
     record {
-      offsets = written_more front (record { first = g.first; last = slot; count = count } ∷ [])
-          ∙ ap (λ (l : List (ℕ × ℕ)). written_out front ++ l) (grown g slot count order j.0 j.1)
-          ∙ sym (append_assoc (written_out front) (written_out (g ∷ [])) ((slot, count) ∷ []))
-          ∙ ap (λ (l : List (ℕ × ℕ)). l ++ (slot, count) ∷ []) (sym (written_more front (g ∷ [])) ∙ h.offsets);
-      apart = apart_grown front g (record { first = g.first; last = slot; count = count }) h.apart refl j.1 (omega (arith, order, is));
+      offsets = written_more front (record { first = g.first; last = last; count = count } ∷ [])
+          ∙ ap (λ (l : List (ℕ × ℕ)). written_out front ++ l) (grown g slot last count order longer j.0 j.1)
+          ∙ sym (append_assoc (written_out front) (written_out (g ∷ [])) (offsets_with slot ((last + 1) - slot) count))
+          ∙ ap (λ (l : List (ℕ × ℕ)). l ++ offsets_with slot ((last + 1) - slot) count) (sym (written_more front (g ∷ [])) ∙ h.offsets);
+      apart = apart_grown front g (record { first = g.first; last = last; count = count }) h.apart refl j.1 (omega (arith, order, is, longer));
     }
 
-pub run_more : (front : List Grant) (g : Grant) (slot count : ℕ) (taken : List (ℕ × ℕ)) → AreRunsOf taken (front ++ g ∷ [])
-    → joins g (record { first = slot; last = slot; count = count }) ≡ false
-    → AreRunsOf (taken ++ (slot, count) ∷ []) ((front ++ g ∷ []) ++ record { first = slot; last = slot; count = count } ∷ [])
-run_more front g slot count taken h not = record {
-  offsets = written_more (front ++ g ∷ []) (record { first = slot; last = slot; count = count } ∷ [])
-      ∙ ap (λ (l : List (ℕ × ℕ)). written_out (front ++ g ∷ []) ++ l) (one slot count)
-      ∙ ap (λ (l : List (ℕ × ℕ)). l ++ (slot, count) ∷ []) h.offsets;
-  apart = apart_more front g (record { first = slot; last = slot; count = count }) h.apart not (omega arith);
+pub run_more : (front : List Grant) (g : Grant) (slot last count : ℕ) (taken : List (ℕ × ℕ)) → slot ≤ last → AreRunsOf taken (front ++ g ∷ [])
+    → joins g (record { first = slot; last = last; count = count }) ≡ false
+    → AreRunsOf (taken ++ offsets_with slot ((last + 1) - slot) count) ((front ++ g ∷ []) ++ record { first = slot; last = last; count = count } ∷ [])
+run_more front g slot last count taken order h not = record {
+  offsets = written_more (front ++ g ∷ []) (record { first = slot; last = last; count = count } ∷ [])
+      ∙ ap (λ (l : List (ℕ × ℕ)). written_out (front ++ g ∷ []) ++ l) (single (record { first = slot; last = last; count = count }))
+      ∙ ap (λ (l : List (ℕ × ℕ)). l ++ offsets_with slot ((last + 1) - slot) count) h.offsets;
+  apart = apart_more front g (record { first = slot; last = last; count = count }) h.apart not order;
 }

@@ -7,6 +7,7 @@ use Rattle.std.specs.List.{AllByRecursion}
 use Rattle.std.specs.Map.{lookup}
 use Rattle.std.specs.Ordering.{nat_cmp}
 use Rattle.std.proofs.lemmas.Map.Lookups.{exact_bytes}
+use Rattle.lock_index.specs.Windows.{holding as range_held}
 use Rattle.share_model.specs.Held.{Held}
 use Rattle.share_model.specs.declared.hold.Grant.{Grant}
 use Rattle.share_part.specs.Shards.{held_in, held_of, with_held}
@@ -14,34 +15,14 @@ use Rattle.share_part.specs.Tables.{with_holds}
 use Rattle.share_part.specs.Walks.{AreApart, IsSmallGrant, offsets_with, written_out}
 use Rattle.share_part.proofs.Mapping.{at_is}
 
+-- offsets that are held in one way are held one after another
+pub holds_all : (member : List ℕ) (end count first n : ℕ) (held : Held)
+    → range_held first n (record { member = member; end = end; count = count }) held ≡ with_holds member end (offsets_with first n count) held
+holds_all member end count first zero held = refl
+holds_all member end count first (suc n) held =
+    holds_all member end count (first + 1) n (insert_entry nat_cmp held first (record { member = member; end = end; count = count }))
+
 module _ {W : Type 0} (holding : W → Held) (spare : W → ℕ) (member : List ℕ) (end : ℕ) where
-  -- the offsets of a grant are held, up to this one
-  pub record HoldsUpTo (grant : Grant) (was : W) (offset : ℕ) (now : W) : Type 0 where
-    pub rest : with_holds member end (offsets_with offset ((grant.last + 1) - offset) grant.count) (holding now)
-        ≡ with_holds member end (offsets_with grant.first ((grant.last + 1) - grant.first) grant.count) (holding was)
-    pub room : (grant.last + 1) - offset ≤ spare now
-    pub kept : spare was ≤ spare now + (offset - grant.first)
-
-  pub holds_more : (grant : Grant) (was : W) (offset : ℕ) (now next : W) → HoldsUpTo grant was offset now → grant.first ≤ offset → offset < grant.last + 1
-      → holding next ≡ insert_entry nat_cmp (holding now) offset (record { member = member; end = end; count = grant.count }) → spare now ≤ spare next + 1
-      → HoldsUpTo grant was (offset + 1) next
-  holds_more grant was offset now next h from lt is spends =
-      let more : (grant.last + 1) - offset ≡ suc ((grant.last + 1) - (offset + 1)) = omega (arith, lt) in
-      let room = h.room in
-      let kept = h.kept in
-      record {
-        rest = ap (with_holds member end (offsets_with (offset + 1) ((grant.last + 1) - (offset + 1)) grant.count)) is
-            ∙ sym (ap (λ (n : ℕ). with_holds member end (offsets_with offset n grant.count) (holding now)) more) ∙ h.rest;
-        room = omega (arith, room, spends, lt);
-        kept = omega (arith, kept, spends, from);
-      }
-
-  pub holds_none : (grant : Grant) (now : W) (offset : ℕ) → offset ≡ grant.last + 1 → (was : W) → HoldsUpTo grant was offset now
-      → holding now ≡ with_holds member end (offsets_with grant.first ((grant.last + 1) - grant.first) grant.count) (holding was)
-  holds_none grant now offset is was h =
-      let none : (grant.last + 1) - offset ≡ 0 = omega (arith, is) in
-      sym (ap (λ (n : ℕ). with_holds member end (offsets_with offset n grant.count) (holding now)) none) ∙ h.rest
-
   with_more : (xs ys : List (ℕ × ℕ)) (held : Held) → with_holds member end (xs ++ ys) held ≡ with_holds member end ys (with_holds member end xs held)
   with_more [] ys held = refl
   with_more (x ∷ xs) ys held = with_more xs ys (insert_entry nat_cmp held x.0 (record { member = member; end = end; count = x.1 }))

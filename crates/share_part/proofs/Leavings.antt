@@ -10,7 +10,7 @@ use Rattle.part_log.specs.Logs.{IsLogText, MayFollow, and_pending}
 use Rattle.share_coord.specs.Stored.{AreStored, Entries}
 use Rattle.share_part.specs.Hosting.{PartConfParts, AreHosted}
 use Rattle.share_coord.specs.States.{AreStates, states_of}
-use Rattle.share_part.specs.Leaving.{IsLeftOf, IsOneOf}
+use Rattle.share_part.specs.Leaving.{IsLeftOf, IsDoneOr}
 use Rattle.share_part.specs.Shards.{PartParts, PartShardState, Carries, IsPendingHosted}
 use Rattle.share_part.proofs.Producing.{hosted_later}
 use Rattle.share_part.proofs.Visiting.{carried}
@@ -19,7 +19,7 @@ use Rattle.edge_io.specs.Views.{DiskView}
 -- a log that is left: it is one of the two, and the states stay ones that the partition may have
 record LeftLog (conf : PartConfParts) (log : List Batch) (pending : Option Batch) (content : List ℕ) : Type 0 where
   batches : List Batch
-  is : IsOneOf log (and_pending log pending) batches
+  is : IsDoneOr log (and_pending log pending) batches
   text : IsLogText content batches
   keeps : (states : ShareStates) → AreHosted conf log states → AreHosted conf batches states
 
@@ -32,7 +32,7 @@ log_left conf log (Some b) content follows w = ⊎_elim
 
 record LeftStates (conf : PartConfParts) (log : List Batch) (states : ShareStates) (pending : Option ShareStates) (first second : List ℕ) : Type 0 where
   its : ShareStates
-  is : IsOneOf states pending its
+  is : IsDoneOr states pending its
   text : AreStates first second its
   hosted : AreHosted conf log its
 

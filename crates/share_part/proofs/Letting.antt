@@ -15,10 +15,10 @@ use Rattle.share_part.specs.Expiring.{due_count}
 use Rattle.share_part.specs.Releasing.{AreChosen, AreLeft, IsNextChosen, has_due}
 use Rattle.share_part.specs.Settling.{AreBelow, held_after, release_of, releases_if, releasing}
 use Rattle.share_part.proofs.Parting.{both}
-use Rattle.window_rows.specs.Windows.{IsRising, RisesFrom}
-use Rattle.window_rows.proofs.Changes.{without_at}
-use Rattle.window_rows.proofs.Edits.{rises_without}
-use Rattle.window_rows.proofs.Finding.{above, here, none_below}
+use Rattle.lock_index.specs.Windows.{IsRising, RisesFrom}
+use Rattle.lock_index.proofs.Changes.{without_at}
+use Rattle.lock_index.proofs.Edits.{rises_without}
+use Rattle.lock_index.proofs.Finding.{above, here, none_below}
 
 not_some : (o : Option Hold) (hold : Hold) → o ≡ None → o ≡ Some hold → ⊥
 not_some o hold none some = let clash : ⊥ = cc in clash

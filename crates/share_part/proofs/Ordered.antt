@@ -31,7 +31,7 @@ use Rattle.share_part.proofs.Letting.{none_counted}
 use Rattle.share_part.proofs.Mapping.{at_is, at_self, equal_is, keys_exact, keys_total}
 use Rattle.state_records.specs.declared.record.StateRecord.{StateRecord}
 use Rattle.state_records.specs.declared.record.StateRecord.TheVariants.{Snapshot, Update, Removal}
-use Rattle.window_rows.specs.Windows.{IsRising}
+use Rattle.lock_index.specs.Windows.{IsRising}
 
 -- ---- entries in the order of their keys
 

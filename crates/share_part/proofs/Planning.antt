@@ -8,9 +8,13 @@ use Rattle.std.specs.Option.{option_map}
 use Rattle.std.specs.Ordering.{nat_cmp}
 use Rattle.flex_fields.specs.declared.fault.NoMemory.{NoMemory as want}
 use Rattle.share_model.specs.ForeignRules.{size_of}
-use Rattle.share_model.specs.Held.{Held}
+use Rattle.share_model.specs.ForeignRules.{share_state_at}
+use Rattle.share_model.specs.Held.{Held, hold_at}
 use Rattle.share_model.specs.Keys.{KeyParts}
-use Rattle.share_model.specs.Logs.{Batch, end_of}
+use Rattle.share_model.specs.Logs.{Batch, IsLog, end_of}
+use Rattle.share_model.specs.Runs.{row_at}
+use Rattle.share_model.specs.declared.hold.Hold.{Hold}
+use Rattle.share_model.specs.declared.row.Row.{Row}
 use Rattle.share_model.specs.ShareStates.{ShareState}
 use Rattle.share_model.specs.declared.run.Run.{Run}
 use Rattle.share_model.specs.declared.visit.ThenOutcome.{ThenOutcome}
@@ -18,12 +22,14 @@ use Rattle.share_model.specs.declared.visit.ThenOutcome.TheVariants.{Done}
 use Rattle.share_coord.specs.Calls.{IsInitialised}
 use Rattle.share_coord.specs.Parts.{StoreParts}
 use Rattle.share_coord.specs.Stored.{Entries, kept_at}
-use Rattle.share_part.specs.Hosting.{PartConfParts, AreHosted, key_of}
+use Rattle.share_part.specs.Collecting.{LieAtSlots}
+use Rattle.share_part.specs.Hosting.{PartConfParts, AreHeldWell, AreHosted, HoldsWell, key_of}
 use Rattle.share_coord.specs.States.{states_of}
 use Rattle.share_part.specs.Making.{MakesOnce, MakesTableOnce, state_for}
 use Rattle.share_part.specs.Shards.{first_start, held_in, held_of, new_state}
 use Rattle.share_part.specs.Tables.{MayGoOut, Table, table_of}
 use Rattle.share_part.proofs.Seeing.{goes_out, state_seen, view_of}
+use Rattle.share_part.proofs.Writing.{slot_of}
 use Rattle.edge_io.specs.Views.{DiskView}
 
 module _ {W : Type 0} (holding : W → Held) (conf : PartConfParts) (log : List Batch) (entries : Entries) (windows : List (List ℕ × W)) (group : List ℕ) where
@@ -54,6 +60,30 @@ module _ {W : Type 0} (holding : W → Held) (conf : PartConfParts) (log : List 
       → (start : ℕ) (rows : List Run) → start ≡ first_start conf.reset (end_of log) → rows ≡ []
       → ◌≡◌ {A = Table} (record { start = start; rows = rows; held = holding w }) (table_of (state_for conf log entries group) (held_in holding windows group))
   table_new is w there start rows at are = table_by (new_state conf (end_of log)) w start rows (state_by None is) there at are
+
+  -- ---- what a walk meets lies at slots
+
+  pub lie_there : (state : ShareState) → Some state ≡ option_map view_of (kept_at entries (key_of conf group)) → AreHosted conf log (states_of entries)
+      → HoldsWell log (share_state_at (states_of entries) (key_of conf group)) (held_in holding windows group) → IsLog log
+      → (w : W) → Some w ≡ lookup (is_at (slice_cmp nat_cmp group)) windows → (rows : List Run) → rows ≡ state.runs → LieAtSlots log rows (holding w)
+  lie_there state is hosted well sound w there rows are =
+      let known : share_state_at (states_of entries) (key_of conf group) ≡ Some state = state_seen entries (key_of conf group) ∙ sym is in
+      let held : AreHeldWell log (size_of state.start) (held_in holding windows group) = subst (λ (o : Option ShareState). HoldsWell log o (held_in holding windows group)) known well in
+      record {
+        held_at = λ o hold at. slot_of 2000 log (size_of state.start) o sound (held o hold (sym (ap (λ (h : Held). hold_at h o) (held_by w there)) ∙ at)).slot;
+        stored_at = λ o row at. slot_of 2000 log (size_of state.start) o sound ((hosted (key_of conf group) state known).rows o row (sym (ap (λ (r : List Run). row_at r o) are) ∙ at)).slot;
+      }
+
+  pub lie_new : None ≡ option_map view_of (kept_at entries (key_of conf group))
+      → HoldsWell log (share_state_at (states_of entries) (key_of conf group)) (held_in holding windows group)
+      → (w : W) → Some w ≡ lookup (is_at (slice_cmp nat_cmp group)) windows → (rows : List Run) → rows ≡ [] → LieAtSlots log rows (holding w)
+  lie_new is well w there rows are =
+      let known : share_state_at (states_of entries) (key_of conf group) ≡ None = state_seen entries (key_of conf group) ∙ sym is in
+      let none : held_in holding windows group ≡ [] = subst (λ (o : Option ShareState). HoldsWell log o (held_in holding windows group)) known well in
+      record {
+        held_at = λ o hold at. absurd (let never : ◌≡◌ {A = Option Hold} None (Some hold) = sym (ap (λ (h : Held). hold_at h o) (held_by w there ∙ none)) ∙ at in let clash : ⊥ = cc in clash);
+        stored_at = λ o row at. absurd (let never : ◌≡◌ {A = Option Row} None (Some row) = sym (ap (λ (r : List Run). row_at r o) are) ∙ at in let clash : ⊥ = cc in clash);
+      }
 
 pub made_table : {D : Type 0} (seen : D → DiskView) (Failed : D → D → Type 0)
     (conf : PartConfParts) (group : List ℕ) (end : ℕ) (old new : StoreParts D) (result : Result ThenOutcome want) (key : KeyParts) (start : ℕ)

@@ -10,7 +10,7 @@ use Rattle.share_model.specs.declared.hold.Hold.{Hold}
 use Rattle.share_model.specs.declared.row.Row.{Row}
 use Rattle.share_part.specs.Settling.{AreRisingFrom, Books, act_on, act_row, acted, acts_on, held_after, said_by}
 use Rattle.share_part.proofs.Parting.{both, all_pass, by_piece}
-use Rattle.window_rows.proofs.Changes.{without_at}
+use Rattle.lock_index.proofs.Changes.{without_at}
 
 same_test : (a o : ℕ) → nat_eq o a ≡ (nat_le a o && nat_le o a)
 same_test a o = grind (arith, nat_tests)

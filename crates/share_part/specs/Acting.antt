@@ -20,6 +20,15 @@ abbrev pub IsHeldWith : List ℕ → ℕ → Option Hold → Type 0
 IsHeldWith member count None = ⊥
 IsHeldWith member count (Some hold) = (hold.member ≡ member) × (hold.count ≡ count)
 
+-- the offsets up to a last one are held by the member, with this delivery count
+pub record IsHeldTo (member : List ℕ) (held : Held) (first last count : ℕ) : Type 0 where
+  pub order : first ≤ last
+  pub theirs : (offset : ℕ) → first ≤ offset → offset ≤ last → IsHeldWith member count (hold_at held offset)
+
+-- they are held in one way
+abbrev pub AreHeldSo : Held → ℕ → ℕ → Hold → Type 0
+AreHeldSo held first last hold = (offset : ℕ) → first ≤ offset → offset ≤ last → hold_at held offset ≡ Some hold
+
 -- the rows that acts store below an offset
 abbrev pub AreRowsTo : ℕ → Acts → Held → ℕ → List Run → Type 0
 AreRowsTo limit acts held end rows = (offset : ℕ) → row_at rows offset ≡ (if nat_lt offset end then acted limit acts held offset else None)

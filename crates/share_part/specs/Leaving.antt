@@ -9,13 +9,13 @@ use Rattle.share_part.specs.Hosting.{PartConfParts, ArePartText}
 use Rattle.share_part.specs.Shards.{PartShardState}
 
 -- what completed writes left, or that with the pending write
-abbrev pub IsOneOf : {S : Type 0} → S → Option S → S → Type 0
-IsOneOf done pending found = (found ≡ done) ⊎ (pending ≡ Some found)
+abbrev pub IsDoneOr : {S : Type 0} → S → Option S → S → Type 0
+IsDoneOr done pending found = (found ≡ done) ⊎ (pending ≡ Some found)
 
 -- contents of the three disks that a crash may leave of a shard
 pub record IsLeftOf (conf : PartConfParts) (shard : PartShardState) (log first second : List ℕ) : Type 0 where
   pub batches : List Batch
   pub states : ShareStates
-  pub log_is : IsOneOf shard.log.batches (and_pending shard.log.batches shard.log.pending) batches
-  pub states_are : IsOneOf shard.states shard.pending states
+  pub log_is : IsDoneOr shard.log.batches (and_pending shard.log.batches shard.log.pending) batches
+  pub states_are : IsDoneOr shard.states shard.pending states
   pub text : ArePartText conf log first second batches states

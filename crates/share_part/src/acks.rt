@@ -20,12 +20,12 @@ use crate::settle::{Judged, acknowledge};
 use crate::storing::store_change;
 use ack_ranges::{Pieces, check};
 use edge_io::Disk;
+use lock_index::Window;
 use part_log::PartLog;
 use share_coord::Coord;
 use share_model::{AckBatch, AckOutcome, Name, NoMemory, Visit};
 use std::alloc::Global;
 use std::collections::BTreeMap;
-use window_rows::Window;
 
 // The least offset that well-formed acknowledgements name. `None` where they name none.
 pub fn first_named(batches: &[AckBatch]) -> Option<u64>

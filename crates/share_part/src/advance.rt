@@ -31,8 +31,8 @@ fn count_ended(runs: &[Run], offset: u64) -> usize
     runs.partition_point(|run| run.last < offset)
 }
 
-// The first run that ends at an offset or behind it.
-fn run_from(runs: &[Run], offset: u64) -> Option<Run>
+/// The first run that ends at an offset or behind it.
+pub fn run_from(runs: &[Run], offset: u64) -> Option<Run>
     requires { IsCanonical runs.now }
     ensures ends { IfSome result (λ run. offset ≤ run.last) }
     ensures order { IfSome result (λ run. run.first ≤ run.last) }

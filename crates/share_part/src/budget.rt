@@ -47,17 +47,17 @@ impl Budget {
         })
     }
 
-    /// One more record.
-    pub fn with_record(self) -> Budget
-        requires { 1 ≤ self.records }
-        ensures left { (result.records ≡ self.records - 1) × (result.bytes ≡ self.bytes) × (result.first ≡ self.first) }
-        ensures taken { (result.count ≡ self.count + 1) × (result.size ≡ self.size) }
+    /// So many more records.
+    pub fn with_records(self, n: u32) -> Budget
+        requires { n ≤ self.records }
+        ensures left { (result.records ≡ self.records - n) × (result.bytes ≡ self.bytes) × (result.first ≡ self.first) }
+        ensures taken { (result.count ≡ self.count + n) × (result.size ≡ self.size) }
     {
         Budget {
-            records: self.records - 1,
+            records: self.records - n,
             bytes: self.bytes,
             first: self.first,
-            count: self.count + 1,
+            count: self.count + n,
             size: self.size,
         }
     }

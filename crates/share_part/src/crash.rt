@@ -3,7 +3,7 @@ ghost use Rattle.share_part.specs.Leaving.{IsLeftOf};
 ghost use Rattle.share_part.specs.Shards.{Carries, PartParts, PartShardState};
 
 use edge_io::Disk;
-use window_rows::Window;
+use lock_index::Window;
 
 /// A crash leaves three contents that stand for the shard, with or without its pending writes. So a partition that is opened of them is
 /// never damaged, and has that log and those tables.

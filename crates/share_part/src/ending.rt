@@ -1,5 +1,5 @@
 // Ends the holds that acts were stored of.
-ghost use Rattle.std.specs.Prelude.{◌≡◌, ℕ, List, IsSome};
+ghost use Rattle.std.specs.Prelude.{◌≡◌, ◌<◌, ℕ, List, IsSome};
 ghost use Rattle.std.specs.BTreeMap.{is_at};
 ghost use Rattle.std.specs.Cmp.Lexicographic.{slice_cmp};
 ghost use Rattle.std.specs.Map.{lookup};
@@ -10,17 +10,30 @@ ghost use Rattle.share_part.specs.Settling.{held_after};
 ghost use Rattle.share_part.specs.Shards.{held_in, with_held};
 
 use ack_ranges::Pieces;
+use lock_index::{Steps, Window};
 use share_model::{AckBatch, Name};
 use std::collections::BTreeMap;
-use window_rows::Window;
+use std::marker::Brand;
+use std::sync::ledger::{Blank, Ledger};
 
 // Ends the holds of the offsets of pieces.
-fn end_pieces<W: Window>(window: &mut W, mut pieces: Pieces<'_>)
+fn end_pieces<W: Window, L: Ledger>(window: &mut W, mut pieces: Pieces<'_>, steps: &mut Steps<L>)
     ensures { W.held window.new ≡ held_after (piece_at pieces.entry) (W.held window.old) }
 {
     while let Some(piece) = pieces.next_piece() {
-        window.end_hold(piece.first, piece.last);
+        window.end_hold_counted(piece.first, piece.last, steps);
     }
+}
+
+// The same in a ledger of its own.
+fn end_in_ledger<W: Window, L: Ledger>(window: &mut W, pieces: Pieces<'_>, blank: Blank)
+    requires name { blank.name ≡ L.name }
+    requires parts { blank.parts ≡ L.parts }
+    requires some { 0 < blank.parts }
+    ensures { W.held window.new ≡ held_after (piece_at pieces.entry) (W.held window.old) }
+{
+    let mut steps = Steps::<L>::new(blank);
+    end_pieces(window, pieces, &mut steps);
 }
 
 /// Ends the holds of the offsets of well-formed acknowledgements, for a group whose window is there. It takes no memory.
@@ -35,7 +48,7 @@ pub fn end_acknowledged<W: Window>(
         (held_after (kind_at batches.now) (held_in W.held windows.old.entries group.now)) other }
 {
     match windows.get_mut(group) {
-        Some(window) => end_pieces(window, Pieces::new(batches)),
+        Some(window) => end_in_ledger::<W, Brand>(window, Pieces::new(batches), Blank::new(1)),
         None => unreachable!(),
     }
 }

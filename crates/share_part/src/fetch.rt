@@ -7,12 +7,12 @@ ghost use Rattle.std.specs.Map.{lookup};
 ghost use Rattle.std.specs.Ordering.{nat_cmp};
 ghost use Rattle.edge_io.specs.Armed.{RunsOn};
 ghost use Rattle.coord_checkpoint.specs.Disks.{HasFailed};
-ghost use Rattle.share_model.specs.ForeignRules.{size_of};
+ghost use Rattle.share_model.specs.ForeignRules.{share_state_at, size_of};
 ghost use Rattle.part_log.specs.Logs.{IsStoredLog};
 ghost use Rattle.share_coord.specs.Calls.{IsInitialised};
 ghost use Rattle.share_coord.specs.Stored.{kept_at};
 ghost use Rattle.share_part.specs.Collecting.{IsPlanOf};
-ghost use Rattle.share_part.specs.Hosting.{AreHosted};
+ghost use Rattle.share_part.specs.Hosting.{AreHosted, HoldsWell, key_of};
 ghost use Rattle.share_coord.specs.States.{states_of};
 ghost use Rattle.share_part.specs.Making.{MakesOnce, MakesTableOnce, numbered_bytes, state_for};
 ghost use Rattle.share_part.specs.Shards.{first_start, held_in};
@@ -24,13 +24,13 @@ use crate::limits::Limits;
 use crate::plan::Plan;
 use crate::walk::plan;
 use edge_io::Disk;
+use lock_index::Window;
 use offset_runs::Runs;
 use part_log::PartLog;
 use share_coord::{Coord, CoordFault, StateView};
 use share_model::{Key, Name, NoMemory, Reset, Room, ThenOutcome};
 use std::alloc::Global;
 use std::collections::BTreeMap;
-use window_rows::Window;
 
 /// The offset that a state's start is.
 pub fn start_of(view: &StateView) -> u64
@@ -51,7 +51,7 @@ fn first_start(reset: Reset, end: u64) -> u64
     }
 }
 
-/// What a fetch will take of the table that a group has, or that it would get. It costs the slots that it walks.
+/// What a fetch will take of the table that a group has, or that it would get. It costs the runs and the batches that it walks.
 pub fn planned<D: Disk, W: Window>(
     alloc: Global,
     conf: &PartConf,
@@ -64,6 +64,8 @@ pub fn planned<D: Disk, W: Window>(
     requires there { IsSome (lookup (is_at (slice_cmp nat_cmp group.now)) windows.now.entries) }
     requires sound { IsStoredLog log.now.batches }
     requires hosted { AreHosted conf.now log.now.batches (states_of states.now.entries) }
+    requires well { HoldsWell log.now.batches (share_state_at (states_of states.now.entries) (key_of conf.now group.now))
+        (held_in W.held windows.now.entries group.now) }
     ensures is { IfOk result (λ plan. IsPlanOf log.now.batches plan (acquired log.now.batches
         (table_of (state_for conf.now log.now.batches states.now.entries group.now) (held_in W.held windows.now.entries group.now)) limits)) }
     ensures grants { IfOk result (λ plan. vec_len plan.grants ≤ 2001) }

@@ -17,19 +17,21 @@ ghost use Rattle.share_part.specs.Releasing.{AreChosen, AreLeft, Counts, IsNextC
 ghost use Rattle.share_part.specs.Settling.{AreBelow, held_after, is_chosen, releasing};
 ghost use Rattle.share_part.specs.Shards.{held_in, with_held};
 ghost use Rattle.share_part.specs.Storing.{StoresGroup};
-ghost use Rattle.window_rows.specs.Windows.{IsRising};
+ghost use Rattle.lock_index.specs.Windows.{IsRising};
 
 use crate::conf::PartConf;
 use crate::fetch::start_of;
 use crate::settle::{Change, Whose, is_chosen, release};
 use crate::storing::store_change;
 use edge_io::Disk;
+use lock_index::{Steps, Window};
 use part_log::PartLog;
 use share_coord::Coord;
 use share_model::{Name, NoMemory, StoreFault, ThenOutcome};
 use std::alloc::Global;
 use std::collections::BTreeMap;
-use window_rows::Window;
+use std::marker::Brand;
+use std::sync::ledger::{Blank, Ledger};
 
 /// What became of the releases of a group.
 #[derive(Clone, Copy)]
@@ -57,11 +59,11 @@ fn next_chosen<W: Window>(window: &W, whose: &Whose, mut from: u64) -> Option<u6
     ensures none { IfNone result ((to : ℕ) → AreLeft (is_chosen whose.now) (W.held window.now) from to) }
     ensures below { IfSome result (λ offset. offset < 2 ^ 62) }
 {
-    while let Some((offset, hold)) = window.next_held(from) {
-        if is_chosen(whose, hold) {
-            return Some(offset);
+    while let Some(run) = window.run_from(from) {
+        if is_chosen(whose, &run.hold) {
+            return Some(run.first.max(from));
         }
-        from = offset + 1;
+        from = run.last + 1;
     }
     None
 }
@@ -76,17 +78,17 @@ fn last_chosen<W: Window>(window: &W, whose: &Whose, first: u64) -> u64
     ensures chosen { AreChosen (is_chosen whose.now) (W.held window.now) first result }
 {
     let mut last = first;
-    while let Some((offset, hold)) = window.next_held(last + 1) {
-        if !is_chosen(whose, hold) {
+    while let Some(run) = window.run_from(last + 1) {
+        if !is_chosen(whose, &run.hold) {
             return last;
         }
-        last = offset;
+        last = run.last;
     }
     last
 }
 
 // Ends the holds that are released, a stretch of held offsets at a time, and tells how many these are.
-fn end_chosen<W: Window>(window: &mut W, whose: &Whose) -> u64
+fn end_chosen<W: Window, L: Ledger>(window: &mut W, whose: &Whose, steps: &mut Steps<L>) -> u64
     requires { AreBelow (W.held window.old) }
     ensures held { W.held window.new ≡ held_after (releasing (is_chosen whose.now) (W.held window.old)) (W.held window.old) }
     ensures count { result ≡ chosen_count whose.now (W.held window.old) }
@@ -96,10 +98,23 @@ fn end_chosen<W: Window>(window: &mut W, whose: &Whose) -> u64
     let mut from = 0;
     while let Some(first) = next_chosen(window, whose, from) {
         let last = last_chosen(window, whose, first);
-        window.end_hold(first, last);
+        window.end_hold_counted(first, last, steps);
         from = last + 1;
     }
     before - window.count()
+}
+
+// The same in a ledger of its own.
+fn end_in_ledger<W: Window, L: Ledger>(window: &mut W, whose: &Whose, blank: Blank) -> u64
+    requires name { blank.name ≡ L.name }
+    requires parts { blank.parts ≡ L.parts }
+    requires some { 0 < blank.parts }
+    requires below { AreBelow (W.held window.old) }
+    ensures held { W.held window.new ≡ held_after (releasing (is_chosen whose.now) (W.held window.old)) (W.held window.old) }
+    ensures count { result ≡ chosen_count whose.now (W.held window.old) }
+{
+    let mut steps = Steps::<L>::new(blank);
+    end_chosen(window, whose, &mut steps)
 }
 
 // Ends the holds that are released of a group whose window is there, and tells how many these are. It takes no memory.
@@ -112,7 +127,7 @@ fn end_released<W: Window>(windows: &mut BTreeMap<Name, W>, group: &Name, whose:
     ensures count { result ≡ chosen_count whose.now (held_in W.held windows.old.entries group.now) }
 {
     match windows.get_mut(group) {
-        Some(window) => end_chosen(window, whose),
+        Some(window) => end_in_ledger::<W, Brand>(window, whose, Blank::new(1)),
         None => unreachable!(),
     }
 }

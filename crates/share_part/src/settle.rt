@@ -4,7 +4,7 @@ ghost use Rattle.ack_ranges.specs.Batches.{IsWellFormed, kind_at};
 ghost use Rattle.ack_ranges.specs.Pieces.{IsCanonical as AreCanonical, piece_at};
 ghost use Rattle.part_log.specs.Logs.{IsStoredLog};
 ghost use Rattle.share_model.specs.Held.{Held, hold_at};
-ghost use Rattle.share_part.specs.Acting.{AreDoneTo, AreRows, AreRowsTo, Comes, Ends, IsHeldWith, IsSaid};
+ghost use Rattle.share_part.specs.Acting.{AreDoneTo, AreHeldSo, AreRows, AreRowsTo, Comes, Ends, IsHeldTo, IsSaid};
 ghost use Rattle.share_part.specs.Acknowledging.{NameOne};
 ghost use Rattle.share_part.specs.Releasing.{ReleasesTable};
 ghost use Rattle.share_part.specs.Settling.{Acts, AreBelow, IsChange, IsHeldBy, Judges, is_chosen, releasing, settled};
@@ -12,11 +12,11 @@ ghost use Rattle.share_part.specs.Settling.{Acts, AreBelow, IsChange, IsHeldBy, 
 use crate::advance::advance;
 use ack_ranges::{Piece, Pieces};
 use edge_io::Disk;
+use lock_index::Window;
 use offset_runs::Runs;
 use part_log::PartLog;
 use share_model::{AckBatch, AckKind, Hold, Name, NoMemory, Row, RowState, Run};
 use std::alloc::Global;
-use window_rows::Window;
 
 /// What is to be stored of acts: the new start, where it moves, and the changed rows from there on.
 #[derive(Drop)]
@@ -69,21 +69,34 @@ fn is_held_by(hold: &Hold, member: &Name) -> bool
     hold.member.as_bytes() == member.as_bytes()
 }
 
-// The delivery count with which a member holds an offset. `None` where it doesn't.
-fn count_held<W: Window>(window: &W, member: &Name, offset: u64) -> Option<u16>
-    ensures some { IfSome result (λ count. IsHeldWith member.now count (hold_at (W.held window.now) offset)) }
+// How far a member holds offsets in one way, and with which delivery count.
+#[derive(Clone, Copy)]
+struct Stretch {
+    last: u64,
+    count: u16,
+}
+
+// The offsets from one on that a member holds in one way. `None` where it doesn't hold that one.
+fn stretch_held<W: Window>(window: &W, member: &Name, offset: u64) -> Option<Stretch>
+    ensures some { IfSome result (λ s. IsHeldTo member.now (W.held window.now) offset s.last s.count) }
     ensures none { IfNone result (IsHeldBy member.now (hold_at (W.held window.now) offset) → ⊥) }
 {
-    let Some(hold) = window.look(offset) else {
+    let Some(run) = window.run_from(offset) else {
         return None;
     };
-    if is_held_by(hold, member) {
-        return Some(hold.count);
+    if offset < run.first {
+        return None;
+    }
+    if is_held_by(&run.hold, member) {
+        return Some(Stretch {
+            last: run.last,
+            count: run.hold.count,
+        });
     }
     None
 }
 
-// Does what a piece says. An offset that the member doesn't hold ends it, and is told.
+// Does what a piece says, run by run of what is held. An offset that the member doesn't hold ends it, and is told.
 fn act_on_piece<W: Window>(
     rows: &mut Runs,
     window: &W,
@@ -96,11 +109,14 @@ fn act_on_piece<W: Window>(
     ensures { IfOk result (λ missing. (acts : Acts) → AreDoneTo limit member.now acts (W.held window.now) piece.first rows.old → IsSaid piece acts →
         Comes limit member.now acts (W.held window.now) (piece.last + 1) rows.new missing) }
 {
-    for offset in piece.first..piece.last + 1 {
-        let Some(count) = count_held(window, member, offset) else {
-            return Ok(Some(offset));
+    let mut from = piece.first;
+    while from <= piece.last {
+        let Some(stretch) = stretch_held(window, member, from) else {
+            return Ok(Some(from));
         };
-        rows.put_range(offset, offset, settled(limit, piece.kind, count))?;
+        let last = stretch.last.min(piece.last);
+        rows.put_range(from, last, settled(limit, piece.kind, stretch.count))?;
+        from = last + 1;
     }
     Ok(None)
 }
@@ -136,27 +152,29 @@ pub fn is_chosen(whose: &Whose, hold: &Hold) -> bool
     }
 }
 
-// Stores the release of a held offset, where it is one that is released.
-fn release_one(
+// Stores the release of offsets that are held in one way, where these are released.
+fn release_run(
     rows: &mut Runs,
-    offset: u64,
+    first: u64,
+    last: u64,
     hold: &Hold,
     whose: &Whose,
     limit: u16,
 ) -> Result<(), NoMemory>
-    ensures rows { OnOk result ((held : Held) → hold_at held offset ≡ Some hold.now →
-        AreRowsTo limit (releasing (is_chosen whose.now) held) held offset rows.old →
-        AreRowsTo limit (releasing (is_chosen whose.now) held) held (offset + 1) rows.new) }
+    requires { first ≤ last }
+    ensures rows { OnOk result ((held : Held) → AreHeldSo held first last hold.now →
+        AreRowsTo limit (releasing (is_chosen whose.now) held) held first rows.old →
+        AreRowsTo limit (releasing (is_chosen whose.now) held) held (last + 1) rows.new) }
     ensures chosen { OnErr result (is_chosen whose.now hold.now ≡ true) }
 {
     if !is_chosen(whose, hold) {
         return Ok(());
     }
-    rows.put_range(offset, offset, settled(limit, AckKind::Release, hold.count))?;
+    rows.put_range(first, last, settled(limit, AckKind::Release, hold.count))?;
     Ok(())
 }
 
-// Stores the releases, from no rows on.
+// Stores the releases, from no rows on, run by run of what is held.
 fn release_all<W: Window>(
     rows: &mut Runs,
     window: &W,
@@ -169,9 +187,9 @@ fn release_all<W: Window>(
     ensures named { OnErr result (NameOne (releasing (is_chosen whose.now) (W.held window.now))) }
 {
     let mut from = 0;
-    while let Some((offset, hold)) = window.next_held(from) {
-        release_one(rows, offset, hold, whose, limit)?;
-        from = offset + 1;
+    while let Some(run) = window.run_from(from) {
+        release_run(rows, run.first.max(from), run.last, &run.hold, whose, limit)?;
+        from = run.last + 1;
     }
     Ok(())
 }
@@ -196,7 +214,7 @@ fn change_of<D: Disk>(log: &PartLog<D>, start: u64, stored: &Runs, mut rows: Run
 
 /// What well-formed acknowledgements of a member come to on a table with this start, these rows and these holds.
 ///
-/// It looks up each offset once, and ends at the first that the member doesn't hold.
+/// It goes by the runs of what is held, and ends at the first offset that the member doesn't hold.
 pub fn acknowledge<D: Disk, W: Window>(
     alloc: Global,
     log: &PartLog<D>,
@@ -220,8 +238,8 @@ pub fn acknowledge<D: Disk, W: Window>(
     }
 }
 
-/// What is to be stored once records of a table are released. `None` where none is, and then no memory is taken. It walks the records that
-/// are held once.
+/// What is to be stored once records of a table are released. `None` where none is, and then no memory is taken. It walks the runs of
+/// what is held once.
 pub fn release<D: Disk, W: Window>(
     alloc: Global,
     log: &PartLog<D>,

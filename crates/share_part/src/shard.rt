@@ -32,8 +32,9 @@ use crate::settle::Whose;
 use crate::windows::{add_window, due_groups, hold, set_aside};
 use edge_io::{Disk, DiskPlace, FaultMode};
 use flex_fields::Items;
+use lock_index::Window;
 use part_log::PartLog;
-use share_coord::{Coord, StateView};
+use share_coord::{Coord, StateView, States};
 use share_model::{
     AckOutcome, ExpireAnswer, LogFault, Name, NoMemory, Room, StoreFault, Then, ThenOutcome, Visit,
     VisitAnswer,
@@ -41,7 +42,6 @@ use share_model::{
 use std::alloc::Global;
 use std::collections::BTreeMap;
 use std::marker::Model;
-use window_rows::Window;
 
 /// The shard of a hosted partition: its log, and the share groups that read it, each with its table and what it holds.
 ///
@@ -390,7 +390,15 @@ impl<D: Disk, W: Window> PartShard<D, W> {
         self.states.look(&self.conf.key(group))
     }
 
-    /// The group at a place among those that have a table, in byte order, from place 0 on.
+    /// The stored states of all groups that have a table, in byte order of the groups. A walk over them is linear.
+    pub fn states(&self) -> States<'_>
+        ensures { result ≡ states_of self.now.states.entries }
+    {
+        self.states.states()
+    }
+
+    /// The group at a place among those that have a table, in byte order, from place 0 on. It goes past the groups before it;
+    /// [`PartShard::states`] is for a walk.
     pub fn group_at(&self, place: u64) -> Option<&Name>
         ensures { option_copied result ≡ option_map (λ key. key.group) (slice_get (keys_of self.now.states.entries) place) }
     {

@@ -1,64 +1,116 @@
-// The acquisition walk.
-ghost use Rattle.std.specs.Prelude.{◌≡◌, ◌≤◌, ◌<◌, ◌^◌, ◌+◌, IfOk, OnOk, IfSome, vec_len};
+// The acquisition walk. It goes by the runs of what is held and stored, and by batches.
+ghost use Rattle.std.specs.Prelude.{◌≡◌, ◌≤◌, ◌<◌, ◌^◌, ◌+◌, ℕ, IfOk, OnOk, IfSome, None, vec_len};
+ghost use Rattle.share_model.specs.Held.{Held, hold_at};
 ghost use Rattle.share_model.specs.Logs.{IsSlot};
+ghost use Rattle.share_model.specs.declared.row.RowState.TheVariants.{Available};
 ghost use Rattle.part_log.specs.Logs.{IsStoredLog};
-ghost use Rattle.share_part.specs.Collecting.{Collects, Goes, IsPlanOf};
+ghost use Rattle.share_part.specs.Collecting.{Collects, GoesOver, IsPlanOf, IsStretch, LieAtSlots};
 ghost use Rattle.share_part.specs.Slots.{next_slot};
-ghost use Rattle.share_part.specs.Tables.{MayGoOut, delivery_of};
-ghost use Rattle.share_part.specs.Walks.{Walk, acquired, after_slot};
+ghost use Rattle.share_part.specs.Tables.{MayGoOut, one_more};
+ghost use Rattle.share_part.specs.Walks.{Walk, acquired};
 
+use crate::advance::run_from;
 use crate::collector::Collector;
 use crate::limits::Limits;
 use crate::plan::Plan;
 use edge_io::Disk;
+use lock_index::Window;
 use offset_runs::Runs;
 use part_log::PartLog;
 use share_model::{NoMemory, RowState};
 use std::alloc::Global;
-use window_rows::Window;
 
 /// How many slots from the start of a table a walk goes over.
 pub const WINDOW_SLOTS: u32 = 2000;
 
-// The delivery count with which an offset is acquired. `None` where it is held, acknowledged or archived.
-fn delivery_of<W: Window>(rows: &Runs, window: &W, offset: u64) -> Option<u16>
-    requires { MayGoOut rows.now }
-    ensures value { result ≡ delivery_of (record { start = 0; rows = rows.now; held = W.held window.now }) offset }
+// How far offsets from one on go out alike, and with which delivery count. Without one they don't go out: they are held, acknowledged or
+// archived.
+#[derive(Clone, Copy)]
+struct Stretch {
+    last: u64,
+    count: Option<u16>,
+}
+
+// The delivery count with which a record goes out that is stored in this state, if it does.
+fn delivery_of(state: RowState, count: u16) -> Option<u16>
+    requires { state ≡ Available → count ≤ 9 }
+    ensures value { result ≡ one_more state count }
     ensures few { IfSome result (λ count. count ≤ 10) }
 {
-    if let Some(_) = window.look(offset) {
-        return None;
-    }
-    let Some(row) = rows.look(offset) else {
-        return Some(1);
-    };
-    match row.state {
-        RowState::Available => Some(row.count + 1),
+    match state {
+        RowState::Available => Some(count + 1),
         RowState::Acknowledged => None,
         RowState::Archived => None,
     }
 }
 
-// One slot. False where the walk ends at it.
+// How far offsets go out alike of which nothing is held up to `last`, by what is stored of them.
+fn stretch_stored(rows: &Runs, slot: u64, last: u64) -> Stretch
+    requires rows { MayGoOut rows.now }
+    requires order { slot ≤ last }
+    ensures { (held : Held) → ((offset : ℕ) → slot ≤ offset → offset ≤ last → hold_at held offset ≡ None) →
+        IsStretch rows.now held slot result.last result.count }
+{
+    let Some(run) = run_from(rows.list(), slot) else {
+        return Stretch {
+            last,
+            count: Some(1),
+        };
+    };
+    if slot < run.first {
+        return Stretch {
+            last: last.min(run.first - 1),
+            count: Some(1),
+        };
+    }
+    Stretch {
+        last: last.min(run.last),
+        count: delivery_of(run.state, run.count),
+    }
+}
+
+// How far offsets from one on go out alike.
+fn stretch_from<W: Window>(rows: &Runs, window: &W, slot: u64) -> Stretch
+    requires { MayGoOut rows.now }
+    ensures { IsStretch rows.now (W.held window.now) slot result.last result.count }
+{
+    let Some(run) = window.run_from(slot) else {
+        return stretch_stored(rows, slot, u64::MAX);
+    };
+    if slot < run.first {
+        return stretch_stored(rows, slot, run.first - 1);
+    }
+    Stretch {
+        last: run.last,
+        count: None,
+    }
+}
+
+// The slots from one on, as many as go out alike, and at most so many. Tells how many. `None` where the walk ends at the first.
 fn step<D: Disk, W: Window>(
     collector: &mut Collector,
     log: &PartLog<D>,
     rows: &Runs,
     window: &W,
     slot: u64,
-) -> Result<bool, NoMemory>
+    most: u32,
+) -> Result<Option<u32>, NoMemory>
     requires sound { IsStoredLog log.now.batches }
     requires slot { IsSlot log.now.batches slot }
-    requires below { slot < 2 ^ 62 }
     requires rows { MayGoOut rows.now }
-    ensures goes { IfOk result (λ on. (walk : Walk) → Collects log.now.batches collector.old walk → Goes log.now.batches collector.new walk on
-        (after_slot log.now.batches (record { start = 0; rows = rows.now; held = W.held window.now }) walk slot)) }
+    requires lie { LieAtSlots log.now.batches rows.now (W.held window.now) }
+    requires most { 1 ≤ most }
+    ensures goes { IfOk result (λ on. (start : ℕ) (walk : Walk) → Collects log.now.batches collector.old walk →
+        GoesOver log.now.batches (record { start = start; rows = rows.now; held = W.held window.now }) collector.new walk slot on) }
+    ensures most { IfOk result (λ on. IfSome on (λ n. n ≤ most)) }
     ensures grants { OnOk result (vec_len collector.new.grants ≤ vec_len collector.old.grants + 1) }
 {
-    match delivery_of(rows, window, slot) {
-        Some(count) => collector.take(log, slot, count),
-        None => Ok(true),
-    }
+    let stretch = stretch_from(rows, window, slot);
+    let Some(count) = stretch.count else {
+        let more = u64::from(most - 1).min(stretch.last - slot);
+        return Ok(Some(more as u32 + 1));
+    };
+    collector.take(log, slot, stretch.last, count, most)
 }
 
 // A slot lies below 2^62.
@@ -81,25 +133,28 @@ fn collect<D: Disk, W: Window>(
 ) -> Result<Collector, NoMemory>
     requires sound { IsStoredLog log.now.batches }
     requires rows { MayGoOut rows.now }
+    requires lie { LieAtSlots log.now.batches rows.now (W.held window.now) }
     ensures takes { IfOk result (λ c. Collects log.now.batches c
         (acquired log.now.batches (record { start = start; rows = rows.now; held = W.held window.now }) limits)) }
     ensures grants { IfOk result (λ c. vec_len c.grants ≤ 2000) }
 {
     let mut collector = Collector::new(alloc, limits);
     let mut from = start;
-    for _ in 0..WINDOW_SLOTS {
+    let mut left = WINDOW_SLOTS;
+    while left > 0 {
         let Some(slot) = next_slot(log, from) else {
             return Ok(collector);
         };
-        if !step(&mut collector, log, rows, window, slot)? {
+        let Some(n) = step(&mut collector, log, rows, window, slot, left)? else {
             return Ok(collector);
-        }
-        from = slot + 1;
+        };
+        from = slot + u64::from(n);
+        left -= n;
     }
     Ok(collector)
 }
 
-/// What a fetch will take of a table with this start, these rows and these holds. It costs the slots that it walks.
+/// What a fetch will take of a table with this start, these rows and these holds. It costs the runs and the batches that it walks.
 pub fn plan<D: Disk, W: Window>(
     alloc: Global,
     log: &PartLog<D>,
@@ -110,6 +165,7 @@ pub fn plan<D: Disk, W: Window>(
 ) -> Result<Plan, NoMemory>
     requires sound { IsStoredLog log.now.batches }
     requires rows { MayGoOut rows.now }
+    requires lie { LieAtSlots log.now.batches rows.now (W.held window.now) }
     ensures is { IfOk result (λ plan. IsPlanOf log.now.batches plan
         (acquired log.now.batches (record { start = start; rows = rows.now; held = W.held window.now }) limits)) }
     ensures grants { IfOk result (λ plan. vec_len plan.grants ≤ 2001) }

@@ -11,12 +11,12 @@ ghost use Rattle.share_part.specs.Releasing.{due_groups, has_due};
 ghost use Rattle.share_part.specs.Shards.{held_in, with_held};
 ghost use Rattle.share_part.specs.Tables.{with_holds};
 ghost use Rattle.share_part.specs.Walks.{AreApart, IsSmallGrant, offsets_with, written_out};
-ghost use Rattle.window_rows.specs.Windows.{IsRising};
+ghost use Rattle.lock_index.specs.Windows.{IsRising};
 
+use lock_index::Window;
 use share_model::{Grant, Hold, Name, NoMemory};
 use std::alloc::Global;
 use std::collections::BTreeMap;
-use window_rows::Window;
 
 /// Makes the window of a group, which holds nothing, where it isn't there yet.
 pub fn add_window<W: Window>(
@@ -60,15 +60,13 @@ fn hold_grant<W: Window>(window: &mut W, member: &Name, end: u64, grant: Grant)
         (offsets_with grant.first ((grant.last + 1) - grant.first) grant.count) (W.held window.old) }
     ensures spare { W.spare window.old ≤ W.spare window.new + ((grant.last + 1) - grant.first) }
 {
-    for offset in grant.first..grant.last + 1 {
-        let hold = Hold {
-            member: *member,
-            end,
-            count: grant.count,
-        };
-        if let Err(_) = window.hold(offset, hold) {
-            unreachable!()
-        }
+    let hold = Hold {
+        member: *member,
+        end,
+        count: grant.count,
+    };
+    if let Err(_) = window.hold_range(grant.first, grant.last, hold) {
+        unreachable!()
     }
 }
 

@@ -7,8 +7,9 @@ use Rattle.std.specs.List.Sorted.{IsNonDecreasingBy}
 use Rattle.share_model.specs.Held.{hold_at}
 use Rattle.lock_index.specs.declared.run.HoldRun.{HoldRun}
 use Rattle.lock_index.specs.Runs.{Follows, IsCanonical, held_of}
+use Rattle.lock_index.specs.Windows.{IsRunFrom}
+use Rattle.lock_index.proofs.OneList.{one_run_list}
 use Rattle.lock_index.proofs.Looks.{look_here, look_beyond, look_first}
-use Rattle.window_runs.specs.Searches.{IsRunFrom}
 use Rattle.window_runs.proofs.Splits.{drop_get, drop_all, get_is, get_within}
 
 pub lt_yes : (m n : ℕ) → nat_lt m n ≡ true → m < n
@@ -79,7 +80,7 @@ within_run (suc n) (x ∷ xs) r o canonical is lo hi =
 -- the run at the place behind those that end below an offset
 pub run_from : (n : ℕ) (xs : List HoldRun) (from : ℕ) (found : Option HoldRun) → IsCanonical xs
     → ((k : ℕ) (r : HoldRun) → slice_get xs k ≡ Some r → k < n → r.last < from)
-    → ((k : ℕ) (r : HoldRun) → slice_get xs k ≡ Some r → n ≤ k → from ≤ r.last) → found ≡ slice_get xs n → IsRunFrom xs from found
+    → ((k : ℕ) (r : HoldRun) → slice_get xs k ≡ Some r → n ≤ k → from ≤ r.last) → found ≡ slice_get xs n → IsRunFrom (held_of xs) from found
 run_from n xs from (Some r) canonical ended others is =
     let there : slice_get xs n ≡ Some r = sym is in
     let rest : drop n xs ≡ r ∷ drop (suc n) xs = drop_get xs n r there in
@@ -88,7 +89,15 @@ run_from n xs from (Some r) canonical ended others is =
     let past : (o : ℕ) → from ≤ o → hold_at (held_of xs) o ≡ hold_at (held_of (r ∷ drop (suc n) xs)) o = λ o le.
     past_ended n xs o canonical (λ k x at lo. omega (arith, le, ended k x at lo)) ∙ ap (λ (l : List HoldRun). hold_at (held_of l) o) rest
     in
-    (far, λ o lo hi. within_run n xs r o canonical there lo hi, λ o le under. past o le ∙ look_first r (drop (suc n) xs) o sound under, sound.0)
+    record {
+      ends = far;
+      order = sound.0;
+      holds = λ o lo hi. within_run n xs r o canonical there lo hi;
+      free = λ o le under. past o le ∙ look_first r (drop (suc n) xs) o sound under;
+      listed = λ runs list.
+          let same : xs ≡ runs = one_run_list (held_of xs) xs runs (record { canonical = canonical; same = refl }) list in
+          (n, ap (λ (l : List HoldRun). slice_get l n) (sym same) ∙ there);
+    }
 run_from n xs from None canonical ended others is = λ o le.
     past_ended n xs o canonical (λ k x at lo. omega (arith, le, ended k x at lo))
     ∙ ap (λ (l : List HoldRun). hold_at (held_of l) o) (drop_all xs n (none_there xs n (sym is))) where

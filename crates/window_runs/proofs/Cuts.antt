@@ -148,7 +148,7 @@ without_from first last (suc n) a hold order =
       ]
     ]
 
-one_run : (r : HoldRun) → held_of (r ∷ []) ≡ held_from r.first ((r.last + 1) - r.first) r.hold
+pub one_run : (r : HoldRun) → held_of (r ∷ []) ≡ held_from r.first ((r.last + 1) - r.first) r.hold
 one_run r = nothing_more (held_from r.first ((r.last + 1) - r.first) r.hold) where
   nothing_more : (l : Held) → l ++ [] ≡ l
   nothing_more [] = refl

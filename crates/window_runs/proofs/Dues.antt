@@ -1,15 +1,11 @@
 -- The least offset whose lock has ended, from the index of runs.
-use Rattle.std.proofs.Common.{◌≡◌, ℕ, ◌+◌, ◌<◌, ◌≤◌, List, [], ◌∷◌, length, Option, Some, None, refl, ap, ◌∙◌, sym, subst, arith, inl, inr}
+use Rattle.std.proofs.Common.{◌≡◌, ℕ, ◌<◌, ◌≤◌, List, [], ◌∷◌, Option, Some, None, ap, ◌∙◌, sym, subst, arith, inl, inr}
 use Rattle.std.proofs.lemmas.Bool.{cases_lt}
-use Rattle.std.specs.BTreeMap.{insert_entry}
-use Rattle.std.specs.Ordering.{nat_cmp}
-use Rattle.share_model.specs.Held.{Held, hold_at, IsLeastDue}
+use Rattle.share_model.specs.Held.{hold_at, IsLeastDue}
 use Rattle.share_model.specs.declared.hold.Hold.{Hold}
 use Rattle.lock_index.specs.declared.run.HoldRun.{HoldRun}
 use Rattle.lock_index.specs.Locks.{HasPair, IsLeastFirst}
 use Rattle.lock_index.specs.Runs.{IsCanonical, held_of}
-use Rattle.lock_index.proofs.Edits.{put_greater, put_less}
-use Rattle.lock_index.proofs.Finding.{above, here}
 use Rattle.lock_index.proofs.Looks.{look_below, look_beyond, look_here}
 use Rattle.window_runs.specs.Kept.{indexed, pair_of}
 use Rattle.window_runs.proofs.Indexes.{first_behind, had_put, has_put, keeps_put, pair_first}
@@ -61,19 +57,3 @@ least_due xs now (Some least) canonical is =
       (own.0, own.1, omega (arith, own.2, is.0.2)),
       λ o hold at due. (let pair = whose_pair xs o hold canonical at in omega (arith, is.1 (hold.end, pair.0) pair.1 due, pair.2)),
     )
-
--- one more is held where an offset wasn't
-pub length_more : (held : Held) (o : ℕ) (hold : Hold) → hold_at held o ≡ None → length (insert_entry nat_cmp held o hold) ≡ length held + 1
-length_more [] o hold free = refl
-length_more (e ∷ es) o hold free = elim (cases_lt o e.0) [
-  | inl under ↦ ap (λ (l : Held). length l) (put_less e es o hold under) ∙ (omega arith)
-  | inr from ↦ elim (cases_lt e.0 o) [
-    | inl over ↦
-        let rest = length_more es o hold (sym (above e es o over) ∙ free) in
-        let made : length (insert_entry nat_cmp (e ∷ es) o hold) ≡ length (e ∷ insert_entry nat_cmp es o hold) = ap (λ (l : Held). length l) (put_greater e es o hold over) in
-        omega (arith, rest, made)
-    | inr upto ↦
-        let same : o ≡ e.0 = omega arith in
-        absurd (none_some e.1 (sym free ∙ ap (hold_at (e ∷ es)) same ∙ here e es))
-  ]
-]

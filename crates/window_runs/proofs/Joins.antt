@@ -1,7 +1,7 @@
 -- Runs that are put behind others and joined.
 use Rattle.std.proofs.Common.{◌≡◌, ◌≢◌, ℕ, zero, suc, ◌+◌, ◌-◌, ◌<◌, ◌≤◌, Bool, true, cond, List, [], ◌∷◌, ◌++◌, length, take, drop, set, Option, Some, None, refl, ap, ◌∙◌, sym, subst, arith, inl, inr}
 use Rattle.std.proofs.lemmas.Bool.{cases_lt}
-use Rattle.std.proofs.lemmas.List.{append_assoc}
+use Rattle.std.proofs.lemmas.List.{append_assoc, length-append}
 use Rattle.std.specs.BTreeMap.{insert_entry}
 use Rattle.std.specs.List.{slice_get, insert, remove}
 use Rattle.std.specs.Ordering.{nat_cmp}
@@ -9,17 +9,17 @@ use Rattle.share_model.specs.Held.{Held, hold_at, without_range}
 use Rattle.share_model.specs.declared.hold.Hold.{Hold}
 use Rattle.lock_index.specs.declared.run.HoldRun.{HoldRun}
 use Rattle.lock_index.specs.Runs.{Follows, IsCanonical, held_from, held_of}
-use Rattle.lock_index.specs.Windows.{RisesFrom}
-use Rattle.lock_index.proofs.Edits.{all_above, gone, kept, put_equal, put_greater, put_less}
+use Rattle.lock_index.specs.Windows.{RisesFrom, holding}
+use Rattle.lock_index.proofs.Edits.{gone, kept, put_equal, put_greater, put_less, rises_lower, rises_put, rises_without}
 use Rattle.std.proofs.lemmas.Bool.Decides.{nat_tests}
-use Rattle.std.specs.Prelude.{nat_le, ◌&&◌}
+use Rattle.std.specs.Prelude.{nat_le, not, ◌&&◌}
 use Rattle.lock_index.proofs.Changes.{without_at}
 use Rattle.lock_index.proofs.Looks.{runs_rise}
-use Rattle.lock_index.proofs.Orders.{gone_within, kept_above, kept_below}
+use Rattle.lock_index.proofs.Orders.{gone_within, kept_below}
 use Rattle.window_runs.specs.Puts.{IsPutBehind}
 use Rattle.window_runs.specs.Kept.{HasFirst}
 use Rattle.window_runs.proofs.Counting.{within_run}
-use Rattle.window_runs.proofs.Cuts.{held_both}
+use Rattle.window_runs.proofs.Cuts.{held_both, held_length, one_run, without_nothing}
 use Rattle.window_runs.proofs.Splits.{drop_get, get_within, set_and_remove, take_all, take_and_drop, take_get}
 
 -- ---- canonical runs, put together
@@ -243,39 +243,103 @@ put_between o hold [] (e ∷ es) below above = put_less e es o hold (omega (arit
 put_between o hold (e ∷ es) ys below above =
     put_greater e (es ++ ys) o hold below.0 ∙ ap (λ (l : Held). e ∷ l) (put_between o hold es ys below.1 above)
 
--- the whole of it
-pub put_whole : (old new : List HoldRun) (n at o : ℕ) (hold : Hold) → IsCanonical old
-    → ((k : ℕ) (x : HoldRun) → slice_get old k ≡ Some x → k < n → x.last < o) → ((k : ℕ) (x : HoldRun) → slice_get old k ≡ Some x → n ≤ k → o < x.first)
-    → IsPutBehind old n (record { first = o; last = o; hold = hold }) new at → held_of new ≡ insert_entry nat_cmp (held_of old) o hold
-put_whole old new n at o hold canonical before behind put =
-    let one : held_of ((record { first = o; last = o; hold = hold }) ∷ []) ≡ (o, hold) ∷ [] = (let single : (o + 1) - o ≡ 1 = omega arith in ap (λ (k : ℕ). held_from o k hold ++ []) single) in
-    ap held_of (take_and_drop new (suc at)) ∙ held_both (take (suc at) new) (drop (suc at) new)
-    ∙ ap (λ (l : Held). l ++ held_of (drop (suc at) new)) put.held ∙ ap (λ (l : List HoldRun). (held_of (take n old) ++ held_of ((record { first = o; last = o; hold = hold }) ∷ [])) ++ held_of l) put.rest
-    ∙ ap (λ (l : Held). (held_of (take n old) ++ l) ++ held_of (drop n old)) one
-    ∙ append_assoc (held_of (take n old)) ((o, hold) ∷ []) (held_of (drop n old))
-    ∙ sym (ap (λ (l : Held). insert_entry nat_cmp l o hold) (ap held_of (take_and_drop old n) ∙ held_both (take n old) (drop n old))
-    ∙ put_between o hold (held_of (take n old)) (held_of (drop n old)) (below_ended o n old canonical before) (above_others o n old canonical behind))
+-- offsets that follow one another, between those below and those above
+holding_between : (n first : ℕ) (hold : Hold) (xs ys : Held) → AreBelow first xs → RisesFrom (first + n) ys → holding first n hold (xs ++ ys) ≡ xs ++ (held_from first n hold ++ ys)
+holding_between zero first hold xs ys below above = refl
+holding_between (suc n) first hold xs ys below above =
+    let later : RisesFrom (first + 1) ys = rises_lower (first + suc n) (first + 1) ys (omega arith) above in
+    let rest : RisesFrom ((first + 1) + n) ys = subst (λ (k : ℕ). RisesFrom k ys) (omega arith) above in
+    ap (holding (first + 1) n hold) (put_between first hold xs ys below later ∙ sym (append_assoc xs ((first, hold) ∷ []) ys))
+    ∙ holding_between n (first + 1) hold (xs ++ ((first, hold) ∷ [])) ys
+    (below_both (first + 1) xs ((first, hold) ∷ []) (below_later first xs below) (omega arith, tt)) rest
+    ∙ append_assoc xs ((first, hold) ∷ []) (held_from (first + 1) n hold ++ ys) where
+      below_later : (o : ℕ) (xs : Held) → AreBelow o xs → AreBelow (o + 1) xs
+      below_later o [] below = tt
+      below_later o (x ∷ xs) below = (omega (arith, below.0), below_later o xs below.1)
 
--- over an older hold of it
-pub put_again : (low o : ℕ) (hold : Hold) (held : Held) → RisesFrom low held → insert_entry nat_cmp (without_range o o held) o hold ≡ insert_entry nat_cmp held o hold
-put_again low o hold [] rises = refl
-put_again low o hold (e ∷ es) rises = elim (cases_lt e.0 o) [
+-- what was put stands between those before it and those behind it
+parts : (old new : List HoldRun) (n at : ℕ) (run : HoldRun) → IsPutBehind old n run new at
+    → held_of new ≡ held_of (take n old) ++ (held_from run.first ((run.last + 1) - run.first) run.hold ++ held_of (drop n old))
+parts old new n at run put =
+    ap held_of (take_and_drop new (suc at)) ∙ held_both (take (suc at) new) (drop (suc at) new)
+    ∙ ap (λ (l : Held). l ++ held_of (drop (suc at) new)) put.held ∙ ap (λ (l : List HoldRun). (held_of (take n old) ++ held_of (run ∷ [])) ++ held_of l) put.rest
+    ∙ ap (λ (l : Held). (held_of (take n old) ++ l) ++ held_of (drop n old)) (one_run run)
+    ∙ append_assoc (held_of (take n old)) (held_from run.first ((run.last + 1) - run.first) run.hold) (held_of (drop n old))
+
+-- the whole of it
+pub put_whole : (old new : List HoldRun) (n at : ℕ) (run : HoldRun) → IsCanonical old → run.first ≤ run.last
+    → ((k : ℕ) (x : HoldRun) → slice_get old k ≡ Some x → k < n → x.last < run.first) → ((k : ℕ) (x : HoldRun) → slice_get old k ≡ Some x → n ≤ k → run.last < x.first)
+    → IsPutBehind old n run new at → held_of new ≡ holding run.first ((run.last + 1) - run.first) run.hold (held_of old)
+put_whole old new n at run canonical order before behind put =
+    let count : run.last + 1 ≡ run.first + ((run.last + 1) - run.first) = omega (arith, order) in
+    parts old new n at run put
+    ∙ sym (ap (holding run.first ((run.last + 1) - run.first) run.hold) (ap held_of (take_and_drop old n) ∙ held_both (take n old) (drop n old))
+    ∙ holding_between ((run.last + 1) - run.first) run.first run.hold (held_of (take n old)) (held_of (drop n old)) (below_ended run.first n old canonical before)
+    (subst (λ (k : ℕ). RisesFrom k (held_of (drop n old))) count (above_others run.last n old canonical behind)))
+
+pub put_count : (old new : List HoldRun) (n at : ℕ) (run : HoldRun) → IsPutBehind old n run new at
+    → length (held_of new) ≡ length (held_of old) + ((run.last + 1) - run.first)
+put_count old new n at run put =
+    let its = held_from run.first ((run.last + 1) - run.first) run.hold in
+    let whole = ap (λ (h : Held). length h) (parts old new n at run put) in
+    let front = length-append (held_of (take n old)) (its ++ held_of (drop n old)) in
+    let back = length-append its (held_of (drop n old)) in
+    let size = held_length ((run.last + 1) - run.first) run.first run.hold in
+    let was = ap (λ (h : Held). length h) (ap held_of (take_and_drop old n) ∙ held_both (take n old) (drop n old)) in
+    let both = length-append (held_of (take n old)) (held_of (drop n old)) in
+    omega (arith, whole, front, back, size, was, both)
+
+-- ---- over older holds
+
+later_alike : (first last : ℕ) (held : Held) → RisesFrom (first + 1) held → without_range first last held ≡ without_range (first + 1) last held
+later_alike first last [] rises = refl
+later_alike first last (e ∷ es) rises =
+    ap (λ (b : Bool). cond b (e ∷ without_range first last es) (without_range first last es)) (test first last e.0 rises.0)
+    ∙ ap (λ (l : Held). cond (not (nat_le (first + 1) e.0 && nat_le e.0 last)) (e ∷ l) l)
+    (later_alike first last es (rises_lower (e.0 + 1) (first + 1) es (omega (arith, rises.0)) rises.1)) where
+      test : (first last o : ℕ) → first + 1 ≤ o → not (nat_le first o && nat_le o last) ≡ not (nat_le (first + 1) o && nat_le o last)
+      test first last o le = grind (arith, nat_tests)
+
+-- the first offset of a range, held before the others' holds end
+first_again : (low first last : ℕ) (hold : Hold) (held : Held) → RisesFrom low held → first ≤ last
+    → insert_entry nat_cmp (without_range first last held) first hold ≡ without_range (first + 1) last (insert_entry nat_cmp held first hold)
+first_again low first last hold [] rises order = sym (kept (first + 1) last (first, hold) [] (kept_below (first + 1) last first (omega arith)))
+first_again low first last hold (e ∷ es) rises order = elim (cases_lt e.0 first) [
   | inl under ↦
-      ap (λ (l : Held). insert_entry nat_cmp l o hold) (kept o o e es (kept_below o o e.0 under)) ∙ put_greater e (without_range o o es) o hold under
-      ∙ ap (λ (l : Held). e ∷ l) (put_again (e.0 + 1) o hold es rises.1) ∙ sym (put_greater e es o hold under)
-  | inr from ↦ elim (cases_lt o e.0) [
+      ap (λ (l : Held). insert_entry nat_cmp l first hold) (kept first last e es (kept_below first last e.0 under))
+      ∙ put_greater e (without_range first last es) first hold under
+      ∙ ap (λ (l : Held). e ∷ l) (first_again (e.0 + 1) first last hold es rises.1 order)
+      ∙ sym (ap (without_range (first + 1) last) (put_greater e es first hold under)
+      ∙ kept (first + 1) last e (insert_entry nat_cmp es first hold) (kept_below (first + 1) last e.0 (omega (arith, under))))
+  | inr from ↦ elim (cases_lt first e.0) [
     | inl over ↦
-        ap (λ (l : Held). insert_entry nat_cmp l o hold) (kept o o e es (kept_above o o e.0 over)) ∙ put_less e (without_range o o es) o hold over
-        ∙ ap (λ (l : Held). (o, hold) ∷ e ∷ l) (all_above (e.0 + 1) o o es rises.1 (omega arith)) ∙ sym (put_less e es o hold over)
+        let above : RisesFrom (first + 1) (e ∷ es) = (omega (arith, over), rises.1) in
+        front (without_range first last (e ∷ es)) (rises_without first last (first + 1) (e ∷ es) above)
+        ∙ ap (λ (l : Held). (first, hold) ∷ l) (later_alike first last (e ∷ es) above)
+        ∙ sym (ap (without_range (first + 1) last) (put_less e es first hold over)
+        ∙ kept (first + 1) last (first, hold) (e ∷ es) (kept_below (first + 1) last first (omega arith)))
     | inr upto ↦
-        let same : o ≡ e.0 = omega arith in
-        ap (λ (l : Held). insert_entry nat_cmp l o hold) (gone o o e es (gone_within o o e.0 from upto) ∙ all_above (e.0 + 1) o o es rises.1 (omega arith))
-        ∙ first es rises.1 same ∙ ap (λ (k : ℕ). (k, hold) ∷ es) same ∙ sym (put_equal e es o hold same)
+        let same : first ≡ e.0 = omega (arith, from, upto) in
+        let above : RisesFrom (first + 1) es = subst (λ (k : ℕ). RisesFrom (k + 1) es) (sym same) rises.1 in
+        ap (λ (l : Held). insert_entry nat_cmp l first hold) (gone first last e es (gone_within first last e.0 from (omega (arith, order, same))))
+        ∙ front (without_range first last es) (rises_without first last (first + 1) es above)
+        ∙ ap (λ (l : Held). (first, hold) ∷ l) (later_alike first last es above)
+        ∙ ap (λ (k : ℕ). (k, hold) ∷ without_range (first + 1) last es) same
+        ∙ sym (ap (without_range (first + 1) last) (put_equal e es first hold same)
+        ∙ kept (first + 1) last (e.0, hold) es (kept_below (first + 1) last e.0 (omega (arith, same))))
   ]
 ] where
-  first : (es : Held) → RisesFrom (e.0 + 1) es → o ≡ e.0 → insert_entry nat_cmp es o hold ≡ (o, hold) ∷ es
-  first [] rises same = refl
-  first (f ∷ fs) rises same = put_less f fs o hold (omega (arith, rises.0, same))
+  front : (es : Held) → RisesFrom (first + 1) es → insert_entry nat_cmp es first hold ≡ (first, hold) ∷ es
+  front [] rises = refl
+  front (f ∷ fs) rises = put_less f fs first hold (omega (arith, rises.0))
+
+pub holding_again : (n low first last : ℕ) (hold : Hold) (held : Held) → RisesFrom low held → last + 1 ≡ first + n
+    → holding first n hold (without_range first last held) ≡ holding first n hold held
+holding_again zero low first last hold held rises is = sym (without_nothing first last held (omega (arith, is)))
+holding_again (suc n) low first last hold held rises is =
+    ap (holding (first + 1) n hold) (first_again low first last hold held rises (omega (arith, is)))
+    ∙ holding_again n 0 (first + 1) last hold (insert_entry nat_cmp held first hold)
+    (rises_put 0 first hold held (omega arith) (rises_lower low 0 held (omega arith) rises)) (omega (arith, is))
 
 -- ---- what lies where nothing is held
 
@@ -303,11 +367,16 @@ none_begins xs n run canonical order before behind has =
 none_some : (h : Hold) (o : Option Hold) → o ≡ None → o ≡ Some h → ⊥
 none_some h o none some = absurd (cc)
 
--- a run that doesn't end below an offset that isn't held begins behind it
-pub free_below : (xs : List HoldRun) (k : ℕ) (x : HoldRun) (o : ℕ) → IsCanonical xs → slice_get xs k ≡ Some x → hold_at (held_of xs) o ≡ None → o ≤ x.last → o < x.first
-free_below xs k x o canonical is free upto = elim (cases_lt o x.first) [
+-- a run that doesn't end below offsets of which none is held begins behind them
+pub free_below : (xs : List HoldRun) (k : ℕ) (x : HoldRun) (first last : ℕ) → IsCanonical xs → slice_get xs k ≡ Some x
+    → ((o : ℕ) → first ≤ o → o ≤ last → hold_at (held_of xs) o ≡ None) → first ≤ last → first ≤ x.last → last < x.first
+free_below xs k x first last canonical is free order upto = elim (cases_lt last x.first) [
   | inl lo ↦ lo
-  | inr hi ↦ absurd (none_some x.hold (hold_at (held_of xs) o) free (within_run k xs x o canonical is hi upto))
+  | inr hi ↦ elim (cases_lt first x.first) [
+    | inl under ↦ absurd (none_some x.hold (hold_at (held_of xs) x.first) (free x.first (omega (arith, under)) hi)
+        (within_run k xs x x.first canonical is (omega arith) (order_at xs k x canonical is)))
+    | inr over ↦ absurd (none_some x.hold (hold_at (held_of xs) first) (free first (omega arith) order) (within_run k xs x first canonical is over upto))
+  ]
 ]
 
 -- the next run lies behind a run that was put
@@ -324,9 +393,9 @@ next_apart old new n at run x y put behind here next =
       get_drop (z ∷ zs) zero = refl
       get_drop (z ∷ zs) (suc n) = get_drop zs n
 
-within_itself : (o : ℕ) → (nat_le o o && nat_le o o) ≡ true
-within_itself o = grind (arith, nat_tests)
+within_test : (first last o : ℕ) → first ≤ o → o ≤ last → (nat_le first o && nat_le o last) ≡ true
+within_test first last o lo hi = grind (arith, nat_tests)
 
--- an offset isn't held behind the end of its hold
-pub without_itself : (held : Held) (o : ℕ) → hold_at (without_range o o held) o ≡ None
-without_itself held o = without_at o o held o ∙ ap (λ (b : Bool). cond b None (hold_at held o)) (within_itself o)
+-- an offset of a range isn't held behind the end of its holds
+pub without_its : (first last : ℕ) (held : Held) (o : ℕ) → first ≤ o → o ≤ last → hold_at (without_range first last held) o ≡ None
+without_its first last held o lo hi = without_at first last held o ∙ ap (λ (b : Bool). cond b None (hold_at held o)) (within_test first last o lo hi)

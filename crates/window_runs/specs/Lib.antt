@@ -1,4 +1,3 @@
 pub mod Cuts
 pub mod Kept
-pub mod Searches
 pub mod Puts

@@ -1,10 +1,9 @@
 // Holds what isn't held yet.
-ghost use Rattle.std.specs.Prelude.{◌≡◌, ◌↔◌, ◌≤◌, ◌<◌, ◌+◌, ◌^◌, ℕ, suc, Some, None, IsTrue, length, take, drop};
-ghost use Rattle.std.specs.BTreeMap.{insert_entry};
+ghost use Rattle.std.specs.Prelude.{◌≡◌, ◌↔◌, ◌≤◌, ◌<◌, ◌+◌, ◌-◌, ◌^◌, ℕ, suc, Some, None, IsTrue, length, take, drop};
 ghost use Rattle.std.specs.List.{slice_get};
-ghost use Rattle.std.specs.Ordering.{nat_cmp};
 ghost use Rattle.share_model.specs.Held.{hold_at};
 ghost use Rattle.lock_index.specs.Runs.{IsCanonical, held_of};
+ghost use Rattle.lock_index.specs.Windows.{holding};
 ghost use Rattle.lock_index.specs.declared.run.HoldRun.{HoldRun};
 ghost use Rattle.window_runs.specs.Kept.{indexed};
 ghost use Rattle.window_runs.specs.Puts.{GoesOn, IsPutBehind};
@@ -102,32 +101,28 @@ fn join_next<L: Ledger>(
     }
 }
 
-// Holds an offset that isn't held.
-pub(crate) fn put_one<L: Ledger>(
+// Holds offsets of which none is held.
+pub(crate) fn put_run<L: Ledger>(
     list: &mut HoldList,
     index: &mut LockIndex,
-    offset: u64,
-    hold: Hold,
+    run: HoldRun,
     steps: &mut Steps<L>,
 )
     requires canonical { IsCanonical list.old.runs }
-    requires free { hold_at (held_of list.old.runs) offset ≡ None }
+    requires order { run.first ≤ run.last }
+    requires free { (offset : ℕ) → run.first ≤ offset → offset ≤ run.last → hold_at (held_of list.old.runs) offset ≡ None }
     requires few { length list.old.runs + 1 < 2 ^ 32 }
     requires list_room { length list.old.runs < list.old.room }
     requires index_room { length list.old.runs < index.old.room }
     requires paired { index.old.pairs ≡ indexed list.old.runs }
     ensures canonical { IsCanonical list.new.runs }
-    ensures held { held_of list.new.runs ≡ insert_entry nat_cmp (held_of list.old.runs) offset hold }
+    ensures held { held_of list.new.runs ≡ holding run.first ((run.last + 1) - run.first) run.hold (held_of list.old.runs) }
+    ensures more { length (held_of list.new.runs) ≡ length (held_of list.old.runs) + ((run.last + 1) - run.first) }
     ensures paired { index.new.pairs ≡ indexed list.new.runs }
     ensures list_room { list.old.room ≤ list.new.room }
     ensures index_room { index.old.room ≤ index.new.room }
 {
-    let place = count_ended(list.list(), offset);
-    let run = HoldRun {
-        first: offset,
-        last: offset,
-        hold,
-    };
+    let place = count_ended(list.list(), run.first);
     let place = put_behind(list, index, place as u32, run, steps);
     join_next(list, index, place, steps);
 }

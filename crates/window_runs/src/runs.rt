@@ -1,15 +1,15 @@
-ghost use Rattle.std.specs.Prelude.{◌≡◌, ◌≤◌, ◌+◌, ◌*◌, ◌-◌, ◌^◌, ◌<◌, ℕ, List, [], length, OnOk, OnErr, IsOk, option_map};
+ghost use Rattle.std.specs.Prelude.{◌≡◌, ◌≤◌, ◌+◌, ◌*◌, ◌-◌, ◌^◌, ◌<◌, ℕ, List, [], length, OnOk, OnErr, IsOk};
 ghost use Rattle.std.specs.Option.{option_copied};
 ghost use Rattle.std.specs.BTreeMap.{insert_entry};
 ghost use Rattle.std.specs.Ordering.{nat_cmp};
 ghost use Rattle.share_model.specs.Held.{hold_at, without_range, IsLeastDue};
 ghost use Rattle.lock_index.specs.Runs.{IsRunList, met_count};
-ghost use Rattle.lock_index.specs.Windows.{IsRising, IsNextHeld};
+ghost use Rattle.lock_index.specs.Windows.{IsRising, IsRunFrom, holding};
 ghost use Rattle.lock_index.specs.declared.run.HoldRun.{HoldRun};
 
-use crate::put::put_one;
+use crate::put::put_run;
 use crate::range::end_range;
-use crate::search::{find_at, find_from};
+use crate::search::{find_at, find_run};
 use lock_index::{HoldList, HoldRun, LockIndex, Steps, Window};
 use share_model::{Hold, NoMemory};
 use std::alloc::Global;
@@ -77,15 +77,17 @@ impl WindowRuns {
         self.count -= gone as u32;
     }
 
-    // Holds an offset in place of an older hold of it, where there is room.
-    fn put<L: Ledger>(&mut self, offset: u64, hold: Hold, steps: &mut Steps<L>)
-        requires { 1 ≤ self.old.spare }
-        ensures held { self.new.held ≡ insert_entry nat_cmp self.old.held offset hold }
-        ensures spare { self.old.spare ≤ self.new.spare + 1 }
+    // Holds the offsets of a run in place of older holds of them, where there is room.
+    fn put<L: Ledger>(&mut self, run: HoldRun, steps: &mut Steps<L>)
+        requires order { run.first ≤ run.last }
+        requires spare { (run.last + 1) - run.first ≤ self.old.spare }
+        ensures held { self.new.held ≡ holding run.first ((run.last + 1) - run.first) run.hold self.old.held }
+        ensures spare { self.old.spare ≤ self.new.spare + ((run.last + 1) - run.first) }
     {
-        let gone = end_range(&mut self.list, &mut self.index, offset, offset, steps);
-        put_one(&mut self.list, &mut self.index, offset, hold, steps);
-        self.count = self.count - gone as u32 + 1;
+        let gone = end_range(&mut self.list, &mut self.index, run.first, run.last, steps);
+        let n = (run.last - run.first) as u32 + 1;
+        put_run(&mut self.list, &mut self.index, run, steps);
+        self.count = self.count - gone as u32 + n;
     }
 
     // The same, where nobody counts steps.
@@ -100,16 +102,36 @@ impl WindowRuns {
         self.end(first, last, &mut steps);
     }
 
-    fn put_uncounted<L: Ledger>(&mut self, offset: u64, hold: Hold, blank: Blank)
+    fn put_uncounted<L: Ledger>(&mut self, run: HoldRun, blank: Blank)
         requires name { blank.name ≡ L.name }
         requires parts { blank.parts ≡ L.parts }
         requires some { 0 < blank.parts }
-        requires spare { 1 ≤ self.old.spare }
-        ensures held { self.new.held ≡ insert_entry nat_cmp self.old.held offset hold }
-        ensures spare { self.old.spare ≤ self.new.spare + 1 }
+        requires order { run.first ≤ run.last }
+        requires spare { (run.last + 1) - run.first ≤ self.old.spare }
+        ensures held { self.new.held ≡ holding run.first ((run.last + 1) - run.first) run.hold self.old.held }
+        ensures spare { self.old.spare ≤ self.new.spare + ((run.last + 1) - run.first) }
     {
         let mut steps = Steps::<L>::new(blank);
-        self.put(offset, hold, &mut steps);
+        self.put(run, &mut steps);
+    }
+
+    // Holds the offsets of a run in place of older holds of them, with memory for what there is no room for.
+    fn put_all(&mut self, run: HoldRun) -> Result<(), NoMemory>
+        requires { run.first ≤ run.last }
+        ensures ok { OnOk result (self.new.held ≡ holding run.first ((run.last + 1) - run.first) run.hold self.old.held) }
+        ensures spends { OnOk result (self.old.spare ≤ self.new.spare + ((run.last + 1) - run.first)) }
+        ensures err { OnErr result (self.new.held ≡ self.old.held) }
+        ensures keeps { OnErr result (self.new.spare ≡ self.old.spare) }
+        ensures spared { (run.last + 1) - run.first ≤ self.old.spare → IsOk result }
+    {
+        let _ = &self.list;
+        let behind = run.last - run.first;
+        if behind >= u64::from(u32::MAX) {
+            return Err(NoMemory);
+        }
+        self.make_room(behind as u32 + 1)?;
+        self.put_uncounted::<Brand>(run, Blank::new(1));
+        Ok(())
     }
 }
 
@@ -139,8 +161,8 @@ impl Window for WindowRuns {
         find_at(self.list.list(), offset)
     }
 
-    fn next_held(&self, from: u64) -> Option<(u64, &Hold)> {
-        find_from(self.list.list(), from)
+    fn run_from(&self, from: u64) -> Option<&HoldRun> {
+        find_run(self.list.list(), from)
     }
 
     fn list(&self) -> &[HoldRun] {
@@ -156,9 +178,18 @@ impl Window for WindowRuns {
     }
 
     fn hold(&mut self, offset: u64, hold: Hold) -> Result<(), NoMemory> {
-        self.make_room(1)?;
-        self.put_uncounted::<Brand>(offset, hold, Blank::new(1));
-        Ok(())
+        self.put_all(HoldRun {
+            first: offset,
+            last: offset,
+            hold,
+        })
+    }
+
+    fn hold_range(&mut self, first: u64, last: u64, hold: Hold) -> Result<(), NoMemory> {
+        if last < first {
+            return Ok(());
+        }
+        self.put_all(HoldRun { first, last, hold })
     }
 
     fn end_hold(&mut self, first: u64, last: u64) {

@@ -1,12 +1,11 @@
 // Finds runs by offset.
-ghost use Rattle.std.specs.Prelude.{◌≡◌, ◌<◌, ◌≤◌, ℕ, length, Some, option_map};
+ghost use Rattle.std.specs.Prelude.{◌≡◌, ◌<◌, ◌≤◌, ℕ, length, Some};
 ghost use Rattle.std.specs.List.{slice_get};
 ghost use Rattle.std.specs.Option.{option_copied};
 ghost use Rattle.share_model.specs.Held.{hold_at};
 ghost use Rattle.lock_index.specs.Runs.{IsCanonical, held_of};
-ghost use Rattle.lock_index.specs.Windows.{IsNextHeld};
+ghost use Rattle.lock_index.specs.Windows.{IsRunFrom};
 ghost use Rattle.lock_index.specs.declared.run.HoldRun.{HoldRun};
-ghost use Rattle.window_runs.specs.Searches.{IsRunFrom};
 
 use lock_index::HoldRun;
 use share_model::Hold;
@@ -32,26 +31,15 @@ pub(crate) fn count_begun(runs: &[HoldRun], offset: u64) -> usize
 }
 
 // The first run that doesn't end below an offset.
-fn find_run(runs: &[HoldRun], offset: u64) -> Option<&HoldRun>
+pub(crate) fn find_run(runs: &[HoldRun], offset: u64) -> Option<&HoldRun>
     requires { IsCanonical runs.now }
-    ensures { IsRunFrom runs.now offset (option_copied result) }
+    ensures { IsRunFrom (held_of runs.now) offset (option_copied result) }
 {
     let place = count_ended(runs, offset);
     if place == runs.len() {
         return None;
     }
     Some(&runs[place])
-}
-
-// The first held offset from one on.
-pub(crate) fn find_from(runs: &[HoldRun], from: u64) -> Option<(u64, &Hold)>
-    requires { IsCanonical runs.now }
-    ensures { IsNextHeld (held_of runs.now) from (option_map (λ next. (next.0, next.1.now)) result) }
-{
-    match find_run(runs, from) {
-        Some(run) => Some((run.first.max(from), &run.hold)),
-        None => None,
-    }
 }
 
 // The hold of an offset.

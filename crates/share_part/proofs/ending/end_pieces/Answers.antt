@@ -6,7 +6,7 @@ use Rattle.share_part.proofs.Parting.{left_behind, none_left}
 use Rattle.share_part.proofs.ending.end_pieces.Goals as goal
 
 pub loop-piece-preserved : goal.loop-piece-preserved
-loop-piece-preserved g c = ap (held_after (piece_at c.next_piece.new.self)) c.end_hold.ensures.held
+loop-piece-preserved g c = ap (held_after (piece_at c.next_piece.new.self)) c.end_hold_counted.ensures.held
     ∙ left_behind c.in-Some.piece c.next_piece.new.self (g.W.Window.held c.loop-piece.window)
     ∙ ap (λ (ps : List Piece). held_after (piece_at ps) (g.W.Window.held c.loop-piece.window)) (sym c.in-Some.ensures.some)
     ∙ c.loop-piece.invariant

@@ -9,7 +9,7 @@ use Rattle.share_part.specs.Collecting.{IsPlanOf}
 use Rattle.share_part.specs.Shards.{first_start}
 use Rattle.share_part.specs.Tables.{MayGoOut, Table}
 use Rattle.share_part.specs.Walks.{acquired}
-use Rattle.share_part.proofs.Planning.{rows_go_out, table_there, table_new}
+use Rattle.share_part.proofs.Planning.{lie_new, lie_there, rows_go_out, table_there, table_new}
 use Rattle.share_part.proofs.Seeing.{view_of}
 use Rattle.share_part.proofs.fetch.planned.Goals as goal
 
@@ -18,6 +18,18 @@ plan-requires-clause-rows g c =
     let there = subst (λ (k : KeyParts). Some c.in-Some-look.view.now ≡ option_map view_of (kept_at c.args.states.now.entries k)) c.key.ensures c.in-Some-look.ensures in
     subst (λ (s : ShareState). MayGoOut s.runs) (sym c.view.view_is)
     (rows_go_out g.W.Window.held c.args.conf.now c.args.log.now.batches c.args.states.now.entries c.args.windows.now.entries c.args.group.now c.in-Some-look.view.now there c.requires.hosted)
+
+pub plan-requires-clause-lie : goal.plan-requires-clause-lie
+plan-requires-clause-lie g c =
+    let there = subst (λ (k : KeyParts). Some c.in-Some-look.view.now ≡ option_map view_of (kept_at c.args.states.now.entries k)) c.key.ensures c.in-Some-look.ensures in
+    lie_there g.W.Window.held c.args.conf.now c.args.log.now.batches c.args.states.now.entries c.args.windows.now.entries c.args.group.now c.in-Some-look.view.now there c.requires.hosted c.requires.well
+    c.requires.sound.rises c.in-Some.window.now c.in-Some.ensures.value c.view.inside.runs (ap (λ (s : ShareState). s.runs) c.view.view_is)
+
+pub plan-requires-in-None-clause-lie : goal.plan-requires-in-None-clause-lie
+plan-requires-in-None-clause-lie g c =
+    let absent = subst (λ (k : KeyParts). ◌≡◌ {A = Option ShareState} None (option_map view_of (kept_at c.args.states.now.entries k))) c.key.ensures c.in-None.ensures in
+    lie_new g.W.Window.held c.args.conf.now c.args.log.now.batches c.args.states.now.entries c.args.windows.now.entries c.args.group.now absent c.requires.well
+    c.in-Some.window.now c.in-Some.ensures.value c.new-rows.result c.new-rows.ensures
 
 pub returns-in-Some-look-clause-is : goal.returns-in-Some-look-clause-is
 returns-in-Some-look-clause-is g c =

@@ -15,7 +15,7 @@ loop-first-preserved g c = (
   c.loop-first.invariant.0,
   c.loop-first.invariant.1,
   ended_more (is_chosen c.args.whose.now) (g.W.Window.held c.args.window.now) (g.W.Window.held c.loop-first.window) c.loop-first.from c.loop-first.invariant.2
-      c.in-Some.first c.last_chosen-last.result (g.W.Window.held c.end_hold.new.self) c.in-Some.ensures.some c.last_chosen-last.ensures.from c.last_chosen-last.ensures.chosen c.end_hold.ensures.held,
+      c.in-Some.first c.last_chosen-last.result (g.W.Window.held c.end_hold_counted.new.self) c.in-Some.ensures.some c.last_chosen-last.ensures.from c.last_chosen-last.ensures.chosen c.end_hold_counted.ensures.held,
 )
 
 pub overflow_sub-result : goal.overflow_sub-result

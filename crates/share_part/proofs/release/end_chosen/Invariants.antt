@@ -1,7 +1,7 @@
 use Rattle.std.proofs.Common.{◌≡◌, ◌-◌, ◌^◌, length}
 use Rattle.share_part.specs.Settling.{is_chosen}
 use Rattle.share_part.proofs.Letting.{AreEnded}
-use Rattle.window_rows.specs.Windows.{IsRising}
+use Rattle.lock_index.specs.Windows.{IsRising}
 use Rattle.share_part.proofs.release.end_chosen.Given as goal
 
 abbrev pub invariant-loop-first : goal.invariant-loop-first

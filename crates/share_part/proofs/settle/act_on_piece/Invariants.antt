@@ -1,7 +1,12 @@
+use Rattle.std.proofs.Common.{◌≤◌, ◌+◌, ◌-◌}
 use Rattle.share_part.specs.Acting.{AreDoneTo, IsSaid}
 use Rattle.share_part.specs.Settling.{Acts}
 use Rattle.share_part.proofs.settle.act_on_piece.Given as goal
 
-abbrev pub invariant-loop-offset : goal.invariant-loop-offset
-invariant-loop-offset g l = (acts : Acts) → AreDoneTo l.limit l.member acts (g.W.Window.held l.window) l.piece.first l.fn.rows → IsSaid l.piece acts
-    → AreDoneTo l.limit l.member acts (g.W.Window.held l.window) l.offset l.rows
+abbrev pub invariant-loop-from : goal.invariant-loop-from
+invariant-loop-from g l = (l.piece.first ≤ l.from) × (l.from ≤ l.piece.last + 1)
+    × ((acts : Acts) → AreDoneTo l.limit l.member acts (g.W.Window.held l.window) l.piece.first l.fn.rows → IsSaid l.piece acts
+    → AreDoneTo l.limit l.member acts (g.W.Window.held l.window) l.from l.rows)
+
+abbrev pub decreases-loop-from : goal.decreases-loop-from
+decreases-loop-from g l = (l.piece.last + 1) - l.from

@@ -1,43 +1,44 @@
-use Rattle.std.proofs.Common.{◌≡◌, ◌∙◌, ◌-◌, ◌+◌, sym, subst, arith, rules, false, true, Bool}
-use Rattle.share_part.specs.Collecting.{Goes}
-use Rattle.share_part.specs.Walks.{after_slot}
-use Rattle.share_part.proofs.Walking.{begins, done, exhausted, stopped, went_on}
+use Rattle.std.proofs.Common.{◌≤◌, ◌+◌, ◌-◌, ◌∙◌, sym, subst, arith, ℕ, Option}
+use Rattle.std.specs.Prelude.{IfSome}
+use Rattle.share_part.specs.Collecting.{GoesOver}
+use Rattle.share_part.specs.Tables.{Table}
+use Rattle.share_part.proofs.Walking.{IsWalking, begins, done, exhausted, stopped, went_over}
 use Rattle.share_part.proofs.walk.collect.Goals as goal
 
-pub loop-init : goal.loop-init
-loop-init g c = (omega (arith, c.new-collector.ensures.grants), begins c.args.log.now.batches _ c.args.limits c.new-collector.result (c.new-collector.ensures.begins c.args.log.now.batches))
+pub loop-left-init : goal.loop-left-init
+loop-left-init g c = (omega (arith, c.new-collector.ensures.grants), begins c.args.log.now.batches _ c.args.limits c.new-collector.result (c.new-collector.ensures.begins c.args.log.now.batches))
 
 pub returns-in_default-clause-takes : goal.returns-in_default-clause-takes
 returns-in_default-clause-takes g c =
-    exhausted c.args.log.now.batches _ c.args.limits c.loop.collector (2000 - c.loop.counter) (2000 - (c.loop.counter + 1)) c.loop.from
-    (omega (arith, c.loop-test.true)) c.loop.invariant.1 (sym c.next_slot.ensures.value ∙ c.in_default.is)
+    exhausted c.args.log.now.batches _ c.args.limits c.loop-left.collector c.loop-left.left (c.loop-left.left - 1) c.loop-left.from
+    (omega (arith, c.loop-left-test.true)) c.loop-left.invariant.1 (sym c.next_slot.ensures.value ∙ c.in_default.is)
 
-pub returns-in_default-clause-grants : goal.returns-in_default-clause-grants
-returns-in_default-clause-grants g c = omega (arith, c.loop.invariant.0, c.loop-test.true)
+pub returns-in_default-2-clause-takes : goal.returns-in_default-2-clause-takes
+returns-in_default-2-clause-takes g c =
+    let w = c.loop-left.invariant.1 in
+    let table : Table = record { start = c.args.start; rows = c.args.rows.now; held = g.W.Window.held c.args.window.now } in
+    stopped c.args.log.now.batches (record { start = c.args.start; rows = c.args.rows.now; held = g.W.Window.held c.args.window.now }) c.args.limits c.loop-left.collector c.loop-left.left (c.loop-left.left - 1) c.loop-left.from
+    (omega (arith, c.loop-left-test.true)) w c.in-Some.slot (sym c.next_slot.ensures.value ∙ c.in-Some.is) c.step.new.collector
+    (subst (λ (o : Option ℕ). GoesOver c.args.log.now.batches table c.step.new.collector w.walk c.in-Some.slot o) c.in_default-2.is (c.in_ok-n.ensures.goes c.args.start w.walk w.collects))
 
-pub returns-then-not-branch-clause-takes : goal.returns-then-not-branch-clause-takes
-returns-then-not-branch-clause-takes g c =
-    let w = c.loop.invariant.1 in
-    stopped c.args.log.now.batches (record { start = c.args.start; rows = c.args.rows.now; held = g.W.Window.held c.args.window.now }) c.args.limits c.loop.collector (2000 - c.loop.counter) (2000 - (c.loop.counter + 1)) c.loop.from
-    (omega (arith, c.loop-test.true)) w c.in-Some.slot (sym c.next_slot.ensures.value ∙ c.in-Some.is) c.step.new.collector
-    (let P : Bool → Type 0 = λ b. Goes c.args.log.now.batches c.step.new.collector w.walk b (after_slot c.args.log.now.batches (record { start = 0; rows = c.args.rows.now; held = g.W.Window.held c.args.window.now }) w.walk c.in-Some.slot) in
-    subst P (let e : c.in_ok-step.field-0 ≡ false = search rules in e) (c.in_ok-step.ensures.goes w.walk w.collects))
+pub loop-left-smaller : goal.loop-left-smaller
+loop-left-smaller g c =
+    let w = c.loop-left.invariant.1 in
+    let table : Table = record { start = c.args.start; rows = c.args.rows.now; held = g.W.Window.held c.args.window.now } in
+    let goes = subst (λ (o : Option ℕ). GoesOver c.args.log.now.batches table c.step.new.collector w.walk c.in-Some.slot o) c.in-Some-2.is (c.in_ok-n.ensures.goes c.args.start w.walk w.collects) in
+    omega (arith, goes.1, c.loop-left-test.true)
 
-pub returns-then-not-branch-clause-grants : goal.returns-then-not-branch-clause-grants
-returns-then-not-branch-clause-grants g c = omega (arith, c.loop.invariant.0, c.loop-test.true, c.in_ok-step.ensures.grants)
-
-pub loop-preserved : goal.loop-preserved
-loop-preserved g c =
-    let w = c.loop.invariant.1 in (
-      omega (arith, c.loop.invariant.0, c.in_ok-step.ensures.grants),
-      went_on c.args.log.now.batches (record { start = c.args.start; rows = c.args.rows.now; held = g.W.Window.held c.args.window.now }) c.args.limits c.loop.collector (2000 - c.loop.counter) (2000 - (c.loop.counter + 1)) c.loop.from
-          (omega (arith, c.loop-test.true)) w c.in-Some.slot (sym c.next_slot.ensures.value ∙ c.in-Some.is) c.step.new.collector
-          (let P : Bool → Type 0 = λ b. Goes c.args.log.now.batches c.step.new.collector w.walk b (after_slot c.args.log.now.batches (record { start = 0; rows = c.args.rows.now; held = g.W.Window.held c.args.window.now }) w.walk c.in-Some.slot) in
-          subst P (let e : c.in_ok-step.field-0 ≡ true = search rules in e) (c.in_ok-step.ensures.goes w.walk w.collects)),
+pub loop-left-preserved : goal.loop-left-preserved
+loop-left-preserved g c =
+    let w = c.loop-left.invariant.1 in
+    let table : Table = record { start = c.args.start; rows = c.args.rows.now; held = g.W.Window.held c.args.window.now } in
+    let goes = subst (λ (o : Option ℕ). GoesOver c.args.log.now.batches table c.step.new.collector w.walk c.in-Some.slot o) c.in-Some-2.is (c.in_ok-n.ensures.goes c.args.start w.walk w.collects) in
+    let few : c.in-Some-2.n ≤ c.loop-left.left = subst (λ (o : Option ℕ). IfSome o (λ n. n ≤ c.loop-left.left)) c.in-Some-2.is c.in_ok-n.ensures.most in (
+      omega (arith, c.loop-left.invariant.0, c.in_ok-n.ensures.grants, goes.1, few),
+      subst (λ (k : ℕ). IsWalking c.args.log.now.batches table c.args.limits c.step.new.collector (c.loop-left.left - c.in-Some-2.n) (c.in-Some.slot + k)) (sym c.from.ensures)
+          (went_over c.args.log.now.batches table c.args.limits c.requires.sound.rises c.loop-left.collector c.step.new.collector c.loop-left.left c.loop-left.from c.in-Some.slot c.in-Some-2.n
+          w (sym c.next_slot.ensures.value ∙ c.in-Some.is) c.in-Some.ensures.slot.0 few goes),
     )
 
 pub returns-clause-takes : goal.returns-clause-takes
-returns-clause-takes g c = done c.args.log.now.batches _ c.args.limits c.loop.collector (2000 - c.loop.counter) c.loop.from (omega (arith, c.loop-test.false)) c.loop.invariant.1
-
-pub returns-clause-grants : goal.returns-clause-grants
-returns-clause-grants g c = omega (arith, c.loop.invariant.0, c.loop.auto.counter-end)
+returns-clause-takes g c = done c.args.log.now.batches _ c.args.limits c.loop-left.collector c.loop-left.left c.loop-left.from (omega (arith, c.loop-left-test.false)) c.loop-left.invariant.1

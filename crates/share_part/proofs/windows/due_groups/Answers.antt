@@ -8,7 +8,7 @@ use Rattle.std.specs.Map.{lookup}
 use Rattle.std.specs.Map.Iter.{deref_pair}
 use Rattle.std.specs.Ordering.{nat_cmp}
 use Rattle.share_part.specs.Releasing.{due_groups}
-use Rattle.window_rows.specs.Windows.{IsRising}
+use Rattle.lock_index.specs.Windows.{IsRising}
 use Rattle.share_part.proofs.Ordered.{due_there, found_all}
 use Rattle.share_part.proofs.windows.due_groups.Goals as goal
 

@@ -5,7 +5,7 @@ use Rattle.std.specs.List.{AllByRecursion}
 use Rattle.std.specs.Map.{lookup}
 use Rattle.std.specs.Ordering.{nat_cmp}
 use Rattle.share_part.specs.Releasing.{due_groups}
-use Rattle.window_rows.specs.Windows.{IsRising}
+use Rattle.lock_index.specs.Windows.{IsRising}
 use Rattle.share_part.proofs.windows.due_groups.Given as goal
 
 abbrev pub invariant-loop-group : goal.invariant-loop-group

@@ -10,7 +10,7 @@ use Rattle.share_part.specs.Releasing.{ReleasesOnce, due_groups}
 use Rattle.share_part.specs.Shards.{PartParts}
 use Rattle.share_part.specs.declared.release.Released.{Released}
 use Rattle.share_part.specs.declared.settle.Whose.TheVariants.{Due}
-use Rattle.window_rows.specs.Windows.{IsRising}
+use Rattle.lock_index.specs.Windows.{IsRising}
 use Rattle.share_part.proofs.Expired.{SoFar, all_ended, begins, none_begins, one_done, one_starves, one_stays}
 use Rattle.share_part.proofs.shard.PartShard.expire.Goals as goal
 

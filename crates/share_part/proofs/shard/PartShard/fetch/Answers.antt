@@ -1,7 +1,9 @@
 use Rattle.std.proofs.Common.{◌≡◌, ◌∙◌, ◌++◌, ◌<◌, ◌+◌, refl, sym, ap, subst, arith, length, List, ℕ, Ok}
 use Rattle.std.specs.List.{AllByRecursion}
 use Rattle.part_log.specs.Logs.{IsStoredLog, LogParts}
-use Rattle.share_part.specs.Hosting.{AreHosted}
+use Rattle.share_model.specs.ForeignRules.{share_state_at}
+use Rattle.share_model.specs.Held.{Held}
+use Rattle.share_part.specs.Hosting.{AreHosted, HoldsWell, key_of}
 use Rattle.share_coord.specs.States.{states_of}
 use Rattle.share_part.specs.Making.{numbered_bytes, state_for}
 use Rattle.share_part.specs.Shards.{held_in, with_held}
@@ -17,6 +19,10 @@ use Rattle.share_part.proofs.shard.PartShard.fetch.Goals as goal
 pub returns-in_err-add_window-clause-once : goal.returns-in_err-add_window-clause-once
 returns-in_err-add_window-clause-once g c = rw (← c.self.view_is) (starved_so g.D.Disk.seen g.W.Window.held c.args.now c.args.visit.now _ _ refl refl refl c.args.limits c.requires.fetch
     c.from_residual.result c.from_residual.ensures.0 refl c.in_err-add_window.ensures.held refl)
+
+pub planned-requires-clause-well : goal.planned-requires-clause-well
+planned-requires-clause-well g c = subst (λ (h : Held). HoldsWell c.self.inside.log.batches (share_state_at (states_of c.self.inside.states.entries) (key_of c.self.inside.conf c.args.visit.now.group)) h)
+    (sym (c.in_ok-add_window.ensures.held c.args.visit.now.group)) (c.self.invariant.holds c.args.visit.now.group).0
 
 pub returns-in_err-plan-clause-once : goal.returns-in_err-plan-clause-once
 returns-in_err-plan-clause-once g c = rw (← c.self.view_is) (starved_so g.D.Disk.seen g.W.Window.held c.args.now c.args.visit.now _ _ refl refl refl c.args.limits c.requires.fetch
