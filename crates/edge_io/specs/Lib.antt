@@ -5,5 +5,6 @@ pub mod Counting
 pub mod Disk
 pub mod Moments
 pub mod Names
+pub mod Serving
 pub mod Streams
 pub mod Views

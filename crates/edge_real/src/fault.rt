@@ -17,6 +17,8 @@ pub enum SystemCall {
     Flush,
     Cut,
     Sync,
+    Bind,
+    Accept,
 }
 
 impl fmt::Display for SystemCall {
@@ -33,6 +35,8 @@ impl fmt::Display for SystemCall {
             SystemCall::Flush => "flush",
             SystemCall::Cut => "cut",
             SystemCall::Sync => "sync",
+            SystemCall::Bind => "bind",
+            SystemCall::Accept => "accept",
         };
         f.write_str(words)
     }

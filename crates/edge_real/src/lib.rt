@@ -1,4 +1,5 @@
-//! Sources and sinks over std's readers and writers, disks over files, and a bay of disks over a folder.
+//! Sources and sinks over std's readers and writers, disks over files, a bay of disks over a folder; and for a server links over TCP,
+//! threads and the system's clock.
 //!
 //! This is the trusted edge: no clause can say what a file, a pipe or a terminal holds, so these adapters tell no
 //! bytes, and their contracts say only how they count faults. That a real file keeps what is asked of a disk is a
@@ -6,16 +7,28 @@
 #![tactic(auto)]
 
 mod bay;
+mod clock;
 mod fault;
 mod file;
+mod link;
+mod listener;
+mod notices;
 mod opening;
 mod slots;
+mod spawner;
 mod streams;
 mod system;
+#[cfg(test)]
+mod tests;
 
 pub use bay::FolderBay;
+pub use clock::SystemClock;
 pub use fault::{FolderFault, FolderPart, SystemCall, SystemFault};
 pub use file::FileDisk;
+pub use link::TcpLink;
+pub use listener::TcpLinks;
+pub use notices::{NoNotices, SocketNotices};
 pub use slots::Slot;
+pub use spawner::ThreadSpawner;
 pub use streams::{ReaderSource, WriterSink};
 pub use system::{Folders, OpenedFile, SystemFolders};

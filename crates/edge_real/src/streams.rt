@@ -45,8 +45,8 @@ impl<R: Read> ReaderSource<R> {
     }
 }
 
-// One read, which is tried again where a signal interrupts it.
-fn read_retrying<R: Read>(reader: &mut R, into: &mut [u8]) -> io::Result<usize>
+/// One read, which is tried again where a signal interrupts it.
+pub fn read_retrying<R: Read>(reader: &mut R, into: &mut [u8]) -> io::Result<usize>
     ensures bound { ReadsAtMost result into.new }
 {
     for _ in 0..u64::MAX {
@@ -59,7 +59,8 @@ fn read_retrying<R: Read>(reader: &mut R, into: &mut [u8]) -> io::Result<usize>
     Err(io::Error::from(ErrorKind::Interrupted))
 }
 
-fn is_end(count: usize, into: &[u8]) -> bool
+/// Whether that many bytes, read into this, are the end.
+pub fn is_end(count: usize, into: &[u8]) -> bool
     ensures { result ≡ (nat_eq count 0 && nat_lt 0 (length into.now)) }
 {
     count == 0 && !into.is_empty()
@@ -146,16 +147,24 @@ fn write_retrying<W: Write>(writer: &mut W, bytes: &[u8]) -> io::Result<usize>
     Err(io::Error::from(ErrorKind::Interrupted))
 }
 
-// One write and a flush. A write that takes nothing of a piece that isn't empty is none.
+/// One write. One that takes nothing of a piece that isn't empty is none.
+pub fn write_some<W: Write>(writer: &mut W, bytes: &[u8]) -> io::Result<usize>
+    ensures bound { WritesAtMost result bytes.now }
+    ensures some { TakesSome result bytes.now }
+{
+    match write_retrying(writer, bytes) {
+        Ok(0) if !bytes.is_empty() => Err(io::Error::from(ErrorKind::WriteZero)),
+        Ok(count) => Ok(count),
+        Err(error) => Err(error),
+    }
+}
+
+// One write and a flush.
 fn write_out<W: Write>(writer: &mut W, bytes: &[u8]) -> Result<usize, SystemFault>
     ensures bound { WritesAtMost result bytes.now }
     ensures some { TakesSome result bytes.now }
 {
-    let count = match write_retrying(writer, bytes) {
-        Ok(0) if !bytes.is_empty() => return Err(SystemFault {
-            call: SystemCall::Write,
-            error: io::Error::from(ErrorKind::WriteZero),
-        }),
+    let count = match write_some(writer, bytes) {
         Ok(count) => count,
         Err(error) => return Err(SystemFault {
             call: SystemCall::Write,

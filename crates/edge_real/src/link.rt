@@ -1,0 +1,100 @@
+ghost use Rattle.std.specs.Prelude.{◌≡◌, None, false};
+ghost use Rattle.std.specs.Io.{ReadsAtMost, WritesAtMost};
+ghost use Rattle.edge_io.specs.Causes.{CountsFault, HasCause};
+ghost use Rattle.edge_io.specs.Streams.{EndsBy, TakesSome};
+
+use crate::fault::{SystemCall, SystemFault};
+use crate::notices::SocketNotices;
+use crate::streams::{is_end, read_retrying, write_some};
+use edge_io::{Failed, Link};
+use std::io;
+use std::io::{Read, Write};
+use std::marker::Model;
+use std::net::SocketAddr;
+
+/// A link over a stream, as a TCP socket. It tells no bytes.
+///
+/// A call that a signal interrupts is tried again; a write that takes nothing of a piece is a fault. Each fault is told with the peer's
+/// address.
+#[derive(Drop)]
+pub struct TcpLink<S, N> {
+    stream: S,
+    peer: SocketAddr,
+    notices: N,
+    ended: bool,
+    faults: u64,
+}
+
+impl<S, N> Model for TcpLink<S, N> {
+    ghost use Rattle.edge_real.specs.Streams.{Reading};
+
+    ghost Value = { Reading };
+
+    ghost view = { λ l. record { ended = l.ended; faults = l.faults } };
+}
+
+impl<S, N: SocketNotices> TcpLink<S, N> {
+    /// A link that has not ended, with no faults.
+    pub fn new(stream: S, peer: SocketAddr, notices: N) -> TcpLink<S, N>
+        ensures { result ≡ record { ended = false; faults = 0 } }
+    {
+        TcpLink {
+            stream,
+            peer,
+            notices,
+            ended: false,
+            faults: 0,
+        }
+    }
+
+    // Tells what the system said of a call that was not done.
+    fn tell(&self, call: SystemCall, error: io::Error) {
+        self.notices.failed(self.peer, SystemFault { call, error });
+    }
+}
+
+impl<S: Read + Write, N: SocketNotices> Link for TcpLink<S, N> {
+    ghost left = { λ _. None };
+
+    ghost ended = { λ l. l.ended };
+
+    ghost held = { λ _. None };
+
+    ghost faults = { λ l. l.faults };
+
+    fn read(&mut self, into: &mut [u8]) -> Result<usize, Failed>
+        ensures bound { ReadsAtMost result into.new }
+        ensures end { EndsBy self.old.ended self.new.ended result into.new }
+        ensures cause { HasCause self.old.faults self.new.faults result }
+        ensures faults { CountsFault self.old.faults self.new.faults result }
+    {
+        match read_retrying(&mut self.stream, into) {
+            Ok(count) => {
+                self.ended = self.ended | is_end(count, into);
+                Ok(count)
+            }
+            Err(error) => {
+                self.tell(SystemCall::Read, error);
+                self.faults = self.faults.saturating_add(1);
+                Err(Failed)
+            }
+        }
+    }
+
+    fn write(&mut self, bytes: &[u8]) -> Result<usize, Failed>
+        ensures bound { WritesAtMost result bytes.now }
+        ensures some { TakesSome result bytes.now }
+        ensures same { self.new.ended ≡ self.old.ended }
+        ensures cause { HasCause self.old.faults self.new.faults result }
+        ensures faults { CountsFault self.old.faults self.new.faults result }
+    {
+        match write_some(&mut self.stream, bytes) {
+            Ok(count) => Ok(count),
+            Err(error) => {
+                self.tell(SystemCall::Write, error);
+                self.faults = self.faults.saturating_add(1);
+                Err(Failed)
+            }
+        }
+    }
+}
