@@ -25,8 +25,9 @@ use Rattle.broker_model.proofs.Lists.{change_of, changes_so}
 use Rattle.broker_core.specs.declared.slot.PartState.{PartState}
 use Rattle.broker_core.specs.declared.slot.PartState.TheVariants as part
 use Rattle.broker_core.specs.declared.slot.PartSlot.{PartSlot}
-use Rattle.broker_core.specs.Carried.{Begun, EndsGoOn, GoesOn, HalvesOn, OpenPart, PartGoesOn, StepsOn, Uses}
-use Rattle.broker_core.specs.Carried.Begun.{BeginsVisit, BeginsExpiry}
+use Rattle.broker_model.specs.Acting.{Begun, EndsGoOn, HalvesOn, StepsOn}
+use Rattle.broker_core.specs.Carried.{GoesOn, OpenPart, PartGoesOn, Uses}
+use Rattle.broker_model.specs.Acting.Begun.{BeginsVisit, BeginsExpiry}
 use Rattle.broker_core.specs.Hosts.{AreApart, AreCarried, AreDistinct, AreOpen, Did, DiskGoesOn, ExpiresShard, GoesOnIf, GoOn, Halts, HaltsSlot, HalvesExpiry, HostsParts, IsHalfDone, IsLeftIn, IsOpenState, IsPartSlot, IsPartState, Leads, LeadsSlot, StaysHosted, among, counts_in, disks_in, ends_in, ends_over, facts_at, facts_in, foreign_disks, foreign_end, foreign_facts, hosted_slot, hosted_slots, open_disk, part_disk, slot_disks, slot_ends}
 use Rattle.broker_core.proofs.Flats.{among_changed, zip_flat}
 use Rattle.broker_core.proofs.Leading.{StillSlot, halts_still, open_still, parts_apart, parts_still, same_both, same_goes, slot_still, still_foreign}

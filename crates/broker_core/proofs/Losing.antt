@@ -14,7 +14,7 @@ use Rattle.foreign_coord.specs.Shards.{ForeignShardState}
 use Rattle.part_log.specs.Logs.{and_pending}
 use Rattle.share_coord.proofs.Ends.{held_long}
 use Rattle.share_part.specs.Hosting.{ArePartText, PartConfParts}
-use Rattle.share_part.specs.Leaving.{IsLeftOf, IsOneOf as IsDoneOr}
+use Rattle.share_part.specs.Leaving.{IsLeftOf, IsDoneOr}
 use Rattle.share_part.specs.Shards.{PartShardState, shard_with}
 use Rattle.broker_model.specs.Hosted.{Hosted, IsOneOf, first_of, log_of, part_disks, same_name, second_of, state_a, state_b}
 use Rattle.broker_model.specs.Shards.{HostedPart, Shards}

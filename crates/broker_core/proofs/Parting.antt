@@ -27,8 +27,9 @@ use Rattle.call_fold.specs.declared.part.Produced.{Produced}
 use Rattle.call_fold.specs.declared.part.Produced.TheVariants.{Base, Batch, Store}
 use Rattle.broker_model.specs.Shards.{PartCall, look_at, result_of}
 use Rattle.broker_model.specs.Shards.PartCall.{Visits, Produces, Looks, Expires}
-use Rattle.broker_core.specs.Carried.{Begun, EndsGoOn, GoesOn, HaltsPart, IsPartCarried, LeadsPart, OpenPart, PartGoesOn, StepsOn, Uses, UsesStates, holding}
-use Rattle.broker_core.specs.Carried.Begun.{BeginsVisit, BeginsExpiry}
+use Rattle.broker_model.specs.Acting.{Begun, EndsGoOn, StepsOn}
+use Rattle.broker_core.specs.Carried.{GoesOn, HaltsPart, IsPartCarried, LeadsPart, OpenPart, PartGoesOn, Uses, UsesStates, holding}
+use Rattle.broker_model.specs.Acting.Begun.{BeginsVisit, BeginsExpiry}
 use Rattle.edge_io.specs.Views.{DiskView}
 
 -- ---- what is told

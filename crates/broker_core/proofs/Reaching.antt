@@ -21,7 +21,8 @@ use Rattle.broker_core.specs.declared.slot.ForeignSlot.TheVariants as foreign
 use Rattle.broker_core.specs.declared.slot.PartState.{PartState}
 use Rattle.broker_core.specs.declared.slot.PartState.TheVariants as part
 use Rattle.broker_core.specs.declared.slot.PartSlot.{PartSlot}
-use Rattle.broker_core.specs.Carried.{EndsGoOn, OpenPart, by_name, holding}
+use Rattle.broker_model.specs.Acting.{EndsGoOn}
+use Rattle.broker_core.specs.Carried.{OpenPart, by_name, holding}
 use Rattle.broker_core.specs.Hosts.{AreCarried, DisksReach, HostsParts, IsPartSlot, IsPartState, IsSlot, LeftDisks, ReachesTo, disk_in, disks_in, ends_in, foreign_disk, foreign_disks, foreign_end, hosted_slot, open_disk, open_end, part_disk, part_end, shut_disk, slot_disks, slot_ends, slots_disks}
 use Rattle.broker_core.specs.Restarts.{PartImagesStandAs}
 use Rattle.broker_core.proofs.Flats.{zip_flat}

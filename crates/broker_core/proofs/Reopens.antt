@@ -10,7 +10,7 @@ use Rattle.share_model.specs.Logs.{Batch as LogBatch}
 use Rattle.part_log.specs.Logs.{IsLogText, and_pending, frames_of}
 use Rattle.share_coord.specs.States.{AreStates, states_of}
 use Rattle.share_part.specs.Hosting.{ArePartText, PartConfParts}
-use Rattle.share_part.specs.Leaving.{IsLeftOf, IsOneOf}
+use Rattle.share_part.specs.Leaving.{IsLeftOf, IsDoneOr}
 use Rattle.share_part.specs.Opening.{IsOpened}
 use Rattle.share_part.specs.Shards.{Carries, PartShardState}
 use Rattle.share_part.proofs.Leavings.{left_of}
@@ -136,8 +136,8 @@ module _ {D : Type 0} (seen : D → DiskView) where
         batches = o.batches;
         states = o.states;
         carried = o.carried;
-        log_is = subst (λ (bs : List LogBatch). IsOneOf s.log.batches (and_pending s.log.batches s.log.pending) bs) (sym e.0) t.log_is;
-        states_are = subst (λ (st : ShareStates). IsOneOf s.states s.pending st) (sym e.1) t.states_are;
+        log_is = subst (λ (bs : List LogBatch). IsDoneOr s.log.batches (and_pending s.log.batches s.log.pending) bs) (sym e.0) t.log_is;
+        states_are = subst (λ (st : ShareStates). IsDoneOr s.states s.pending st) (sym e.1) t.states_are;
         stands = o.stands;
         were = (p.was, q.was, r.was);
         log_lost = o.on_log.losses ∙ p.lost;

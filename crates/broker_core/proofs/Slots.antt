@@ -17,8 +17,9 @@ use Rattle.broker_model.specs.Disks.{Facts, IsUsed, OnCalled, facts_of}
 use Rattle.broker_core.specs.declared.slot.PartSlot.{PartSlot}
 use Rattle.broker_core.specs.declared.slot.PartState.{PartState}
 use Rattle.broker_core.specs.declared.slot.PartState.TheVariants as part
-use Rattle.broker_core.specs.Carried.{Begun, HalvesOn, OpenPart, StepsOn, Uses, UsesLog, UsesStates}
-use Rattle.broker_core.specs.Carried.Begun.{BeginsVisit, BeginsExpiry}
+use Rattle.broker_model.specs.Acting.{Begun, HalvesOn, StepsOn}
+use Rattle.broker_core.specs.Carried.{OpenPart, Uses, UsesLog, UsesStates}
+use Rattle.broker_model.specs.Acting.Begun.{BeginsVisit, BeginsExpiry}
 use Rattle.broker_core.specs.Hosts.{AreDistinct, HostsParts, among, counts_in, disks_in, ends_in, ends_over, facts_at, facts_in, foreign_disks, foreign_end, foreign_facts, hosted_slot, hosted_slots, open_disk, open_end, part_disk, part_end, slot_disks, slot_ends, slots_disks}
 use Rattle.broker_core.proofs.Flats.{pieces_at}
 use Rattle.broker_core.proofs.Places.{each_found}

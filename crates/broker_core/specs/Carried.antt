@@ -13,11 +13,12 @@ use Rattle.share_model.specs.declared.foreign.ForeignOp.{ForeignOp}
 use Rattle.share_model.specs.declared.visit.Visit.{Visit}
 use Rattle.share_coord.specs.Parts.{StoreParts}
 use Rattle.foreign_coord.specs.Shards.{ForeignShardState, Carries as CarriesForeign, StepsForeign}
-use Rattle.window_rows.specs.Windows.{WindowParts}
+use Rattle.lock_index.specs.Windows.{WindowParts}
 use Rattle.share_part.specs.Expiring.{ExpiresPart, StepsExpire}
 use Rattle.share_part.specs.Hosting.{PartConfParts, key_of}
 use Rattle.share_part.specs.Shards.{PartParts, PartShardState, Carries, StepsProduce}
 use Rattle.share_part.specs.Visits.{StepsVisit, VisitsPart}
+use Rattle.broker_model.specs.Acting.{Begun, EndsGoOn, HalvesOn, StepsOn}
 use Rattle.broker_model.specs.Hosted.{state_a, same_name}
 use Rattle.broker_model.specs.Shards.{PartCall, look_at, result_of}
 use Rattle.broker_model.specs.Shards.PartCall.{Visits, Produces, Looks, Expires}
@@ -105,24 +106,6 @@ pub record PartGoesOn {D : Type 0} (seen : D → DiskView) (old new : OpenPart D
   pub first : GoesOn seen old.states.journal.live.disk new.states.journal.live.disk
   pub second : GoesOn seen old.states.journal.idle new.states.journal.idle
 
--- its two journals never end before where they did
-pub record EndsGoOn {D : Type 0} (old new : OpenPart D) : Type 0 where
-  pub log : old.log.journal.end ≤ new.log.journal.end
-  pub first : old.states.journal.live.end ≤ new.states.journal.live.end
-
--- The shard takes the step of this call, by the counts of its own disks and the ends of its own journals.
-abbrev pub StepsOn : {D : Type 0} → (D → DiskView) → PartConfParts → OpenPart D → OpenPart D → (now : ℕ) → PartShardState → PartCall → PartShardState → Type 0
-StepsOn seen conf old new now shard (Visits visit answer) after =
-    StepsVisit conf (seen old.states.journal.live.disk).faults (seen new.states.journal.live.disk).faults old.states.journal.live.end new.states.journal.live.end
-    shard now visit answer after
-StepsOn seen conf old new now shard (Produces batch produced) after =
-    StepsProduce (Rose (seen old.log.journal.disk).faults (seen new.log.journal.disk).faults) old.log.journal.end shard now batch (result_of produced) after
-StepsOn seen conf old new now shard (Looks group looked) after =
-    (looked ≡ look_at (share_state_at shard.states (key_of conf group))) × (after ≡ shard)
-StepsOn seen conf old new now shard (Expires answer) after =
-    StepsExpire conf (seen old.states.journal.live.disk).faults (seen new.states.journal.live.disk).faults old.states.journal.live.end new.states.journal.live.end
-    shard now answer after
-
 -- a visit and an expiry use the first disk of the states alone, a batch that of the log, and a look none
 pub record UsesStates {D : Type 0} (seen : D → DiskView) (old new : OpenPart D) : Type 0 where
   pub used : IsUsed (facts_of seen old.states.journal.live.disk) (facts_of seen new.states.journal.live.disk)
@@ -147,19 +130,6 @@ pub record LeadsPart {D : Type 0} (seen : D → DiskView) (conf : PartConfParts)
   pub step : StepsOn seen conf old new now shard did after
   pub ends : EndsGoOn old new
   pub used : Uses seen old new did
-
--- a call that makes several writes, between two of which memory may run out
-pub data Begun : Type 0 where
-  BeginsVisit : (visit : Visit) → Begun
-  BeginsExpiry : Begun
-
--- It was left between two writes: a visit behind its acknowledgements, an expiry behind some of the groups.
-abbrev pub HalvesOn : {D : Type 0} → (D → DiskView) → PartConfParts → OpenPart D → OpenPart D → (now : ℕ) → PartShardState → Begun → PartShardState → Type 0
-HalvesOn seen conf old new now shard (BeginsVisit visit) after = VisitsPart conf
-    (Rose (seen old.states.journal.live.disk).faults (seen new.states.journal.live.disk).faults) old.states.journal.live.end shard now visit after
-HalvesOn seen conf old new now shard BeginsExpiry after =
-    ExpiresPart conf (seen old.states.journal.live.disk).faults (seen new.states.journal.live.disk).faults old.states.journal.live.end new.states.journal.live.end
-    shard now after
 
 -- No memory was found: nothing was done in the shard, or such a call was done whole, or left half done. The disks tell their contents
 -- still.

@@ -27,6 +27,8 @@ use Rattle.foreign_coord.specs.Shards.{ForeignShardState}
 use Rattle.share_members.specs.Groups.{Memberships}
 use Rattle.share_model.specs.declared.visit.ExpireAnswer.{ExpireAnswer}
 use Rattle.share_model.specs.declared.visit.Then.{Then}
+use Rattle.share_coord.specs.States.{states_of}
+use Rattle.share_model.specs.ForeignRules.{ShareStates}
 use Rattle.share_part.specs.Expiring.{ExpiresPart}
 use Rattle.share_part.specs.Hosting.{PartConfParts}
 use Rattle.share_part.specs.Leaving.{IsLeftOf}
@@ -44,7 +46,8 @@ use Rattle.broker_core.specs.declared.slot.PartState.{PartState}
 use Rattle.broker_core.specs.declared.slot.PartState.TheVariants as part
 use Rattle.broker_core.specs.declared.slot.PartSlot.{PartSlot}
 use Rattle.broker_core.specs.declared.hosts.Hosts.{Hosts}
-use Rattle.broker_core.specs.Carried.{Begun, GoesOn, HaltsPart, IsCarried, IsPartCarried, LeadsPart, OpenPart, PartGoesOn, facts_by, by_name, holding}
+use Rattle.broker_model.specs.Acting.{Begun}
+use Rattle.broker_core.specs.Carried.{GoesOn, HaltsPart, IsCarried, IsPartCarried, LeadsPart, OpenPart, PartGoesOn, facts_by, by_name, holding}
 use Rattle.edge_io.specs.Views.{DiskView}
 
 -- the shards of the hosted partitions, in the order of their numbers; the members of all groups; foreign state
@@ -90,6 +93,21 @@ AreOpenParts slots = AllByRecursion (λ s. IsOpenState s.state) slots
 
 abbrev pub AreHeldParts : {D : Type 0} → List (PartSlot D) → Type 0
 AreHeldParts slots = AllByRecursion (λ s. IsHeldState s.state) slots
+
+-- ---- what is stored
+
+-- of partitions that aren't hosted, and of the groups of one that is
+abbrev pub states_at : {D : Type 0} → ForeignSlot D → ShareStates
+states_at (foreign.Open store) = states_of store.entries
+states_at (foreign.Shut first second) = []
+states_at foreign.Gone = []
+
+abbrev pub states_in : {D : Type 0} → PartState D → ShareStates
+states_in (part.Open shard) = states_of shard.states.entries
+states_in (part.Shut log first second) = []
+states_in part.Gone = []
+
+-- ---- all shards
 
 -- each shard can be called
 pub record AreOpen {D : Type 0} (hosts : HostsParts D) : Type 0 where
@@ -327,6 +345,11 @@ pub record Leads {D : Type 0} (seen : D → DiskView) (old : HostsParts D) (shar
   pub ends : (name : List ℕ) → calls call name ≡ false → ends_in new name ≡ ends_in old name
   pub ends_later : (name : List ℕ) → ends_in old name ≤ ends_in new name
 
+-- The same from each state of the shards that they stood for, by the counts of faults of their disks and the ends of their journals.
+abbrev pub LeadsBy : {D : Type 0} → (D → DiskView) → (old new : HostsParts D) → (Counts → Ends → Shards → Option ShardCall → Shards → Type 0) → Type 0
+LeadsBy seen old new Does = (s : Shards) → AreCarried seen old s →
+    Leads seen old s new (Does (counts_in seen (disks_in old) (disks_in new)) (ends_over old new))
+
 -- the shard of this number is left in the midst of a call, and each other one stays
 pub record IsLeftIn (shard : ℕ) (Half : Hosted → PartShardState → PartShardState → Type 0) (old new : Shards) : Type 0 where
   pub parts : ChangesAt shard (λ (p q : HostedPart). (q.hosted ≡ p.hosted) × Half p.hosted p.shard q.shard) old.parts new.parts
@@ -365,6 +388,13 @@ pub record Halts {D : Type 0} (seen : D → DiskView) (old : HostsParts D) (shar
   pub ends_later : (name : List ℕ) → ends_in old name ≤ ends_in new name
   pub reach : DisksReach seen (disks_in new) (ends_in new)
   pub does : (after ≡ shards) ⊎ (((call : Option ShardCall) × Does shards call after) ⊎ Within shards after)
+
+-- the same from each state of the shards that they stood for
+abbrev pub HaltsBy : {D : Type 0} → (D → DiskView) → (old new : HostsParts D) → (Counts → Ends → Shards → Option ShardCall → Shards → Type 0)
+    → (Counts → Ends → Shards → Shards → Type 0) → Type 0
+HaltsBy seen old new Does Within = (s : Shards) → AreCarried seen old s →
+    Halts seen old s new (Does (counts_in seen (disks_in old) (disks_in new)) (ends_over old new))
+    (Within (counts_in seen (disks_in old) (disks_in new)) (ends_over old new))
 
 -- a visit is of a shard with a number below this
 abbrev pub IsThere : ℕ → Part → Type 0

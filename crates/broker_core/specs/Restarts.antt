@@ -17,7 +17,7 @@ use Rattle.share_coord.specs.Parts.{StoreParts}
 use Rattle.share_coord.specs.Stored.{AreDamaged}
 use Rattle.foreign_coord.specs.Shards.{ForeignShardState}
 use Rattle.share_part.specs.Hosting.{ArePartText, PartConfParts}
-use Rattle.share_part.specs.Leaving.{IsOneOf}
+use Rattle.share_part.specs.Leaving.{IsDoneOr}
 use Rattle.share_part.specs.Opening.{AreDamagedAt}
 use Rattle.share_part.specs.Shards.{PartShardState, shard_with}
 use Rattle.topic_conf.specs.Configs.{ConfigParts}
@@ -160,8 +160,8 @@ pub record IsRestartedPart {D : Type 0} (seen : D → DiskView)
   pub batches : List Batch
   pub states : ShareStates
   pub carried : IsPartCarried seen conf new (shard_with batches states)
-  pub log_is : IsOneOf shard.log.batches (and_pending shard.log.batches shard.log.pending) batches
-  pub states_are : IsOneOf shard.states shard.pending states
+  pub log_is : IsDoneOr shard.log.batches (and_pending shard.log.batches shard.log.pending) batches
+  pub states_are : IsDoneOr shard.states shard.pending states
   pub stands : ArePartText conf l a b batches states
   pub were : (seen old.log.journal.disk).image l × (seen old.states.journal.live.disk).image a × (seen old.states.journal.idle).image b
   pub log_lost : (seen new.log.journal.disk).losses ≡ (seen old.log.journal.disk).losses ++ (choice, l) ∷ []

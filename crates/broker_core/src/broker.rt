@@ -19,6 +19,7 @@ use crate::client::{connect, disconnect, one, send, serve};
 use crate::fault::{CoreFault, CoreOpen};
 use crate::hosts::Hosts;
 use crate::power::lose_power;
+use crate::slot::{ForeignSlot, PartSlot};
 use crate::timers::{expire, tick};
 use conn_core::Conn;
 use edge_io::{Bay, Disk};
@@ -254,6 +255,20 @@ impl<D: Disk + Drop> Core<D> {
         ensures { result.now ≡ self.now.conf }
     {
         &self.conf
+    }
+
+    /// The hosted partitions with their shards, in the order of the configuration.
+    pub fn parts(&self) -> &[PartSlot<D>]
+        ensures { result.now ≡ self.now.hosts.parts }
+    {
+        self.hosts.parts.as_slice()
+    }
+
+    /// The shard of foreign state.
+    pub fn foreign(&self) -> &ForeignSlot<D>
+        ensures { result.now ≡ self.now.hosts.foreign }
+    {
+        &self.hosts.foreign
     }
 
     /// Does one event, and gives what comes of it, in order.

@@ -6,7 +6,7 @@ ghost use Rattle.share_model.specs.declared.visit.ExpireAnswer.{ExpireAnswer};
 ghost use Rattle.share_model.specs.declared.visit.VisitAnswer.{VisitAnswer};
 ghost use Rattle.broker_model.specs.Hosted.{ChangesAt, HoldsAt};
 ghost use Rattle.broker_model.specs.Shards.PartCall.{Visits, Produces, Looks, Expires};
-ghost use Rattle.broker_core.specs.Carried.Begun.{BeginsVisit, BeginsExpiry};
+ghost use Rattle.broker_model.specs.Acting.Begun.{BeginsVisit, BeginsExpiry};
 ghost use Rattle.broker_core.specs.Hosts.{AreOpenParts, HaltsSlot, IsOpenState, LeadsSlot};
 
 use crate::part::{expire, look, produce, visit};

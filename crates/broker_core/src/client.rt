@@ -6,10 +6,9 @@ ghost use Rattle.session_script.specs.Output.{IsTold};
 ghost use Rattle.topic_conf.specs.Topics.{partitions};
 ghost use Rattle.conn_core.specs.Conns.{ConnParts, conn_after_bytes, without_replies, is_gone};
 ghost use Rattle.conn_core.specs.Turning.{Awaits, turn};
-ghost use Rattle.broker_model.specs.Shards.{Shards};
 ghost use Rattle.broker_model.specs.Machine.{Machine, named, opened, at_connection, conn_at, ended_in};
 ghost use Rattle.broker_model.specs.Steps.{Does, DoesTurn, Serves, replies_to};
-ghost use Rattle.broker_core.specs.Hosts.{AreApart, AreCarried, AreOpen, GoOn, Halts, HalvesNext, HalvesServe, Leads, StaysHosted, counts_in, disks_in, ends_over, parts_of};
+ghost use Rattle.broker_core.specs.Hosts.{AreApart, AreOpen, GoOn, HaltsBy, HalvesNext, HalvesServe, LeadsBy, StaysHosted, disks_in, parts_of};
 
 use crate::hosts::{Hosts, act};
 use crate::told::{fault_in, told};
@@ -56,17 +55,12 @@ fn ask<D: Disk>(
     requires open { AreOpen (parts_of hosts.old) }
     requires apart { AreApart (parts_of hosts.old) }
     requires hosted { length hosts.old.parts.items ≡ partitions conf.now.topics }
-    ensures ok { IfOk result (λ outcomes. (s : Shards) → AreCarried D.seen (parts_of hosts.old) s →
-        Leads D.seen (parts_of hosts.old) s (parts_of hosts.new)
-        (λ a call b. Does (counts_in D.seen (disks_in (parts_of hosts.old)) (disks_in (parts_of hosts.new)))
-        (ends_over (parts_of hosts.old) (parts_of hosts.new)) id now (Next.Ask part.now) conn.old a b call outcomes.items conn.new)) }
-    ensures stopped { OnErr result ((s : Shards) → AreCarried D.seen (parts_of hosts.old) s →
-        Halts D.seen (parts_of hosts.old) s (parts_of hosts.new)
-        (λ a call b. (outcomes : List Outcome) × (after : ConnParts)
-        × Does (counts_in D.seen (disks_in (parts_of hosts.old)) (disks_in (parts_of hosts.new)))
-        (ends_over (parts_of hosts.old) (parts_of hosts.new)) id now (Next.Ask part.now) conn.old a b call outcomes after)
-        (HalvesNext (counts_in D.seen (disks_in (parts_of hosts.old)) (disks_in (parts_of hosts.new)))
-        (ends_over (parts_of hosts.old) (parts_of hosts.new)) now (Next.Ask part.now))) }
+    ensures ok { IfOk result (λ outcomes. LeadsBy D.seen (parts_of hosts.old) (parts_of hosts.new)
+        (λ counts ends a call b. Does counts ends id now (Next.Ask part.now) conn.old a b call outcomes.items conn.new)) }
+    ensures stopped { OnErr result (HaltsBy D.seen (parts_of hosts.old) (parts_of hosts.new)
+        (λ counts ends a call b. (outcomes : List Outcome) × (after : ConnParts)
+        × Does counts ends id now (Next.Ask part.now) conn.old a b call outcomes after)
+        (λ counts ends. HalvesNext counts ends now (Next.Ask part.now))) }
     ensures told { IfOk result (λ outcomes. All (IsTold conf.now.topics) outcomes.items) }
     ensures disks { GoOn D.seen (disks_in (parts_of hosts.old)) (disks_in (parts_of hosts.new)) }
     ensures open { AreOpen (parts_of hosts.new) }
@@ -94,17 +88,12 @@ fn done<D: Disk>(
     requires open { AreOpen (parts_of hosts.old) }
     requires apart { AreApart (parts_of hosts.old) }
     requires hosted { length hosts.old.parts.items ≡ partitions conf.now.topics }
-    ensures ok { IfOk result (λ outcomes. (s : Shards) → AreCarried D.seen (parts_of hosts.old) s →
-        Leads D.seen (parts_of hosts.old) s (parts_of hosts.new)
-        (λ a call b. Does (counts_in D.seen (disks_in (parts_of hosts.old)) (disks_in (parts_of hosts.new)))
-        (ends_over (parts_of hosts.old) (parts_of hosts.new)) id now next conn.old a b call outcomes.items conn.new)) }
-    ensures stopped { OnErr result ((s : Shards) → AreCarried D.seen (parts_of hosts.old) s →
-        Halts D.seen (parts_of hosts.old) s (parts_of hosts.new)
-        (λ a call b. (outcomes : List Outcome) × (after : ConnParts)
-        × Does (counts_in D.seen (disks_in (parts_of hosts.old)) (disks_in (parts_of hosts.new)))
-        (ends_over (parts_of hosts.old) (parts_of hosts.new)) id now next conn.old a b call outcomes after)
-        (HalvesNext (counts_in D.seen (disks_in (parts_of hosts.old)) (disks_in (parts_of hosts.new)))
-        (ends_over (parts_of hosts.old) (parts_of hosts.new)) now next)) }
+    ensures ok { IfOk result (λ outcomes. LeadsBy D.seen (parts_of hosts.old) (parts_of hosts.new)
+        (λ counts ends a call b. Does counts ends id now next conn.old a b call outcomes.items conn.new)) }
+    ensures stopped { OnErr result (HaltsBy D.seen (parts_of hosts.old) (parts_of hosts.new)
+        (λ counts ends a call b. (outcomes : List Outcome) × (after : ConnParts)
+        × Does counts ends id now next conn.old a b call outcomes after)
+        (λ counts ends. HalvesNext counts ends now next)) }
     ensures told { IfOk result (λ outcomes. All (IsTold conf.now.topics) outcomes.items) }
     ensures disks { GoOn D.seen (disks_in (parts_of hosts.old)) (disks_in (parts_of hosts.new)) }
     ensures open { AreOpen (parts_of hosts.new) }
@@ -136,17 +125,12 @@ fn step<D: Disk>(
     requires open { AreOpen (parts_of hosts.old) }
     requires apart { AreApart (parts_of hosts.old) }
     requires hosted { length hosts.old.parts.items ≡ partitions conf.now.topics }
-    ensures ok { IfOk result (λ did. (s : Shards) → AreCarried D.seen (parts_of hosts.old) s →
-        Leads D.seen (parts_of hosts.old) s (parts_of hosts.new)
-        (λ a call b. DoesTurn (counts_in D.seen (disks_in (parts_of hosts.old)) (disks_in (parts_of hosts.new)))
-        (ends_over (parts_of hosts.old) (parts_of hosts.new)) id now (turn conf.now conn.old) a b call did.0.items conn.new)) }
-    ensures stopped { OnErr result ((s : Shards) → AreCarried D.seen (parts_of hosts.old) s →
-        Halts D.seen (parts_of hosts.old) s (parts_of hosts.new)
-        (λ a call b. (outcomes : List Outcome) × (after : ConnParts)
-        × DoesTurn (counts_in D.seen (disks_in (parts_of hosts.old)) (disks_in (parts_of hosts.new)))
-        (ends_over (parts_of hosts.old) (parts_of hosts.new)) id now (turn conf.now conn.old) a b call outcomes after)
-        (HalvesNext (counts_in D.seen (disks_in (parts_of hosts.old)) (disks_in (parts_of hosts.new)))
-        (ends_over (parts_of hosts.old) (parts_of hosts.new)) now (turn conf.now conn.old).next)) }
+    ensures ok { IfOk result (λ did. LeadsBy D.seen (parts_of hosts.old) (parts_of hosts.new)
+        (λ counts ends a call b. DoesTurn counts ends id now (turn conf.now conn.old) a b call did.0.items conn.new)) }
+    ensures stopped { OnErr result (HaltsBy D.seen (parts_of hosts.old) (parts_of hosts.new)
+        (λ counts ends a call b. (outcomes : List Outcome) × (after : ConnParts)
+        × DoesTurn counts ends id now (turn conf.now conn.old) a b call outcomes after)
+        (λ counts ends. HalvesNext counts ends now (turn conf.now conn.old).next)) }
     ensures told { IfOk result (λ did. All (IsTold conf.now.topics) did.0.items) }
     ensures gone { IfOk result (λ did. did.1 ≡ is_gone conn.new) }
     ensures disks { GoOn D.seen (disks_in (parts_of hosts.old)) (disks_in (parts_of hosts.new)) }
@@ -180,19 +164,14 @@ pub fn serve<D: Disk>(
     requires open { AreOpen (parts_of hosts.old) }
     requires apart { AreApart (parts_of hosts.old) }
     requires hosted { length hosts.old.parts.items ≡ partitions conf.now.topics }
-    ensures ok { IfOk result (λ outcomes. (s : Shards) → AreCarried D.seen (parts_of hosts.old) s →
-        Leads D.seen (parts_of hosts.old) s (parts_of hosts.new)
-        (λ a call b. Serves conf.now (counts_in D.seen (disks_in (parts_of hosts.old)) (disks_in (parts_of hosts.new)))
-        (ends_over (parts_of hosts.old) (parts_of hosts.new)) (record { connections = clients.old.entries; shards = a }) id now
+    ensures ok { IfOk result (λ outcomes. LeadsBy D.seen (parts_of hosts.old) (parts_of hosts.new)
+        (λ counts ends a call b. Serves conf.now counts ends (record { connections = clients.old.entries; shards = a }) id now
         (conn_at id clients.old.entries) call outcomes.items (record { connections = clients.new.entries; shards = b }))) }
-    ensures stopped { OnErr result ((s : Shards) → AreCarried D.seen (parts_of hosts.old) s →
-        Halts D.seen (parts_of hosts.old) s (parts_of hosts.new)
-        (λ a call b. (outcomes : List Outcome) × (after : Machine) × (after.shards ≡ b)
-        × Serves conf.now (counts_in D.seen (disks_in (parts_of hosts.old)) (disks_in (parts_of hosts.new)))
-        (ends_over (parts_of hosts.old) (parts_of hosts.new)) (record { connections = clients.old.entries; shards = a }) id now
+    ensures stopped { OnErr result (HaltsBy D.seen (parts_of hosts.old) (parts_of hosts.new)
+        (λ counts ends a call b. (outcomes : List Outcome) × (after : Machine) × (after.shards ≡ b)
+        × Serves conf.now counts ends (record { connections = clients.old.entries; shards = a }) id now
         (conn_at id clients.old.entries) call outcomes after)
-        (HalvesServe conf.now (counts_in D.seen (disks_in (parts_of hosts.old)) (disks_in (parts_of hosts.new)))
-        (ends_over (parts_of hosts.old) (parts_of hosts.new)) now (conn_at id clients.old.entries))) }
+        (λ counts ends. HalvesServe conf.now counts ends now (conn_at id clients.old.entries))) }
     ensures told { IfOk result (λ outcomes. All (IsTold conf.now.topics) outcomes.items) }
     ensures disks { GoOn D.seen (disks_in (parts_of hosts.old)) (disks_in (parts_of hosts.new)) }
     ensures open { AreOpen (parts_of hosts.new) }

@@ -2,8 +2,7 @@
 ghost use Rattle.std.specs.Prelude.{◌≤◌, ◌^◌, IfOk, OnErr, OnOk, length};
 ghost use Rattle.call_fold.specs.Parts.{IsAnswerTo};
 ghost use Rattle.call_fold.specs.declared.part.PartAnswer.{PartAnswer};
-ghost use Rattle.broker_model.specs.Shards.{Shards};
-ghost use Rattle.broker_core.specs.Hosts.{AreApart, AreCarried, AreOpen, Did, GoOn, Halts, IsHalfDone, IsThere, Leads, StaysHosted, counts_in, disks_in, ends_over, parts_of};
+ghost use Rattle.broker_core.specs.Hosts.{AreApart, AreOpen, Did, GoOn, HaltsBy, IsHalfDone, IsThere, LeadsBy, StaysHosted, disks_in, parts_of};
 
 use crate::calls::{look_at, produce_at, visit_at};
 use crate::shard::act as act_on_foreign;
@@ -32,16 +31,12 @@ pub fn act<D: Disk>(
     requires now { now ≤ 2 ^ 62 }
     requires open { AreOpen (parts_of hosts.old) }
     requires apart { AreApart (parts_of hosts.old) }
-    ensures ok { IfOk result (λ answer. (s : Shards) → AreCarried D.seen (parts_of hosts.old) s →
-        Leads D.seen (parts_of hosts.old) s (parts_of hosts.new)
-        (Did (counts_in D.seen (disks_in (parts_of hosts.old)) (disks_in (parts_of hosts.new)))
-        (ends_over (parts_of hosts.old) (parts_of hosts.new)) now part.now answer)) }
-    ensures stopped { OnErr result ((s : Shards) → AreCarried D.seen (parts_of hosts.old) s →
-        Halts D.seen (parts_of hosts.old) s (parts_of hosts.new) (λ a call b. (answer : PartAnswer)
-        × Did (counts_in D.seen (disks_in (parts_of hosts.old)) (disks_in (parts_of hosts.new)))
-        (ends_over (parts_of hosts.old) (parts_of hosts.new)) now part.now answer a call b)
-        (IsHalfDone (counts_in D.seen (disks_in (parts_of hosts.old)) (disks_in (parts_of hosts.new)))
-        (ends_over (parts_of hosts.old) (parts_of hosts.new)) now part.now)) }
+    ensures ok { IfOk result (λ answer. LeadsBy D.seen (parts_of hosts.old) (parts_of hosts.new)
+        (λ counts ends. Did counts ends now part.now answer)) }
+    ensures stopped { OnErr result (HaltsBy D.seen (parts_of hosts.old) (parts_of hosts.new)
+        (λ counts ends a call b. (answer : PartAnswer)
+        × Did counts ends now part.now answer a call b)
+        (λ counts ends. IsHalfDone counts ends now part.now)) }
     ensures fair { IfOk result (IsAnswerTo part.now) }
     ensures there { OnOk result (IsThere (length hosts.old.parts.items) part.now) }
     ensures disks { GoOn D.seen (disks_in (parts_of hosts.old)) (disks_in (parts_of hosts.new)) }

@@ -18,7 +18,7 @@ ghost use Rattle.broker_model.specs.Shards.{look_at, result_of};
 ghost use Rattle.broker_model.specs.Shards.PartCall.{Visits, Produces, Expires};
 ghost use Rattle.broker_core.specs.Bays.{AreFed, IsOfDevice};
 ghost use Rattle.broker_core.specs.Carried.{GoesOn, HaltsPart, IsPartCarried, LeadsPart, PartGoesOn};
-ghost use Rattle.broker_core.specs.Carried.Begun.{BeginsVisit, BeginsExpiry};
+ghost use Rattle.broker_model.specs.Acting.Begun.{BeginsVisit, BeginsExpiry};
 ghost use Rattle.broker_core.specs.Hosts.{PartStandsAlone};
 ghost use Rattle.broker_core.specs.Restarts.{IsOpenedPart, IsDamagedPart, IsRestartedPart, PartImagesStandAs, PartRunsOn};
 
@@ -30,7 +30,7 @@ use flex_fields::Items;
 use share_model::{ExpireAnswer, LogFault, Name, NoMemory, Visit, VisitAnswer};
 use share_part::{PartConf, PartFault, PartShard};
 use std::alloc::Global;
-use window_rows::WindowRows;
+use window_runs::WindowRuns;
 
 // ---- calls
 
@@ -55,7 +55,7 @@ fn told(added: Result<u64, LogFault>) -> Result<Produced, NoMemory>
 pub fn produce<D: Disk>(
     now: u64,
     batch: &[u8],
-    part: &mut PartShard<D, WindowRows>,
+    part: &mut PartShard<D, WindowRuns>,
 ) -> Result<Produced, NoMemory>
     requires { now ≤ 2 ^ 62 }
     ensures ok { IfOk result (λ produced. (s : PartShardState) → IsPartCarried D.seen part.old.conf part.old s →
@@ -78,7 +78,7 @@ pub fn produce<D: Disk>(
 pub fn visit<D: Disk>(
     now: u64,
     visit: &Visit,
-    part: &mut PartShard<D, WindowRows>,
+    part: &mut PartShard<D, WindowRuns>,
 ) -> Result<VisitAnswer, NoMemory>
     requires { now ≤ 2 ^ 62 }
     ensures ok { IfOk result (λ answer. (s : PartShardState) → IsPartCarried D.seen part.old.conf part.old s →
@@ -100,7 +100,7 @@ pub fn visit<D: Disk>(
 /// Releases what is locked no longer on a partition. Where a disk has found no memory, it answers want of memory.
 pub fn expire<D: Disk>(
     now: u64,
-    part: &mut PartShard<D, WindowRows>,
+    part: &mut PartShard<D, WindowRuns>,
 ) -> Result<ExpireAnswer, NoMemory>
     requires { now ≤ 2 ^ 62 }
     ensures ok { IfOk result (λ answer. (s : PartShardState) → IsPartCarried D.seen part.old.conf part.old s →
@@ -122,7 +122,7 @@ pub fn expire<D: Disk>(
 pub fn look<D: Disk>(
     alloc: Global,
     group: &Name,
-    part: &PartShard<D, WindowRows>,
+    part: &PartShard<D, WindowRuns>,
 ) -> Result<Looked, NoMemory>
     ensures ok { IfOk result (λ looked. looked ≡ look_at (share_state_at (states_of part.now.states.entries) (key_of part.now.conf group.now))) }
     ensures fair { IfOk result IsTellableLook }
@@ -173,7 +173,7 @@ pub fn open_part<D: Disk>(
     topic: &Name,
     conf: PartConf,
     disks: (D, D, D),
-) -> Result<PartShard<D, WindowRows>, ((D, D, D), CoreOpen)>
+) -> Result<PartShard<D, WindowRuns>, ((D, D, D), CoreOpen)>
     requires { IsTopicName topic.now }
     ensures opens { IfOk result (λ part. (l a b : List ℕ) → (D.seen disks.0).content ≡ Some l → (D.seen disks.1).content ≡ Some a → (D.seen disks.2).content ≡ Some b →
         IsOpenedPart D.seen conf disks.0 disks.1 disks.2 l a b part) }
@@ -227,9 +227,9 @@ pub fn restart_part<D: Disk>(
     alloc: Global,
     topic: &Name,
     conf: PartConf,
-    part: PartShard<D, WindowRows>,
+    part: PartShard<D, WindowRuns>,
     choice: u64,
-) -> Result<PartShard<D, WindowRows>, ((D, D, D), CoreOpen)>
+) -> Result<PartShard<D, WindowRuns>, ((D, D, D), CoreOpen)>
     requires { IsTopicName topic.now }
     ensures ok { IfOk result (λ new. (s : PartShardState) → IsPartCarried D.seen conf part s →
         IsRestartedPart D.seen choice conf part s new) }

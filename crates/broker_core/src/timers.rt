@@ -5,11 +5,11 @@ ghost use Rattle.session_script.specs.Output.{IsTold};
 ghost use Rattle.topic_conf.specs.declared.topic.Topic.{Topic};
 ghost use Rattle.topic_conf.specs.Topics.{partitions, shard_named};
 ghost use Rattle.conn_core.specs.Conns.{ConnParts};
-ghost use Rattle.broker_model.specs.Shards.{Shards, StepsShards};
+ghost use Rattle.broker_model.specs.Shards.{StepsShards};
 ghost use Rattle.broker_model.specs.Shards.ShardCall.{CallMembers};
 ghost use Rattle.broker_model.specs.Shards.MembersCall.{Ticks};
 ghost use Rattle.broker_model.specs.Steps.{ExpiresAt};
-ghost use Rattle.broker_core.specs.Hosts.{AreApart, AreCarried, AreOpen, ExpiresShard, GoOn, Halts, HalvesExpiry, Leads, StaysHosted, counts_in, disks_in, ends_over, parts_of};
+ghost use Rattle.broker_core.specs.Hosts.{AreApart, AreOpen, ExpiresShard, GoOn, HaltsBy, HalvesExpiry, LeadsBy, StaysHosted, disks_in, parts_of};
 
 use crate::calls::expire_at;
 use crate::hosts::Hosts;
@@ -30,16 +30,12 @@ fn expire_shard<D: Disk>(
     requires now { now ≤ 2 ^ 62 }
     requires open { AreOpen (parts_of hosts.old) }
     requires apart { AreApart (parts_of hosts.old) }
-    ensures ok { IfOk result (λ outcomes. (s : Shards) → AreCarried D.seen (parts_of hosts.old) s →
-        Leads D.seen (parts_of hosts.old) s (parts_of hosts.new)
-        (ExpiresShard (counts_in D.seen (disks_in (parts_of hosts.old)) (disks_in (parts_of hosts.new)))
-        (ends_over (parts_of hosts.old) (parts_of hosts.new)) now shard outcomes.items)) }
-    ensures stopped { OnErr result ((s : Shards) → AreCarried D.seen (parts_of hosts.old) s →
-        Halts D.seen (parts_of hosts.old) s (parts_of hosts.new) (λ a call b. (outcomes : List Outcome)
-        × ExpiresShard (counts_in D.seen (disks_in (parts_of hosts.old)) (disks_in (parts_of hosts.new)))
-        (ends_over (parts_of hosts.old) (parts_of hosts.new)) now shard outcomes a call b)
-        (HalvesExpiry (counts_in D.seen (disks_in (parts_of hosts.old)) (disks_in (parts_of hosts.new)))
-        (ends_over (parts_of hosts.old) (parts_of hosts.new)) now shard)) }
+    ensures ok { IfOk result (λ outcomes. LeadsBy D.seen (parts_of hosts.old) (parts_of hosts.new)
+        (λ counts ends. ExpiresShard counts ends now shard outcomes.items)) }
+    ensures stopped { OnErr result (HaltsBy D.seen (parts_of hosts.old) (parts_of hosts.new)
+        (λ counts ends a call b. (outcomes : List Outcome)
+        × ExpiresShard counts ends now shard outcomes a call b)
+        (λ counts ends. HalvesExpiry counts ends now shard)) }
     ensures told { IfOk result (λ outcomes. (topics : List Topic) → length hosts.old.parts.items ≡ partitions topics →
         All (IsTold topics) outcomes.items) }
     ensures disks { GoOn D.seen (disks_in (parts_of hosts.old)) (disks_in (parts_of hosts.new)) }
@@ -63,23 +59,18 @@ pub fn expire<D: Disk>(
     requires open { AreOpen (parts_of hosts.old) }
     requires apart { AreApart (parts_of hosts.old) }
     requires hosted { length hosts.old.parts.items ≡ partitions conf.now.topics }
-    ensures ok { IfOk result (λ outcomes. (s : Shards) → AreCarried D.seen (parts_of hosts.old) s →
-        Leads D.seen (parts_of hosts.old) s (parts_of hosts.new)
-        (λ a call b. (connections : List (ℕ × ConnParts))
-        → ExpiresAt (counts_in D.seen (disks_in (parts_of hosts.old)) (disks_in (parts_of hosts.new)))
-        (ends_over (parts_of hosts.old) (parts_of hosts.new)) now
+    ensures ok { IfOk result (λ outcomes. LeadsBy D.seen (parts_of hosts.old) (parts_of hosts.new)
+        (λ counts ends a call b. (connections : List (ℕ × ConnParts))
+        → ExpiresAt counts ends now
         (record { connections = connections; shards = a }) (shard_named topic.now part conf.now.topics) call outcomes.items
         (record { connections = connections; shards = b }))) }
-    ensures stopped { OnErr result ((s : Shards) → AreCarried D.seen (parts_of hosts.old) s →
-        Halts D.seen (parts_of hosts.old) s (parts_of hosts.new)
-        (λ a call b. (outcomes : List Outcome) × ((connections : List (ℕ × ConnParts))
-        → ExpiresAt (counts_in D.seen (disks_in (parts_of hosts.old)) (disks_in (parts_of hosts.new)))
-        (ends_over (parts_of hosts.old) (parts_of hosts.new)) now
+    ensures stopped { OnErr result (HaltsBy D.seen (parts_of hosts.old) (parts_of hosts.new)
+        (λ counts ends a call b. (outcomes : List Outcome) × ((connections : List (ℕ × ConnParts))
+        → ExpiresAt counts ends now
         (record { connections = connections; shards = a }) (shard_named topic.now part conf.now.topics) call outcomes
         (record { connections = connections; shards = b })))
-        (λ a b. (shard : ℕ) × (shard_named topic.now part conf.now.topics ≡ Some shard)
-        × HalvesExpiry (counts_in D.seen (disks_in (parts_of hosts.old)) (disks_in (parts_of hosts.new)))
-        (ends_over (parts_of hosts.old) (parts_of hosts.new)) now shard a b)) }
+        (λ counts ends a b. (shard : ℕ) × (shard_named topic.now part conf.now.topics ≡ Some shard)
+        × HalvesExpiry counts ends now shard a b)) }
     ensures told { IfOk result (λ outcomes. All (IsTold conf.now.topics) outcomes.items) }
     ensures disks { GoOn D.seen (disks_in (parts_of hosts.old)) (disks_in (parts_of hosts.new)) }
     ensures open { AreOpen (parts_of hosts.new) }
@@ -94,11 +85,8 @@ pub fn expire<D: Disk>(
 /// Members that are heard of no longer are removed. It takes no memory.
 pub fn tick<D: Disk>(now: u64, hosts: &mut Hosts<D>)
     requires open { AreOpen (parts_of hosts.old) }
-    ensures ok { (s : Shards) → AreCarried D.seen (parts_of hosts.old) s →
-        Leads D.seen (parts_of hosts.old) s (parts_of hosts.new)
-        (λ a call b. (call ≡ Some (CallMembers Ticks)) × StepsShards
-        (counts_in D.seen (disks_in (parts_of hosts.old)) (disks_in (parts_of hosts.new)))
-        (ends_over (parts_of hosts.old) (parts_of hosts.new)) now a (CallMembers Ticks) b) }
+    ensures ok { LeadsBy D.seen (parts_of hosts.old) (parts_of hosts.new)
+        (λ counts ends a call b. (call ≡ Some (CallMembers Ticks)) × StepsShards counts ends now a (CallMembers Ticks) b) }
     ensures disks { GoOn D.seen (disks_in (parts_of hosts.old)) (disks_in (parts_of hosts.new)) }
     ensures open { AreOpen (parts_of hosts.new) }
     ensures stays { StaysHosted (parts_of hosts.old) (parts_of hosts.new) }

@@ -8,7 +8,7 @@ use Rattle.rec_batch.specs.Placing.{placed}
 use Rattle.part_log.specs.Batches.{batch_in}
 use Rattle.part_log.specs.Logs.{and_pending}
 use Rattle.part_log.specs.Shards.{LogShardState, StepsLog}
-use Rattle.share_part.specs.Leaving.{IsOneOf}
+use Rattle.share_part.specs.Leaving.{IsDoneOr}
 use Rattle.share_part.specs.Shards.{PartShardState}
 use Rattle.topic_conf.specs.Configs.{ConfigParts}
 use Rattle.call_fold.specs.declared.part.Produced.{Produced}
@@ -101,7 +101,7 @@ module _ (counts : Counts) (ends : Ends) where
 some_is : {A : Type 0} (a b : A) → ◌≡◌ {A = Option A} (Some a) (Some b) → a ≡ b
 some_is a b e = cc
 
-landed : (log : List LogBatch) (pending : Option LogBatch) (new : List LogBatch) → IsOneOf log (and_pending log pending) new
+landed : (log : List LogBatch) (pending : Option LogBatch) (new : List LogBatch) → IsDoneOr log (and_pending log pending) new
     → (more : List LogBatch) × (new ≡ log ++ more)
 landed log pending new (inl is) = ([], is ∙ sym (append-nil log))
 landed log None new (inr is) = absurd (let clash : ⊥ = cc in clash)

@@ -39,7 +39,7 @@ use Rattle.share_part.specs.Acknowledging.{Acknowledges, AreSettled, StoresActs}
 use Rattle.share_part.specs.Expiring.{StepsGroups, ending}
 use Rattle.share_part.specs.Following.{Does as Follows, Fetches, MakesTable, fault_of, releases_of}
 use Rattle.share_part.specs.Hosting.{PartConfParts, key_of}
-use Rattle.share_part.specs.Leaving.{IsOneOf}
+use Rattle.share_part.specs.Leaving.{IsDoneOr}
 use Rattle.share_part.specs.Settling.{Acts, AreHeldBy, IsHeldBy, IsSettled, act_row, is_chosen, is_closed, is_closed_state, release_of, releases_if, settled, stored_after}
 use Rattle.share_part.specs.Shards.{PartShardState, new_state, raised_to}
 use Rattle.share_part.specs.Tables.{Table, table_of}
@@ -138,7 +138,7 @@ log_goes rose end old new batch (Store (Full at)) p = log_stays old.batches new.
 log_same : (old new : PartShardState) → new.log ≡ old.log → LogGoes old.log.batches new.log.batches
 log_same old new is = log_stays old.log.batches new.log.batches (ap (λ (l : LogShardState). l.batches) is)
 
-landed_log : (log : List LogBatch) (pending : Option LogBatch) (new : List LogBatch) → IsOneOf log (and_pending log pending) new
+landed_log : (log : List LogBatch) (pending : Option LogBatch) (new : List LogBatch) → IsDoneOr log (and_pending log pending) new
     → (new ≡ log) ⊎ ((b : LogBatch) × (new ≡ log ++ b ∷ []))
 landed_log log pending new (inl is) = inl is
 landed_log log None new (inr is) = absurd (none_not new is)

@@ -1,7 +1,7 @@
 use Rattle.std.proofs.Common.{◌≡◌, ◌<◌, inr, length, get_or, rules}
 use Rattle.share_model.specs.declared.visit.ExpireAnswer.{ExpireAnswer}
 use Rattle.broker_model.specs.Shards.PartCall.{Expires}
-use Rattle.broker_core.specs.Carried.Begun.{BeginsExpiry}
+use Rattle.broker_model.specs.Acting.Begun.{BeginsExpiry}
 use Rattle.broker_core.specs.Hosts.{LeadsSlot, HaltsSlot}
 use Rattle.broker_core.proofs.Stepping.{ok_weaker, on_err_weaker}
 use Rattle.broker_core.proofs.Places.{changes_set}

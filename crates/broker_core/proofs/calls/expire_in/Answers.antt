@@ -2,7 +2,7 @@ use Rattle.std.proofs.Common.{◌≡◌, refl}
 use Rattle.share_model.specs.declared.visit.ExpireAnswer.{ExpireAnswer}
 use Rattle.broker_model.specs.Shards.PartCall.{Expires}
 use Rattle.broker_core.specs.Carried.{HaltsPart, LeadsPart}
-use Rattle.broker_core.specs.Carried.Begun.{BeginsExpiry}
+use Rattle.broker_model.specs.Acting.Begun.{BeginsExpiry}
 use Rattle.broker_core.proofs.Parting.{of_conf}
 use Rattle.broker_core.proofs.Stepping.{ok_weaker, on_err_weaker}
 use Rattle.broker_core.proofs.calls.expire_in.Goals as goal

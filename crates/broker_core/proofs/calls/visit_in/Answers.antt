@@ -2,7 +2,7 @@ use Rattle.std.proofs.Common.{◌≡◌, refl}
 use Rattle.share_model.specs.declared.visit.VisitAnswer.{VisitAnswer}
 use Rattle.broker_model.specs.Shards.PartCall.{Visits}
 use Rattle.broker_core.specs.Carried.{HaltsPart, LeadsPart}
-use Rattle.broker_core.specs.Carried.Begun.{BeginsVisit}
+use Rattle.broker_model.specs.Acting.Begun.{BeginsVisit}
 use Rattle.broker_core.proofs.Parting.{of_conf}
 use Rattle.broker_core.proofs.Stepping.{ok_weaker, on_err_weaker}
 use Rattle.broker_core.proofs.calls.visit_in.Goals as goal

@@ -6,7 +6,7 @@ use Rattle.share_model.specs.declared.visit.VisitAnswer.{VisitAnswer}
 use Rattle.broker_model.specs.Shards.PartCall.{Visits, Produces, Looks}
 use Rattle.broker_model.specs.Shards.MembersCall.{Beats}
 use Rattle.broker_model.specs.Shards.ShardCall.{CallPart}
-use Rattle.broker_core.specs.Carried.Begun.{BeginsVisit}
+use Rattle.broker_model.specs.Acting.Begun.{BeginsVisit}
 use Rattle.broker_model.specs.Hosted.{HoldsAt}
 use Rattle.broker_core.specs.Hosts.{AreOpen, GoOn, IsThere, LeadsSlot, StaysHosted, counts_in, disks_in, ends_over, parts_of}
 use Rattle.broker_core.specs.declared.slot.ForeignSlot.TheVariants.{Open}

@@ -2,7 +2,7 @@ use Rattle.std.proofs.Common.{◌≡◌, refl, ◌∙◌, length}
 use Rattle.share_model.specs.declared.visit.ExpireAnswer.{ExpireAnswer}
 use Rattle.broker_model.specs.Shards.{fault_of_expiry}
 use Rattle.broker_model.specs.Shards.PartCall.{Expires}
-use Rattle.broker_core.specs.Carried.Begun.{BeginsExpiry}
+use Rattle.broker_model.specs.Acting.Begun.{BeginsExpiry}
 use Rattle.broker_core.specs.Hosts.{AreOpen, GoOn, LeadsSlot, StaysHosted, counts_in, disks_in, ends_over, parts_of}
 use Rattle.broker_core.proofs.Calling.{expiry_halts, half_of_expiry, led_turned, may_on, part_halts, part_leads, turned_hosted, turned_on, turned_open, with_parts}
 use Rattle.broker_core.proofs.Leading.{go_on_same, halts_so, leads_halts, leads_to}

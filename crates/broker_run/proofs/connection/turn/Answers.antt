@@ -1,0 +1,70 @@
+use Rattle.std.proofs.Common.{rules, ◌≡◌, Some, refl}
+use Rattle.conn_core.specs.declared.next.Next.TheVariants.{Closed}
+use Rattle.conn_core.specs.Turning.{Waits, awaited_part, turn}
+use Rattle.broker_run.specs.Serving.{Asked, Stopped}
+use Rattle.broker_run.proofs.Runs.{asked, breaks_asked, breaks_fed, breaks_here, err_so, goes_none, if_ok_so, received, turned_one}
+use Rattle.broker_run.proofs.Places.{stay_same}
+use Rattle.broker_run.proofs.connection.turn.Goals as goal
+
+pub returns-in-Ok-Idle-clause-same : goal.returns-in-Ok-Idle-clause-same
+returns-in-Ok-Idle-clause-same g c = stay_same c.args.passes.now
+
+pub returns-in-Ok-Idle-clause-ok : goal.returns-in-Ok-Idle-clause-ok
+returns-in-Ok-Idle-clause-ok g c =
+    let is : c.next_part.new.self ≡ (turn c.args.conf.now c.args.conn.now).conn = search rules in
+    let w : Waits c.args.conn.now = search rules in
+    let e = c.receive.ensures in
+    rw e.same (if_ok_so _ _ c.receive.result (λ turned r. received c.args.conf.now g.D.Disk.seen c.args.shared.now turned _ _ _ c.args.passes.now _ _ _ _ is w r) e.ok)
+
+pub returns-in-Ok-Idle-clause-err : goal.returns-in-Ok-Idle-clause-err
+returns-in-Ok-Idle-clause-err g c =
+    let is : c.next_part.new.self ≡ (turn c.args.conf.now c.args.conn.now).conn = search rules in
+    let e = c.receive.ensures in
+    rw e.same (err_so c.receive.result (λ r. breaks_fed c.args.conf.now g.D.Disk.seen c.args.shared.now _ _ _ c.args.passes.now _ _ _ _ is r.1) e.err)
+
+pub returns-in-Ok-clause-ok : goal.returns-in-Ok-clause-ok
+returns-in-Ok-clause-ok g c =
+    let is : c.next_part.new.self ≡ (turn c.args.conf.now c.args.conn.now).conn = search rules in
+    let awaits : awaited_part c.next_part.new.self ≡ Some c.in-Ok-Ask.part = search rules in
+    let a : Asked c.args.conf.now g.D.Disk.seen c.args.shared.now c.in-Ok-Ask.part c.next_part.new.self c.ask.new.conn c.args.passes.now c.ask.new.passes (g.C.Clock.told c.args.clock.now) (g.C.Clock.told c.ask.new.clock) = search rules in
+    asked c.args.conf.now g.D.Disk.seen c.args.shared.now c.in-Ok-Ask.part _ _ _ _ _ _ _ _ _ is awaits a
+
+pub returns-in-Err-ask-clause-err : goal.returns-in-Err-ask-clause-err
+returns-in-Err-ask-clause-err g c =
+    let is : c.next_part.new.self ≡ (turn c.args.conf.now c.args.conn.now).conn = search rules in
+    let awaits : awaited_part c.next_part.new.self ≡ Some c.in-Ok-Ask.part = search rules in
+    let a : Stopped c.args.conf.now g.D.Disk.seen c.args.shared.now c.in-Ok-Ask.part c.next_part.new.self c.ask.new.conn c.args.passes.now c.ask.new.passes (g.C.Clock.told c.args.clock.now) (g.C.Clock.told c.ask.new.clock) = search rules in
+    breaks_asked c.args.conf.now g.D.Disk.seen c.args.shared.now c.in-Ok-Ask.part _ _ _ _ _ _ _ _ _ is awaits a
+
+pub returns-in-Ok-Closed-clause-same : goal.returns-in-Ok-Closed-clause-same
+returns-in-Ok-Closed-clause-same g c = stay_same c.args.passes.now
+
+pub returns-in-Ok-Closed-clause-ok : goal.returns-in-Ok-Closed-clause-ok
+returns-in-Ok-Closed-clause-ok g c =
+    let is : c.next_part.new.self ≡ (turn c.args.conf.now c.args.conn.now).conn = search rules in
+    let tells : (turn c.args.conf.now c.args.conn.now).next ≡ Closed c.in-Ok-Closed.cause = search rules in
+    (c.args.conn.now, goes_none c.args.conf.now g.D.Disk.seen c.args.shared.now _, refl, (tells, is))
+
+pub returns-in-Ok-Ready-clause-same : goal.returns-in-Ok-Ready-clause-same
+returns-in-Ok-Ready-clause-same g c = stay_same c.args.passes.now
+
+pub returns-in-Ok-Ready-clause-ok : goal.returns-in-Ok-Ready-clause-ok
+returns-in-Ok-Ready-clause-ok g c =
+    let is : c.next_part.new.self ≡ (turn c.args.conf.now c.args.conn.now).conn = search rules in
+    turned_one c.args.conf.now g.D.Disk.seen c.args.shared.now _ _ _ _ _ _ is
+
+pub returns-in-Ok-Gone-clause-same : goal.returns-in-Ok-Gone-clause-same
+returns-in-Ok-Gone-clause-same g c = stay_same c.args.passes.now
+
+pub returns-in-Ok-Gone-clause-ok : goal.returns-in-Ok-Gone-clause-ok
+returns-in-Ok-Gone-clause-ok g c =
+    let is : c.next_part.new.self ≡ (turn c.args.conf.now c.args.conn.now).conn = search rules in
+    turned_one c.args.conf.now g.D.Disk.seen c.args.shared.now _ _ _ _ _ _ is
+
+pub returns-in-Err-clause-same : goal.returns-in-Err-clause-same
+returns-in-Err-clause-same g c = stay_same c.args.passes.now
+
+pub returns-in-Err-clause-err : goal.returns-in-Err-clause-err
+returns-in-Err-clause-err g c =
+    let is : c.next_part.new.self ≡ c.args.conn.now = search rules in
+    rw is (breaks_here c.args.conf.now g.D.Disk.seen c.args.shared.now _)

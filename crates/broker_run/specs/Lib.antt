@@ -1,0 +1,5 @@
+pub mod Shared
+pub mod Rows
+pub mod Acting
+pub mod Telling
+pub mod Serving

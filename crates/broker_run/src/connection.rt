@@ -1,0 +1,303 @@
+// A connection that is served through the passes of one worker.
+ghost use Rattle.std.specs.Prelude.{◌≡◌, ◌≢◌, ◌≤◌, [], OnOk, OnErr, IfOk, true, false, ℕ, List};
+ghost use Rattle.std.specs.Io.KnownBytes.{Consumes, IsAtEnd};
+ghost use Rattle.edge_io.specs.Causes.{HasCause, Rose};
+ghost use Rattle.topic_conf.specs.Configs.{ConfigParts};
+ghost use Rattle.conn_core.specs.Turning.{Awaits};
+ghost use Rattle.broker_run.specs.Acting.{AreOf, StaySame};
+ghost use Rattle.broker_run.specs.Serving.{Asked, Breaks, IsServed, Received, Releases, Replied, Stopped, Talks, TurnsTo, scene};
+
+use crate::parts::do_part;
+use crate::shared::{Passes, Shared};
+use call_fold::Part;
+use conn_core::{Conn, Next};
+use edge_io::{Clock, Disk, Failed, Gate, GatePlace, Link, send_all};
+use share_model::{CloseCause, NoMemory};
+use std::alloc::Global;
+use std::sync::Wait;
+use topic_conf::Config;
+
+/// How serving a connection ended.
+#[derive(Clone, Copy)]
+pub enum Ended {
+    /// The peer closed it.
+    Peer,
+    /// It was closed for this cause.
+    Closed(CloseCause),
+    /// A read failed.
+    Read,
+    /// A write failed.
+    Write,
+    /// No memory was found. What was done until then stands.
+    NoMemory,
+}
+
+/// What a turn came to.
+#[derive(Clone, Copy)]
+pub enum Turned {
+    Goes,
+    Closes(Ended),
+}
+
+// Asks the shard of the part that the connection awaits, and gives the answer.
+fn ask<R: Wait, C: Clock, D: Disk>(
+    rt: &R,
+    conf: &Config,
+    shared: &Shared<D>,
+    passes: &mut Passes<D>,
+    conn: &mut Conn,
+    part: Part,
+    clock: &mut C,
+) -> Result<(), NoMemory>
+    requires of { AreOf shared.now passes.old }
+    requires asked { Awaits (Next.Ask part) conn.old }
+    ensures of { AreOf shared.now passes.new }
+    ensures same { StaySame passes.old passes.new }
+    ensures ok { OnOk result (Asked conf.now D.seen shared.now part conn.old conn.new passes.old passes.new (C.told clock.old) (C.told clock.new)) }
+    ensures err { OnErr result (Stopped conf.now D.seen shared.now part conn.old conn.new passes.old passes.new (C.told clock.old) (C.told clock.new)) }
+{
+    let now = clock.now_ms();
+    match do_part(rt, shared, passes, now, part) {
+        Ok(answer) => conn.give(conf, answer),
+        Err(fault) => Err(fault),
+    }
+}
+
+// Sends all finished replies.
+fn reply<K: Link, G: Gate>(
+    conn: &mut Conn,
+    link: &mut K,
+    number: u32,
+    gate: &G,
+) -> Result<(), Failed>
+    ensures ok { OnOk result (((conf : ConfigParts) → Replied conf true conn.old conn.new (K.held link.old) (K.held link.new)) × (conn.new.replies ≡ [])) }
+    ensures err { OnErr result ((conf : ConfigParts) → Replied conf false conn.old conn.new (K.held link.old) (K.held link.new)) }
+    ensures same { (K.left link.new ≡ K.left link.old) × (K.ended link.new ≡ K.ended link.old) }
+    ensures cause { HasCause (K.faults link.old) (K.faults link.new) result }
+{
+    while let Some(frame) = conn.take_reply() {
+        if let Err(fault) = send_all(link, frame.as_slice()) {
+            return Err(fault);
+        }
+        gate.at(GatePlace::Replied { link: number });
+    }
+    Ok(())
+}
+
+// Reads what comes next from the link, for a connection that waits.
+fn receive<K: Link>(conn: &mut Conn, link: &mut K) -> Result<Turned, NoMemory>
+    ensures ok { IfOk result (λ turned. Received turned conn.old conn.new (K.left link.old) (K.left link.new)) }
+    ensures err { OnErr result ((conn.new ≡ conn.old) × ((lost : List ℕ) × Consumes (K.left link.old) (K.left link.new) lost)) }
+    ensures peer { IfOk result (λ turned. turned ≡ Turned.Closes Ended.Peer → (K.ended link.new ≡ true) × IsAtEnd (K.left link.new)) }
+    ensures read { IfOk result (λ turned. turned ≡ Turned.Closes Ended.Read → Rose (K.faults link.old) (K.faults link.new)) }
+    ensures kinds { IfOk result (λ turned. (turned ≢ Turned.Closes Ended.Write) × (turned ≢ Turned.Closes Ended.NoMemory)) }
+    ensures same { K.held link.new ≡ K.held link.old }
+    ensures later { K.faults link.old ≤ K.faults link.new }
+{
+    let mut piece = [0; 65536];
+    match link.read(&mut piece) {
+        Ok(0) => {
+            conn.end();
+            Ok(Turned::Closes(Ended::Peer))
+        }
+        Ok(count) => {
+            let (front, _) = piece.split_at(count);
+            match conn.feed(front) {
+                Ok(()) => Ok(Turned::Goes),
+                Err(fault) => Err(fault),
+            }
+        }
+        Err(_) => {
+            conn.end();
+            Ok(Turned::Closes(Ended::Read))
+        }
+    }
+}
+
+// One turn of the connection.
+fn turn<R: Wait, K: Link, C: Clock, G: Gate, D: Disk>(
+    rt: &R,
+    conf: &Config,
+    shared: &Shared<D>,
+    passes: &mut Passes<D>,
+    number: u32,
+    conn: &mut Conn,
+    link: &mut K,
+    clock: &mut C,
+    gate: &G,
+) -> Result<Turned, NoMemory>
+    requires of { AreOf shared.now passes.old }
+    ensures of { AreOf shared.now passes.new }
+    ensures same { StaySame passes.old passes.new }
+    ensures ok { IfOk result (λ turned. TurnsTo conf.now D.seen shared.now turned
+        (scene conn.old passes.old (K.left link.old) (K.held link.old) (C.told clock.old))
+        (scene conn.new passes.new (K.left link.new) (K.held link.new) (C.told clock.new))) }
+    ensures err { OnErr result (Breaks conf.now D.seen shared.now
+        (scene conn.old passes.old (K.left link.old) (K.held link.old) (C.told clock.old))
+        (scene conn.new passes.new (K.left link.new) (K.held link.new) (C.told clock.new))) }
+    ensures peer { IfOk result (λ turned. turned ≡ Turned.Closes Ended.Peer → (K.ended link.new ≡ true) × IsAtEnd (K.left link.new)) }
+    ensures read { IfOk result (λ turned. turned ≡ Turned.Closes Ended.Read → Rose (K.faults link.old) (K.faults link.new)) }
+    ensures kinds { IfOk result (λ turned. (turned ≢ Turned.Closes Ended.Write) × (turned ≢ Turned.Closes Ended.NoMemory)) }
+    ensures later { K.faults link.old ≤ K.faults link.new }
+{
+    match conn.next_part(conf) {
+        Ok(Next::Idle) => receive(conn, link),
+        Ok(Next::Ask(part)) => {
+            gate.at(GatePlace::Part { link: number });
+            match ask(rt, conf, shared, passes, conn, part, clock) {
+                Ok(()) => Ok(Turned::Goes),
+                Err(fault) => Err(fault),
+            }
+        }
+        Ok(Next::Closed(cause)) => Ok(Turned::Closes(Ended::Closed(cause))),
+        Ok(Next::Ready) => Ok(Turned::Goes),
+        Ok(Next::Gone) => Ok(Turned::Goes),
+        Err(fault) => Err(fault),
+    }
+}
+
+// Serves the connection until it closes.
+fn talk<R: Wait, K: Link, C: Clock, G: Gate, D: Disk>(
+    rt: &R,
+    conf: &Config,
+    shared: &Shared<D>,
+    passes: &mut Passes<D>,
+    number: u32,
+    conn: &mut Conn,
+    link: &mut K,
+    clock: &mut C,
+    gate: &G,
+) -> Result<Ended, NoMemory>
+    requires of { AreOf shared.now passes.old }
+    ensures of { AreOf shared.now passes.new }
+    ensures same { StaySame passes.old passes.new }
+    ensures ok { IfOk result (λ ended. Talks conf.now D.seen shared.now ended
+        (scene conn.old passes.old (K.left link.old) (K.held link.old) (C.told clock.old))
+        (scene conn.new passes.new (K.left link.new) (K.held link.new) (C.told clock.new))) }
+    ensures err { OnErr result (Breaks conf.now D.seen shared.now
+        (scene conn.old passes.old (K.left link.old) (K.held link.old) (C.told clock.old))
+        (scene conn.new passes.new (K.left link.new) (K.held link.new) (C.told clock.new))) }
+    ensures peer { IfOk result (λ ended. ended ≡ Ended.Peer → (K.ended link.new ≡ true) × IsAtEnd (K.left link.new)) }
+    ensures read { IfOk result (λ ended. ended ≡ Ended.Read → Rose (K.faults link.old) (K.faults link.new)) }
+    ensures write { IfOk result (λ ended. ended ≡ Ended.Write → Rose (K.faults link.old) (K.faults link.new)) }
+    ensures never { IfOk result (λ ended. ended ≢ Ended.NoMemory) }
+    ensures later { K.faults link.old ≤ K.faults link.new }
+{
+    for _ in rt.forever() {
+        if let Err(_) = reply(conn, link, number, gate) {
+            conn.end();
+            return Ok(Ended::Write);
+        }
+        match turn(rt, conf, shared, passes, number, conn, link, clock, gate) {
+            Ok(Turned::Goes) => {}
+            Ok(Turned::Closes(ended)) => return Ok(ended),
+            Err(fault) => return Err(fault),
+        }
+    }
+    unreachable!()
+}
+
+// Does what a connection that closes has left to do, until it is gone.
+fn finish<R: Wait, C: Clock, G: Gate, D: Disk>(
+    rt: &R,
+    conf: &Config,
+    shared: &Shared<D>,
+    passes: &mut Passes<D>,
+    number: u32,
+    conn: &mut Conn,
+    clock: &mut C,
+    gate: &G,
+) -> Result<(), NoMemory>
+    requires of { AreOf shared.now passes.old }
+    ensures of { AreOf shared.now passes.new }
+    ensures same { StaySame passes.old passes.new }
+    ensures ok { OnOk result (Releases conf.now D.seen shared.now true conn.old conn.new passes.old passes.new (C.told clock.old) (C.told clock.new)) }
+    ensures err { OnErr result (Releases conf.now D.seen shared.now false conn.old conn.new passes.old passes.new (C.told clock.old) (C.told clock.new)) }
+{
+    for _ in rt.forever() {
+        match conn.next_part(conf) {
+            Ok(Next::Ask(part)) => {
+                gate.at(GatePlace::Part { link: number });
+                if let Err(fault) = ask(rt, conf, shared, passes, conn, part, clock) {
+                    return Err(fault);
+                }
+            }
+            Ok(Next::Gone) => return Ok(()),
+            Ok(_) => {}
+            Err(fault) => return Err(fault),
+        }
+    }
+    unreachable!()
+}
+
+// Serves one connection from its beginning, by this configuration.
+fn serve<R: Wait, D: Disk, K: Link, C: Clock, G: Gate>(
+    rt: &R,
+    alloc: Global,
+    conf: &Config,
+    shared: &Shared<D>,
+    passes: &mut Passes<D>,
+    number: u32,
+    link: &mut K,
+    clock: &mut C,
+    gate: &G,
+) -> Ended
+    requires of { AreOf shared.now passes.old }
+    ensures of { AreOf shared.now passes.new }
+    ensures same { StaySame passes.old passes.new }
+    ensures served { IsServed conf.now D.seen shared.now passes.old passes.new (K.left link.old) (K.left link.new) (K.held link.old) (K.held link.new)
+        (C.told clock.old) (C.told clock.new) result }
+    ensures peer { result ≡ Ended.Peer → (K.ended link.new ≡ true) × IsAtEnd (K.left link.new) }
+    ensures read { result ≡ Ended.Read → Rose (K.faults link.old) (K.faults link.new) }
+    ensures write { result ≡ Ended.Write → Rose (K.faults link.old) (K.faults link.new) }
+    ensures later { K.faults link.old ≤ K.faults link.new }
+{
+    let mut conn = Conn::open(alloc);
+    let Ok(ended) = talk(
+        rt, conf, shared, passes, number, &mut conn, link, clock, gate,
+    ) else {
+        return Ended::NoMemory;
+    };
+    match finish(rt, conf, shared, passes, number, &mut conn, clock, gate) {
+        Ok(()) => ended,
+        Err(NoMemory) => Ended::NoMemory,
+    }
+}
+
+/// Serves the connection of a link, through these passes, until it has closed and what its members held is released.
+///
+/// The bytes that the link gives are fed to a connection that has just come. Each part that it asks is done by one act of the pass of its
+/// shard, at a moment of its own, and its answer is given. A finished reply is written at once. The link is read only where the connection
+/// waits. Where the peer ends or a call of the link fails, the releases are done all the same; where no memory is found, the call ends there.
+pub fn serve_connection<R: Wait, D: Disk, K: Link, C: Clock, G: Gate>(
+    rt: &R,
+    alloc: Global,
+    broker: &Shared<D>,
+    passes: &mut Passes<D>,
+    number: u32,
+    link: &mut K,
+    clock: &mut C,
+    gate: &G,
+) -> Ended
+    requires of { AreOf broker.now passes.old }
+    ensures of { AreOf broker.now passes.new }
+    ensures same { StaySame passes.old passes.new }
+    ensures served { IsServed broker.now.conf D.seen broker.now passes.old passes.new (K.left link.old) (K.left link.new) (K.held link.old) (K.held link.new)
+        (C.told clock.old) (C.told clock.new) result }
+    ensures peer { result ≡ Ended.Peer → (K.ended link.new ≡ true) × IsAtEnd (K.left link.new) }
+    ensures read { result ≡ Ended.Read → Rose (K.faults link.old) (K.faults link.new) }
+    ensures write { result ≡ Ended.Write → Rose (K.faults link.old) (K.faults link.new) }
+    ensures later { K.faults link.old ≤ K.faults link.new }
+{
+    serve(
+        rt,
+        alloc,
+        &broker.conf,
+        broker,
+        passes,
+        number,
+        link,
+        clock,
+        gate,
+    )
+}

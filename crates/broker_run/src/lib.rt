@@ -1,0 +1,11 @@
+//! The broker as several threads serve it: a lock around each shard, passes of all locks for each thread, and the connection of a link that a
+//! thread serves through them.
+#![tactic(auto)]
+
+mod connection;
+mod parts;
+mod rows;
+mod shared;
+
+pub use connection::{Ended, serve_connection};
+pub use shared::{Passes, ShardSet, Shared, close_shards, lock_shards};

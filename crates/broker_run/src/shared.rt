@@ -1,0 +1,187 @@
+// Locks around all shards, and passes through them.
+ghost use Rattle.std.specs.Prelude.{◌≡◌, ◌<◌, ◌≤◌, ◌+◌, ◌++◌, ◌∷◌, [], IfOk, length, vec_capacity};
+ghost use Rattle.broker_run.specs.Rows.{AreAll, AreClosed, IsRow, LocksAround};
+
+use crate::rows::{close_parts, join_parts, lock_parts, make_rows};
+use broker_shards::{ForeignHost, MembersHost, PartHost};
+use edge_io::Disk;
+use shard_lock::{Pass, ShardLock};
+use share_model::NoMemory;
+use std::alloc::Global;
+use std::marker::Model;
+use topic_conf::Config;
+
+/// All shards of a broker: those of the hosted partitions in the order of their numbers, the members of all groups, and foreign state.
+#[derive(Drop)]
+pub struct ShardSet<D: Disk> {
+    pub parts: Vec<PartHost<D>>,
+    pub members: MembersHost,
+    pub foreign: ForeignHost<D>,
+}
+
+/// A lock around each shard of a broker, and its configuration. A contract sees what it sees of the locks.
+#[derive(Drop)]
+pub struct Shared<D: Disk> {
+    pub(crate) conf: Config,
+    pub(crate) parts: Vec<ShardLock<PartHost<D>>>,
+    pub(crate) members: ShardLock<MembersHost>,
+    pub(crate) foreign: ShardLock<ForeignHost<D>>,
+}
+
+impl<D: Disk> Model for Shared<D> {
+    ghost use Rattle.broker_run.specs.Shared.{SharedParts};
+
+    ghost Value = { SharedParts D };
+
+    ghost view = { λ s. record { conf = s.conf; parts = s.parts.items; members = s.members; foreign = s.foreign } };
+}
+
+/// A pass of each lock. A contract sees what it sees of the passes.
+#[derive(Drop)]
+pub struct Passes<D: Disk> {
+    pub(crate) parts: Vec<Pass<PartHost<D>>>,
+    pub(crate) members: Pass<MembersHost>,
+    pub(crate) foreign: Pass<ForeignHost<D>>,
+}
+
+impl<D: Disk> Model for Passes<D> {
+    ghost use Rattle.broker_run.specs.Shared.{PassesParts};
+
+    ghost Value = { PassesParts D };
+
+    ghost view = { λ p. record { parts = p.parts.items; members = p.members; foreign = p.foreign } };
+}
+
+impl<D: Disk> Passes<D> {
+    // A pass of the members' lock and of that of foreign state, and none of a partition's.
+    pub(crate) fn alone(
+        alloc: Global,
+        members: Pass<MembersHost>,
+        foreign: Pass<ForeignHost<D>>,
+    ) -> Passes<D>
+        ensures parts { result.parts ≡ [] }
+        ensures members { result.members ≡ members }
+        ensures foreign { result.foreign ≡ foreign }
+    {
+        Passes {
+            parts: Vec::new(alloc),
+            members,
+            foreign,
+        }
+    }
+
+    // With a pass of one more partition.
+    pub(crate) fn with(self, pass: Pass<PartHost<D>>) -> Result<Passes<D>, NoMemory>
+    where
+        D: Drop,
+        ensures parts { IfOk result (λ p. p.parts ≡ self.parts ++ pass ∷ []) }
+        ensures members { IfOk result (λ p. p.members ≡ self.members) }
+        ensures foreign { IfOk result (λ p. p.foreign ≡ self.foreign) }
+    {
+        let Passes {
+            mut parts,
+            members,
+            foreign,
+        } = self;
+        parts.push(pass)?;
+        Ok(Passes {
+            parts,
+            members,
+            foreign,
+        })
+    }
+}
+
+/// A lock around each of the shards, and so many passes of each. Where no memory is found the shards are dropped.
+pub fn lock_shards<D: Disk + Drop>(
+    alloc: Global,
+    conf: Config,
+    shards: ShardSet<D>,
+    seats: u32,
+) -> Result<(Shared<D>, Vec<Passes<D>>), NoMemory>
+    requires { 0 < seats }
+    ensures locks { IfOk result (λ r. LocksAround shards r.0 × (r.0.conf ≡ conf)) }
+    ensures passes { IfOk result (λ r. AreAll r.0 seats r.1.items) }
+{
+    let ShardSet {
+        parts,
+        members,
+        foreign,
+    } = shards;
+    let (members, member_passes) = ShardLock::make(alloc, members, seats)?;
+    let (foreign, foreign_passes) = ShardLock::make(alloc, foreign, seats)?;
+    let rows = make_rows(alloc, &members, member_passes, &foreign, foreign_passes)?;
+    let (parts, rows) = lock_parts(alloc, parts, seats, rows, &members, &foreign)?;
+    let shared = Shared {
+        conf,
+        parts,
+        members,
+        foreign,
+    };
+    Ok((shared, rows))
+}
+
+// Joins one row of passes into another.
+fn merge<D: Disk + Drop>(shared: &Shared<D>, into: &mut Passes<D>, other: Passes<D>)
+    requires into { (n : _) × IsRow n shared.now into.old }
+    requires other { IsRow 1 shared.now other }
+    ensures { (n : _) → IsRow n shared.now into.old → IsRow (n + 1) shared.now into.new }
+{
+    let Passes {
+        parts,
+        members,
+        foreign,
+    } = other;
+    join_parts(&shared.parts, &mut into.parts, parts);
+    shared.members.join(&mut into.members, members);
+    shared.foreign.join(&mut into.foreign, foreign);
+}
+
+// Joins all rows into one.
+fn gather<D: Disk + Drop>(shared: &Shared<D>, passes: Vec<Passes<D>>) -> Passes<D>
+    requires { (seats : _) × AreAll shared.now seats passes.items × (0 < seats) }
+    ensures { (seats : _) → AreAll shared.now seats passes.items → IsRow seats shared.now result }
+{
+    let mut passes = passes;
+    let Some(first) = passes.pop() else {
+        unreachable!()
+    };
+    let mut into = first;
+    while let Some(other) = passes.pop() {
+        merge(shared, &mut into, other);
+    }
+    into
+}
+
+/// Joins all passes, and gives the shards back, for which there is room. Each is in the state that a legal history leaves, which has
+/// exactly the entries of all passes of its lock. It takes no memory.
+pub fn close_shards<D: Disk + Drop>(
+    shared: Shared<D>,
+    passes: Vec<Passes<D>>,
+    room: Vec<PartHost<D>>,
+) -> ShardSet<D>
+    requires all { (seats : _) × AreAll shared seats passes.items × (0 < seats) }
+    requires room { (room.items ≡ []) × (length shared.parts ≤ vec_capacity room) }
+    ensures { AreClosed D.seen shared result }
+{
+    let pass = gather(&shared, passes);
+    let Shared {
+        parts,
+        members,
+        foreign,
+        ..
+    } = shared;
+    let Passes {
+        parts: part_passes,
+        members: member_pass,
+        foreign: foreign_pass,
+    } = pass;
+    let parts = close_parts(parts, part_passes, room);
+    let members = members.close(member_pass);
+    let foreign = foreign.close(foreign_pass);
+    ShardSet {
+        parts,
+        members,
+        foreign,
+    }
+}

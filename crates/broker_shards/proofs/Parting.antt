@@ -1,0 +1,149 @@
+-- Calls on a partition as acts.
+use Rattle.std.proofs.Common.{◌≡◌, ◌≢◌, ◌≤◌, ◌⊎◌, arith, inl, inr, refl, sym, ap, ◌∙◌, subst, ℕ, List, Result, Err}
+use Rattle.std.specs.List.{AllByRecursion}
+use Rattle.edge_io.specs.Armed.{RunsOn}
+use Rattle.edge_io.specs.Views.{DiskView}
+use Rattle.edge_io.proofs.Runs.{runs_none}
+use Rattle.share_model.specs.ForeignRules.{share_state_at}
+use Rattle.share_model.specs.Held.{Held}
+use Rattle.share_model.specs.declared.fault.LogFault.{LogFault}
+use Rattle.share_model.specs.declared.fault.LogFault.TheVariants.{NoMemory}
+use Rattle.share_model.specs.declared.visit.ExpireAnswer.{ExpireAnswer}
+use Rattle.share_model.specs.declared.visit.Visit.{Visit}
+use Rattle.share_model.specs.declared.visit.VisitAnswer.{VisitAnswer}
+use Rattle.part_log.specs.Logs.{LogParts}
+use Rattle.part_log.specs.Shards.{CarriesLog}
+use Rattle.share_coord.specs.Parts.{StoreParts}
+use Rattle.share_coord.specs.Holding.{Holds}
+use Rattle.share_coord.specs.States.{states_of}
+use Rattle.share_part.specs.Hosting.{PartConfParts, AreHosted, key_of}
+use Rattle.share_part.specs.Once.{AcksStand, Expired, PartStands, Produced as ProducedSo, Visited}
+use Rattle.share_part.specs.Shards.{Carries, IsPendingHosted, IsUntouched, PartParts, PartShardState}
+use Rattle.share_part.specs.Walks.{IsSmallGrant}
+use Rattle.call_fold.specs.Parts.{HasTellableBase, IsTellableLook}
+use Rattle.call_fold.specs.declared.part.Looked.{Looked}
+use Rattle.call_fold.specs.declared.part.Produced.{Produced}
+use Rattle.broker_model.specs.Acting.Begun.{BeginsVisit, BeginsExpiry}
+use Rattle.broker_model.specs.Shards.{look_at, result_of}
+use Rattle.broker_model.specs.Shards.PartCall.{Visits, Produces, Looks, Expires}
+use Rattle.broker_shards.specs.Acts.{Answers, FindsNoMemory, GoesOnPart}
+use Rattle.broker_shards.specs.declared.part.PartAsk.TheVariants as asks
+use Rattle.broker_shards.specs.declared.part.PartTold.TheVariants as tells
+use Rattle.broker_shards.proofs.Telling.{grants_told, not_memory}
+
+module _ {D W : Type 0} (seen : D → DiskView) (holding : W → Held) (old new : PartParts D W) where
+  -- ---- what goes on
+
+  pub states_go : (conf : new.conf ≡ old.conf) (log : new.log ≡ old.log)
+      (first : RunsOn seen old.states.journal.live.disk new.states.journal.live.disk) (idle : new.states.journal.idle ≡ old.states.journal.idle)
+      (ends : (s : PartShardState) → Carries seen holding old s → old.states.journal.live.end ≤ new.states.journal.live.end)
+      → GoesOnPart seen holding old new
+  states_go conf log first idle ends = record {
+    conf = conf;
+    log = subst (λ (l : LogParts D). RunsOn seen old.log.journal.disk l.journal.disk) (sym log) (runs_none seen old.log.journal.disk);
+    first = first;
+    second = idle;
+    ends = λ s k. record {
+      log = (let e : new.log.journal.end ≡ old.log.journal.end = ap (λ (l : LogParts D). l.journal.end) log in omega (arith, e));
+      first = ends s k;
+    };
+  }
+
+  pub log_goes : (conf : new.conf ≡ old.conf) (log : RunsOn seen old.log.journal.disk new.log.journal.disk) (states : new.states ≡ old.states)
+      (ends : (s : PartShardState) → Carries seen holding old s → old.log.journal.end ≤ new.log.journal.end)
+      → GoesOnPart seen holding old new
+  log_goes conf log states ends = record {
+    conf = conf;
+    log = log;
+    first = subst (λ (t : StoreParts D). RunsOn seen old.states.journal.live.disk t.journal.live.disk) (sym states)
+        (runs_none seen old.states.journal.live.disk);
+    second = ap (λ (t : StoreParts D). t.journal.idle) states;
+    ends = λ s k. record {
+      log = ends s k;
+      first = (let e : new.states.journal.live.end ≡ old.states.journal.live.end = ap (λ (t : StoreParts D). t.journal.live.end) states
+          in omega (arith, e));
+    };
+  }
+
+  -- ---- what is answered
+
+  pub visited : (now : ℕ) (visit : Visit) (answer : VisitAnswer) → Visited seen holding now visit old new answer
+      → AllByRecursion IsSmallGrant answer.grants → Answers seen holding now (asks.Visit visit) (tells.Visit answer) old new
+  visited now visit answer steps small = record {
+    did = Visits visit answer;
+    asks = refl;
+    tells = refl;
+    tellable = record { grants = grants_told answer.grants small };
+    steps = steps;
+  }
+
+  pub expired : (now : ℕ) (answer : ExpireAnswer) → Expired seen holding now old new answer
+      → Answers seen holding now asks.Expire (tells.Expire answer) old new
+  expired now answer steps = record { did = Expires answer; asks = refl; tells = refl; tellable = tt; steps = steps }
+
+  pub added : (now : ℕ) (batch : List ℕ) (result : Result ℕ LogFault) (produced : Produced) → result_of produced ≡ result → HasTellableBase produced
+      → (result ≢ Err NoMemory → ProducedSo seen holding now batch old new result)
+      → Answers seen holding now (asks.Produce batch) (tells.Produce produced) old new
+  added now batch result produced is fair steps = record {
+    did = Produces batch produced;
+    asks = refl;
+    tells = refl;
+    tellable = fair;
+    steps = subst (λ (x : Result ℕ LogFault). ProducedSo seen holding now batch old new x) (sym is) (steps (not_memory produced result is));
+  }
+
+  -- ---- want of memory
+
+  -- where nothing of it has changed, it carries what it carried
+  untouched : IsUntouched holding old new → (s : PartShardState) → Carries seen holding old s → Carries seen holding new s
+  untouched same s k = record {
+    log = subst (λ (l : LogParts D). CarriesLog seen l s.log) (sym same.log) k.log;
+    pending = k.pending;
+    holds = subst (λ (t : StoreParts D). Holds seen t k.pending) (sym same.states) k.holds;
+    states = k.states ∙ ap (λ (t : StoreParts D). states_of t.entries) (sym same.states);
+    pending_is = k.pending_is;
+    held = λ group. k.held group ∙ sym (same.held group);
+    clock = k.clock ∙ sym same.clock;
+    hosted = subst (λ (p : PartConfParts). AreHosted p s.log.batches s.states) (sym same.conf) k.hosted;
+    pending_hosted = subst (λ (p : PartConfParts). IsPendingHosted p s.log.batches s.pending) (sym same.conf) k.pending_hosted;
+  }
+
+  pub visit_refused : (now : ℕ) (visit : Visit)
+      → (IsUntouched holding old new ⊎ ((s : PartShardState) → Carries seen holding old s → AcksStand seen holding now visit old new s))
+      → FindsNoMemory seen holding now (asks.Visit visit) old new
+  visit_refused now visit (inl same) s k = inl (untouched same s k)
+  visit_refused now visit (inr stands) s k = let a = stands s k in inr (BeginsVisit visit, refl, a.0, a.1, a.2)
+
+  pub expiry_refused : (now : ℕ)
+      → ((new ≡ old) ⊎ ((s : PartShardState) → Carries seen holding old s → PartStands seen holding now old new s))
+      → FindsNoMemory seen holding now asks.Expire old new
+  expiry_refused now (inl same) s k = inl (subst (λ (p : PartParts D W). Carries seen holding p s) (sym same) k)
+  expiry_refused now (inr stands) s k = let a = stands s k in inr (BeginsExpiry, refl, a.0, a.1, a.2)
+
+  pub batch_refused : (now : ℕ) (batch : List ℕ) → new ≡ old → FindsNoMemory seen holding now (asks.Produce batch) old new
+  batch_refused now batch same s k = inl (subst (λ (p : PartParts D W). Carries seen holding p s) (sym same) k)
+
+-- ---- looks
+
+module _ {D W : Type 0} (seen : D → DiskView) (holding : W → Held) (part : PartParts D W) where
+  pub look_told : (group : List ℕ) (looked : Looked) → looked ≡ look_at (share_state_at (states_of part.states.entries) (key_of part.conf group))
+      → IsTellableLook looked → (now : ℕ) → Answers seen holding now (asks.Look group) (tells.Look looked) part part
+  look_told group looked told fair now = record {
+    did = Looks group looked;
+    asks = refl;
+    tells = refl;
+    tellable = fair;
+    steps = λ s k. (s, k, (told ∙ ap (λ states. look_at (share_state_at states (key_of part.conf group))) (sym k.states), refl));
+  }
+
+  pub look_refused : (group : List ℕ) (now : ℕ) → FindsNoMemory seen holding now (asks.Look group) part part
+  look_refused group now s k = inl k
+
+  pub look_goes : GoesOnPart seen holding part part
+  look_goes = record {
+    conf = refl;
+    log = runs_none seen part.log.journal.disk;
+    first = runs_none seen part.states.journal.live.disk;
+    second = refl;
+    ends = λ s k. record { log = omega arith; first = omega arith };
+  }

@@ -1,0 +1,4 @@
+use Rattle.broker_shards.proofs.members.heartbeat.Goals as goal
+
+pub returns-in-Ok : goal.returns-in-Ok
+returns-in-Ok c = (c.in-Ok.ensures.told, c.in-Ok.ensures.after)

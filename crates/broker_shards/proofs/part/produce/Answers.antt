@@ -1,0 +1,19 @@
+use Rattle.broker_shards.specs.Hosts.{holding}
+use Rattle.broker_shards.proofs.Parting.{added, batch_refused, log_goes}
+use Rattle.broker_shards.proofs.part.produce.Goals as goal
+
+pub returns-in-Ok-clause-acts : goal.returns-in-Ok-clause-acts
+returns-in-Ok-clause-acts g c = added g.D.Disk.seen holding c.args.part.now c.produce-added.new.self c.args.now c.args.batch.now
+    c.produce-added.result c.in-Ok.told c.in-Ok.ensures.ok c.in-Ok.ensures.tellable c.produce-added.ensures.once.steps
+
+pub returns-in-Ok-clause-goes_on : goal.returns-in-Ok-clause-goes_on
+returns-in-Ok-clause-goes_on g c = let once = c.produce-added.ensures.once in
+    log_goes g.D.Disk.seen holding c.args.part.now c.produce-added.new.self once.conf c.produce-added.ensures.runs once.states once.ends
+
+pub returns-in-Err-clause-acts : goal.returns-in-Err-clause-acts
+returns-in-Err-clause-acts g c = batch_refused g.D.Disk.seen holding c.args.part.now c.produce-added.new.self c.args.now c.args.batch.now
+    (c.produce-added.ensures.once.memory c.in-Err.ensures.memory)
+
+pub returns-in-Err-clause-goes_on : goal.returns-in-Err-clause-goes_on
+returns-in-Err-clause-goes_on g c = let once = c.produce-added.ensures.once in
+    log_goes g.D.Disk.seen holding c.args.part.now c.produce-added.new.self once.conf c.produce-added.ensures.runs once.states once.ends

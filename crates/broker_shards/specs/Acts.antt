@@ -1,0 +1,145 @@
+-- What an act on a shard behind a lock tells and leaves. A shard in memory and its disks carry a state of the machine's shard; where an
+-- act answers, they carry one then to which the machine's own step leads, and where it finds no memory, the one from before. This
+-- project's own; the steps are those of a recorded session.
+-- For example a look tells what is stored of its group and leaves the shard as it was; a tick at 50000 that removes two members tells 2.
+use Rattle.std.specs.Prelude.{◌≡◌, ◌⊎◌, ◌≤◌, ◌-◌, ◌^◌, ℕ, min, All, Option, Some, None, Result, Ok, Err}
+use Rattle.edge_io.specs.Armed.{RunsOn}
+use Rattle.edge_io.specs.Causes.{Rose}
+use Rattle.edge_io.specs.Views.{DiskView}
+use Rattle.flex_fields.specs.declared.fault.NoMemory.{NoMemory}
+use Rattle.share_model.specs.Held.{Held}
+use Rattle.share_model.specs.declared.fault.StoreFault.{StoreFault}
+use Rattle.share_model.specs.declared.foreign.ForeignAnswer.{ForeignAnswer}
+use Rattle.share_model.specs.declared.foreign.ForeignOp.{ForeignOp}
+use Rattle.call_fold.specs.Parts.{HasTellableBase, IsTellable, IsTellableLook, IsTellableVisit}
+use Rattle.share_coord.specs.Parts.{StoreParts}
+use Rattle.foreign_coord.specs.Shards.{ForeignShardState, StepsForeign, Carries as CarriesForeign}
+use Rattle.share_members.specs.Groups.{Memberships}
+use Rattle.share_members.specs.Expiry.{removed}
+use Rattle.share_part.specs.Shards.{PartParts, PartShardState, Carries}
+use Rattle.broker_model.specs.Acting.{Begun, EndsGoOn, HalvesOn, StepsOn}
+use Rattle.broker_model.specs.Acting.Begun.{BeginsVisit, BeginsExpiry}
+use Rattle.broker_model.specs.Shards.{PartCall, StepsMembers}
+use Rattle.broker_model.specs.Shards.PartCall.{Visits, Produces, Looks, Expires}
+use Rattle.broker_model.specs.Shards.MembersCall.{Beats, Ticks}
+use Rattle.broker_shards.specs.declared.foreign.ForeignEvent.{ForeignEvent}
+use Rattle.broker_shards.specs.declared.foreign.ForeignHost.{ForeignHost}
+use Rattle.broker_shards.specs.declared.members.MembersAsk.{MembersAsk}
+use Rattle.broker_shards.specs.declared.members.MembersAsk.TheVariants.{Heartbeat, Tick}
+use Rattle.broker_shards.specs.declared.members.MembersEvent.{MembersEvent}
+use Rattle.broker_shards.specs.declared.members.MembersHost.{MembersHost}
+use Rattle.broker_shards.specs.declared.members.MembersTold.{MembersTold}
+use Rattle.broker_shards.specs.declared.members.MembersTold.TheVariants as told_member
+use Rattle.broker_shards.specs.declared.part.PartAsk.{PartAsk}
+use Rattle.broker_shards.specs.declared.part.PartAsk.TheVariants as asks
+use Rattle.broker_shards.specs.declared.part.PartEvent.{PartEvent}
+use Rattle.broker_shards.specs.declared.part.PartTold.{PartTold}
+use Rattle.broker_shards.specs.declared.part.PartTold.TheVariants as tells
+use Rattle.broker_shards.specs.Hosts.{Host, holding}
+
+-- ---- hosted partitions
+
+-- what a call of the machine asks of a partition
+abbrev pub asked_by : PartCall → PartAsk
+asked_by (Visits visit answer) = asks.Visit visit
+asked_by (Produces batch produced) = asks.Produce batch
+asked_by (Looks group looked) = asks.Look group
+asked_by (Expires answer) = asks.Expire
+
+-- and what it is told
+abbrev pub told_by : PartCall → PartTold
+told_by (Visits visit answer) = tells.Visit answer
+told_by (Produces batch produced) = tells.Produce produced
+told_by (Looks group looked) = tells.Look looked
+told_by (Expires answer) = tells.Expire answer
+
+-- a reply can say its numbers
+abbrev pub CanBeTold : PartCall → Type 0
+CanBeTold (Visits visit answer) = IsTellableVisit answer
+CanBeTold (Produces batch produced) = HasTellableBase produced
+CanBeTold (Looks group looked) = IsTellableLook looked
+CanBeTold (Expires answer) = Unit {0}
+
+-- What was asked is a call of the machine, and so is what was told. From each state that was carried, one is carried now to which this call's
+-- step leads.
+pub record Answers {D W : Type 0} (seen : D → DiskView) (holding : W → Held) (now : ℕ) (asked : PartAsk) (told : PartTold)
+    (old new : PartParts D W) : Type 0 where
+  pub did : PartCall
+  pub asks : asked ≡ asked_by did
+  pub tells : told ≡ told_by did
+  pub tellable : CanBeTold did
+  pub steps : (s : PartShardState) → Carries seen holding old s → (after : PartShardState) × Carries seen holding new after
+      × StepsOn seen old.conf old new now s did after
+
+-- what may be left half done for want of memory
+abbrev pub begun_by : PartAsk → Option Begun
+begun_by (asks.Visit visit) = Some (BeginsVisit visit)
+begun_by (asks.Produce batch) = None
+begun_by (asks.Look group) = None
+begun_by asks.Expire = Some BeginsExpiry
+
+-- No memory was found. What was carried is carried still; or a visit's acknowledgements, or the first groups of an expiry, were done.
+abbrev pub FindsNoMemory : {D W : Type 0} → (D → DiskView) → (W → Held) → (now : ℕ) → PartAsk → PartParts D W → PartParts D W → Type 0
+FindsNoMemory seen holding now asked old new = (s : PartShardState) → Carries seen holding old s → Carries seen holding new s
+    ⊎ ((begun : Begun) × (begun_by asked ≡ Some begun) × (after : PartShardState) × Carries seen holding new after
+    × HalvesOn seen old.conf old new now s begun after)
+
+abbrev pub ActsOnPart : {D W : Type 0} → (D → DiskView) → (W → Held) → (now : ℕ) → PartAsk → PartParts D W → Result PartTold NoMemory → PartParts D W → Type 0
+ActsOnPart seen holding now asked old (Ok told) new = Answers seen holding now asked told old new
+ActsOnPart seen holding now asked old (Err fault) new = FindsNoMemory seen holding now asked old new
+
+-- What each act leaves: its configuration stays. No power is lost, no fault is armed, and no count of faults falls on its disks, of which the second
+-- one of the states isn't used. No journal ends before where it did.
+pub record GoesOnPart {D W : Type 0} (seen : D → DiskView) (holding : W → Held) (old new : PartParts D W) : Type 0 where
+  pub conf : new.conf ≡ old.conf
+  pub log : RunsOn seen old.log.journal.disk new.log.journal.disk
+  pub first : RunsOn seen old.states.journal.live.disk new.states.journal.live.disk
+  pub second : new.states.journal.idle ≡ old.states.journal.idle
+  pub ends : (s : PartShardState) → Carries seen holding old s → EndsGoOn old new
+
+pub record ActsPart {D : Type 0} (seen : D → DiskView) (old : Host D) (event : PartEvent) (result : Result PartTold NoMemory) (new : Host D) : Type 0 where
+  pub topic : new.topic ≡ old.topic
+  pub conf : new.conf ≡ old.conf
+  pub acts : ActsOnPart seen holding event.now event.ask old.part result new.part
+  pub goes_on : GoesOnPart seen holding old.part new.part
+
+-- ---- members
+
+-- a tick tells how many members it removed
+abbrev pub AnswersMembers : (now : ℕ) → MembersAsk → MembersTold → Memberships → Memberships → Type 0
+AnswersMembers now (Heartbeat request) (told_member.Heartbeat reply) old new = StepsMembers now old (Beats request reply) new
+AnswersMembers now (Heartbeat request) (told_member.Ticked count) old new = ⊥
+AnswersMembers now Tick (told_member.Heartbeat reply) old new = ⊥
+AnswersMembers now Tick (told_member.Ticked count) old new =
+    StepsMembers now old Ticks new × (count ≡ min (removed new.clock old.groups) (2 ^ 64 - 1))
+
+-- where no memory is found, nothing has changed
+abbrev pub ActsOnMembers : (now : ℕ) → MembersAsk → Memberships → Result MembersTold NoMemory → Memberships → Type 0
+ActsOnMembers now asked old (Ok told) new = AnswersMembers now asked told old new
+ActsOnMembers now asked old (Err fault) new = new ≡ old
+
+abbrev pub ActsMembers : MembersHost → MembersEvent → Result MembersTold NoMemory → MembersHost → Type 0
+ActsMembers old event result new = ActsOnMembers event.now event.ask old.members result new.members
+
+-- ---- foreign state
+
+-- From each state that was carried, one is carried now to which the step of this call leads, and a reply can say the answer.
+pub record AnswersForeign {D : Type 0} (seen : D → DiskView) (op : ForeignOp) (answer : ForeignAnswer) (old new : StoreParts D) : Type 0 where
+  pub tellable : All IsTellable answer.runs
+  pub steps : (s : ForeignShardState) → CarriesForeign seen old s → (after : ForeignShardState) × (fault : Option StoreFault)
+      × CarriesForeign seen new after
+      × StepsForeign (Rose (seen old.journal.live.disk).faults (seen new.journal.live.disk).faults) old.journal.live.end s op answer fault after
+
+-- where no memory is found, nothing has changed
+abbrev pub ActsOnForeign : {D : Type 0} → (D → DiskView) → ForeignOp → StoreParts D → Result ForeignAnswer NoMemory → StoreParts D → Type 0
+ActsOnForeign seen op old (Ok answer) new = AnswersForeign seen op answer old new
+ActsOnForeign seen op old (Err fault) new = new ≡ old
+
+-- No power is lost and no fault armed on its first disk, whose count of faults doesn't fall, and the second one isn't used. Its journal never ends
+-- before where it did.
+pub record ActsForeign {D : Type 0} (seen : D → DiskView) (old : ForeignHost D) (event : ForeignEvent) (result : Result ForeignAnswer NoMemory)
+    (new : ForeignHost D) : Type 0 where
+  pub acts : ActsOnForeign seen event.op old.foreign result new.foreign
+  pub first : RunsOn seen old.foreign.journal.live.disk new.foreign.journal.live.disk
+  pub second : new.foreign.journal.idle ≡ old.foreign.journal.idle
+  pub ends : (s : ForeignShardState) → CarriesForeign seen old.foreign s → old.foreign.journal.live.end ≤ new.foreign.journal.live.end
