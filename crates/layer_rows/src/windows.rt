@@ -1,11 +1,12 @@
-// Windows: what is held of a share partition. Each line is played on a window with a row for each offset and on one with a row for each run,
-// and both have to give the same text. A member holds by a lock that ends at a moment, with a delivery count.
+// Windows: what is held of a share partition. A member holds by a lock that ends at a moment, with a delivery count.
 //
 //     hold MEMBER FIRST..LAST END COUNT        holds these offsets, one after another
-//     turns MEMBER OTHER FIRST..LAST END COUNT the same, for two members in turn
+//     range MEMBER FIRST..LAST END COUNT       the same by one call
+//     turns MEMBER OTHER FIRST..LAST END COUNT the same as hold, for two members in turn
 //     end FIRST..LAST                          ends what is held of these offsets
 //     reserve NUMBER                           sets memory aside for so many more
-//     look OFFSET, next OFFSET                 its hold, the next offset that is held from it on
+//     look OFFSET                              its hold
+//     next OFFSET                              what is left from it on of the first run that doesn't end below it
 //     due MOMENT                               the least offset whose lock has ended then
 //     count, list                              how many offsets are held, and their runs
 ghost use Rattle.std.specs.Prelude.{◌≡◌, ◌<◌, ◌≤◌, ◌+◌, [], ◌∷◌};
@@ -13,62 +14,13 @@ ghost use Rattle.lock_index.specs.Runs.{IsRunList};
 ghost use Rattle.lock_index.specs.declared.run.HoldRun.{HoldRun};
 
 use crate::plain::word;
-use lock_index::{HoldRun, Steps, Window as ByRuns};
+use lock_index::{HoldRun, Steps, Window};
 use share_model::{Hold, Name, NoMemory};
 use std::alloc::Global;
 use std::marker::Brand;
 use std::sync::ledger::{Blank, Ledger};
 use std::{io, mem};
-use window_rows::{Window as ByRows, WindowRows};
 use window_runs::WindowRuns;
-
-/// What a window does at a line.
-trait Plays: Sized + Drop {
-    fn put(&mut self, offset: u64, hold: Hold) -> Result<(), NoMemory>;
-
-    fn take(&mut self, first: u64, last: u64);
-
-    fn set_aside(&mut self, n: u32) -> Result<(), NoMemory>;
-
-    fn hold_of(&self, offset: u64) -> Option<Hold>;
-
-    fn offset_from(&self, from: u64) -> Option<u64>;
-
-    fn due_by(&self, now: u64) -> Option<u64>;
-
-    fn number(&self) -> u64;
-}
-
-impl Plays for WindowRows {
-    fn put(&mut self, offset: u64, hold: Hold) -> Result<(), NoMemory> {
-        ByRows::hold(self, offset, hold)
-    }
-
-    fn take(&mut self, first: u64, last: u64) {
-        ByRows::end_hold(self, first, last);
-    }
-
-    fn set_aside(&mut self, n: u32) -> Result<(), NoMemory> {
-        ByRows::reserve(self, n)
-    }
-
-    fn hold_of(&self, offset: u64) -> Option<Hold> {
-        ByRows::look(self, offset).copied()
-    }
-
-    fn offset_from(&self, from: u64) -> Option<u64> {
-        let (offset, _) = ByRows::next_held(self, from)?;
-        Some(offset)
-    }
-
-    fn due_by(&self, now: u64) -> Option<u64> {
-        ByRows::due(self, now)
-    }
-
-    fn number(&self) -> u64 {
-        ByRows::count(self)
-    }
-}
 
 // Ends holds by the call that counts. Of one run it takes at most 20 steps.
 fn end_counted<L: Ledger>(window: &mut WindowRuns, first: u64, last: u64, steps: &mut Steps<L>)
@@ -87,37 +39,6 @@ fn end_in_ledger<L: Ledger>(window: &mut WindowRuns, first: u64, last: u64, blan
     end_counted(window, first, last, &mut steps);
 }
 
-impl Plays for WindowRuns {
-    fn put(&mut self, offset: u64, hold: Hold) -> Result<(), NoMemory> {
-        ByRuns::hold(self, offset, hold)
-    }
-
-    fn take(&mut self, first: u64, last: u64) {
-        end_in_ledger::<Brand>(self, first, last, Blank::new(1));
-    }
-
-    fn set_aside(&mut self, n: u32) -> Result<(), NoMemory> {
-        ByRuns::reserve(self, n)
-    }
-
-    fn hold_of(&self, offset: u64) -> Option<Hold> {
-        ByRuns::look(self, offset).copied()
-    }
-
-    fn offset_from(&self, from: u64) -> Option<u64> {
-        let (offset, _) = ByRuns::next_held(self, from)?;
-        Some(offset)
-    }
-
-    fn due_by(&self, now: u64) -> Option<u64> {
-        ByRuns::due(self, now)
-    }
-
-    fn number(&self) -> u64 {
-        ByRuns::count(self)
-    }
-}
-
 /// The offsets of `FIRST..LAST`.
 fn offsets_of(text: &str) -> Option<(u64, u64)> {
     let (first, last) = text.split_once("..")?;
@@ -134,16 +55,16 @@ fn hold_read(member: &str, end: &str, count: &str) -> Option<Hold> {
 }
 
 /// Holds offsets in one way.
-fn put_all<W: Plays>(window: &mut W, first: u64, last: u64, hold: &Hold) -> Result<(), NoMemory> {
+fn put_all(window: &mut WindowRuns, first: u64, last: u64, hold: &Hold) -> Result<(), NoMemory> {
     for offset in first..last.saturating_add(1) {
-        window.put(offset, *hold)?;
+        window.hold(offset, *hold)?;
     }
     Ok(())
 }
 
 /// Holds offsets in two ways, in turn.
-fn put_turns<W: Plays>(
-    window: &mut W,
+fn put_turns(
+    window: &mut WindowRuns,
     first: u64,
     last: u64,
     hold: &Hold,
@@ -155,7 +76,7 @@ fn put_turns<W: Plays>(
         } else {
             *other
         };
-        window.put(offset, hold)?;
+        window.hold(offset, hold)?;
     }
     Ok(())
 }
@@ -168,15 +89,18 @@ fn done_text(alloc: Global, done: Option<Result<(), NoMemory>>) -> io::Result<St
     }
 }
 
-fn hold_line<W: Plays>(window: &mut W, text: &str) -> Option<Result<(), NoMemory>> {
+fn hold_line(window: &mut WindowRuns, text: &str, at_once: bool) -> Option<Result<(), NoMemory>> {
     let mut words = text.split(' ');
     let member = words.next()?;
     let (first, last) = offsets_of(words.next()?)?;
     let hold = hold_read(member, words.next()?, words.next()?)?;
+    if at_once {
+        return Some(window.hold_range(first, last, hold));
+    }
     Some(put_all(window, first, last, &hold))
 }
 
-fn turns_line<W: Plays>(window: &mut W, text: &str) -> Option<Result<(), NoMemory>> {
+fn turns_line(window: &mut WindowRuns, text: &str) -> Option<Result<(), NoMemory>> {
     let mut words = text.split(' ');
     let member = words.next()?;
     let other = words.next()?;
@@ -188,14 +112,14 @@ fn turns_line<W: Plays>(window: &mut W, text: &str) -> Option<Result<(), NoMemor
     Some(put_turns(window, first, last, &hold, &other))
 }
 
-fn end_line<W: Plays>(window: &mut W, text: &str) -> Option<Result<(), NoMemory>> {
+fn end_line(window: &mut WindowRuns, text: &str) -> Option<Result<(), NoMemory>> {
     let (first, last) = offsets_of(text)?;
-    window.take(first, last);
+    end_in_ledger::<Brand>(window, first, last, Blank::new(1));
     Some(Ok(()))
 }
 
-fn reserve_line<W: Plays>(window: &mut W, text: &str) -> Option<Result<(), NoMemory>> {
-    Some(window.set_aside(text.parse().ok()?))
+fn reserve_line(window: &mut WindowRuns, text: &str) -> Option<Result<(), NoMemory>> {
+    Some(window.reserve(text.parse().ok()?))
 }
 
 fn number_text(alloc: Global, number: Option<u64>) -> io::Result<String> {
@@ -212,26 +136,11 @@ fn hold_text(alloc: Global, hold: Option<Hold>) -> io::Result<String> {
     }
 }
 
-/// What a line gives on one window. `None` where there is no such line.
-fn told_by<W: Plays>(
-    alloc: Global,
-    window: &mut W,
-    kind: &str,
-    text: &str,
-) -> io::Result<Option<String>> {
-    let number = text.parse().unwrap_or(0);
-    let told = match kind {
-        "hold" => done_text(alloc, hold_line(window, text)),
-        "turns" => done_text(alloc, turns_line(window, text)),
-        "end" => done_text(alloc, end_line(window, text)),
-        "reserve" => done_text(alloc, reserve_line(window, text)),
-        "look" => hold_text(alloc, window.hold_of(number)),
-        "next" => number_text(alloc, window.offset_from(number)),
-        "due" => number_text(alloc, window.due_by(number)),
-        "count" => number_text(alloc, Some(window.number())),
-        _ => return Ok(None),
-    };
-    Ok(Some(told?))
+fn run_text(alloc: Global, from: u64, run: Option<&HoldRun>) -> io::Result<String> {
+    match run {
+        Some(run) => Ok(format!(in alloc; "{}..{}", run.first.max(from), run.last)?),
+        None => word(alloc, "none"),
+    }
 }
 
 /// The runs of a window.
@@ -249,17 +158,39 @@ fn list_text(alloc: Global, runs: &[HoldRun]) -> io::Result<String> {
     }
 }
 
+/// What a line gives. `None` where there is no such line.
+fn told_by(
+    alloc: Global,
+    window: &mut WindowRuns,
+    kind: &str,
+    text: &str,
+) -> io::Result<Option<String>> {
+    let number = text.parse().unwrap_or(0);
+    let told = match kind {
+        "hold" => done_text(alloc, hold_line(window, text, false)),
+        "range" => done_text(alloc, hold_line(window, text, true)),
+        "turns" => done_text(alloc, turns_line(window, text)),
+        "end" => done_text(alloc, end_line(window, text)),
+        "reserve" => done_text(alloc, reserve_line(window, text)),
+        "look" => hold_text(alloc, window.look(number).copied()),
+        "next" => run_text(alloc, number, window.run_from(number)),
+        "due" => number_text(alloc, window.due(number)),
+        "count" => number_text(alloc, Some(window.count())),
+        "list" => list_text(alloc, window.list()),
+        _ => return Ok(None),
+    };
+    Ok(Some(told?))
+}
+
 #[derive(Drop)]
 pub struct Windows {
-    rows: WindowRows,
     runs: WindowRuns,
 }
 
 impl Windows {
     pub fn new(alloc: Global) -> Windows {
         Windows {
-            rows: ByRows::new(alloc),
-            runs: ByRuns::new(alloc),
+            runs: WindowRuns::new(alloc),
         }
     }
 
@@ -268,20 +199,8 @@ impl Windows {
         drop(mem::replace(self, windows));
     }
 
-    /// What a line gives on both windows. `None` where there is no such line.
+    /// What a line gives. `None` where there is no such line.
     pub fn told(&mut self, alloc: Global, kind: &str, text: &str) -> io::Result<Option<String>> {
-        if kind == "list" {
-            return Ok(Some(list_text(alloc, ByRuns::list(&self.runs))?));
-        }
-        let Some(rows) = told_by(alloc, &mut self.rows, kind, text)? else {
-            return Ok(None);
-        };
-        let Some(runs) = told_by(alloc, &mut self.runs, kind, text)? else {
-            return Ok(None);
-        };
-        if rows.as_str() == runs.as_str() {
-            return Ok(Some(runs));
-        }
-        Ok(Some(format!(in alloc; "{rows} by rows, and {runs} by runs")?))
+        told_by(alloc, &mut self.runs, kind, text)
     }
 }

@@ -1,5 +1,5 @@
 // A case as far as it was read.
-use crate::judge::{judge_again, judge_bay, judge_run, judge_settings};
+use crate::judge::{judge_again, judge_bay, judge_count, judge_run, judge_settings, script_of};
 use edge_io::{DiskName, FaultMode};
 use row_text::{Rows, Taken, bytes_of, without_blanks};
 use std::alloc::Global;
@@ -8,6 +8,7 @@ use std::io;
 #[derive(Drop)]
 pub struct Case {
     pub words: Vec<String>,
+    pub behind: Vec<String>,
     pub script: String,
     pub segment: Vec<u8>,
     pub wanted: String,
@@ -142,6 +143,7 @@ impl Case {
     pub fn new(alloc: Global) -> Case {
         Case {
             words: Vec::new(alloc),
+            behind: Vec::new(alloc),
             script: String::new(alloc),
             segment: Vec::new(alloc),
             wanted: String::new(alloc),
@@ -158,6 +160,7 @@ impl Case {
     fn note(&mut self, alloc: Global, kind: &str, text: &str) -> io::Result<bool> {
         match kind {
             "words" => self.words = words_of(alloc, text)?,
+            "then" => self.behind = words_of(alloc, text)?,
             "read-fault" => self.read_faults.push(text.parse().unwrap_or(0))?,
             "write-fault" => self.write_faults.push(text.parse().unwrap_or(0))?,
             "bay-fault" => self.bay_faults.push(text.parse().unwrap_or(0))?,
@@ -181,6 +184,7 @@ impl Case {
 impl Rows for Case {
     /// A case has the words of the one before it until it is given its own.
     fn begin(&mut self, alloc: Global) -> io::Result<()> {
+        self.behind = Vec::new(alloc);
         self.script = String::new(alloc);
         self.segment = Vec::new(alloc);
         self.wanted = String::new(alloc);
@@ -196,6 +200,11 @@ impl Rows for Case {
     fn take(&mut self, rt: &HostRuntime, kind: &str, text: &str) -> io::Result<Taken> {
         let differs = match kind {
             "status" => judge_run(rt, self, text)?,
+            "lines" => judge_count(rt, self, text)?,
+            "gen" => {
+                self.script = script_of(rt, text)?;
+                return Ok(Taken::Noted);
+            }
             "again" => judge_again(rt.alloc(), self)?,
             "settings" => judge_settings(rt.alloc(), self, text)?,
             "bay" => judge_bay(rt.alloc(), self, text)?,

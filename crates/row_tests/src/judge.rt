@@ -1,7 +1,11 @@
 // What differs between that which a case gives and that which is wanted.
+ghost use Rattle.std.specs.Prelude.{IfOk};
+ghost use Rattle.edge_mem.specs.Seen.{bay_view};
+ghost use Rattle.share_top.specs.Loading.{NoneIsOut};
+
 use crate::case::Case;
 use crate::disks::{bay_of, compared_disks};
-use edge_mem::{MemSink, MemSource};
+use edge_mem::{MemBay, MemSink, MemSource};
 use row_text::compared;
 use session_script::{ScriptReader, Taken, write_event};
 use share_model::Reset;
@@ -10,25 +14,102 @@ use std::alloc::Global;
 use std::io;
 use topic_conf::Config;
 
-/// Runs the session of a case.
-pub fn judge_run(rt: &HostRuntime, case: &Case, status: &str) -> io::Result<Option<String>> {
+// What the commands of a case end with, what they write, and the disks that they leave.
+#[derive(Drop)]
+struct Ran {
+    status: String,
+    output: MemSink,
+    bay: MemBay,
+}
+
+// Runs the command of a case, and the one that it has behind it, and tells their statuses.
+fn run_commands(
+    rt: &HostRuntime,
+    case: &Case,
+    input: &mut MemSource,
+    output: &mut MemSink,
+    bay: &mut MemBay,
+) -> io::Result<String>
+    requires { NoneIsOut bay_view bay.old }
+    ensures { NoneIsOut bay_view bay.new }
+{
+    let alloc = rt.alloc();
+    let ended = run(rt, alloc, &case.words, input, output, bay);
+    if case.behind.is_empty() {
+        return Ok(format!(in alloc; "{ended}")?);
+    }
+    let next = run(rt, alloc, &case.behind, input, output, bay);
+    Ok(format!(in alloc; "{ended} {next}")?)
+}
+
+// Runs the session of a case, and the command that it has behind it.
+fn run_case(rt: &HostRuntime, case: &Case) -> io::Result<Ran>
+    ensures { IfOk result (λ ran. NoneIsOut bay_view ran.bay) }
+{
     let alloc = rt.alloc();
     let mut given = case.script.as_bytes().to_vec(alloc)?;
     given.extend_from_slice(&case.segment)?;
     let mut input = MemSource::new(given, case.read_faults.as_slice().to_vec(alloc)?);
     let mut output = MemSink::new(alloc, case.write_faults.as_slice().to_vec(alloc)?);
     let mut bay = bay_of(alloc, case)?;
-    let ended = run(rt, alloc, &case.words, &mut input, &mut output, &mut bay);
-    let ended = format!(in alloc; "{ended}")?;
-    if ended.as_str() != status {
-        let why = format!(in alloc; "the status is {ended}, and {status} is wanted")?;
+    let status = run_commands(rt, case, &mut input, &mut output, &mut bay)?;
+    Ok(Ran {
+        status,
+        output,
+        bay,
+    })
+}
+
+// What is wrong with a status.
+fn judged(alloc: Global, given: &str, wanted: &str) -> io::Result<Option<String>> {
+    if given == wanted {
+        return Ok(None);
+    }
+    Ok(Some(format!(in alloc; "the status is {given}, and {wanted} is wanted")?))
+}
+
+/// Runs the session of a case.
+pub fn judge_run(rt: &HostRuntime, case: &Case, status: &str) -> io::Result<Option<String>> {
+    let alloc = rt.alloc();
+    let mut ran = run_case(rt, case)?;
+    if let Some(why) = judged(alloc, ran.status.as_str(), status)? {
         return Ok(Some(why));
     }
-    let wrote = str::from_utf8(output.bytes()).unwrap_or("no UTF-8");
+    let wrote = str::from_utf8(ran.output.bytes()).unwrap_or("no UTF-8");
     if let Some(why) = compared(alloc, wrote, case.wanted.as_str())? {
         return Ok(Some(why));
     }
-    compared_disks(alloc, &mut bay, case)
+    compared_disks(alloc, &mut ran.bay, case)
+}
+
+/// Runs the session of a case, and counts its lines.
+pub fn judge_count(rt: &HostRuntime, case: &Case, wanted: &str) -> io::Result<Option<String>> {
+    let alloc = rt.alloc();
+    let ran = run_case(rt, case)?;
+    if let Some(why) = judged(alloc, ran.status.as_str(), "0")? {
+        return Ok(Some(why));
+    }
+    let mut count: u64 = 0;
+    for byte in ran.output.bytes() {
+        if *byte == b'\n' {
+            count = count.saturating_add(1);
+        }
+    }
+    let count = format!(in alloc; "{count}")?;
+    compared(alloc, count.as_str(), wanted)
+}
+
+/// The script that `gen` writes for a number.
+pub fn script_of(rt: &HostRuntime, number: &str) -> io::Result<String> {
+    let alloc = rt.alloc();
+    let mut words = Vec::new(alloc);
+    words.push(String::from_str(alloc, "gen")?)?;
+    words.push(String::from_str(alloc, number)?)?;
+    let mut input = MemSource::new(Vec::new(alloc), Vec::new(alloc));
+    let mut output = MemSink::new(alloc, Vec::new(alloc));
+    let mut bay = MemBay::new(alloc, Vec::new(alloc));
+    run(rt, alloc, &words, &mut input, &mut output, &mut bay);
+    Ok(String::from_str(alloc, str::from_utf8(output.bytes()).unwrap_or(""))?)
 }
 
 /// Reads the events of a case's script, and writes them.
@@ -81,10 +162,20 @@ pub fn judge_bay(alloc: Global, case: &Case, wanted: &str) -> io::Result<Option<
 /// Reads the words of a case.
 pub fn judge_settings(alloc: Global, case: &Case, wanted: &str) -> io::Result<Option<String>> {
     match Words::read(alloc, &case.words) {
-        Ok(Words::Replay { conf }) => compared(alloc, settings(alloc, &conf)?.as_str(), wanted),
+        Ok(Words::Replay { conf, summary }) => {
+            let settings = settings(alloc, &conf)?;
+            let told = if summary { "summary " } else { "" };
+            let text = format!(in alloc; "{told}{settings}")?;
+            compared(alloc, text.as_str(), wanted)
+        }
         Ok(Words::Load { conf, shard }) => {
             let settings = settings(alloc, &conf)?;
             let text = format!(in alloc; "shard {shard} {settings}")?;
+            compared(alloc, text.as_str(), wanted)
+        }
+        Ok(Words::DumpState { conf }) => compared(alloc, settings(alloc, &conf)?.as_str(), wanted),
+        Ok(Words::Gen { n }) => {
+            let text = format!(in alloc; "rounds {n}")?;
             compared(alloc, text.as_str(), wanted)
         }
         Err(fault) => Ok(Some(format!(in alloc; "{fault:?}")?)),

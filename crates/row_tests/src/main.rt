@@ -5,6 +5,8 @@
 //! | Line | Means |
 //! |---|---|
 //! | `words W ..` | the words of the command line, of this case and of those behind it |
+//! | `then W ..` | the words of a command that is run over the same disks behind the session |
+//! | `gen N` | the script that `gen N` writes |
 //! | `> LINE` | a line of the script |
 //! | `send C HEX ..` | the line `bytes C HEX`; blanks in the hex are for reading |
 //! | `bytewise C HEX ..` | such a line for each byte |
@@ -19,8 +21,10 @@
 //! | `< LINE` | a line that is wanted |
 //! | `reply C HEX ..` | the line `reply C HEX` is wanted |
 //! | `status N` | the session is run, and has to write those lines and to end with N |
+//! | `status N M` | the same, where a command is run behind it, which has to end with M |
+//! | `lines N` | the session is run, and has to write so many lines, with status 0 |
 //! | `again` | the events of the script are read, and written; that has to give the script without its `end` |
-//! | `settings TEXT` | the words are read, and have to give these settings, behind `shard N` those of a load |
+//! | `settings TEXT` | the words are read, and have to give these settings: those of a load behind `shard N`, of a replay that tells numbers behind `summary`, and of `gen` as `rounds N` |
 //! | `bay TEXT` | the words have to want this bay: `memory`, or `folder N`, where the word N, counted from 0, names the folder |
 #![tactic(auto)]
 

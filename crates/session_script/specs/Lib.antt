@@ -4,3 +4,5 @@ pub mod Lines
 pub mod Unread
 pub mod Reading
 pub mod Writing
+pub mod Summary
+pub mod Telling

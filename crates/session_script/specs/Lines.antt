@@ -1,6 +1,6 @@
 -- Lines and words as lists of bytes: where they are cut, and what they say (this project's own).
 -- For example `open  1`, with two blanks, is cut into `open` and ` 1`, which is no number.
-use Rattle.std.specs.Prelude.{◌≡◌, ◌≢◌, ◌<◌, ◌≤◌, ◌^◌, ◌∷◌, ◌++◌, ℕ, List, take, drop, length, slice_index, ◌-◌, ◌+◌, ◌⊎◌}
+use Rattle.std.specs.Prelude.{◌≡◌, ◌≢◌, ◌<◌, ◌≤◌, ◌^◌, ◌∷◌, ◌++◌, ℕ, List, take, drop, length, codes, slice_index, ◌-◌, ◌+◌, ◌⊎◌}
 use Rattle.std.specs.declared.option.Option.{Option}
 use Rattle.std.specs.Io.KnownBytes.{IsAtEnd}
 use Rattle.std.specs.List.{AllByRecursion}
@@ -27,6 +27,10 @@ pub record IsLine (bytes : List ℕ) (n : ℕ) : Type 0 where
   pub within : n < length bytes
   pub feed : slice_index bytes n ≡ 10
   pub before : HasNone 10 (take n bytes)
+
+-- a line stands whole at the front, and isn't the last one
+abbrev pub HasEventLine : List ℕ → Type 0
+HasEventLine bytes = (n : ℕ) × IsLine bytes n × (take n bytes ≢ codes "end")
 
 -- the longest line of an event: `bytes`, a number of ten digits, 131072 digits, two blanks and the line feed
 abbrev pub longest_line : ℕ

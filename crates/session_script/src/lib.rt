@@ -6,12 +6,18 @@ ghost use Rattle.session_script.specs.Script.{HasOneReading};
 
 mod event;
 mod line;
+mod putting;
 mod reader;
+mod summary;
+mod telling;
 mod word;
 mod writer;
 
 pub use event::{Event, Outcome};
+pub use putting::put_outcome;
 pub use reader::{ScriptFault, ScriptReader, Taken};
+pub use summary::{Summary, write_summary};
+pub use telling::Telling;
 pub use word::number;
 pub use writer::{LineFault, write_damaged, write_event, write_malformed, write_outcome};
 

@@ -4,7 +4,7 @@ ghost use Rattle.edge_io.specs.Causes.{Rose};
 ghost use Rattle.edge_io.specs.Streams.{Gains};
 ghost use Rattle.session_script.specs.declared.reader.ScriptFault.TheVariants.{NoMemory as no_memory};
 ghost use Rattle.session_script.specs.Script.{longest};
-ghost use Rattle.session_script.specs.Lines.{HasNone, IsLine, IsFeedFrom, IsUnfinished};
+ghost use Rattle.session_script.specs.Lines.{HasEventLine, HasNone, IsLine, IsFeedFrom, IsUnfinished};
 ghost use Rattle.session_script.specs.Reading.{Takes, taken_line, Answers, EndStands};
 
 use crate::event::Event;
@@ -268,6 +268,20 @@ impl ScriptReader {
             return self.end(source);
         }
         Err(malformed)
+    }
+
+    /// Whether a line is pending whole that isn't the last one. Then the next call of [`ScriptReader::take_event`] reads nothing.
+    pub fn is_ready(&mut self) -> bool
+        ensures same { self.new ≡ self.old }
+        ensures ready { result ≡ true → HasEventLine self.new.pending }
+    {
+        match self.line_feed() {
+            Some(length) => {
+                let (line, _) = self.bytes().split_at(length);
+                line != b"end".as_slice()
+            }
+            None => false,
+        }
     }
 
     /// Takes the next event, or the end of the script. It reads as far as it must to know.

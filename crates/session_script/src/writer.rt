@@ -161,7 +161,11 @@ fn closed_line(alloc: Global, conn: u32, cause: CloseCause) -> Result<String, Al
     line(alloc, "closed", conn, &cause)
 }
 
-fn outcome_line(alloc: Global, outcome: &Outcome, conf: &Config) -> Result<String, AllocError>
+pub(crate) fn outcome_line(
+    alloc: Global,
+    outcome: &Outcome,
+    conf: &Config,
+) -> Result<String, AllocError>
     requires { IsTold conf.now.topics outcome.now }
     ensures { IfOk result (λ text. string_bytes text ≡ outcome_line conf.now.topics outcome.now) }
 {
@@ -174,7 +178,10 @@ fn outcome_line(alloc: Global, outcome: &Outcome, conf: &Config) -> Result<Strin
 }
 
 // Writes a line, where it was made.
-fn write_line<O: Sink>(line: Result<String, AllocError>, output: &mut O) -> Result<(), LineFault>
+pub(crate) fn write_line<O: Sink>(
+    line: Result<String, AllocError>,
+    output: &mut O,
+) -> Result<(), LineFault>
     ensures { (text : List ℕ) → IfOk line (λ made. string_bytes made ≡ text) →
         WritesText (O.held output.old) (O.held output.new) (O.faults output.old) (O.faults output.new) text result }
 {

@@ -1,5 +1,5 @@
 -- A script is done, unless no memory is found or a stream failed.
-use Rattle.std.proofs.Common.{◌≡◌, ◌≢◌, ◌⊎◌, inl, inr, refl, subst, ℕ, List, Option, Some, None, IfSome}
+use Rattle.std.proofs.Common.{◌≡◌, ◌≢◌, ◌⊎◌, inl, inr, refl, subst, Bool, ℕ, List, Option, Some, None, IfSome}
 use Rattle.edge_io.specs.Causes.{Rose}
 use Rattle.session_script.specs.declared.event.Event.{Event}
 use Rattle.session_script.specs.declared.event.Outcome.{Outcome}
@@ -21,10 +21,10 @@ always : (o : Option (List ℕ)) (P : List ℕ → Type 0) → ((x : List ℕ) �
 always None P h = tt
 always (Some x) P h = h x
 
-module _ (conf : ConfigParts) (input : InputChange) (output : OutputChange) (Session : List Event → (List Outcome → Type 0) → Ending → Type 0)
+module _ (conf : ConfigParts) (summary : Bool) (input : InputChange) (output : OutputChange) (Session : List Event → (List Outcome → Type 0) → Ending → Type 0)
     (Untold Same Stay : Type 0) (AtEntry : ((List ℕ → List ℕ) → Disks → Type 0) → Type 0) (Rises : Type 0) where
   abbrev Ends : Status → Type 0
-  Ends status = IsPlayed conf input output Session Untold Rises status ⊎ (Same × Stay × IsNotOpened conf output AtEntry Rises status)
+  Ends status = IsPlayed conf summary input output Session Untold Rises status ⊎ (Same × Stay × IsNotOpened conf output AtEntry Rises status)
 
   abbrev IsWhole : ℕ → Type 0
   IsWhole number = IfSome input.left (λ text. (events : List Event) → IsScript text events → (number ≡ 0) ⊎ (number ≡ 8))
@@ -68,9 +68,9 @@ not_seven Device not is = absurd (not refl)
 not_seven NoMemory not is = absurd cc
 
 -- the same over a bay
-module _ {B D : Type 0} (bay_seen : B → BayView D) (seen : D → DiskView) (old new : B) (conf : ConfigParts) (input : InputChange) (output : OutputChange) where
+module _ {B D : Type 0} (bay_seen : B → BayView D) (seen : D → DiskView) (old new : B) (conf : ConfigParts) (summary : Bool) (input : InputChange) (output : OutputChange) where
   abbrev Replay : Status → Type 0
-  Replay status = IsReplay bay_seen seen old new conf input output status
+  Replay status = IsReplay bay_seen seen old new conf summary input output status
 
   abbrev Session : List Event → (List Outcome → Type 0) → Ending → Type 0
   Session events Tells Ends = OverBay bay_seen seen conf old new (IsSession conf events Tells Ends)
@@ -87,8 +87,8 @@ module _ {B D : Type 0} (bay_seen : B → BayView D) (seen : D → DiskView) (ol
   pub completes_on : (number : ℕ) (status : Status) → number ≡ status_number status → Replay status → status ≢ Damaged → status ≢ Device
       → (Rose input.faults input.faults_after → ⊥) → (Rose output.faults output.faults_after → ⊥)
       → IfSome input.left (λ text. (events : List Event) → IsScript text events → (number ≡ 0) ⊎ (number ≡ 8))
-  completes_on number status is e whole fed read write = completes conf input output Session Untold input.Same (DisksStay bay_seen seen (status ≡ Device) old new) AtEntry Rises number status is e whole fed read write
+  completes_on number status is e whole fed read write = completes conf summary input output Session Untold input.Same (DisksStay bay_seen seen (status ≡ Device) old new) AtEntry Rises number status is e whole fed read write
 
   pub not_device_on : (status : Status) → Replay status → HoldsStates bay_seen seen conf old → (Rises → ⊥) → status ≢ Device
   not_device_on status e told still =
-      not_device conf input output Session Untold input.Same (DisksStay bay_seen seen (status ≡ Device) old new) AtEntry Rises status e (λ untold. untold told.0 told.1 told.2) still
+      not_device conf summary input output Session Untold input.Same (DisksStay bay_seen seen (status ≡ Device) old new) AtEntry Rises status e (λ untold. untold told.0 told.1 told.2) still

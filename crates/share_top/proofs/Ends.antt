@@ -29,14 +29,15 @@ use Rattle.broker_core.specs.declared.slot.PartSlot.{PartSlot}
 use Rattle.broker_core.specs.Bays.{IsOfDevice, StaysAs, TellsDisks, TellsStill, IsFirst, ArePutBack, HoldsIf, BothHold, HasName}
 use Rattle.broker_core.specs.Hosts.{LeftDisks, GoOn, DiskGoesOn, DisksReach, IsPartSlot, StandStill, ForeignStill, PartStill, PartsStill, ReachesTo, among, disk_in, disks_in, facts_at, facts_in, facts_among, foreign_disk, foreign_facts, hosted_slot, hosted_slots, slots_disks}
 use Rattle.broker_core.specs.Cores.{CoreParts, IsCore, state_of}
-use Rattle.broker_core.specs.Restarts.{IsDamagedDisk}
+use Rattle.broker_core.specs.Restarts.{IsDamagedDisk, IsOpenedDisk}
 use Rattle.broker_core.proofs.Opening.{is_told}
 use Rattle.broker_core.proofs.Places.{is_same, one_in_either, same_self}
 use Rattle.share_top.specs.declared.status.Status.{Status}
 use Rattle.share_top.specs.declared.status.Status.TheVariants.{Done, Usage, Malformed, ReadFault, WriteFault, Damaged, Device, NoMemory}
 use Rattle.share_top.specs.Changes.{InputChange, OutputChange}
-use Rattle.share_top.specs.Sessions.{Ending, Leaves, LeavesWithin, Ran, IsSession, OfBay, OverBay, CountRose, Writes, WritesThen, WritesFront, WritesPart}
-use Rattle.share_top.specs.Statuses.{ComesNext, DisksStay, IsPlayed, IsNotOpened, IsRefusedScript, IsBegun}
+use Rattle.share_top.specs.Sessions.{Ending, Leaves, LeavesWithin, Ran, IsSession, OfBay, OverBay, CountRose, Writes, WritesAll, WritesAllFront, WritesThen, WritesThenFront, WritesFront}
+use Rattle.share_top.specs.Dumping.{IsDumped, dump_text}
+use Rattle.share_top.specs.Statuses.{ComesNext, DisksStay, IsPlayed, IsNotOpened, IsRefusedScript, IsDone, IsBegun}
 use Rattle.share_top.specs.Going.{FromCore, NeverFrom, IsRefusal}
 use Rattle.edge_io.specs.Views.{DiskView, BayView}
 
@@ -71,14 +72,17 @@ within_ends conf Next = record {
 
 -- ---- a table of one kind of sessions gives that of another
 
-module _ (conf : ConfigParts) (input : InputChange) (output : OutputChange)
+module _ (conf : ConfigParts) (summary : Bool) (input : InputChange) (output : OutputChange)
     (S T : List Event → (List Outcome → Type 0) → Ending → Type 0) (Untold Never Rises Rose_over : Type 0)
     (leaves : (events : List Event) (Tells : List Outcome → Type 0) → S events Tells (Leaves conf) → T events Tells (Leaves conf))
     (within : (Next : Event → Type 0) (events : List Event) (Tells : List Outcome → Type 0) → S events Tells (LeavesWithin conf Next) → T events Tells (LeavesWithin conf Next))
     (never : Untold → Never) (rises : Rises → Rose_over) where
-  begun : IsBegun input (λ events. S events (WritesFront conf output) (LeavesWithin conf (ComesNext input events)))
-      → IsBegun input (λ events. T events (WritesFront conf output) (LeavesWithin conf (ComesNext input events)))
-  begun b = record { events = b.events; begins = b.begins; session = within (ComesNext input b.events) b.events (WritesFront conf output) b.session }
+  abbrev Front : List Outcome → Type 0
+  Front xs = WritesFront conf summary output xs
+
+  begun : IsBegun input (λ events. S events Front (LeavesWithin conf (ComesNext input events)))
+      → IsBegun input (λ events. T events Front (LeavesWithin conf (ComesNext input events)))
+  begun b = record { events = b.events; begins = b.begins; session = within (ComesNext input b.events) b.events Front b.session }
 
   refused : (Tells : ℕ → List Outcome → Type 0) → IsRefusedScript input (λ events fault. S events (Tells fault) (Leaves conf))
       → IsRefusedScript input (λ events fault. T events (Tells fault) (Leaves conf))
@@ -90,16 +94,22 @@ module _ (conf : ConfigParts) (input : InputChange) (output : OutputChange)
     session = leaves r.events (Tells r.fault) r.session;
   }
 
-  pub played : (status : Status) → IsPlayed conf input output S Untold Rises status → IsPlayed conf input output T Never Rose_over status
-  played Done d = record {
+  done : (Tells : List Outcome → Type 0) → IsDone input (λ events. S events Tells (Leaves conf)) → IsDone input (λ events. T events Tells (Leaves conf))
+  done Tells d = record {
     events = d.events;
     script = d.script;
     whole = d.whole;
     ended = d.ended;
-    session = leaves d.events (Writes conf output) d.session;
+    session = leaves d.events Tells d.session;
   }
+
+  abbrev LineFront : ℕ → List Outcome → Type 0
+  LineFront fault xs = WritesThenFront conf summary (malformed_line fault) output xs
+
+  pub played : (status : Status) → IsPlayed conf summary input output S Untold Rises status → IsPlayed conf summary input output T Never Rose_over status
+  played Done d = done (WritesAll conf summary output) d
   played Usage d = d
-  played Malformed r = refused (λ fault. WritesThen conf (malformed_line fault) output) r
+  played Malformed r = refused (λ fault. WritesThen conf summary (malformed_line fault) output) r
   played ReadFault r = (
     r.0,
     record {
@@ -107,16 +117,19 @@ module _ (conf : ConfigParts) (input : InputChange) (output : OutputChange)
       events = r.1.events;
       consumed = r.1.consumed;
       whole = r.1.whole;
-      session = leaves r.1.events (Writes conf output) r.1.session;
+      session = leaves r.1.events (Writes conf summary output) r.1.session;
     },
   )
   played WriteFault r = (r.0, stopped r.1) where
-    stopped : IsBegun input (λ events. S events (WritesFront conf output) (LeavesWithin conf (ComesNext input events)))
-        ⊎ IsRefusedScript input (λ events fault. S events (WritesPart conf (malformed_line fault) output) (Leaves conf))
-        → IsBegun input (λ events. T events (WritesFront conf output) (LeavesWithin conf (ComesNext input events)))
-        ⊎ IsRefusedScript input (λ events fault. T events (WritesPart conf (malformed_line fault) output) (Leaves conf))
+    stopped : IsBegun input (λ events. S events Front (LeavesWithin conf (ComesNext input events)))
+        ⊎ (IsRefusedScript input (λ events fault. S events (LineFront fault) (Leaves conf))
+        ⊎ IsDone input (λ events. S events (WritesAllFront conf summary output) (Leaves conf)))
+        → IsBegun input (λ events. T events Front (LeavesWithin conf (ComesNext input events)))
+        ⊎ (IsRefusedScript input (λ events fault. T events (LineFront fault) (Leaves conf))
+        ⊎ IsDone input (λ events. T events (WritesAllFront conf summary output) (Leaves conf)))
     stopped (inl b) = inl (begun b)
-    stopped (inr l) = inr (refused (λ fault. WritesPart conf (malformed_line fault) output) l)
+    stopped (inr (inl l)) = inr (inl (refused LineFront l))
+    stopped (inr (inr d)) = inr (inr (done (WritesAllFront conf summary output) d))
   played Damaged u = never u
   played Device u = (rises u.0, never u.1)
   played NoMemory b = begun b
@@ -526,20 +539,45 @@ module _ {B D : Type 0} (bay_seen : B → BayView D) (seen : D → DiskView) whe
           },
         )
 
+    -- a broker that did no event
+    pub dumped : (Says : List ℕ → Type 0) → ((m : Machine) → IsCore seen core m → StandStill seen m.shards left × Says (dump_text m.shards))
+        → ((m : Machine) (name : List ℕ) → facts_in seen left name ≡ (began m core).disks name) → OverBay bay_seen seen conf old new (IsDumped conf Says)
+    dumped Says from known = λ contents was t.
+        let o = opens contents was t in
+        let d = from o.0 o.1 in
+        let told = told_in contents was t in
+        let names : names_in left.parts ≡ part_disks (hosted_of conf) = left_names o.0 o.1 o.2.opens.hosts in
+        let found : (name : List ℕ) → IsTaken conf name → Found name = λ name taken. found_at o.0.shards d.0 name (told name taken)
+        (here name (λ one. has_of_one left.parts name (subst (λ (l : List (List ℕ)). IsOneOf l name) (sym names) one)) taken) in (
+          text_in new,
+          facts_in seen left,
+          λ name taken. tells_at name (found name taken),
+          record {
+            machine = o.0;
+            opens = o.2.opens;
+            says = d.1;
+            stands = all_stand mid new read left o.0.shards back
+                (λ name one. told name (inl (subst (λ (l : List (List ℕ)). IsOneOf l name)
+                (sym (names_still seen left.parts o.0.shards.parts d.0.parts) ∙ names) one)))
+                (told state_a (inr (inl refl))) (told state_b (inr (inr refl))) d.0;
+            disks = λ name taken. subst (λ (f : Facts). IsOpenedDisk (was name) f) (sym (known o.0 name)) (o.2.disks name taken);
+          },
+        )
+
     abbrev Session : List Event → (List Outcome → Type 0) → Ending → Type 0
     Session events Says Ends = OverBay bay_seen seen conf old new (IsSession conf events Says Ends)
 
-    pub played_over : (input : InputChange) (output : OutputChange) (Rises Rose_over : Type 0) → (Rises → Rose_over) → (status : Status)
-        → IsPlayed core.conf input output (FromCore seen core left) (NeverFrom seen core) Rises status
-        → IsPlayed conf input output Session (OfBay bay_seen seen conf old (λ contents was. ⊥)) Rose_over status
-    played_over input output Rises Rose_over rises status p =
-        played conf input output (FromCore seen core left) Session
+    pub played_over : (summary : Bool) (input : InputChange) (output : OutputChange) (Rises Rose_over : Type 0) → (Rises → Rose_over) → (status : Status)
+        → IsPlayed core.conf summary input output (FromCore seen core left) (NeverFrom seen core) Rises status
+        → IsPlayed conf summary input output Session (OfBay bay_seen seen conf old (λ contents was. ⊥)) Rose_over status
+    played_over summary input output Rises Rose_over rises status p =
+        played conf summary input output (FromCore seen core left) Session
         (NeverFrom seen core) (OfBay bay_seen seen conf old (λ contents was. ⊥)) Rises Rose_over
         (λ events Says from. over (Leaves conf) (leaves_ends conf) events Says from)
         (λ Next events Says from. over (LeavesWithin conf Next) (within_ends conf Next) events Says from)
         (λ never contents was t. let o = opens contents was t in never o.0 o.1) rises
         status
-        (subst (λ (c : ConfigParts). IsPlayed c input output (FromCore seen core left)
+        (subst (λ (c : ConfigParts). IsPlayed c summary input output (FromCore seen core left)
         (NeverFrom seen core) Rises status) same p)
 
   -- ---- a broker that was not opened
@@ -560,12 +598,12 @@ module _ {B D : Type 0} (bay_seen : B → BayView D) (seen : D → DiskView) whe
     not_opened NoMemory r = r
 
   -- a replay over disks that tell their contents isn't stopped by a power loss
-  pub never_stopped : (core : CoreParts D) (left : LeftDisks D) (input : InputChange) (output : OutputChange) (Rises : Type 0) (status : Status)
-      → IsPlayed core.conf input output (FromCore seen core left) (NeverFrom seen core) Rises status
+  pub never_stopped : (core : CoreParts D) (left : LeftDisks D) (summary : Bool) (input : InputChange) (output : OutputChange) (Rises : Type 0) (status : Status)
+      → IsPlayed core.conf summary input output (FromCore seen core left) (NeverFrom seen core) Rises status
       → (status ≡ Damaged) ⊎ (status ≡ Device) → NeverFrom seen core
-  never_stopped core left input output Rises status p (inl is) = subst (λ (s : Status). IsPlayed core.conf input output
+  never_stopped core left summary input output Rises status p (inl is) = subst (λ (s : Status). IsPlayed core.conf summary input output
       (FromCore seen core left) (NeverFrom seen core) Rises s) is p
-  never_stopped core left input output Rises status p (inr is) = (subst (λ (s : Status). IsPlayed core.conf input output
+  never_stopped core left summary input output Rises status p (inr is) = (subst (λ (s : Status). IsPlayed core.conf summary input output
       (FromCore seen core left) (NeverFrom seen core) Rises s) is p).1
 
 pub refusal_damaged : (fault : CoreOpen) (output : OutputChange) (status : Status) → IsRefusal fault output status → status ≡ Damaged → IsRefusal fault output Damaged

@@ -1,13 +1,7 @@
 -- A run goes on by one event, or ends.
-use Rattle.std.proofs.Common.{◌≡◌, ◌⊎◌, inl, inr, refl, sym, ap, ◌∙◌, subst, arith, append-nil, ℕ, List, [], ◌∷◌, ◌++◌}
-use Rattle.std.specs.declared.option.Option.{Option}
-use Rattle.std.proofs.lemmas.List.Concat.{flat_map-append}
-use Rattle.std.specs.Io.KnownBytes.{Appends, Keeps}
-use Rattle.std.proofs.KnownBytes.{Appends-trans}
-use Rattle.edge_io.specs.Streams.{AppendsFront}
+use Rattle.std.proofs.Common.{◌≡◌, ◌⊎◌, inl, inr, refl, sym, ap, ◌∙◌, subst, arith, ℕ, List, [], ◌∷◌, ◌++◌}
 use Rattle.session_script.specs.declared.event.Event.{Event}
 use Rattle.session_script.specs.declared.event.Outcome.{Outcome}
-use Rattle.session_script.specs.Output.{outcome_line, output_of}
 use Rattle.topic_conf.specs.Configs.{ConfigParts}
 use Rattle.broker_model.specs.Shards.{Shards}
 use Rattle.broker_model.specs.Machine.{Machine}
@@ -19,48 +13,10 @@ use Rattle.broker_core.specs.Cores.{CoreParts, IsCore, Reaches, state_of}
 use Rattle.broker_core.proofs.Leading.{still_all}
 use Rattle.broker_core.proofs.Reaching.{reach_all, reach_less}
 use Rattle.broker_core.proofs.Events.{later as counts_later}
-use Rattle.share_top.specs.Changes.{OutputChange}
 use Rattle.share_top.specs.Sessions.{DoesMore, Leaves, LeavesWithin, Ran, counts_since, ends_since}
 use Rattle.share_top.specs.Going.{Goes, Plays, Halts}
-use Rattle.share_top.proofs.Fronts.{front_behind, keeps_appends}
 use Rattle.share_top.proofs.Steps.{run_then, events_then, outcomes_then}
 use Rattle.edge_io.specs.Views.{DiskView}
-
-abbrev Held : Type 0
-Held = Option (List ℕ)
-
--- ---- texts of outcomes
-
--- `now` is the configuration of the broker as it stands, which is the one with which it began
-module _ (a b c : Held) (conf : ConfigParts) where
-  abbrev text : List Outcome → List ℕ
-  text xs = output_of conf.topics xs
-
-  pub text_behind : (now : ConfigParts) → now ≡ conf → (xs ys : List Outcome) → Appends a b (text xs) → Appends b c (output_of now.topics ys)
-      → Appends a c (text (xs ++ ys))
-  text_behind now same xs ys p q = subst (λ (l : List ℕ). Appends a c l) (sym (flat_map-append (outcome_line conf.topics) xs ys))
-      (Appends-trans a b c (text xs) (text ys) p (subst (λ (k : ConfigParts). Appends b c (output_of k.topics ys)) same q))
-
-  pub part_behind : (now : ConfigParts) → now ≡ conf → (xs ys : List Outcome) → Appends a b (text xs)
-      → (rest : List ℕ) × AppendsFront b c (output_of now.topics ys) rest → (rest : List ℕ) × AppendsFront a c (text (xs ++ ys)) rest
-  part_behind now same xs ys p q = (
-    q.0,
-    subst (λ (l : List ℕ). AppendsFront a c l q.0) (sym (flat_map-append (outcome_line conf.topics) xs ys))
-        (front_behind a b c (text xs) (text ys) q.0 p (subst (λ (k : ConfigParts). AppendsFront b c (output_of k.topics ys) q.0) same q.1)),
-  )
-
-  pub line_behind : (xs : List Outcome) (line : List ℕ) → Appends a b (text xs) → Appends b c line → Appends a c (text xs ++ line)
-  line_behind xs line p q = Appends-trans a b c (text xs) line p q
-
-  pub kept_behind : (xs : List Outcome) → Appends a b (text xs) → Keeps b c → (rest : List ℕ) × AppendsFront a c (text xs) rest
-  kept_behind xs p kept = (
-    [],
-    record {
-      front = text xs;
-      parts = append-nil (text xs);
-      grown = subst (λ (l : List ℕ). Appends a c l) (append-nil (text xs)) (Appends-trans a b c (text xs) [] p (keeps_appends b c kept));
-    },
-  )
 
 -- ---- runs
 
@@ -162,18 +118,18 @@ module _ {D : Type 0} (seen : D → DiskView) where
   reached conf Next core next same old after ends e comes (inr more) =
       inr (e, comes, subst (λ (c : ConfigParts). DoesMore c (at old core) (known next) ends e after) same more)
 
-  pub halted : (conf : ConfigParts) (Next : Event → Type 0) (first : State) (events : List Event) (e : Event) → Next e → (T U : List Outcome → Type 0) (output : OutputChange)
-      → ((xs : List Outcome) → T xs → Keeps output.held output.held_after → U xs) → (core next : CoreParts D) → core.conf ≡ conf → G conf first events T core
-      → ((m : Machine) → Stands core m → Halts seen core m e next output)
+  pub halted : (conf : ConfigParts) (Next : Event → Type 0) (first : State) (events : List Event) (e : Event) → Next e → (T U : List Outcome → Type 0)
+      → ((xs : List Outcome) → T xs → U xs) → (core next : CoreParts D) → core.conf ≡ conf → G conf first events T core
+      → ((m : Machine) → Stands core m → Halts seen core m e next)
       → Ran conf first events U (LeavesWithin conf Next (Still (disks_in next.hosts)) (Reach (disks_in next.hosts)) (facts_in seen (disks_in next.hosts)))
-  halted conf Next first events e comes T U output keep core next same g halts =
+  halted conf Next first events e comes T U keep core next same g halts =
       let h = halts g.machine g.core in
       record {
         steps = g.steps;
         last = at g.machine core;
         run = g.run;
         events_are = g.events_are;
-        tells = keep (outcomes_of g.steps) g.tells h.kept;
+        tells = keep (outcomes_of g.steps) g.tells;
         ends = record {
           after = h.stops.after;
           ends = h.stops.ends;

@@ -10,10 +10,10 @@ use Rattle.share_top.specs.declared.status.Status.{Status}
 use Rattle.share_top.specs.declared.status.Status.TheVariants.{NoMemory}
 use Rattle.share_top.specs.Changes.{InputChange, OutputChange}
 use Rattle.share_top.specs.Segments.{IsSegment}
-use Rattle.share_top.specs.Words.{AreLoadWords, AreReplayWords, texts}
+use Rattle.share_top.specs.Words.{AreLoadWords, texts}
 use Rattle.share_top.specs.Loading.{IsLoad, IsLogDisk, LoadsWith, LoadCompletes}
 use Rattle.share_top.specs.Statuses.{status_number}
-use Rattle.share_top.proofs.OneCommand.{one_load, two_commands}
+use Rattle.share_top.proofs.OneCommand.{one_load}
 use Rattle.share_top.proofs.PartitionWords.{one_partition}
 use Rattle.share_top.proofs.LoadCompletes.{completes}
 use Rattle.edge_io.specs.Views.{DiskView, BayView}
@@ -38,9 +38,6 @@ module _ {B D : Type 0} (bay_seen : B → BayView D) (seen : D → DiskView)
 
     pub other_completes : Completes number
     other_completes conf shard name are = absurd (none conf shard are)
-
-  pub not_replay : (conf : ConfigParts) → AreReplayWords (texts words) conf → (other : ConfigParts) (shard : ℕ) → AreLoadWords (texts words) other shard → ⊥
-  not_replay conf are other shard p = two_commands (texts words) conf other shard are p
 
   -- no memory was found for the words
   pub hungry_loads : (number : ℕ) → number ≡ status_number NoMemory → input.Same → output.Same → new ≡ old → Loads number

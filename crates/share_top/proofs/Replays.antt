@@ -1,8 +1,7 @@
 -- How a replay ends: with its script, or within it.
-use Rattle.std.proofs.Common.{◌≡◌, ◌≤◌, inl, inr, refl, ◌∙◌, ℕ, List, [], ◌∷◌, ◌++◌, true, IfSome}
+use Rattle.std.proofs.Common.{◌≡◌, ◌≤◌, inl, inr, refl, sym, subst, ◌∙◌, ℕ, List, [], ◌∷◌, ◌++◌, true, IfSome}
 use Rattle.std.specs.declared.option.Option.{Option}
-use Rattle.std.specs.Io.KnownBytes.{Keeps, IsAtEnd}
-use Rattle.edge_io.specs.Causes.{Rose}
+use Rattle.std.specs.Io.KnownBytes.{IsAtEnd}
 use Rattle.session_script.specs.declared.event.Event.{Event}
 use Rattle.session_script.specs.declared.event.Outcome.{Outcome}
 use Rattle.session_script.specs.Script.{IsEvent, IsRefused, HasNoEvent, line_of, end_line, longest}
@@ -11,14 +10,14 @@ use Rattle.session_script.specs.Reading.{Takes}
 use Rattle.broker_model.specs.Machine.{Machine}
 use Rattle.broker_model.specs.States.{State}
 use Rattle.broker_core.specs.Hosts.{AreOpen, GoOn, OneRose, disks_in}
-use Rattle.broker_core.specs.Cores.{CoreParts, state_of}
+use Rattle.broker_core.specs.Cores.{CoreParts, IsCore, state_of}
 use Rattle.broker_core.proofs.Leading.{go_on_same}
-use Rattle.share_top.specs.declared.status.Status.{Status}
-use Rattle.share_top.specs.declared.status.Status.TheVariants.{Done, Usage, Malformed, ReadFault, WriteFault, Damaged, Device, NoMemory}
-use Rattle.share_top.specs.Changes.{InputChange, OutputChange}
-use Rattle.share_top.specs.Sessions.{Ending, Leaves, LeavesWithin, WritesFront}
-use Rattle.share_top.specs.Statuses.{ComesNext, IsPlayed, IsDone, IsRefusedScript, IsCut, IsBegun}
-use Rattle.share_top.specs.Going.{Going, FromCore, NeverFrom, Plays, PlaysPart, IsNotPlayed}
+use Rattle.share_top.specs.declared.replay.Stopped.{Stopped}
+use Rattle.share_top.specs.declared.replay.Stopped.TheVariants as stop
+use Rattle.share_top.specs.Changes.{InputChange}
+use Rattle.share_top.specs.Sessions.{Ending, Leaves, LeavesWithin}
+use Rattle.share_top.specs.Statuses.{ComesNext, IsDone, IsRefusedScript, IsCut}
+use Rattle.share_top.specs.Going.{Going, FromCore, Halts, HasBegun, NeverFrom, Plays, IsNotPlayed, IsStopped}
 use Rattle.share_top.proofs.ScriptReads as reads
 use Rattle.share_top.proofs.Counts.{go_on_then, rises}
 use Rattle.share_top.proofs.Goes.{begins, goes_on, retold, ran, ran_within, halted}
@@ -72,55 +71,70 @@ module _ {D : Type 0} (seen : D → DiskView) where
     pub cut : Took [] → HasNoEvent v.place v.pending → IsCut input (λ events. From first now events T (Leaves first.conf))
     cut t none = reads.cut input mid u v going.read (λ events. From first now events T (Leaves first.conf)) t none whole
 
-    -- the last line is told, or a front of it
-    pub malformed : (Says : ℕ → List Outcome → Type 0) (fault : ℕ) → ((xs : List Outcome) → T xs → Says fault xs) → Took []
-        → IfSome input.left_after (λ more. IsRefused v.place (v.pending ++ more) fault)
-        → IsRefusedScript input (λ events fault. From first now events (Says fault) (Leaves first.conf))
-    malformed Says fault f t h = reads.refused input mid u v going.read (λ events fault. From first now events (Says fault) (Leaves first.conf)) fault t h
-        (λ m k. ran seen first.conf (begun m) going.read.events (Says fault) now
-        (retold seen first.conf (begun m) going.read.events T (Says fault) f now (going.goes m k)))
+    pub malformed : (place : ℕ) → Took [] → IfSome input.left_after (λ more. IsRefused v.place (v.pending ++ more) place)
+        → IsRefusedScript input (λ events fault. (fault ≡ place) × From first now events T (Leaves first.conf))
+    malformed place t h =
+        reads.refused input mid u v going.read (λ events fault. (fault ≡ place) × From first now events T (Leaves first.conf)) place t h (refl, whole)
 
-    -- nothing more was told
-    pub still : (U : List Outcome → Type 0) → ((xs : List Outcome) → T xs → U xs) → Took []
-        → IsBegun input (λ events. From first now events U (LeavesWithin first.conf (ComesNext input events)))
-    still U f t = reads.begun_still input mid u v going.read (λ events. From first now events U (LeavesWithin first.conf (ComesNext input events))) t
-        (λ m k. ran_within seen first.conf (ComesNext input going.read.events) (begun m) going.read.events U now
-        (retold seen first.conf (begun m) going.read.events T U f now (going.goes m k)))
+  module _ (input : InputChange) (first now : CoreParts D) (T : List Outcome → Type 0) (mid : Option (List ℕ)) (u : Unread)
+      (going : Going seen input.left mid u T first now) where
+    -- so far
+    pub has_begun : (U : List Outcome → Type 0) → ((xs : List Outcome) → T xs → U xs) → HasBegun first.conf input (From first now) U
+    has_begun U f = reads.begun_now input mid u going.read (λ events. From first now events U (LeavesWithin first.conf (ComesNext input events)))
+        (λ m k. ran_within seen first.conf (ComesNext input going.read.events) (state_of seen m first) going.read.events U now
+        (retold seen first.conf (state_of seen m first) going.read.events T U f now (going.goes m k)))
 
-    module _ (output : OutputChange) (U : List Outcome → Type 0) (e : Event) (next : CoreParts D)
-        (join : (xs ys : List Outcome) → T xs → WritesFront now.conf output ys → U (xs ++ ys))
-        (keep : (xs : List Outcome) → T xs → Keeps output.held output.held_after → U xs)
-        (t : Took (line_of e)) (is : IsEvent e) (le : v.place ≤ longest) where
-      part : PlaysPart seen now e next output → IsBegun input (λ events. From first next events U (LeavesWithin first.conf (ComesNext input events)))
-      part (inl plays) = reads.begun_behind input mid u v going.read (λ events. From first next events U (LeavesWithin first.conf (ComesNext input events))) e t is le
-          (λ m k. ran_within seen first.conf (ComesNext input (going.read.events ++ e ∷ [])) (begun m) (going.read.events ++ e ∷ []) U next
-          (goes_on seen first.conf (begun m) going.read.events e T (WritesFront now.conf output) U join now next going.conf
-          (going.goes m k) plays))
-      part (inr halts) = reads.begun_before input mid u v going.read (λ events. From first next events U (LeavesWithin first.conf (ComesNext input events))) e t is le
-          (λ m k. halted seen first.conf (ComesNext input going.read.events) (begun m) going.read.events e
-          (reads.begins_behind input mid u v going.read e t is le) T U output keep now next going.conf
-          (going.goes m k) halts)
+  -- another thing is told, and the reader is the same
+  pub regoing : (left mid : Option (List ℕ)) (u v : Unread) (T U : List Outcome → Type 0) (first now : CoreParts D) → v ≡ u → ((xs : List Outcome) → T xs → U xs)
+      → Going seen left mid u T first now → Going seen left mid v U first now
+  regoing left mid u v T U first now same f going = subst (λ (x : Unread). Going seen left mid x U first now) (sym same) (record {
+    read = going.read;
+    goes = λ m k. retold seen first.conf (state_of seen m first) going.read.events T U f now (going.goes m k);
+    conf = going.conf;
+    disks = going.disks;
+    is_open = going.is_open;
+  })
 
-      never : NeverFrom seen now → NeverFrom seen first
-      never n m k = let g = going.goes m k in n g.machine g.core
+  -- ---- an event that wasn't done and told whole
 
-    -- an event ended so
-    pub stopped : (output all : OutputChange) (e : Event) (next : CoreParts D)
-        → ((xs ys : List Outcome) → T xs → WritesFront now.conf output ys → WritesFront first.conf all (xs ++ ys))
-        → ((xs : List Outcome) → T xs → Keeps output.held output.held_after → WritesFront first.conf all xs)
-        → (Rose output.faults output.faults_after → Rose all.faults all.faults_after) → AreOpen first.hosts
-        → Took (line_of e) → IsEvent e → v.place ≤ longest → (status : Status)
-        → IsNotPlayed seen now e next output status
-        → IsPlayed first.conf input all (From first next) (NeverFrom seen first)
-        (OneRose seen (disks_in first.hosts) (disks_in next.hosts)) status
-    stopped output all e next join keep rose opened t is le Done p = absurd p
-    stopped output all e next join keep rose opened t is le Usage p = p
-    stopped output all e next join keep rose opened t is le Malformed p = absurd p
-    stopped output all e next join keep rose opened t is le ReadFault p = absurd p
-    stopped output all e next join keep rose opened t is le WriteFault p = (rose p.0, inl (part output (WritesFront first.conf all) e next join keep t is le p.1))
-    stopped output all e next join keep rose opened t is le Damaged p = never output (WritesFront first.conf all) e next join keep t is le p
-    stopped output all e next join keep rose opened t is le Device p = (
-      rises seen first.hosts (disks_in now.hosts) (disks_in next.hosts) opened going.disks p.0,
-      never output (WritesFront first.conf all) e next join keep t is le p.1,
+  module _ (input : InputChange) (first now : CoreParts D) (T : List Outcome → Type 0) (mid : Option (List ℕ)) (u v : Unread)
+      (going : Going seen input.left mid u T first now) (e : Event) (next : CoreParts D)
+      (t : Takes u v mid input.left_after (line_of e)) (is : IsEvent e) (le : v.place ≤ longest) where
+    abbrev Begun : (List Outcome → Type 0) → Type 0
+    Begun U = HasBegun first.conf input (From first next) U
+
+    abbrev began : Machine → State
+    began m = state_of seen m first
+
+    -- it was done, and told so
+    did : (S U : List Outcome → Type 0) → ((xs ys : List Outcome) → T xs → S ys → U (xs ++ ys)) → Plays seen now e S next → Begun U
+    did S U join plays = reads.begun_behind input mid u v going.read (λ events. From first next events U (LeavesWithin first.conf (ComesNext input events))) e t is le
+        (λ m k. ran_within seen first.conf (ComesNext input (going.read.events ++ e ∷ [])) (began m) (going.read.events ++ e ∷ []) U next
+        (goes_on seen first.conf (began m) going.read.events e T S U join now next going.conf (going.goes m k) plays))
+
+    -- no memory was found in it
+    left : (U : List Outcome → Type 0) → ((xs : List Outcome) → T xs → U xs) → ((m : Machine) → IsCore seen now m → Halts seen now m e next) → Begun U
+    left U keep halts = reads.begun_before input mid u v going.read (λ events. From first next events U (LeavesWithin first.conf (ComesNext input events))) e t is le
+        (λ m k. halted seen first.conf (ComesNext input going.read.events) (began m) going.read.events e
+        (reads.begins_behind input mid u v going.read e t is le) T U keep now next going.conf (going.goes m k) halts)
+
+    never : NeverFrom seen now → NeverFrom seen first
+    never n m k = let g = going.goes m k in n g.machine g.core
+
+    pub stopped : (Told U V Part Front : List Outcome → Type 0) (Kept Fails Failed : Type 0) → ((xs ys : List Outcome) → T xs → Part ys → U (xs ++ ys))
+        → ((xs ys : List Outcome) → T xs → Front ys → V (xs ++ ys)) → (Kept → (xs : List Outcome) → T xs → U xs) → (Fails → Failed) → AreOpen first.hosts
+        → (s : Stopped) → IsNotPlayed seen now e next Part Front Kept Fails s
+        → IsStopped first.conf input (From first next) Told U V (NeverFrom seen first) (OneRose seen (disks_in first.hosts) (disks_in next.hosts)) Failed s
+    stopped Told U V Part Front Kept Fails Failed some failed kept fails opened stop.Write p = (fails p.0, did Front V failed p.1)
+    stopped Told U V Part Front Kept Fails Failed some failed kept fails opened stop.NoMemory (inl p) = did Part U some p
+    stopped Told U V Part Front Kept Fails Failed some failed kept fails opened stop.NoMemory (inr p) = left U (kept p.0) p.1
+    stopped Told U V Part Front Kept Fails Failed some failed kept fails opened (stop.Reopen fault) p = (
+      never p.0,
+      p.1,
+      λ device. rises seen first.hosts (disks_in now.hosts) (disks_in next.hosts) opened going.disks (p.2 device),
+      reads.begun_before input mid u v going.read (λ events. From first next events (λ xs. ⊥) (LeavesWithin first.conf (ComesNext input events))) e t is le
+          (λ m k. absurd (never p.0 m k)),
     )
-    stopped output all e next join keep rose opened t is le NoMemory p = part output (WritesFront first.conf all) e next join keep t is le p
+    stopped Told U V Part Front Kept Fails Failed some failed kept fails opened stop.End p = absurd p
+    stopped Told U V Part Front Kept Fails Failed some failed kept fails opened (stop.Malformed place) p = absurd p
+    stopped Told U V Part Front Kept Fails Failed some failed kept fails opened stop.Read p = absurd p

@@ -97,6 +97,23 @@ read_on left mid after u v e g t is le = record {
   place = place_line left mid after u v e g t;
 }
 
+-- the input begins with what was read
+pub begun_now : (input : InputChange) (mid : Held) (u : Unread) (g : IsRead input.left mid u) (Session : List Event → Type 0) → Session g.events → IsBegun input Session
+begun_now input mid u g Session session = record {
+  events = g.events;
+  begins = whole_text input.left mid g.given (λ text. (rest : List ℕ) × Begins text g.events rest) g.consumed
+      (some_each mid (λ more. (rest : List ℕ) × Begins (g.given ++ more) g.events rest)
+      (λ more. (
+        u.pending ++ more,
+        record {
+          each = g.begins.each;
+          parts = ap (λ (l : List ℕ). l ++ more) g.begins.parts ∙ append_assoc (lines g.events) u.pending more;
+          within = g.begins.within;
+        },
+      )));
+  session = session;
+}
+
 -- ---- no line more
 
 begins_still : (left mid after : Held) (u v : Unread) (g : IsRead left mid u) (t : Takes u v mid after []) (more : List ℕ)
@@ -185,18 +202,6 @@ module _ (input : InputChange) (mid : Held) (u v : Unread) (g : IsRead input.lef
               (subst (λ (l : List ℕ). Begins ((g.given ++ t.given) ++ []) g.events l) (append-nil v.pending) (begins_still input.left mid input.left_after u v g t [])),
           subst (λ (n : ℕ). HasNoEvent n v.pending) (still_at input.left mid input.left_after u v g t) none,
         );
-        session = session;
-      }
-
-  -- nothing was taken
-  pub begun_still : (Session : List Event → Type 0) → Took [] → Session g.events → IsBegun input Session
-  begun_still Session t session =
-      let given = g.given ++ t.given in
-      record {
-        events = g.events;
-        begins = whole_text input.left input.left_after given (λ text. (rest : List ℕ) × Begins text g.events rest) (all_given [] t)
-            (some_each input.left_after (λ more. (rest : List ℕ) × Begins (given ++ more) g.events rest)
-            (λ more. (v.pending ++ more, begins_still input.left mid input.left_after u v g t more)));
         session = session;
       }
 

@@ -6,6 +6,10 @@ use Rattle.edge_io.specs.Bays.{IsSound}
 use Rattle.edge_io.specs.Views.{DiskView, BayView}
 use Rattle.share_top.specs.Apart.{LeavesOthers, LoadRuns}
 use Rattle.share_top.specs.Changes.{InputChange, OutputChange}
+use Rattle.topic_conf.specs.Configs.{ConfigParts}
+use Rattle.share_top.specs.Dumping.{DumpsState}
+use Rattle.share_top.specs.Generating.{Generates}
+use Rattle.share_top.specs.Words.{AreDumpStateWords, AreGenWords, texts}
 use Rattle.share_top.specs.Loading.{LoadCompletes, LoadsWith}
 use Rattle.share_top.specs.Statuses.{AreOfReplay, Completes, EndsWith, HasNoCommand}
 
@@ -27,3 +31,7 @@ pub record DoesCommand {B D : Type 0} (bay_seen : B → BayView D) (seen : D →
   pub complete : Completes bay_seen seen old new words input output number
   -- where no count rose, a segment whose batches may stand behind the log is loaded, or memory or the journal's room ended
   pub load_completes : LoadCompletes bay_seen seen old new words input output number
+  -- where the words are those of a dump, it writes what the disks stand for, and these stand for it behind it
+  pub dumps : (conf : ConfigParts) → AreDumpStateWords (texts words) conf → DumpsState bay_seen seen old new conf input output number
+  -- where they are those of `gen`, it writes the script of the number
+  pub generates : (n : ℕ) → AreGenWords (texts words) n → Generates n (input.Same × (new ≡ old)) output number

@@ -1,7 +1,7 @@
 -- A recorded session on the disks of a bay: all that is promised of it is said of one run of the broker. This project's own.
 -- For example the session `power 5` on empty disks is a run of one step, from the opening of empty logs, no tables and no keys to the
 -- opening of the contents that are each disk's one loss, with choice 5; and what was written is its outcome's line `restarted`.
-use Rattle.std.specs.Prelude.{◌≡◌, ◌⊎◌, ◌≤◌, ◌-◌, ◌++◌, ℕ, List}
+use Rattle.std.specs.Prelude.{◌≡◌, ◌⊎◌, ◌≤◌, ◌-◌, ◌++◌, ℕ, List, Bool}
 use Rattle.std.specs.List.{AllByRecursion}
 use Rattle.std.specs.declared.option.Option.{Option}
 use Rattle.std.specs.Io.KnownBytes.{Appends}
@@ -10,7 +10,8 @@ use Rattle.edge_io.specs.Causes.{Rose}
 use Rattle.edge_io.specs.Streams.{AppendsFront}
 use Rattle.session_script.specs.declared.event.Event.{Event}
 use Rattle.session_script.specs.declared.event.Outcome.{Outcome}
-use Rattle.session_script.specs.Output.{output_of, damaged_line}
+use Rattle.session_script.specs.Output.{damaged_line}
+use Rattle.session_script.specs.Telling.{told_in_all, told_so_far}
 use Rattle.topic_conf.specs.Configs.{ConfigParts}
 use Rattle.broker_model.specs.Hosted.{IsTaken}
 use Rattle.broker_model.specs.Shards.{Counts, Ends, Shards, ShardCall}
@@ -28,25 +29,31 @@ use Rattle.edge_io.specs.Views.{DiskView, BayView}
 
 -- ---- what was written of a run's outcomes
 
--- their text; a fault is told by the name of its partition
-abbrev pub Writes : ConfigParts → OutputChange → List Outcome → Type 0
-Writes conf output outcomes = Appends output.held output.held_after (output_of conf.topics outcomes)
-
--- their text, and this line behind it
-abbrev pub WritesThen : ConfigParts → List ℕ → OutputChange → List Outcome → Type 0
-WritesThen conf line output outcomes = Appends output.held output.held_after (output_of conf.topics outcomes ++ line)
-
 -- a front of a text
 abbrev pub WritesFrontOf : List ℕ → OutputChange → Type 0
 WritesFrontOf text output = (unwritten : List ℕ) × AppendsFront output.held output.held_after text unwritten
 
-abbrev pub WritesFront : ConfigParts → OutputChange → List Outcome → Type 0
-WritesFront conf output outcomes = WritesFrontOf (output_of conf.topics outcomes) output
+-- what is told of them as they come, or a front of it
+abbrev pub Writes : ConfigParts → Bool → OutputChange → List Outcome → Type 0
+Writes conf summary output outcomes = Appends output.held output.held_after (told_so_far conf.topics summary outcomes)
 
--- their text, and a front of this line behind it
-abbrev pub WritesPart : ConfigParts → List ℕ → OutputChange → List Outcome → Type 0
-WritesPart conf line output outcomes =
-    (front unwritten : List ℕ) × (front ++ unwritten ≡ line) × Appends output.held output.held_after (output_of conf.topics outcomes ++ front)
+abbrev pub WritesFront : ConfigParts → Bool → OutputChange → List Outcome → Type 0
+WritesFront conf summary output outcomes = WritesFrontOf (told_so_far conf.topics summary outcomes) output
+
+-- what is told of them in all, or a front of it
+abbrev pub WritesAll : ConfigParts → Bool → OutputChange → List Outcome → Type 0
+WritesAll conf summary output outcomes = Appends output.held output.held_after (told_in_all conf.topics summary outcomes)
+
+abbrev pub WritesAllFront : ConfigParts → Bool → OutputChange → List Outcome → Type 0
+WritesAllFront conf summary output outcomes = WritesFrontOf (told_in_all conf.topics summary outcomes) output
+
+-- what is told of them as they come, and this line behind it, or a front of both
+abbrev pub WritesThen : ConfigParts → Bool → List ℕ → OutputChange → List Outcome → Type 0
+WritesThen conf summary line output outcomes =
+    Appends output.held output.held_after (told_so_far conf.topics summary outcomes ++ line)
+
+abbrev pub WritesThenFront : ConfigParts → Bool → List ℕ → OutputChange → List Outcome → Type 0
+WritesThenFront conf summary line output outcomes = WritesFrontOf (told_so_far conf.topics summary outcomes ++ line) output
 
 -- ---- what a run leaves on the disks
 

@@ -1,10 +1,10 @@
 // Why a broker was not opened, told as the last line and the status.
 ghost use Rattle.std.specs.Prelude.{◌≡◌, ◌≢◌};
 ghost use Rattle.share_top.specs.Changes.{output_change};
-ghost use Rattle.share_top.specs.Going.{IsRefusal, IsStop};
+ghost use Rattle.share_top.specs.Going.{IsRefusal};
 
 use crate::status::Status;
-use broker_core::{CoreFault, CoreOpen};
+use broker_core::CoreOpen;
 use edge_io::Sink;
 use session_script::{LineFault, write_damaged};
 use std::alloc::Global;
@@ -23,16 +23,5 @@ pub fn refuse<O: Sink>(alloc: Global, fault: CoreOpen, output: &mut O) -> Status
         CoreOpen::Device => Status::Device,
         CoreOpen::Bay => Status::Device,
         CoreOpen::NoMemory => Status::NoMemory,
-    }
-}
-
-/// Tells why an event was not done.
-pub fn stop<O: Sink>(alloc: Global, fault: CoreFault, output: &mut O) -> Status
-    ensures stop { IsStop fault (output_change O.held O.faults output.old output.new) result }
-    ensures counted { result ≢ Status.WriteFault → O.faults output.new ≡ O.faults output.old }
-{
-    match fault {
-        CoreFault::NoMemory => Status::NoMemory,
-        CoreFault::Reopen(fault) => refuse(alloc, fault, output),
     }
 }

@@ -34,6 +34,11 @@ fn replay<'a>(alloc: Global) -> Result<Command<'a>, AllocError> {
         .value_name("N")
         .default_value("5")
         .help("How often a record is delivered at most, 2 to 10");
+    let output = Arg::new(alloc, "output")
+        .long("output")
+        .value_name("lines|summary")
+        .default_value("lines")
+        .help("A line for each outcome, or one line of their numbers behind the end");
     Command::new(alloc, "replay")
         .bin_name("sharebroker replay")?
         .about(
@@ -43,16 +48,21 @@ fn replay<'a>(alloc: Global) -> Result<Command<'a>, AllocError> {
         .arg(reset)?
         .arg(lock_ms)?
         .arg(limit)?
+        .arg(output)?
         .arg(topics(alloc))
+}
+
+// The folder of the disks.
+fn folder<'a>(alloc: Global) -> Arg<'a> {
+    Arg::new(alloc, "dir")
+        .long("dir")
+        .value_name("FOLDER")
+        .required(true)
+        .help("The folder of the disks, which is made where it is missing")
 }
 
 // What `load` takes.
 fn load<'a>(alloc: Global) -> Result<Command<'a>, AllocError> {
-    let folder = Arg::new(alloc, "dir")
-        .long("dir")
-        .value_name("FOLDER")
-        .required(true)
-        .help("The folder of the disks, which is made where it is missing");
     let name = Arg::new(alloc, "name")
         .value_name("NAME")
         .required(true)
@@ -66,17 +76,44 @@ fn load<'a>(alloc: Global) -> Result<Command<'a>, AllocError> {
         .about(
             "Appends record batches from standard input to the log of a partition, with the offsets that they have",
         )
-        .after_help(ABOUT_TOPICS)
         .disable_help_flag(true)
-        .arg(folder)?
+        .arg(folder(alloc))?
         .arg(name)?
         .arg(part)?
         .arg(topics(alloc))
+}
+
+// What `dump-state` takes.
+fn dump_state<'a>(alloc: Global) -> Result<Command<'a>, AllocError> {
+    Command::new(alloc, "dump-state")
+        .bin_name("sharebroker dump-state")?
+        .about(
+            "Writes the stored tables of share groups, and the states of partitions that aren't hosted",
+        )
+        .after_help(ABOUT_TOPICS)
+        .disable_help_flag(true)
+        .arg(folder(alloc))?
+        .arg(topics(alloc))
+}
+
+// What `gen` takes.
+fn generate<'a>(alloc: Global) -> Result<Command<'a>, AllocError> {
+    let rounds = Arg::new(alloc, "rounds")
+        .value_name("N")
+        .required(true)
+        .help("How many rounds the script has, 1 to 100000");
+    Command::new(alloc, "gen")
+        .bin_name("sharebroker gen")?
+        .about("Writes a script of a producer and two share consumers, which `replay` reads")
+        .disable_help_flag(true)
+        .arg(rounds)
 }
 
 /// The usage text: each command with its options and the words behind them.
 pub fn usage_text(alloc: Global) -> Result<String, AllocError> {
     let replay = replay(alloc)?.render_help()?;
     let load = load(alloc)?.render_help()?;
-    Ok(format!(in alloc; "{replay}\n{load}")?)
+    let generate = generate(alloc)?.render_help()?;
+    let dump_state = dump_state(alloc)?.render_help()?;
+    Ok(format!(in alloc; "{replay}\n{load}\n{generate}\n{dump_state}")?)
 }

@@ -1,4 +1,4 @@
-ghost use Rattle.std.specs.Prelude.{◌≡◌, ◌<◌, ◌++◌, [], length, OnOk, OnErr};
+ghost use Rattle.std.specs.Prelude.{◌≡◌, ◌≢◌, ◌<◌, ◌++◌, [], length, take, Err, OnOk, OnErr};
 ghost use Rattle.std.specs.Fmt.{decimal, signed_decimal};
 ghost use Rattle.hex.specs.Hex.{encode_lower};
 ghost use Rattle.text_pieces.specs.Pieces.{HandsFull, WritesPieces, piece_size};
@@ -87,6 +87,20 @@ impl Pieces {
         }
     }
 
+    /// How many bytes wait.
+    pub fn waits(&self) -> usize
+        ensures { result ≡ length self.now }
+    {
+        self.waiting.len()
+    }
+
+    /// Forgets what waits behind so many bytes.
+    pub fn truncate(&mut self, len: usize)
+        ensures { self.new ≡ take len self.old }
+    {
+        self.waiting.truncate(len);
+    }
+
     /// Hands what waits to a sink. Then nothing waits, and the memory is kept for what comes next. At an `Err` the
     /// sink has taken a front of it, and it waits still.
     pub fn hand_on<O: Sink>(&mut self, output: &mut O) -> Result<(), GenFault>
@@ -94,6 +108,7 @@ impl Pieces {
             (O.faults output.old) (O.faults output.new) self.old result }
         ensures ok { OnOk result (self.new ≡ []) }
         ensures err { OnErr result (self.new ≡ self.old) }
+        ensures sink { result ≢ Err GenFault.NoMemory }
     {
         if write_all(output, &self.waiting).is_err() {
             return Err(GenFault::Write);
@@ -107,6 +122,7 @@ impl Pieces {
         ensures handed { HandsFull (O.held output.old) (O.held output.new) (O.faults output.old) (O.faults output.new)
             self.old self.new result }
         ensures small { OnOk result (length self.new < piece_size) }
+        ensures sink { result ≢ Err GenFault.NoMemory }
     {
         if self.waiting.len() < PIECE_SIZE {
             return Ok(());

@@ -33,7 +33,7 @@ returns-in-Ok-clause-back g c = none_is_out g.B.Bay.seen c.finish.new.bay (c.fin
 pub returns-in-Ok-clause-replay : goal.returns-in-Ok-clause-replay
 returns-in-Ok-clause-replay g c = inl (played_over g.B.Bay.seen g.B.D.Disk.seen
     (λ d x e. (g.met.B.D.Disk.read_is_image d x e).0) c.args.bay.now c.start.new.bay c.finish.new.bay c.args.conf c.in-Ok.core
-    (disks_in c.replay-status.new.core.hosts) c.in-Ok.ensures.open.1 c.in-Ok.ensures.opens c.start.ensures.told c.replay-status.ensures.disks c.finish.ensures.back
+    (disks_in c.replay-status.new.core.hosts) c.in-Ok.ensures.open.1 c.in-Ok.ensures.opens c.start.ensures.told c.replay-status.ensures.disks c.finish.ensures.back c.args.summary
     (input_change g.I.Source.left g.I.Source.ended g.I.Source.faults c.args.input.now c.replay-status.new.input)
     (output_change g.O.Sink.held g.O.Sink.faults c.args.output.now c.replay-status.new.output)
     (OneRose g.B.D.Disk.seen (disks_in c.in-Ok.core.hosts) (disks_in c.replay-status.new.core.hosts))
@@ -45,7 +45,7 @@ returns-in-Ok-clause-replay g c = inl (played_over g.B.Bay.seen g.B.D.Disk.seen
 pub returns-in-Ok-clause-recovers : goal.returns-in-Ok-clause-recovers
 returns-in-Ok-clause-recovers g c = λ told is.
     let o = c.in-Ok.ensures.opens told.0 told.1 told.2 in
-    never_stopped g.B.Bay.seen g.B.D.Disk.seen c.in-Ok.core (disks_in c.replay-status.new.core.hosts)
+    never_stopped g.B.Bay.seen g.B.D.Disk.seen c.in-Ok.core (disks_in c.replay-status.new.core.hosts) c.args.summary
     (input_change g.I.Source.left g.I.Source.ended g.I.Source.faults c.args.input.now c.replay-status.new.input)
     (output_change g.O.Sink.held g.O.Sink.faults c.args.output.now c.replay-status.new.output) _ c.replay-status.result c.replay-status.ensures.played (inl is) o.0 o.1
 
@@ -53,7 +53,7 @@ pub returns-in-Ok-clause-sound : goal.returns-in-Ok-clause-sound
 returns-in-Ok-clause-sound g c = λ sound is.
     let t = sound_tells g.B.Bay.seen g.B.D.Disk.seen c.args.bay.now sound c.args.conf c.are_hosted.ensures in
     let o = c.in-Ok.ensures.opens t.0 t.1 t.2 in
-    never_stopped g.B.Bay.seen g.B.D.Disk.seen c.in-Ok.core (disks_in c.replay-status.new.core.hosts)
+    never_stopped g.B.Bay.seen g.B.D.Disk.seen c.in-Ok.core (disks_in c.replay-status.new.core.hosts) c.args.summary
     (input_change g.I.Source.left g.I.Source.ended g.I.Source.faults c.args.input.now c.replay-status.new.input)
     (output_change g.O.Sink.held g.O.Sink.faults c.args.output.now c.replay-status.new.output) _ c.replay-status.result c.replay-status.ensures.played (inr is) o.0 o.1
 

@@ -1,0 +1,10 @@
+use Rattle.std.proofs.Common.{◌≡◌, []}
+use Rattle.text_pieces.proofs.Going.{IsSoFar}
+use Rattle.share_top.specs.Dumping.{tables_text}
+use Rattle.share_top.proofs.dump.write_tables.Given as goal
+
+abbrev pub invariant-loop-key : goal.invariant-loop-key
+invariant-loop-key g l = record {
+  so_far : IsSoFar (g.O.Sink.held l.fn.output) (g.O.Sink.held l.output) [] (tables_text l.topic l.part l.states) (tables_text l.topic l.part l.fn.states);
+  counted : g.O.Sink.faults l.output ≡ g.O.Sink.faults l.fn.output;
+}
