@@ -1,0 +1,22 @@
+"""A client for sharebroker: producers, share consumers (KIP-932), and a command line.
+
+    from sharebroker import Producer, ShareConsumer
+"""
+
+from .accumulator import RecordMetadata
+from .errors import (BufferFull, Closed, ConnectionLost, DeliveryTimeout, MalformedReply, NotInHand, NotSent,
+                     OutcomeUnknown, RecordTooLarge, Refused, ShareBrokerError, Unacknowledged, UnknownTopic,
+                     Unreachable, UnsupportedBroker, WrongMode)
+from .consumer import ConsumerSettings, ShareConsumer
+from .producer import Producer, ProducerSettings
+from .records import Acknowledgement, AcknowledgeType, ConsumerRecord, Outcome
+from .states import DeliveryState, PartitionState, StoredRun, share_group_state
+from .version import __version__
+
+__all__ = [
+    "Acknowledgement", "AcknowledgeType", "BufferFull", "Closed", "ConnectionLost", "ConsumerRecord",
+    "ConsumerSettings", "DeliveryState", "DeliveryTimeout", "MalformedReply", "NotInHand", "NotSent", "Outcome",
+    "OutcomeUnknown", "PartitionState", "Producer", "ProducerSettings", "RecordMetadata", "RecordTooLarge", "Refused",
+    "ShareBrokerError", "ShareConsumer", "StoredRun", "Unacknowledged", "UnknownTopic", "Unreachable",
+    "UnsupportedBroker", "WrongMode", "__version__", "share_group_state",
+]

@@ -1,0 +1,290 @@
+"""The producer, against the built broker."""
+
+import threading
+import time
+import unittest
+
+import context  # noqa: F401
+from broker_case import ORDERS, BrokerCase, told
+from sharebroker import (BufferFull, Closed, DeliveryTimeout, NotSent, OutcomeUnknown, Producer, RecordTooLarge,
+                         Refused, UnknownTopic, Unreachable)
+from sharebroker.partitioner import partition_of
+
+
+class Sending(BrokerCase):
+    def test_records_of_a_partition_are_stored_in_order(self):
+        self.broker()
+        producer = self.producer(batch_size=300)
+        futures = [producer.send("orders", b"%d" % number) for number in range(100)]
+        self.assertTrue(producer.flush(10000))
+        self.assertEqual([("orders", 0, number, False) for number in range(100)],
+                         [(m.topic, m.partition, m.offset, m.maybe_stored_twice)
+                          for m in (future.result(0) for future in futures)])
+        self.assertEqual([b"%d" % number for number in range(100)],
+                         [record.value for record in self.consumer().poll(5000)])
+
+    def test_all_of_a_record_is_kept(self):
+        self.broker()
+        headers = (("kind", b"resize"), ("none", None))
+        self.produce(b"v", key=b"k", headers=headers, timestamp_ms=1700000000123)
+        self.produce(None, timestamp_ms=1700000000456)
+        records = self.consumer().poll(5000)
+        self.assertEqual([(b"k", b"v", headers, 1700000000123), (None, None, (), 1700000000456)],
+                         [(r.key, r.value, r.headers, r.timestamp_ms) for r in records])
+
+    def test_keys_go_where_kafkas_hash_says(self):
+        self.broker(f"orders:7:{ORDERS}")
+        producer = self.producer()
+        keys = [b"21", b"foobar", b"a-little-bit-long-string", b"abc"]
+        futures = [producer.send("orders", b"", key=key) for key in keys]
+        self.assertEqual([partition_of(key, 7) for key in keys], [future.result(10).partition for future in futures])
+        self.assertEqual(7, producer.partitions_for("orders"))
+
+    def test_records_without_a_key_change_the_partition_with_the_batch(self):
+        self.broker(f"orders:3:{ORDERS}")
+        producer = self.producer(linger_ms=0)
+        self.assertEqual([0, 1, 2, 0], [producer.send("orders", b"x").result(10).partition for _ in range(4)])
+
+    def test_a_full_batch_does_not_wait(self):
+        self.broker()
+        producer = self.producer(batch_size=200, linger_ms=60000)
+        first, second = producer.send("orders", b"a" * 100), producer.send("orders", b"b" * 100)
+        self.assertEqual(0, first.result(10).offset)
+        self.assertFalse(second.done())
+        producer.flush()
+        self.assertEqual(1, second.result(0).offset)
+
+    def test_a_batch_waits_for_more(self):
+        self.broker()
+        producer = self.producer(linger_ms=200)
+        producer.partitions_for("orders")
+        began = time.monotonic()
+        first = producer.send("orders", b"a")
+        self.assertEqual(0, first.result(10).offset)
+        self.assertGreater(time.monotonic() - began, 0.19)
+
+    def test_acks_0_stores_and_tells_no_offset(self):
+        self.broker()
+        producer = self.producer(acks=0)
+        self.assertEqual(-1, producer.send("orders", b"a").result(10).offset)
+        self.assertEqual(1, self.produce(b"b")[0].offset)
+        self.assertEqual([(0, b"a", 1), (1, b"b", 1)], told(self.consumer().poll(5000)))
+
+    def test_a_batch_of_a_mebibyte(self):
+        self.broker()
+        producer = self.producer(batch_size=1048588)
+        value = bytes(1048588 - 61 - 20)
+        self.assertEqual(0, producer.send("orders", value).result(20).offset)
+        with self.assertRaises(RecordTooLarge):
+            producer.send("orders", bytes(1048588))
+
+    def test_several_threads_send(self):
+        self.broker()
+        producer = self.producer(batch_size=1000)
+        found = []
+
+        def send(name):
+            futures = [producer.send("orders", b"%d" % name) for _ in range(100)]
+            offsets = [future.result(20).offset for future in futures]
+            self.assertEqual(sorted(offsets), offsets)
+            found.extend(offsets)
+
+        threads = [threading.Thread(target=send, args=(name,)) for name in range(4)]
+        for thread in threads:
+            thread.start()
+        for thread in threads:
+            thread.join()
+        self.assertEqual(list(range(400)), sorted(found))
+
+    def test_two_topics_in_a_request(self):
+        self.broker(f"orders:1:{ORDERS}", "a:2:33333333-3333-3333-3333-333333333333")
+        producer = self.producer(linger_ms=50)
+        futures = [producer.send(topic, b"x", partition=number)
+                   for topic, number in (("a", 1), ("orders", 0), ("a", 0), ("a", 1))]
+        self.assertEqual([0, 0, 0, 1], [future.result(10).offset for future in futures])
+
+
+class Failing(BrokerCase):
+    def test_what_is_not_there(self):
+        self.broker()
+        producer = self.producer()
+        with self.assertRaises(UnknownTopic):
+            producer.send("others", b"x")
+        with self.assertRaises(UnknownTopic):
+            producer.send("orders", b"x", partition=1)
+        with self.assertRaises(TypeError):
+            producer.send("orders", "x")
+        with self.assertRaises(ValueError):
+            producer.send("orders", b"x", timestamp_ms=-1)
+        self.assertEqual(0, producer.send("orders", b"x").result(10).offset)
+
+    def test_a_batch_that_was_not_stored_is_sent_again(self):
+        broker = self.scripted_broker()
+        broker.arm("orders/0/log", 0, "once")
+        producer = self.producer(retry_backoff_ms=1)
+        with self.assertLogs("sharebroker", "WARNING") as logs:
+            stored = producer.send("orders", b"x").result(10)
+        self.assertEqual((0, True), (stored.offset, stored.maybe_stored_twice))
+        self.assertIn("both may be kept", logs.output[0])
+
+    def test_a_power_loss_may_keep_what_was_answered_with_code_56(self):
+        # The fourth call of an append is the sync of what makes it count. It fails, and the power loss keeps what was
+        # written: docs/SCRIPT.md, "What an armed fault does" and "What a power loss does".
+        broker = self.scripted_broker()
+        producer = self.producer(linger_ms=0, retry_backoff_ms=500)
+        producer.partitions_for("orders")
+        broker.arm("orders/0/log", 3, "once")
+        with self.assertLogs("sharebroker", "WARNING"):
+            future = producer.send("orders", b"x")
+            self.wait_until(lambda: any(queue and queue[0].tries for queue in producer._waiting._queues.values()))
+            broker.power(9)
+            stored = future.result(10)
+        self.assertEqual((1, True), (stored.offset, stored.maybe_stored_twice))
+        self.assertEqual([(0, b"x", 1), (1, b"x", 1)], told(self.consumer().poll(5000)))
+
+    def test_records_keep_their_order_where_a_batch_is_sent_again(self):
+        broker = self.scripted_broker()
+        producer = self.producer(batch_size=100, linger_ms=0, retry_backoff_ms=20)
+        producer.partitions_for("orders")
+        broker.arm("orders/0/log", 2, "once")
+        with self.assertLogs("sharebroker", "WARNING"):
+            futures = [producer.send("orders", b"%d" % number) for number in range(30)]
+            self.assertEqual(list(range(30)), [future.result(10).offset for future in futures])
+
+    def test_no_record_joins_a_batch_that_was_sent(self):
+        broker = self.scripted_broker()
+        producer = self.producer(linger_ms=0, retry_backoff_ms=300)
+        producer.partitions_for("orders")
+        broker.arm("orders/0/log", 0, "once")
+        with self.assertLogs("sharebroker", "WARNING"):
+            first = producer.send("orders", b"a")
+            self.wait_until(lambda: any(queue and queue[0].tries for queue in producer._waiting._queues.values()))
+            second = producer.send("orders", b"b")
+            self.assertEqual([0, 1], [first.result(10).offset, second.result(10).offset])
+        self.assertEqual([b"a", b"b"], [record.value for record in self.consumer().poll(5000)])
+
+    def test_no_room(self):
+        broker = self.scripted_broker()
+        producer = self.producer(buffer_memory=1048588, batch_size=1048588, max_block_ms=100)
+        producer.partitions_for("orders")
+        with broker.steps_held():
+            first = producer.send("orders", bytes(600000))
+            with self.assertRaises(BufferFull):
+                producer.send("orders", bytes(600000))
+        self.assertEqual(0, first.result(10).offset)
+        self.assertEqual(1, producer.send("orders", bytes(600000)).result(10).offset)
+
+    def test_a_broker_that_is_gone(self):
+        broker = self.scripted_broker()
+        producer = self.producer(linger_ms=0, delivery_timeout_ms=100)
+        producer.send("orders", b"x").result(10)
+        broker.stop_listening()
+        broker.drop_connections()
+        with self.assertLogs("sharebroker", "WARNING"):
+            fault = producer.send("orders", b"x").exception(10)
+        self.assertIsInstance(fault, DeliveryTimeout)
+        self.assertIsInstance(fault.__cause__, (NotSent, Unreachable))
+
+    def test_what_is_left_at_close(self):
+        broker = self.scripted_broker()
+        producer = self.producer(linger_ms=0)
+        producer.partitions_for("orders")
+        with broker.steps_held():
+            first = producer.send("orders", b"x")
+            self.wait_until(lambda: broker.held)
+            second = producer.send("orders", b"y")
+            producer.close(timeout_ms=50)
+        self.assertIsInstance(first.exception(0), OutcomeUnknown)
+        self.assertIsInstance(second.exception(0), Closed)
+
+    def test_a_disk_that_stays_broken(self):
+        broker = self.scripted_broker()
+        broker.arm("orders/0/log", 0, "dead")
+        producer = self.producer(retry_backoff_ms=1, delivery_timeout_ms=100)
+        with self.assertLogs("sharebroker", "WARNING"):
+            fault = producer.send("orders", b"x").exception(10)
+        self.assertIsInstance(fault, DeliveryTimeout)
+        self.assertEqual(56, fault.__cause__.code)
+
+    def test_what_is_not_answered_is_told_as_unknown(self):
+        broker = self.scripted_broker()
+        producer = self.producer(linger_ms=0)
+        producer.partitions_for("orders")
+        with self.assertLogs("sharebroker", "WARNING"), broker.steps_held():
+            future = producer.send("orders", b"x")
+            self.wait_until(lambda: broker.held)
+            broker.drop_connections()
+            self.assertIsInstance(future.exception(10), OutcomeUnknown)
+        self.assertEqual(0, producer.send("orders", b"y").result(10).offset)
+
+    def test_what_is_not_answered_is_sent_again_where_asked(self):
+        broker = self.scripted_broker()
+        producer = self.producer(linger_ms=0, retry_unknown=True)
+        producer.partitions_for("orders")
+        with self.assertLogs("sharebroker", "WARNING"), broker.steps_held():
+            future = producer.send("orders", b"x")
+            self.wait_until(lambda: broker.held)
+            broker.drop_connections()
+            # The next connection is begun, and its requests wait as well.
+            self.wait_until(lambda: broker.held == 2)
+        stored = future.result(10)
+        self.assertEqual((0, True), (stored.offset, stored.maybe_stored_twice))
+
+    def test_a_connection_that_was_closed_meanwhile(self):
+        broker = self.scripted_broker()
+        producer = self.producer(linger_ms=0)
+        self.assertEqual(0, producer.send("orders", b"x").result(10).offset)
+        broker.drop_connections()
+        with self.assertLogs("sharebroker", "WARNING"):
+            stored = producer.send("orders", b"y").result(10)
+        self.assertEqual((1, False), (stored.offset, stored.maybe_stored_twice))
+
+    def test_after_a_power_loss(self):
+        broker = self.scripted_broker()
+        producer = self.producer(linger_ms=0)
+        producer.send("orders", b"x").result(10)
+        broker.power(0)
+        with self.assertLogs("sharebroker", "WARNING"):
+            self.assertEqual(1, producer.send("orders", b"y").result(10).offset)
+
+
+class Alone(unittest.TestCase):
+    """What needs no broker."""
+
+    def test_settings_that_make_no_sense(self):
+        for settings in ({"acks": 2}, {"batch_size": 60}, {"batch_size": 1048589}, {"linger_ms": -1},
+                         {"buffer_memory": 1}, {"max_request_size": 0}, {"client_id": "x" * 32768}):
+            with self.assertRaises(ValueError):
+                Producer("localhost:9092", **settings)
+        with self.assertRaises(TypeError):
+            Producer("localhost:9092", lingers=1)
+        with self.assertRaises(ValueError):
+            Producer("localhost")
+
+    def test_nobody_listens(self):
+        with self.assertLogs("sharebroker", "WARNING"), Producer("127.0.0.1:1", max_block_ms=200) as producer:
+            with self.assertRaises(Unreachable):
+                producer.send("orders", b"x")
+        with self.assertRaises(Closed):
+            producer.send("orders", b"x")
+
+
+class Refusing(BrokerCase):
+    def test_a_code_that_no_retry_mends(self):
+        # The broker takes batches without compression alone; a codec's number in the attributes stands for one.
+        self.broker()
+        producer = self.producer(linger_ms=60000)
+        future = producer.send("orders", b"x")
+        batch = next(iter(producer._waiting._queues.values()))[0]
+        data = bytearray(batch.records())
+        data[22] = 1
+        data[17:21] = __import__("sharebroker.checksum").checksum.crc32c(bytes(data[21:])).to_bytes(4, "big")
+        batch._bytes = bytes(data)
+        producer.flush()
+        fault = future.exception(10)
+        self.assertIsInstance(fault, Refused)
+        self.assertEqual((76, "UNSUPPORTED_COMPRESSION_TYPE"), (fault.code, fault.name))
+
+
+if __name__ == "__main__":
+    unittest.main()
