@@ -3,6 +3,12 @@
 use Rattle.std.specs.Prelude.{◌≡◌, ◌↔◌, ℕ, min, Bool, List, length, Result, IsErr, OnErr, IfOk, Contains}
 use Rattle.edge_io.specs.Causes.{CountsFault, FailsBy, raised}
 
+-- the numbers of the calls that fail, how many calls there were, and how many failed
+pub record Numbered : Type 0 where
+  pub failing : List ℕ
+  pub made : ℕ
+  pub faults : ℕ
+
 -- a source: the bytes that are left, and the numbers of the calls that fail
 pub record Supply : Type 0 where
   pub left : List ℕ

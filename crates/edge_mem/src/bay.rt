@@ -8,6 +8,7 @@ ghost use Rattle.edge_mem.specs.Seen.{bay_view, disk_view};
 ghost use Rattle.edge_mem.specs.declared.bay.Slot.{Slot};
 
 use crate::disk::MemDisk;
+use crate::numbered::Calls;
 use edge_io::{Bay, Disk, DiskName, Failed};
 use flex_fields::NoMemory;
 use std::alloc::Global;
@@ -26,10 +27,8 @@ pub struct Slot {
 pub struct MemBay {
     alloc: Global,
     slots: Vec<Slot>,
-    failing: Vec<u64>,
-    calls: u64,
+    calls: Calls,
     starved: bool,
-    faults: u64,
 }
 
 impl Model for MemBay {
@@ -37,7 +36,7 @@ impl Model for MemBay {
 
     ghost Value = { BayState };
 
-    ghost view = { λ b. record { slots = b.slots.items; failing = b.failing.items; calls = b.calls; starved = b.starved; faults = b.faults } };
+    ghost view = { λ b. record { slots = b.slots.items; failing = b.calls.failing; calls = b.calls.made; starved = b.starved; faults = b.calls.faults } };
 }
 
 // The number of the slot of that name, from 0 on.
@@ -85,13 +84,6 @@ fn put_at(slots: &mut Vec<Slot>, at: usize, disk: MemDisk) -> u64
     rose
 }
 
-// A count of faults with some more.
-fn counted(faults: u64, more: u64) -> u64
-    ensures sum { result ≡ min (faults + more) (2 ^ 64 - 1) }
-{
-    faults.saturating_add(more)
-}
-
 // A new disk, whose slot is out.
 fn make(alloc: Global, slots: &mut Vec<Slot>, name: &DiskName) -> Result<MemDisk, NoMemory>
     ensures ok { IfOk result (λ d. (d ≡ fresh) × ((s : Slot) × (s.name ≡ name.now) × (s.disk ≡ None) × (s.count ≡ 0) ×
@@ -116,10 +108,8 @@ impl MemBay {
         MemBay {
             alloc,
             slots: Vec::new(alloc),
-            failing,
-            calls: 0,
+            calls: Calls::new(failing),
             starved: false,
-            faults: 0,
         }
     }
 }
@@ -178,18 +168,14 @@ impl Bay for MemBay {
         ensures calls { self.new.calls ≡ raised self.old.calls }
         ensures faults { CountsFault self.old.faults self.new.faults result }
     {
-        let fails = self.failing.contains(&self.calls);
-        self.calls = self.calls.saturating_add(1);
-        if fails {
-            self.faults = self.faults.saturating_add(1);
-            return Err(Failed);
+        if let Err(fault) = self.calls.begin() {
+            return Err(fault);
         }
         match self.take_named(name) {
             Ok(disk) => Ok(disk),
             Err(_) => {
                 self.starved = true;
-                self.faults = self.faults.saturating_add(1);
-                Err(Failed)
+                Err(self.calls.fail())
             }
         }
     }
@@ -214,7 +200,7 @@ impl Bay for MemBay {
             None => unreachable!(),
             Some(at) => {
                 let rose = put_at(&mut self.slots, at, given);
-                self.faults = counted(self.faults, rose);
+                self.calls.add_faults(rose);
             }
         }
     }

@@ -13,6 +13,7 @@ mod faulty;
 mod history;
 mod link;
 mod listener;
+mod numbered;
 mod sink;
 mod source;
 mod spawner;

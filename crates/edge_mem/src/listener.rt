@@ -3,6 +3,7 @@ ghost use Rattle.edge_io.specs.Causes.{CountsFault, HasCause, raised};
 ghost use Rattle.edge_io.specs.Serving.{Gives};
 ghost use Rattle.edge_mem.specs.Listeners.{first_of};
 
+use crate::numbered::Calls;
 use edge_io::{Failed, Link, Listener};
 use std::collections::VecDeque;
 use std::marker::Model;
@@ -11,11 +12,9 @@ use std::marker::Model;
 #[derive(Drop)]
 pub struct MemListener<K> {
     links: VecDeque<K>,
-    failing: Vec<u64>,
-    calls: u64,
+    calls: Calls,
     given: u64,
     done: bool,
-    faults: u64,
 }
 
 impl<K> Model for MemListener<K> {
@@ -23,7 +22,7 @@ impl<K> Model for MemListener<K> {
 
     ghost Value = { Queued K };
 
-    ghost view = { λ l. record { links = l.links.items; failing = l.failing.items; calls = l.calls; given = l.given; done = l.done; faults = l.faults } };
+    ghost view = { λ l. record { links = l.links.items; failing = l.calls.failing; calls = l.calls.made; given = l.given; done = l.done; faults = l.calls.faults } };
 }
 
 impl<K> MemListener<K> {
@@ -33,11 +32,9 @@ impl<K> MemListener<K> {
     {
         MemListener {
             links,
-            failing,
-            calls: 0,
+            calls: Calls::new(failing),
             given: 0,
             done: false,
-            faults: 0,
         }
     }
 }
@@ -63,12 +60,7 @@ impl<K: Link> Listener for MemListener<K> {
         ensures calls { self.new.calls ≡ raised self.old.calls }
         ensures faults { CountsFault self.old.faults self.new.faults result }
     {
-        let fails = self.failing.contains(&self.calls);
-        self.calls = self.calls.saturating_add(1);
-        if fails {
-            self.faults = self.faults.saturating_add(1);
-            return Err(Failed);
-        }
+        self.calls.begin()?;
         match self.links.pop_front() {
             Some(link) => {
                 self.given = self.given.saturating_add(1);

@@ -1,9 +1,11 @@
-ghost use Rattle.std.specs.Prelude.{◌≡◌, Some, IfOk, Contains, length, [], false};
+ghost use Rattle.std.specs.Prelude.{◌≡◌, Some, [], false};
 ghost use Rattle.std.specs.Io.{WritesAtMost};
 ghost use Rattle.std.specs.Io.KnownBytes.{WriteAppends};
-ghost use Rattle.edge_io.specs.Causes.{CountsFault, FailsBy, HasCause, raised};
+ghost use Rattle.edge_io.specs.Causes.{HasCause};
 ghost use Rattle.edge_io.specs.Streams.{TakesSome};
+ghost use Rattle.edge_mem.specs.Streams.{TakesBytes};
 
+use crate::numbered::Calls;
 use edge_io::{Failed, Sink};
 use std::alloc::Global;
 use std::marker::Model;
@@ -12,10 +14,8 @@ use std::marker::Model;
 #[derive(Drop)]
 pub struct MemSink {
     bytes: Vec<u8>,
-    failing: Vec<u64>,
-    calls: u64,
+    calls: Calls,
     starved: bool,
-    faults: u64,
 }
 
 impl Model for MemSink {
@@ -23,7 +23,7 @@ impl Model for MemSink {
 
     ghost Value = { Collected };
 
-    ghost view = { λ s. record { held = s.bytes.items; failing = s.failing.items; calls = s.calls; starved = s.starved; faults = s.faults } };
+    ghost view = { λ s. record { held = s.bytes.items; failing = s.calls.failing; calls = s.calls.made; starved = s.starved; faults = s.calls.faults } };
 }
 
 impl MemSink {
@@ -34,10 +34,8 @@ impl MemSink {
     {
         MemSink {
             bytes: Vec::new(alloc),
-            failing,
-            calls: 0,
+            calls: Calls::new(failing),
             starved: false,
-            faults: 0,
         }
     }
 
@@ -66,26 +64,12 @@ impl Sink for MemSink {
         ensures some { TakesSome result bytes.now }
         ensures bytes { WriteAppends (Some self.old.held) (Some self.new.held) result bytes.now }
         ensures cause { HasCause self.old.faults self.new.faults result }
-
-        // It fails where the list says so or where it finds no memory, and else takes the whole piece. One that is listed
-        // asks for no memory.
-        ensures fails { FailsBy (Contains self.old.failing self.old.calls) self.old.starved self.new.starved result }
-        ensures memory { Contains self.old.failing self.old.calls → self.new.starved ≡ self.old.starved }
-        ensures whole { IfOk result (λ n. n ≡ length bytes.now) }
-        ensures failing { self.new.failing ≡ self.old.failing }
-        ensures calls { self.new.calls ≡ raised self.old.calls }
-        ensures faults { CountsFault self.old.faults self.new.faults result }
+        ensures takes { TakesBytes self.old self.new bytes.now result }
     {
-        let fails = self.failing.contains(&self.calls);
-        self.calls = self.calls.saturating_add(1);
-        if fails {
-            self.faults = self.faults.saturating_add(1);
-            return Err(Failed);
-        }
+        self.calls.begin()?;
         if self.bytes.extend_from_slice(bytes).is_err() {
             self.starved = true;
-            self.faults = self.faults.saturating_add(1);
-            return Err(Failed);
+            return Err(self.calls.fail());
         }
         Ok(bytes.len())
     }

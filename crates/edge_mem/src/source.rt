@@ -1,10 +1,12 @@
-ghost use Rattle.std.specs.Prelude.{◌≡◌, ◌↔◌, ◌<◌, ◌≤◌, ◌&&◌, ◌++◌};
-ghost use Rattle.std.specs.Prelude.{nat_eq, nat_lt, min, Some, IsErr, OnErr, IfOk, Contains, take, drop, length, [], false};
+ghost use Rattle.std.specs.Prelude.{◌≡◌, ◌<◌, ◌≤◌, ◌&&◌, ◌++◌};
+ghost use Rattle.std.specs.Prelude.{nat_eq, nat_lt, min, Some, take, drop, length, [], false};
 ghost use Rattle.std.specs.Io.{ReadsAtMost};
 ghost use Rattle.std.specs.Io.KnownBytes.{ReadConsumes};
-ghost use Rattle.edge_io.specs.Causes.{CountsFault, HasCause, raised};
+ghost use Rattle.edge_io.specs.Causes.{HasCause};
 ghost use Rattle.edge_io.specs.Streams.{EndsBy};
+ghost use Rattle.edge_mem.specs.Streams.{GivesBytes};
 
+use crate::numbered::Calls;
 use edge_io::{Failed, Source};
 use std::marker::Model;
 
@@ -13,10 +15,8 @@ use std::marker::Model;
 pub struct MemSource {
     bytes: Vec<u8>,
     place: usize,
-    failing: Vec<u64>,
-    calls: u64,
+    calls: Calls,
     ended: bool,
-    faults: u64,
 }
 
 impl Model for MemSource {
@@ -25,7 +25,7 @@ impl Model for MemSource {
 
     ghost Value = { Supply };
 
-    ghost view = { λ s. record { left = drop s.place s.bytes.items; failing = s.failing.items; calls = s.calls; ended = s.ended; faults = s.faults } };
+    ghost view = { λ s. record { left = drop s.place s.bytes.items; failing = s.calls.failing; calls = s.calls.made; ended = s.ended; faults = s.calls.faults } };
 
     ghost invariant = { λ s. s.place ≤ length s.bytes.items };
 }
@@ -38,10 +38,8 @@ impl MemSource {
         MemSource {
             bytes,
             place: 0,
-            failing,
-            calls: 0,
+            calls: Calls::new(failing),
             ended: false,
-            faults: 0,
         }
     }
 }
@@ -74,23 +72,9 @@ impl Source for MemSource {
         ensures bytes { ReadConsumes (Some self.old.left) (Some self.new.left) result into.new }
         ensures end { EndsBy self.old.ended self.new.ended result into.new }
         ensures cause { HasCause self.old.faults self.new.faults result }
-
-        // It fails exactly where the list says so, and else gives all that there is room for. Where it fails, nothing is lost
-        // and `into` is as it was.
-        ensures fails { IsErr result ↔ Contains self.old.failing self.old.calls }
-        ensures lost { OnErr result (self.new.left ≡ self.old.left) }
-        ensures into { OnErr result (into.new ≡ into.old) }
-        ensures count { IfOk result (λ n. n ≡ min (length self.old.left) (length into.new)) }
-        ensures failing { self.new.failing ≡ self.old.failing }
-        ensures calls { self.new.calls ≡ raised self.old.calls }
-        ensures faults { CountsFault self.old.faults self.new.faults result }
+        ensures gives { GivesBytes self.old self.new into.old into.new result }
     {
-        let fails = self.failing.contains(&self.calls);
-        self.calls = self.calls.saturating_add(1);
-        if fails {
-            self.faults = self.faults.saturating_add(1);
-            return Err(Failed);
-        }
+        self.calls.begin()?;
         let count = copy_front(&self.bytes[self.place..], into);
         self.place += count;
         self.ended = self.ended | is_end(count, into);

@@ -4,7 +4,7 @@ use Rattle.edge_mem.specs.Bays.{BayState, out_in, out_at, taken_at}
 use Rattle.edge_mem.proofs.Slots.{IsAt, is_at, is_absent, some_slot, count_at, put_there, put_others, same_slot}
 use Rattle.edge_mem.proofs.bay.MemBayBay.put_back.Goals as goal
 
-at : (c : goal.After-self-1) → IsAt c.self.inside.slots.items c.args.name.now c.in-Some.at
+at : (c : goal.After-add_faults) → IsAt c.self.inside.slots.items c.args.name.now c.in-Some.at
 at c = is_at _ _ _ _ _ c.deref.ensures.value c.as_bytes.ensures.same c.in-Some.ensures.at
 
 pub unreachable-requires : goal.unreachable-requires
@@ -30,13 +30,13 @@ pub returns-clause-others : goal.returns-clause-others
 returns-clause-others c = λ m away. same_slot _ _ _ m c.self.view_is (put_others _ _ _ _ (at c) some_slot _ (c.put_at-rose.ensures.put some_slot) m away)
 
 -- how much its count rose since it was taken
-rose : (c : goal.After-self-1) → c.put_at-rose.result ≡ c.args.given.faults - taken_at c.args.self.now c.args.name.now
+rose : (c : goal.After-add_faults) → c.put_at-rose.result ≡ c.args.given.faults - taken_at c.args.self.now c.args.name.now
 rose c = c.put_at-rose.ensures.rose some_slot ∙ ap (λ (k : ℕ). c.args.given.faults - k)
     (sym (count_at c.self.inside.slots.items c.self.inside.slots.items _ _ (at c) some_slot)
     ∙ ap (λ (b : BayState). taken_at b c.args.name.now) c.self.view_is)
 
-faults : (c : goal.After-self-1) → c.self.inside.faults ≡ c.args.self.now.faults
+faults : (c : goal.After-add_faults) → c.self.inside.calls.faults ≡ c.args.self.now.faults
 faults c = ap (λ (b : BayState). b.faults) c.self.view_is
 
 pub returns-clause-counts : goal.returns-clause-counts
-returns-clause-counts c = omega (arith, rose c, faults c, c.counted-self-inside.ensures.sum)
+returns-clause-counts c = omega (arith, rose c, faults c, c.add_faults.ensures.sum)
