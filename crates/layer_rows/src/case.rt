@@ -1,6 +1,7 @@
 // The layer that lines are about, and what they give.
 use crate::adapters::Adapters;
 use crate::formats::Formats;
+use crate::links::Links;
 use crate::stores::Stores;
 use crate::texts::Texts;
 use crate::windows::Windows;
@@ -13,6 +14,7 @@ enum Layer {
     Formats,
     Stores,
     Adapters,
+    Links,
     Windows,
     Texts,
 }
@@ -23,6 +25,7 @@ pub struct Case {
     formats: Formats,
     stores: Stores,
     adapters: Adapters,
+    links: Links,
     windows: Windows,
     texts: Texts,
 }
@@ -32,6 +35,7 @@ fn layer_of(name: &str) -> Option<Layer> {
         "formats" => Some(Layer::Formats),
         "stores" => Some(Layer::Stores),
         "adapters" => Some(Layer::Adapters),
+        "links" => Some(Layer::Links),
         "windows" => Some(Layer::Windows),
         "texts" => Some(Layer::Texts),
         _ => None,
@@ -47,15 +51,16 @@ fn parted(text: &str) -> (&str, &str) {
 }
 
 impl Case {
-    pub fn new(alloc: Global) -> Case {
-        Case {
+    pub fn new(alloc: Global) -> io::Result<Case> {
+        Ok(Case {
             layer: Layer::Formats,
             formats: Formats::new(alloc),
             stores: Stores::new(alloc),
             adapters: Adapters::None,
+            links: Links::new(alloc)?,
             windows: Windows::new(alloc),
             texts: Texts::new(alloc),
-        }
+        })
     }
 
     /// Takes the name of a layer, or a change of bytes. Whether the line was one of these.
@@ -76,6 +81,7 @@ impl Case {
             Layer::Formats => self.formats.told(alloc, kind, words),
             Layer::Stores => self.stores.told(alloc, kind, words),
             Layer::Adapters => self.adapters.told(alloc, kind, words),
+            Layer::Links => self.links.told(alloc, kind, words),
             Layer::Windows => self.windows.told(alloc, kind, words),
             Layer::Texts => self.texts.told(alloc, kind, words),
         }
@@ -86,6 +92,7 @@ impl Rows for Case {
     fn begin(&mut self, alloc: Global) -> io::Result<()> {
         self.stores.set(Stores::new(alloc));
         self.adapters.set(Adapters::None);
+        self.links.set(Links::new(alloc)?);
         self.windows.set(Windows::new(alloc));
         self.texts.set(Texts::new(alloc));
         self.formats.begin(alloc)

@@ -1,7 +1,8 @@
-//! Worked examples of the lower layers: formats, stores on disks in memory, what adapters ask of the system, windows, and texts.
+//! Worked examples of the lower layers: formats, stores on disks in memory, what adapters ask of the system, links and clocks in
+//! memory, windows, and texts.
 //!
-//! A line `layer NAME` before the cases of a file says which they are about: `formats`, `stores`, `adapters`, `windows` or `texts`.
-//! The heads of `formats.rt`, `stores.rt`, `adapters.rt`, `windows.rt` and `texts.rt` say which lines there are.
+//! A line `layer NAME` before the cases of a file says which they are about: `formats`, `stores`, `adapters`, `links`, `windows` or
+//! `texts`. The head of the file with that name in `src/` says which lines there are.
 #![tactic(auto)]
 
 mod acks;
@@ -14,6 +15,7 @@ mod disks;
 mod fakes;
 mod formats;
 mod kinds;
+mod links;
 mod logs;
 mod messages;
 mod plain;
@@ -30,5 +32,5 @@ use row_text::run_files;
 use std::io;
 
 fn main(rt: HostRuntime) -> io::Result<()> {
-    run_files(&rt, Case::new(rt.alloc()))
+    run_files(&rt, Case::new(rt.alloc())?)
 }
