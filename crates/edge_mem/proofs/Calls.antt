@@ -163,9 +163,9 @@ module _ (h g : Past) (is : (g ≡ with_event h Kept) ⊎ ((g ≡ h) × EndsKept
 
 -- ---- a power loss
 
-module _ (h g : Past) (choice : ℕ) (is : g ≡ with_event h (Lost choice (loss_of (state h) choice))) where
-  lost_state : state g ≡ next (state h) (Lost choice (loss_of (state h) choice))
-  lost_state = state_then h g (Lost choice (loss_of (state h) choice)) is
+module _ (h g : Past) (choice : ℕ) (is : g ≡ with_event h (Lost choice)) where
+  lost_state : state g ≡ next (state h) (Lost choice)
+  lost_state = state_then h g (Lost choice) is
 
   loss_is_image : image h (loss_of (state h) choice)
   loss_is_image =

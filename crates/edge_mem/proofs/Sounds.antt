@@ -86,9 +86,9 @@ module _ (first era bytes : List ℕ) (log : List Step) (start kept : ℕ) (soun
             begins = omega (arith, sound.begins, m.len);
           }
 
-  pub lost_sound : (new : List Step) (choice : ℕ) (left : List ℕ) → Joins log (Lost choice left) new → IsSound first left left new (length new) 0
-  lost_sound new choice left j =
-      let state_is : state_of first new ≡ next s (Lost choice left) = state_then new (Lost choice left) (joined log new (Lost choice left) j) in
+  pub lost_sound : (new : List Step) (choice : ℕ) → Joins log (Lost choice) new → IsSound first (loss_of s choice) (loss_of s choice) new (length new) 0
+  lost_sound new choice j =
+      let state_is : state_of first new ≡ next s (Lost choice) = state_then new (Lost choice) (joined log new (Lost choice) j) in
       record {
         era_is = sym (ap (λ (t : State). t.first) state_is);
         steps_are = ap changes (drop_all (length new) new (omega arith)) ∙ sym (ap (λ (t : State). t.kept ++ t.changes) state_is);

@@ -10,15 +10,15 @@ pub data Event : Type 0 where
   CutTo : ℕ → Event
   -- a sync
   Kept : Event
-  -- a power loss by a choice left this content
-  Lost : ℕ → List ℕ → Event
+  -- a power loss by a choice
+  Lost : ℕ → Event
 
 -- the content after a change
 abbrev pub done : Event → List ℕ → List ℕ
 done (Wrote at bytes) c = written at bytes c
 done (CutTo n) c = take n c
 done Kept c = c
-done (Lost choice left) c = c
+done (Lost choice) c = c
 
 -- the content after changes
 abbrev pub replay : List Event → List ℕ → List ℕ
@@ -30,7 +30,7 @@ abbrev pub LeavesBy : Event → List ℕ → List ℕ → Type 0
 LeavesBy (Wrote at bytes) c d = UnfinishedWrite at (length bytes) c d
 LeavesBy (CutTo n) c d = UnfinishedCut n c d
 LeavesBy Kept c d = d ≡ c
-LeavesBy (Lost choice left) c d = d ≡ c
+LeavesBy (Lost choice) c d = d ≡ c
 
 -- what a crash may leave of changes
 abbrev pub IsImage : List Event → List ℕ → List ℕ → Type 0
@@ -42,6 +42,7 @@ pub record State : Type 0 where
   pub first : List ℕ
   pub kept : List Event
   pub changes : List Event
+  -- the choice of each loss, and the content that it left
   pub losses : List (ℕ × List ℕ)
 
 -- the content at the last sync
@@ -71,7 +72,12 @@ abbrev pub next : State → Event → State
 next s (Wrote at bytes) = if nat_lt (length (content_of s)) at then s else changed s (Wrote at bytes)
 next s (CutTo n) = changed s (CutTo n)
 next s Kept = record { first = s.first; kept = s.kept ++ s.changes; changes = []; losses = s.losses }
-next s (Lost choice left) = record { first = left; kept = []; changes = []; losses = s.losses ++ (choice, left) ∷ [] }
+next s (Lost choice) = record {
+  first = loss_of s choice;
+  kept = [];
+  changes = [];
+  losses = s.losses ++ (choice, loss_of s choice) ∷ [];
+}
 
 -- the state after events
 unfoldable pub run : State → List Event → State

@@ -51,7 +51,7 @@ pub leaves_same : (e : Event) (c : List ℕ) → LeavesBy e c c
 leaves_same (Wrote at bytes) c = torn_same at (length bytes) c
 leaves_same (CutTo n) c = cut_same n c
 leaves_same Kept c = refl
-leaves_same (Lost choice left) c = refl
+leaves_same (Lost choice) c = refl
 
 -- ---- changes
 
@@ -60,7 +60,7 @@ Fits [] c = Unit {0}
 Fits (Wrote at bytes ∷ es) c = (at ≤ length c) × Fits es (written at bytes c)
 Fits (CutTo n ∷ es) c = Fits es (take n c)
 Fits (Kept ∷ es) c = Fits es c
-Fits (Lost choice left ∷ es) c = Fits es c
+Fits (Lost choice ∷ es) c = Fits es c
 
 pub replay_join : (es fs : List Event) (c : List ℕ) → replay (es ++ fs) c ≡ replay fs (replay es c)
 replay_join [] fs c = refl
@@ -83,21 +83,21 @@ fits_push [] e c p q = q
 fits_push (Wrote at bytes ∷ es) e c p q = (p.0, fits_push es e (written at bytes c) p.1 q)
 fits_push (CutTo n ∷ es) e c p q = fits_push es e (take n c) p q
 fits_push (Kept ∷ es) e c p q = fits_push es e c p q
-fits_push (Lost choice left ∷ es) e c p q = fits_push es e c p q
+fits_push (Lost choice ∷ es) e c p q = fits_push es e c p q
 
 pub fits_front : (es fs : List Event) (c : List ℕ) → Fits (es ++ fs) c → Fits es c
 fits_front [] fs c p = tt
 fits_front (Wrote at bytes ∷ es) fs c p = (p.0, fits_front es fs (written at bytes c) p.1)
 fits_front (CutTo n ∷ es) fs c p = fits_front es fs (take n c) p
 fits_front (Kept ∷ es) fs c p = fits_front es fs c p
-fits_front (Lost choice left ∷ es) fs c p = fits_front es fs c p
+fits_front (Lost choice ∷ es) fs c p = fits_front es fs c p
 
 pub replay_is_image : (es : List Event) (c : List ℕ) → Fits es c → IsImage es c (replay es c)
 replay_is_image [] c p = refl
 replay_is_image (Wrote at bytes ∷ es) c p = (written at bytes c, torn_written at bytes c p.0, replay_is_image es (written at bytes c) p.1)
 replay_is_image (CutTo n ∷ es) c p = (take n c, cut_done n c, replay_is_image es (take n c) p)
 replay_is_image (Kept ∷ es) c p = (c, refl, replay_is_image es c p)
-replay_is_image (Lost choice left ∷ es) c p = (c, refl, replay_is_image es c p)
+replay_is_image (Lost choice ∷ es) c p = (c, refl, replay_is_image es c p)
 
 -- ---- what happened
 
@@ -125,7 +125,7 @@ next_fits s (Wrote at bytes) p = ⊎_elim
     cases false = inr refl
 next_fits s (CutTo n) p = fits_push s.changes (CutTo n) (base s) p tt
 next_fits s Kept p = tt
-next_fits s (Lost choice left) p = tt
+next_fits s (Lost choice) p = tt
 
 pub run_fits : (s : State) (es : List Event) → StateFits s → StateFits (run s es)
 unfolding run

@@ -8,7 +8,7 @@ use Rattle.edge_mem.specs.declared.change.Step.{Step}
 abbrev pub event_of : Change → Event
 event_of (Write place bytes) = Wrote place bytes.items
 event_of (Cut to) = CutTo to
-event_of (Loss choice left) = Lost choice left.items
+event_of (Loss choice) = Lost choice
 
 abbrev pub with_sync : Bool → List Event → List Event
 with_sync true es = Kept ∷ es

@@ -5,7 +5,7 @@
 pub enum Change {
     Write { place: usize, bytes: Vec<u8> },
     Cut { to: usize },
-    Loss { choice: u64, left: Vec<u8> },
+    Loss { choice: u64 },
 }
 
 /// A change, and whether a sync followed it.

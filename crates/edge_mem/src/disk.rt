@@ -6,7 +6,7 @@ ghost use Rattle.edge_io.specs.Causes.{CountsFault, FailsBy, HasCause, Rose, rai
 ghost use Rattle.edge_io.specs.Disk.{written, IsTold, WhereTold, Changes, UnfinishedWrite, UnfinishedCut, StepsBy, Within};
 ghost use Rattle.edge_io.specs.Disk.{SameImages, Synced, SameContent, IsUneventful, GrowsTo, ShrinksTo, LosesPower, KeepsPower};
 ghost use Rattle.edge_io.specs.Moments.{Elapses};
-ghost use Rattle.edge_mem.specs.Events.{Wrote, CutTo, Kept, Lost, loss_of};
+ghost use Rattle.edge_mem.specs.Events.{Wrote, CutTo, Kept, Lost};
 ghost use Rattle.edge_mem.specs.Steps.{EndsKept};
 ghost use Rattle.edge_mem.specs.Past.{state, content, with_event, broken_by, failed_write};
 ghost use Rattle.edge_mem.specs.Seen.{disk_view};
@@ -223,7 +223,7 @@ impl Disk for MemDisk {
         ensures cause { HasCause self.old.faults self.new.faults result }
 
         // It leaves the content at the last sync with the first changes since, as many as the choice says.
-        ensures past { MatchResult result (λ _. self.new.past ≡ with_event self.old.past (Lost choice (loss_of (state self.old.past) choice)))
+        ensures past { MatchResult result (λ _. self.new.past ≡ with_event self.old.past (Lost choice))
             (λ _. self.new.past ≡ self.old.past) }
         ensures faults { CountsFault self.old.faults self.new.faults result }
     {

@@ -1,6 +1,6 @@
 // The content of a disk in memory, with all that happened to it.
 ghost use Rattle.std.specs.Prelude.{◌≡◌, ◌⊎◌, ◌≤◌, ◌+◌, ℕ, List, [], ◌∷◌, ◌++◌, length, take, drop, IfOk, OnOk, OnErr};
-ghost use Rattle.edge_mem.specs.Events.{Event, Wrote, CutTo, Kept, Lost, State, loss_of, replay};
+ghost use Rattle.edge_mem.specs.Events.{Event, Wrote, CutTo, Kept, Lost, State, replay};
 ghost use Rattle.edge_mem.specs.Past.{Past, state, content, with_event};
 ghost use Rattle.edge_mem.specs.Steps.{EndsKept};
 
@@ -85,17 +85,16 @@ impl History {
     }
 
     pub fn lose(&mut self, choice: u64) -> Result<(), AllocError>
-        ensures ok { OnOk result (self.new ≡ with_event self.old (Lost choice (loss_of (state self.old) choice))) }
+        ensures ok { OnOk result (self.new ≡ with_event self.old (Lost choice)) }
         ensures err { OnErr result (self.new ≡ self.old) }
     {
         let left = after_loss(
             self.alloc, &self.era, &self.log, self.start, self.kept, choice,
         )?;
-        let era = left.to_vec(self.alloc)?;
         let bytes = left.to_vec(self.alloc)?;
-        push_step(&mut self.log, Change::Loss { choice, left })?;
+        push_step(&mut self.log, Change::Loss { choice })?;
         self.start = self.log.len();
-        self.era = era;
+        self.era = left;
         self.kept = 0;
         self.bytes = bytes;
         Ok(())

@@ -1,6 +1,6 @@
 use Rattle.std.proofs.Common.{◌≡◌, ◌+◌, take, drop, length, ap, ◌∙◌, arith, rules, ℕ, List}
-use Rattle.edge_mem.specs.Events.{Lost, loss_of, replay}
-use Rattle.edge_mem.specs.Past.{Past, state, with_event}
+use Rattle.edge_mem.specs.Events.{loss_of, replay}
+use Rattle.edge_mem.specs.Sound.{state_of}
 use Rattle.edge_mem.specs.Steps.{changes}
 use Rattle.edge_mem.proofs.Sounds.{lost_sound, view_then, loss_is, kept_fits}
 use Rattle.edge_mem.proofs.history.History.lose.Goals as goal
@@ -11,19 +11,16 @@ after_loss-requires-clause-kept c = let same : length c.deref-2.result.now ≡ l
 
 pub invariant_of-self-2 : goal.invariant_of-self-2
 invariant_of-self-2 c =
-    let era : c.in_ok-era.era.items ≡ c.in_ok-left.left.items = search rules in
-    let bytes : c.in_ok-bytes.bytes.items ≡ c.in_ok-left.left.items = search rules in
-    let len : c.len-self-inside.result ≡ length c.push_step.new.log.items = search rules in
-    rw (era, bytes, len) (lost_sound _ _ _ _ _ _ c.self.invariant _ _ _ c.in_ok-push_step.ensures.ok)
-
-pub returns-clause-ok : goal.returns-clause-ok
-returns-clause-ok c =
-    let left : c.in_ok-left.left.items ≡ loss_of (state c.args.self.now) c.args.choice =
+    let left : c.in_ok-left.left.items ≡ loss_of (state_of c.self.inside.first.items c.self.inside.log.items) c.args.choice =
     c.in_ok-left.ensures
     ∙ ap (λ (l : List _). replay (take (c.self.inside.kept + c.args.choice)
     (changes (drop c.self.inside.start l))) c.deref.result.now) c.deref-2.ensures.value
     ∙ ap (λ (l : List ℕ). replay (take (c.self.inside.kept + c.args.choice)
     (changes (drop c.self.inside.start c.self.inside.log.items))) l) c.deref.ensures.value
-    ∙ loss_is _ _ _ _ _ _ c.self.invariant c.args.choice
-    ∙ ap (λ (h : Past). loss_of (state h) c.args.choice) c.self.view_is in
-    view_then _ _ _ _ _ c.self.view_is c.in_ok-push_step.ensures.ok ∙ ap (λ (l : List ℕ). with_event c.args.self.now (Lost c.args.choice l)) left
+    ∙ loss_is _ _ _ _ _ _ c.self.invariant c.args.choice in
+    let bytes : c.in_ok-bytes.bytes.items ≡ c.in_ok-left.left.items = search rules in
+    let len : c.len-self-inside.result ≡ length c.push_step.new.log.items = search rules in
+    rw (bytes, left, len) (lost_sound _ _ _ _ _ _ c.self.invariant _ _ c.in_ok-push_step.ensures.ok)
+
+pub returns-clause-ok : goal.returns-clause-ok
+returns-clause-ok c = view_then _ _ _ _ _ c.self.view_is c.in_ok-push_step.ensures.ok
