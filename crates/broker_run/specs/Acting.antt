@@ -1,28 +1,26 @@
 -- What acts through the passes of one thread leave of them, and how a part of a connection is such an act. This project's own.
 -- For example a visit of shard 2 at 5000 is one entry of that thread's pass of the lock of shard 2, and no other pass of the thread changes.
-use Rattle.std.specs.Prelude.{◌≡◌, ◌⊎◌, ◌++◌, ◌∷◌, ◌<◌, ℕ, zero, suc, List, [], Result, Ok, Err, slice_index_or, length}
+use Rattle.std.specs.Prelude.{◌≡◌, ◌++◌, ◌∷◌, ◌<◌, ℕ, zero, suc, List, [], Option, Some, None, Result, Ok, Err, slice_index_or, length}
 use Rattle.std.specs.List.{AllZip}
 use Rattle.edge_io.specs.Views.{DiskView}
 use Rattle.flex_fields.specs.declared.fault.NoMemory.{NoMemory}
 use Rattle.share_model.specs.declared.foreign.ForeignAnswer.{ForeignAnswer}
-use Rattle.share_model.specs.declared.visit.VisitAnswer.{VisitAnswer}
+use Rattle.topic_conf.specs.Configs.{ConfigParts}
+use Rattle.topic_conf.specs.Topics.{partitions}
 use Rattle.msgs_group.specs.declared.heartbeat_reply.HeartbeatReply.{HeartbeatReply}
-use Rattle.call_fold.specs.declared.part.Looked.{Looked}
 use Rattle.call_fold.specs.declared.part.Part.{Part}
 use Rattle.call_fold.specs.declared.part.Part.TheVariants.{Foreign, Produce, Visit, Look, Heartbeat}
 use Rattle.call_fold.specs.declared.part.PartAnswer.{PartAnswer}
 use Rattle.call_fold.specs.declared.part.PartAnswer.TheVariants as answers
-use Rattle.call_fold.specs.declared.part.Produced.{Produced}
-use Rattle.call_fold.specs.Parts.{HasTellableBase, IsTellableLook, IsTellableVisit}
 use Rattle.shard_lock.specs.History.{IsLegal, GoesOn, of_pass, entry}
 use Rattle.shard_lock.specs.Passes.{LockParts, PassParts, IsOf, StaysSame}
 use Rattle.broker_shards.specs.Acts.{ActsPart, ActsMembers, ActsForeign}
 use Rattle.broker_shards.specs.declared.foreign.ForeignEvent.{ForeignEvent}
-use Rattle.broker_shards.specs.declared.members.MembersAsk.{MembersAsk}
 use Rattle.broker_shards.specs.declared.members.MembersAsk.TheVariants as members_ask
 use Rattle.broker_shards.specs.declared.members.MembersEvent.{MembersEvent}
 use Rattle.broker_shards.specs.declared.members.MembersTold.{MembersTold}
 use Rattle.broker_shards.specs.declared.members.MembersTold.TheVariants as members_told
+use Rattle.broker_shards.specs.Histories.{IsToldOf}
 use Rattle.broker_shards.specs.declared.part.PartAsk.{PartAsk}
 use Rattle.broker_shards.specs.declared.part.PartAsk.TheVariants as part_ask
 use Rattle.broker_shards.specs.declared.part.PartEvent.{PartEvent}
@@ -41,6 +39,15 @@ pub record StaySame {D : Type 0} (old new : PassesParts D) : Type 0 where
   pub parts : AllZip StaysSame old.parts new.parts
   pub members : StaysSame old.members new.members
   pub foreign : StaysSame old.foreign new.foreign
+
+-- what acts leave of passes of these locks
+pub record StayOf {D : Type 0} (shared : SharedParts D) (old new : PassesParts D) : Type 0 where
+  pub of : AreOf shared new
+  pub same : StaySame old new
+
+-- there is a lock for each hosted partition
+abbrev pub HostsAll : {D : Type 0} → ConfigParts → SharedParts D → Type 0
+HostsAll conf shared = length shared.parts ≡ partitions conf.topics
 
 -- the element at this place of a list changes so, and no other
 abbrev pub ChangesAt : {A : Type 0} → ℕ → (A → A → Type 0) → List A → List A → Type 0
@@ -74,6 +81,17 @@ pub record ActsByMembers {D : Type 0} (shared : SharedParts D) (event : MembersE
   pub parts : new.parts ≡ old.parts
   pub foreign : new.foreign ≡ old.foreign
 
+-- what a partition told, as the answer to a part; no part asks for an expiry
+abbrev pub answer_told : PartTold → Option PartAnswer
+answer_told (part_told.Visit told) = Some (answers.Visit told)
+answer_told (part_told.Produce told) = Some (answers.Produce told)
+answer_told (part_told.Look told) = Some (answers.Look told)
+answer_told (part_told.Expire told) = None
+
+-- an answer of the kind that was asked, in numbers that a reply can say
+abbrev pub FitsAsk : PartAsk → PartAnswer → Type 0
+FitsAsk asked answer = (told : PartTold) × IsToldOf asked told × (answer_told told ≡ Some answer)
+
 module _ {D : Type 0} (seen : D → DiskView) where
   -- the pass of the hosted partition with this number acted once, and no other pass did
   pub record ActsByPart (shared : SharedParts D) (shard : ℕ) (event : PartEvent) (answer : Result PartTold NoMemory)
@@ -89,24 +107,27 @@ module _ {D : Type 0} (seen : D → DiskView) where
     pub parts : new.parts ≡ old.parts
     pub members : new.members ≡ old.members
 
+  -- The part of a connection was done by one act on this hosted partition, which told the answer.
+  abbrev pub DoesByPart : SharedParts D → ℕ → PartEvent → PartAnswer → PassesParts D → PassesParts D → Type 0
+  DoesByPart shared shard event answer old new =
+      (told : PartTold) × (answer_told told ≡ Some answer) × ActsByPart shared shard event (Ok told) old new
+
   -- The part was done at this moment, by one act of the pass of its shard, and this was answered.
   abbrev pub DoesPart : SharedParts D → Part → (now : ℕ) → PartAnswer → PassesParts D → PassesParts D → Type 0
   DoesPart shared (Foreign op) now answer old new =
       (told : ForeignAnswer) × (answer ≡ answers.Foreign told) × ActsByForeign shared (record { op = op }) (Ok told) old new
-  DoesPart shared (Produce shard batch) now answer old new = (told : Produced) × (answer ≡ answers.Produce told)
-      × ActsByPart shared shard (record { now = now; ask = part_ask.Produce batch }) (Ok (part_told.Produce told)) old new
-  DoesPart shared (Visit shard visit) now answer old new = (told : VisitAnswer) × (answer ≡ answers.Visit told)
-      × ActsByPart shared shard (record { now = now; ask = part_ask.Visit visit }) (Ok (part_told.Visit told)) old new
-  DoesPart shared (Look shard group) now answer old new = (told : Looked) × (answer ≡ answers.Look told)
-      × ActsByPart shared shard (record { now = now; ask = part_ask.Look group }) (Ok (part_told.Look told)) old new
+  DoesPart shared (Produce shard batch) now answer old new =
+      DoesByPart shared shard (record { now = now; ask = part_ask.Produce batch }) answer old new
+  DoesPart shared (Visit shard visit) now answer old new = DoesByPart shared shard (record { now = now; ask = part_ask.Visit visit }) answer old new
+  DoesPart shared (Look shard group) now answer old new = DoesByPart shared shard (record { now = now; ask = part_ask.Look group }) answer old new
   DoesPart shared (Heartbeat request) now answer old new = (told : HeartbeatReply) × (answer ≡ answers.Heartbeat told)
       × ActsByMembers shared (record { now = now; ask = members_ask.Heartbeat request }) (Ok (members_told.Heartbeat told)) old new
 
-  -- an act on a hosted partition found no memory; or there is no such partition, and no pass acted
+  -- the act on this hosted partition found no memory
   abbrev pub FailsByPart : SharedParts D → ℕ → PartEvent → PassesParts D → PassesParts D → Type 0
-  FailsByPart shared shard event old new = (new ≡ old) ⊎ ((fault : NoMemory) × ActsByPart shared shard event (Err fault) old new)
+  FailsByPart shared shard event old new = (fault : NoMemory) × ActsByPart shared shard event (Err fault) old new
 
-  -- The part found no memory.
+  -- The act that does the part found no memory.
   abbrev pub FailsPart : SharedParts D → Part → (now : ℕ) → PassesParts D → PassesParts D → Type 0
   FailsPart shared (Foreign op) now old new = (fault : NoMemory) × ActsByForeign shared (record { op = op }) (Err fault) old new
   FailsPart shared (Produce shard batch) now old new = FailsByPart shared shard (record { now = now; ask = part_ask.Produce batch }) old new
@@ -114,29 +135,3 @@ module _ {D : Type 0} (seen : D → DiskView) where
   FailsPart shared (Look shard group) now old new = FailsByPart shared shard (record { now = now; ask = part_ask.Look group }) old new
   FailsPart shared (Heartbeat request) now old new =
       (fault : NoMemory) × ActsByMembers shared (record { now = now; ask = members_ask.Heartbeat request }) (Err fault) old new
-
--- ---- answers of the kind that was asked, whose numbers a reply can say
-
-abbrev pub IsToldTo : PartAsk → PartTold → Type 0
-IsToldTo (part_ask.Visit visit) (part_told.Visit told) = IsTellableVisit told
-IsToldTo (part_ask.Visit visit) (part_told.Produce told) = ⊥
-IsToldTo (part_ask.Visit visit) (part_told.Look told) = ⊥
-IsToldTo (part_ask.Visit visit) (part_told.Expire told) = ⊥
-IsToldTo (part_ask.Produce batch) (part_told.Visit told) = ⊥
-IsToldTo (part_ask.Produce batch) (part_told.Produce told) = HasTellableBase told
-IsToldTo (part_ask.Produce batch) (part_told.Look told) = ⊥
-IsToldTo (part_ask.Produce batch) (part_told.Expire told) = ⊥
-IsToldTo (part_ask.Look group) (part_told.Visit told) = ⊥
-IsToldTo (part_ask.Look group) (part_told.Produce told) = ⊥
-IsToldTo (part_ask.Look group) (part_told.Look told) = IsTellableLook told
-IsToldTo (part_ask.Look group) (part_told.Expire told) = ⊥
-IsToldTo part_ask.Expire (part_told.Visit told) = ⊥
-IsToldTo part_ask.Expire (part_told.Produce told) = ⊥
-IsToldTo part_ask.Expire (part_told.Look told) = ⊥
-IsToldTo part_ask.Expire (part_told.Expire told) = Unit {0}
-
-abbrev pub IsToldToMembers : MembersAsk → MembersTold → Type 0
-IsToldToMembers (members_ask.Heartbeat request) (members_told.Heartbeat reply) = Unit {0}
-IsToldToMembers (members_ask.Heartbeat request) (members_told.Ticked count) = ⊥
-IsToldToMembers members_ask.Tick (members_told.Heartbeat reply) = ⊥
-IsToldToMembers members_ask.Tick (members_told.Ticked count) = Unit {0}

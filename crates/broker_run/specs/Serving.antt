@@ -2,7 +2,8 @@
 -- For example a link that gives one Read of foreign state and ends has one part, done by one entry of the thread's pass of foreign state at the
 -- first moment of the clock; the bytes of its one reply were written, and the connection is gone.
 use Rattle.std.specs.Prelude.{◌≡◌, ◌⊎◌, ◌∷◌, [], ℕ, List, Option, Bool, true, false, map}
-use Rattle.std.specs.Io.KnownBytes.{Appends, Consumes}
+use Rattle.std.specs.Io.KnownBytes.{Appends, Consumes, IsAtEnd}
+use Rattle.edge_io.specs.Causes.{Rose}
 use Rattle.edge_io.specs.Streams.{AppendsFront}
 use Rattle.edge_io.specs.Views.{DiskView}
 use Rattle.edge_io.specs.Serving.{TellsMore}
@@ -12,13 +13,14 @@ use Rattle.call_fold.specs.declared.part.PartAnswer.{PartAnswer}
 use Rattle.conn_core.specs.declared.next.Next.TheVariants.{Ask, Gone, Closed as next_closed}
 use Rattle.conn_core.specs.Conns.{ConnParts, new_conn, conn_after_bytes, conn_after_end}
 use Rattle.conn_core.specs.Streams.{Act, conn_after_all, stream}
+use Rattle.conn_core.specs.HostedShards.{AreHostedIn}
 use Rattle.conn_core.specs.Turning.{Awaits, Waits, turn, conn_after_answer}
 use Rattle.broker_run.specs.declared.connection.Ended.{Ended}
 use Rattle.broker_run.specs.declared.connection.Ended.TheVariants.{Peer, Closed, Read, Write, NoMemory}
 use Rattle.broker_run.specs.declared.connection.Turned.{Turned}
 use Rattle.broker_run.specs.declared.connection.Turned.TheVariants.{Goes as Goes_on, Closes}
 use Rattle.broker_run.specs.Shared.{SharedParts, PassesParts}
-use Rattle.broker_run.specs.Acting.{DoesPart, FailsPart}
+use Rattle.broker_run.specs.Acting.{AreOf, DoesPart, FailsPart, HostsAll}
 use Rattle.broker_run.specs.Telling.{Exchange, exchanges, sent}
 
 -- a part that was done, when, and its answer
@@ -40,6 +42,16 @@ pub record Scene (D : Type 0) : Type 0 where
 
 abbrev pub scene : {D : Type 0} → ConnParts → PassesParts D → (left held told : Option (List ℕ)) → Scene D
 scene conn passes left held told = record { conn = conn; passes = passes; left = left; held = held; told = told }
+
+-- the same of a link and a clock, by what these tell of themselves
+abbrev pub scene_of : {D K C : Type 0} → (left held : K → Option (List ℕ)) → (told : C → Option (List ℕ)) → ConnParts → PassesParts D → K → C → Scene D
+scene_of left held told conn passes link clock = scene conn passes (left link) (held link) (told clock)
+
+-- Passes of these locks, of which each hosted partition has one, and a connection that asks hosted partitions alone.
+pub record CanServe {D : Type 0} (conf : ConfigParts) (shared : SharedParts D) (passes : PassesParts D) (conn : ConnParts) : Type 0 where
+  pub of : AreOf shared passes
+  pub hosts : HostsAll conf shared
+  pub hosted : AreHostedIn conf conn
 
 -- all of these bytes were written, or a front of them
 abbrev pub Writes : Bool → (old new : Option (List ℕ)) → List ℕ → Type 0
@@ -123,6 +135,24 @@ EndsByRead (Closed cause) = ⊥
 EndsByRead Read = Unit {0}
 EndsByRead Write = ⊥
 EndsByRead NoMemory = ⊥
+
+-- Why it ended, as the link tells it: by its peer only where the link has ended and all of its bytes were read, by a read or a write that failed
+-- only where its count of faults rose.
+abbrev pub HasEndCause : Ended → (ended : Bool) → (left : Option (List ℕ)) → (faults now : ℕ) → Type 0
+HasEndCause Peer ended left faults now = (ended ≡ true) × IsAtEnd left
+HasEndCause (Closed cause) ended left faults now = Unit {0}
+HasEndCause Read ended left faults now = Rose faults now
+HasEndCause Write ended left faults now = Rose faults now
+HasEndCause NoMemory ended left faults now = Unit {0}
+
+-- the same of a turn, which writes nothing
+abbrev pub HasTurnCause : Turned → (ended : Bool) → (left : Option (List ℕ)) → (faults now : ℕ) → Type 0
+HasTurnCause Goes_on ended left faults now = Unit {0}
+HasTurnCause (Closes Peer) ended left faults now = (ended ≡ true) × IsAtEnd left
+HasTurnCause (Closes (Closed cause)) ended left faults now = Unit {0}
+HasTurnCause (Closes Read) ended left faults now = Rose faults now
+HasTurnCause (Closes Write) ended left faults now = ⊥
+HasTurnCause (Closes NoMemory) ended left faults now = ⊥
 
 -- what a waiting connection received, or that it was closed
 abbrev pub Received : Turned → ConnParts → ConnParts → (left later : Option (List ℕ)) → Type 0

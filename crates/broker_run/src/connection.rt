@@ -1,11 +1,13 @@
 // A connection that is served through the passes of one worker.
-ghost use Rattle.std.specs.Prelude.{◌≡◌, ◌≢◌, ◌≤◌, [], OnOk, OnErr, IfOk, true, false, ℕ, List};
-ghost use Rattle.std.specs.Io.KnownBytes.{Consumes, IsAtEnd};
-ghost use Rattle.edge_io.specs.Causes.{HasCause, Rose};
+ghost use Rattle.std.specs.Prelude.{◌≡◌, ◌≤◌, [], OnOk, OnErr, IfOk, true, false, ℕ, List, length};
+ghost use Rattle.std.specs.Io.KnownBytes.{Consumes};
+ghost use Rattle.edge_io.specs.Causes.{HasCause};
 ghost use Rattle.topic_conf.specs.Configs.{ConfigParts};
+ghost use Rattle.conn_core.specs.HostedShards.{IsHostedPart};
 ghost use Rattle.conn_core.specs.Turning.{Awaits};
-ghost use Rattle.broker_run.specs.Acting.{AreOf, StaySame};
-ghost use Rattle.broker_run.specs.Serving.{Asked, Breaks, IsServed, Received, Releases, Replied, Stopped, Talks, TurnsTo, scene};
+ghost use Rattle.broker_run.specs.Acting.{AreOf, HostsAll, StayOf};
+ghost use Rattle.broker_run.specs.Serving.{Asked, Breaks, CanServe, HasEndCause, HasTurnCause, IsServed};
+ghost use Rattle.broker_run.specs.Serving.{Received, Releases, Replied, Stopped, Talks, TurnsTo, scene_of};
 
 use crate::parts::do_part;
 use crate::shared::{Passes, Shared};
@@ -51,10 +53,12 @@ fn ask<R: Wait, C: Clock, D: Disk>(
 ) -> Result<(), NoMemory>
     requires of { AreOf shared.now passes.old }
     requires asked { Awaits (Next.Ask part) conn.old }
-    ensures of { AreOf shared.now passes.new }
-    ensures same { StaySame passes.old passes.new }
-    ensures ok { OnOk result (Asked conf.now D.seen shared.now part conn.old conn.new passes.old passes.new (C.told clock.old) (C.told clock.new)) }
-    ensures err { OnErr result (Stopped conf.now D.seen shared.now part conn.old conn.new passes.old passes.new (C.told clock.old) (C.told clock.new)) }
+    requires hosted { IsHostedPart (length shared.now.parts) part }
+    ensures stay { StayOf shared.now passes.old passes.new }
+    ensures ok { OnOk result (Asked conf.now D.seen shared.now part
+        conn.old conn.new passes.old passes.new (C.told clock.old) (C.told clock.new)) }
+    ensures err { OnErr result (Stopped conf.now D.seen shared.now part
+        conn.old conn.new passes.old passes.new (C.told clock.old) (C.told clock.new)) }
 {
     let now = clock.now_ms();
     match do_part(rt, shared, passes, now, part) {
@@ -70,8 +74,11 @@ fn reply<K: Link, G: Gate>(
     number: u32,
     gate: &G,
 ) -> Result<(), Failed>
-    ensures ok { OnOk result (((conf : ConfigParts) → Replied conf true conn.old conn.new (K.held link.old) (K.held link.new)) × (conn.new.replies ≡ [])) }
-    ensures err { OnErr result ((conf : ConfigParts) → Replied conf false conn.old conn.new (K.held link.old) (K.held link.new)) }
+    ensures ok { OnOk result (
+        ((conf : ConfigParts) → Replied conf true conn.old conn.new (K.held link.old) (K.held link.new))
+        × (conn.new.replies ≡ [])) }
+    ensures err { OnErr result (
+        (conf : ConfigParts) → Replied conf false conn.old conn.new (K.held link.old) (K.held link.new)) }
     ensures same { (K.left link.new ≡ K.left link.old) × (K.ended link.new ≡ K.ended link.old) }
     ensures cause { HasCause (K.faults link.old) (K.faults link.new) result }
 {
@@ -88,9 +95,8 @@ fn reply<K: Link, G: Gate>(
 fn receive<K: Link>(conn: &mut Conn, link: &mut K) -> Result<Turned, NoMemory>
     ensures ok { IfOk result (λ turned. Received turned conn.old conn.new (K.left link.old) (K.left link.new)) }
     ensures err { OnErr result ((conn.new ≡ conn.old) × ((lost : List ℕ) × Consumes (K.left link.old) (K.left link.new) lost)) }
-    ensures peer { IfOk result (λ turned. turned ≡ Turned.Closes Ended.Peer → (K.ended link.new ≡ true) × IsAtEnd (K.left link.new)) }
-    ensures read { IfOk result (λ turned. turned ≡ Turned.Closes Ended.Read → Rose (K.faults link.old) (K.faults link.new)) }
-    ensures kinds { IfOk result (λ turned. (turned ≢ Turned.Closes Ended.Write) × (turned ≢ Turned.Closes Ended.NoMemory)) }
+    ensures cause { IfOk result (λ turned.
+        HasTurnCause turned (K.ended link.new) (K.left link.new) (K.faults link.old) (K.faults link.new)) }
     ensures same { K.held link.new ≡ K.held link.old }
     ensures later { K.faults link.old ≤ K.faults link.new }
 {
@@ -126,18 +132,16 @@ fn turn<R: Wait, K: Link, C: Clock, G: Gate, D: Disk>(
     clock: &mut C,
     gate: &G,
 ) -> Result<Turned, NoMemory>
-    requires of { AreOf shared.now passes.old }
-    ensures of { AreOf shared.now passes.new }
-    ensures same { StaySame passes.old passes.new }
+    requires ready { CanServe conf.now shared.now passes.old conn.old }
+    ensures stay { StayOf shared.now passes.old passes.new }
     ensures ok { IfOk result (λ turned. TurnsTo conf.now D.seen shared.now turned
-        (scene conn.old passes.old (K.left link.old) (K.held link.old) (C.told clock.old))
-        (scene conn.new passes.new (K.left link.new) (K.held link.new) (C.told clock.new))) }
+        (scene_of K.left K.held C.told conn.old passes.old link.old clock.old)
+        (scene_of K.left K.held C.told conn.new passes.new link.new clock.new)) }
     ensures err { OnErr result (Breaks conf.now D.seen shared.now
-        (scene conn.old passes.old (K.left link.old) (K.held link.old) (C.told clock.old))
-        (scene conn.new passes.new (K.left link.new) (K.held link.new) (C.told clock.new))) }
-    ensures peer { IfOk result (λ turned. turned ≡ Turned.Closes Ended.Peer → (K.ended link.new ≡ true) × IsAtEnd (K.left link.new)) }
-    ensures read { IfOk result (λ turned. turned ≡ Turned.Closes Ended.Read → Rose (K.faults link.old) (K.faults link.new)) }
-    ensures kinds { IfOk result (λ turned. (turned ≢ Turned.Closes Ended.Write) × (turned ≢ Turned.Closes Ended.NoMemory)) }
+        (scene_of K.left K.held C.told conn.old passes.old link.old clock.old)
+        (scene_of K.left K.held C.told conn.new passes.new link.new clock.new)) }
+    ensures cause { IfOk result (λ turned.
+        HasTurnCause turned (K.ended link.new) (K.left link.new) (K.faults link.old) (K.faults link.new)) }
     ensures later { K.faults link.old ≤ K.faults link.new }
 {
     match conn.next_part(conf) {
@@ -168,19 +172,16 @@ fn talk<R: Wait, K: Link, C: Clock, G: Gate, D: Disk>(
     clock: &mut C,
     gate: &G,
 ) -> Result<Ended, NoMemory>
-    requires of { AreOf shared.now passes.old }
-    ensures of { AreOf shared.now passes.new }
-    ensures same { StaySame passes.old passes.new }
+    requires ready { CanServe conf.now shared.now passes.old conn.old }
+    ensures stay { StayOf shared.now passes.old passes.new }
     ensures ok { IfOk result (λ ended. Talks conf.now D.seen shared.now ended
-        (scene conn.old passes.old (K.left link.old) (K.held link.old) (C.told clock.old))
-        (scene conn.new passes.new (K.left link.new) (K.held link.new) (C.told clock.new))) }
+        (scene_of K.left K.held C.told conn.old passes.old link.old clock.old)
+        (scene_of K.left K.held C.told conn.new passes.new link.new clock.new)) }
     ensures err { OnErr result (Breaks conf.now D.seen shared.now
-        (scene conn.old passes.old (K.left link.old) (K.held link.old) (C.told clock.old))
-        (scene conn.new passes.new (K.left link.new) (K.held link.new) (C.told clock.new))) }
-    ensures peer { IfOk result (λ ended. ended ≡ Ended.Peer → (K.ended link.new ≡ true) × IsAtEnd (K.left link.new)) }
-    ensures read { IfOk result (λ ended. ended ≡ Ended.Read → Rose (K.faults link.old) (K.faults link.new)) }
-    ensures write { IfOk result (λ ended. ended ≡ Ended.Write → Rose (K.faults link.old) (K.faults link.new)) }
-    ensures never { IfOk result (λ ended. ended ≢ Ended.NoMemory) }
+        (scene_of K.left K.held C.told conn.old passes.old link.old clock.old)
+        (scene_of K.left K.held C.told conn.new passes.new link.new clock.new)) }
+    ensures cause { IfOk result (λ ended.
+        HasEndCause ended (K.ended link.new) (K.left link.new) (K.faults link.old) (K.faults link.new)) }
     ensures later { K.faults link.old ≤ K.faults link.new }
 {
     for _ in rt.forever() {
@@ -208,11 +209,12 @@ fn finish<R: Wait, C: Clock, G: Gate, D: Disk>(
     clock: &mut C,
     gate: &G,
 ) -> Result<(), NoMemory>
-    requires of { AreOf shared.now passes.old }
-    ensures of { AreOf shared.now passes.new }
-    ensures same { StaySame passes.old passes.new }
-    ensures ok { OnOk result (Releases conf.now D.seen shared.now true conn.old conn.new passes.old passes.new (C.told clock.old) (C.told clock.new)) }
-    ensures err { OnErr result (Releases conf.now D.seen shared.now false conn.old conn.new passes.old passes.new (C.told clock.old) (C.told clock.new)) }
+    requires ready { CanServe conf.now shared.now passes.old conn.old }
+    ensures stay { StayOf shared.now passes.old passes.new }
+    ensures ok { OnOk result (Releases conf.now D.seen shared.now true
+        conn.old conn.new passes.old passes.new (C.told clock.old) (C.told clock.new)) }
+    ensures err { OnErr result (Releases conf.now D.seen shared.now false
+        conn.old conn.new passes.old passes.new (C.told clock.old) (C.told clock.new)) }
 {
     for _ in rt.forever() {
         match conn.next_part(conf) {
@@ -243,13 +245,11 @@ fn serve<R: Wait, D: Disk, K: Link, C: Clock, G: Gate>(
     gate: &G,
 ) -> Ended
     requires of { AreOf shared.now passes.old }
-    ensures of { AreOf shared.now passes.new }
-    ensures same { StaySame passes.old passes.new }
-    ensures served { IsServed conf.now D.seen shared.now passes.old passes.new (K.left link.old) (K.left link.new) (K.held link.old) (K.held link.new)
-        (C.told clock.old) (C.told clock.new) result }
-    ensures peer { result ≡ Ended.Peer → (K.ended link.new ≡ true) × IsAtEnd (K.left link.new) }
-    ensures read { result ≡ Ended.Read → Rose (K.faults link.old) (K.faults link.new) }
-    ensures write { result ≡ Ended.Write → Rose (K.faults link.old) (K.faults link.new) }
+    requires hosts { HostsAll conf.now shared.now }
+    ensures stay { StayOf shared.now passes.old passes.new }
+    ensures served { IsServed conf.now D.seen shared.now passes.old passes.new (K.left link.old) (K.left link.new)
+        (K.held link.old) (K.held link.new) (C.told clock.old) (C.told clock.new) result }
+    ensures cause { HasEndCause result (K.ended link.new) (K.left link.new) (K.faults link.old) (K.faults link.new) }
     ensures later { K.faults link.old ≤ K.faults link.new }
 {
     let mut conn = Conn::open(alloc);
@@ -280,13 +280,11 @@ pub fn serve_connection<R: Wait, D: Disk, K: Link, C: Clock, G: Gate>(
     gate: &G,
 ) -> Ended
     requires of { AreOf broker.now passes.old }
-    ensures of { AreOf broker.now passes.new }
-    ensures same { StaySame passes.old passes.new }
-    ensures served { IsServed broker.now.conf D.seen broker.now passes.old passes.new (K.left link.old) (K.left link.new) (K.held link.old) (K.held link.new)
-        (C.told clock.old) (C.told clock.new) result }
-    ensures peer { result ≡ Ended.Peer → (K.ended link.new ≡ true) × IsAtEnd (K.left link.new) }
-    ensures read { result ≡ Ended.Read → Rose (K.faults link.old) (K.faults link.new) }
-    ensures write { result ≡ Ended.Write → Rose (K.faults link.old) (K.faults link.new) }
+    requires hosts { HostsAll broker.now.conf broker.now }
+    ensures stay { StayOf broker.now passes.old passes.new }
+    ensures served { IsServed broker.now.conf D.seen broker.now passes.old passes.new (K.left link.old) (K.left link.new)
+        (K.held link.old) (K.held link.new) (C.told clock.old) (C.told clock.new) result }
+    ensures cause { HasEndCause result (K.ended link.new) (K.left link.new) (K.faults link.old) (K.faults link.new) }
     ensures later { K.faults link.old ≤ K.faults link.new }
 {
     serve(

@@ -1,47 +1,42 @@
 // The parts of connections, done through the passes of one thread.
-ghost use Rattle.std.specs.Prelude.{◌≡◌, ◌≤◌, ◌^◌, All, IfOk, OnErr, Ok, MatchOption};
+ghost use Rattle.std.specs.Prelude.{◌≡◌, ◌≢◌, ◌<◌, ◌≤◌, ◌^◌, All, IfOk, OnErr, Ok, length};
 ghost use Rattle.std.specs.List.{AllZip};
-ghost use Rattle.call_fold.specs.Parts.{HasTellableBase, IsAnswerTo, IsTellable, IsTellableLook, IsTellableVisit};
-ghost use Rattle.shard_lock.specs.Passes.{IsOf, StaysSame};
-ghost use Rattle.broker_run.specs.Acting.{ActsByForeign, ActsByMembers, ActsByPart, ActsPlace, AreOf, DoesPart, FailsByPart, FailsPart};
-ghost use Rattle.broker_run.specs.Acting.{IsToldTo, IsToldToMembers, StaySame};
+ghost use Rattle.call_fold.specs.Parts.{IsAnswerTo, IsTellable};
+ghost use Rattle.conn_core.specs.HostedShards.{IsHostedPart};
+ghost use Rattle.shard_lock.specs.Passes.{IsOf};
+ghost use Rattle.broker_shards.specs.Acts.{ActsMembers};
+ghost use Rattle.broker_shards.specs.Histories.{IsToldOf};
+ghost use Rattle.broker_run.specs.Acting.{ActsByForeign, ActsByMembers, ActsByPart, ActsPlace, AreOf, DoesByPart};
+ghost use Rattle.broker_run.specs.Acting.{DoesPart, FailsByPart, FailsPart, FitsAsk, StayOf};
 
 use crate::shared::{Passes, Shared};
 use broker_shards::{
     ForeignEvent, MembersAsk, MembersEvent, MembersTold, Moment, PartAsk, PartEvent, PartTold,
 };
-use call_fold::{Looked, Part, PartAnswer, Produced};
+use call_fold::{Part, PartAnswer};
 use edge_io::Disk;
 use msgs_group::{HeartbeatReply, HeartbeatRequest};
 use shard_lock::{Pass, Shard, ShardLock};
-use share_model::{Blob, ForeignAnswer, Name, NoMemory, Visit, VisitAnswer};
+use share_model::{ForeignAnswer, NoMemory};
 use std::sync::Wait;
 
-// One act through the pass at a place. None: there is no such place.
+// One act through the pass at a place.
 fn act_at<R: Wait, S: Shard>(
     rt: &R,
-    locks: &[ShardLock<S>],
+    locks: &Vec<ShardLock<S>>,
     passes: &mut Vec<Pass<S>>,
     place: usize,
     event: S::Event,
-) -> Option<S::Answer>
-    requires of { AllZip IsOf locks.now passes.old.items }
-    ensures of { AllZip IsOf locks.now passes.new.items }
-    ensures same { AllZip StaysSame passes.old.items passes.new.items }
-    ensures acted { MatchOption result (passes.new.items ≡ passes.old.items)
-        (λ answer. ActsPlace S.acts locks.now place event answer passes.old.items passes.new.items) }
+) -> S::Answer
+    requires of { AllZip IsOf locks.now.items passes.old.items }
+    requires there { place < length locks.now.items }
+    ensures { ActsPlace S.acts locks.now.items place event result passes.old.items passes.new.items }
 {
-    let Some(lock) = locks.get(place) else {
-        return None;
-    };
-    let Some(pass) = passes.get_mut(place) else {
-        return None;
-    };
-    Some(lock.act(rt, pass, event))
+    locks[place].act(rt, &mut passes[place], event)
 }
 
-// One act on a hosted partition.
-fn act_on_part<R: Wait, D: Disk>(
+/// One act on a hosted partition.
+pub fn act_on_part<R: Wait, D: Disk>(
     rt: &R,
     shared: &Shared<D>,
     passes: &mut Passes<D>,
@@ -49,33 +44,28 @@ fn act_on_part<R: Wait, D: Disk>(
     event: PartEvent,
 ) -> Result<PartTold, NoMemory>
     requires of { AreOf shared.now passes.old }
-    ensures of { AreOf shared.now passes.new }
-    ensures same { StaySame passes.old passes.new }
-    ensures ok { IfOk result (λ told. ActsByPart D.seen shared.now shard event (Ok told) passes.old passes.new) }
-    ensures err { OnErr result (FailsByPart D.seen shared.now shard event passes.old passes.new) }
-    ensures fits { IfOk result (IsToldTo event.ask) }
+    requires there { shard < length shared.now.parts }
+    ensures stay { StayOf shared.now passes.old passes.new }
+    ensures acts { ActsByPart D.seen shared.now shard event result passes.old passes.new }
+    ensures fits { IfOk result (IsToldOf event.ask) }
 {
-    let Some(answer) = act_at(rt, &shared.parts, &mut passes.parts, shard as usize, event) else {
-        return Err(NoMemory);
-    };
-    match answer {
+    match act_at(rt, &shared.parts, &mut passes.parts, shard as usize, event) {
         Ok(told) => return Ok(told),
         Err(fault) => return Err(fault),
     }
 }
 
-// One act on the members of all groups.
-fn act_on_members<R: Wait, D: Disk>(
+/// One act on the members of all groups.
+pub fn act_on_members<R: Wait, D: Disk>(
     rt: &R,
     shared: &Shared<D>,
     passes: &mut Passes<D>,
     event: MembersEvent,
 ) -> Result<MembersTold, NoMemory>
     requires of { AreOf shared.now passes.old }
-    ensures of { AreOf shared.now passes.new }
-    ensures same { StaySame passes.old passes.new }
+    ensures stay { StayOf shared.now passes.old passes.new }
     ensures acts { ActsByMembers shared.now event result passes.old passes.new }
-    ensures fits { IfOk result (IsToldToMembers event.ask) }
+    ensures fits { (old : _) × (new : _) × ActsMembers old event result new }
 {
     match shared.members.act(rt, &mut passes.members, event) {
         Ok(told) => return Ok(told),
@@ -91,8 +81,7 @@ fn act_on_foreign<R: Wait, D: Disk>(
     event: ForeignEvent,
 ) -> Result<ForeignAnswer, NoMemory>
     requires of { AreOf shared.now passes.old }
-    ensures of { AreOf shared.now passes.new }
-    ensures same { StaySame passes.old passes.new }
+    ensures stay { StayOf shared.now passes.old passes.new }
     ensures acts { ActsByForeign D.seen shared.now event result passes.old passes.new }
     ensures fits { IfOk result (λ told. All IsTellable told.runs) }
 {
@@ -102,91 +91,39 @@ fn act_on_foreign<R: Wait, D: Disk>(
     }
 }
 
-// A visit of a hosted partition.
-fn visit_part<R: Wait, D: Disk>(
+// What a hosted partition answers to a part.
+fn ask_part<R: Wait, D: Disk>(
     rt: &R,
     shared: &Shared<D>,
     passes: &mut Passes<D>,
     now: u64,
     shard: u32,
-    visit: Visit,
-) -> Result<VisitAnswer, NoMemory>
+    ask: PartAsk,
+) -> Result<PartAnswer, NoMemory>
     requires of { AreOf shared.now passes.old }
     requires early { now ≤ 2 ^ 62 }
-    ensures of { AreOf shared.now passes.new }
-    ensures same { StaySame passes.old passes.new }
-    ensures ok { IfOk result (λ told. DoesPart D.seen shared.now (Part.Visit shard visit) now (PartAnswer.Visit told) passes.old passes.new) }
-    ensures err { OnErr result (FailsPart D.seen shared.now (Part.Visit shard visit) now passes.old passes.new) }
-    ensures fits { IfOk result IsTellableVisit }
+    requires there { shard < length shared.now.parts }
+    requires asked { ask ≢ PartAsk.Expire }
+    ensures stay { StayOf shared.now passes.old passes.new }
+    ensures ok { IfOk result (λ answer.
+        DoesByPart D.seen shared.now shard (record { now = now; ask = ask }) answer passes.old passes.new) }
+    ensures err { OnErr result (FailsByPart D.seen shared.now shard (record { now = now; ask = ask }) passes.old passes.new) }
+    ensures fits { IfOk result (FitsAsk ask) }
 {
     let event = PartEvent {
         now: Moment::new(now),
-        ask: PartAsk::Visit(visit),
+        ask,
     };
     match act_on_part(rt, shared, passes, shard, event) {
-        Ok(PartTold::Visit(told)) => return Ok(told),
-        Ok(_) => unreachable!(),
+        Ok(PartTold::Visit(told)) => return Ok(PartAnswer::Visit(told)),
+        Ok(PartTold::Produce(told)) => return Ok(PartAnswer::Produce(told)),
+        Ok(PartTold::Look(told)) => return Ok(PartAnswer::Look(told)),
+        Ok(PartTold::Expire(_)) => unreachable!(),
         Err(fault) => return Err(fault),
     }
 }
 
-// A batch for the log of a hosted partition.
-fn produce<R: Wait, D: Disk>(
-    rt: &R,
-    shared: &Shared<D>,
-    passes: &mut Passes<D>,
-    now: u64,
-    shard: u32,
-    batch: Blob,
-) -> Result<Produced, NoMemory>
-    requires of { AreOf shared.now passes.old }
-    requires early { now ≤ 2 ^ 62 }
-    ensures of { AreOf shared.now passes.new }
-    ensures same { StaySame passes.old passes.new }
-    ensures ok { IfOk result (λ told. DoesPart D.seen shared.now (Part.Produce shard batch) now (PartAnswer.Produce told) passes.old passes.new) }
-    ensures err { OnErr result (FailsPart D.seen shared.now (Part.Produce shard batch) now passes.old passes.new) }
-    ensures fits { IfOk result HasTellableBase }
-{
-    let event = PartEvent {
-        now: Moment::new(now),
-        ask: PartAsk::Produce(batch),
-    };
-    match act_on_part(rt, shared, passes, shard, event) {
-        Ok(PartTold::Produce(told)) => return Ok(told),
-        Ok(_) => unreachable!(),
-        Err(fault) => return Err(fault),
-    }
-}
-
-// What is stored of a group on a hosted partition.
-fn look<R: Wait, D: Disk>(
-    rt: &R,
-    shared: &Shared<D>,
-    passes: &mut Passes<D>,
-    now: u64,
-    shard: u32,
-    group: Name,
-) -> Result<Looked, NoMemory>
-    requires of { AreOf shared.now passes.old }
-    requires early { now ≤ 2 ^ 62 }
-    ensures of { AreOf shared.now passes.new }
-    ensures same { StaySame passes.old passes.new }
-    ensures ok { IfOk result (λ told. DoesPart D.seen shared.now (Part.Look shard group) now (PartAnswer.Look told) passes.old passes.new) }
-    ensures err { OnErr result (FailsPart D.seen shared.now (Part.Look shard group) now passes.old passes.new) }
-    ensures fits { IfOk result IsTellableLook }
-{
-    let event = PartEvent {
-        now: Moment::new(now),
-        ask: PartAsk::Look(group),
-    };
-    match act_on_part(rt, shared, passes, shard, event) {
-        Ok(PartTold::Look(told)) => return Ok(told),
-        Ok(_) => unreachable!(),
-        Err(fault) => return Err(fault),
-    }
-}
-
-// A heartbeat of a member.
+// What the members of all groups answer to a heartbeat.
 fn heartbeat<R: Wait, D: Disk>(
     rt: &R,
     shared: &Shared<D>,
@@ -196,9 +133,9 @@ fn heartbeat<R: Wait, D: Disk>(
 ) -> Result<HeartbeatReply, NoMemory>
     requires of { AreOf shared.now passes.old }
     requires early { now ≤ 2 ^ 62 }
-    ensures of { AreOf shared.now passes.new }
-    ensures same { StaySame passes.old passes.new }
-    ensures ok { IfOk result (λ told. DoesPart D.seen shared.now (Part.Heartbeat request) now (PartAnswer.Heartbeat told) passes.old passes.new) }
+    ensures stay { StayOf shared.now passes.old passes.new }
+    ensures ok { IfOk result (λ told.
+        DoesPart D.seen shared.now (Part.Heartbeat request) now (PartAnswer.Heartbeat told) passes.old passes.new) }
     ensures err { OnErr result (FailsPart D.seen shared.now (Part.Heartbeat request) now passes.old passes.new) }
 {
     let event = MembersEvent {
@@ -212,7 +149,7 @@ fn heartbeat<R: Wait, D: Disk>(
     }
 }
 
-/// Does a part at this moment. Where the part is of a hosted partition that isn't there, no memory is told to be found, and nothing is done.
+/// Does a part at this moment.
 pub fn do_part<R: Wait, D: Disk>(
     rt: &R,
     shared: &Shared<D>,
@@ -222,8 +159,8 @@ pub fn do_part<R: Wait, D: Disk>(
 ) -> Result<PartAnswer, NoMemory>
     requires of { AreOf shared.now passes.old }
     requires early { now ≤ 2 ^ 62 }
-    ensures of { AreOf shared.now passes.new }
-    ensures same { StaySame passes.old passes.new }
+    requires hosted { IsHostedPart (length shared.now.parts) part }
+    ensures stay { StayOf shared.now passes.old passes.new }
     ensures ok { IfOk result (λ answer. DoesPart D.seen shared.now part now answer passes.old passes.new) }
     ensures err { OnErr result (FailsPart D.seen shared.now part now passes.old passes.new) }
     ensures fits { IfOk result (IsAnswerTo part) }
@@ -233,18 +170,15 @@ pub fn do_part<R: Wait, D: Disk>(
             Ok(told) => return Ok(PartAnswer::Foreign(told)),
             Err(fault) => return Err(fault),
         },
-        Part::Produce { shard, batch } => match produce(rt, shared, passes, now, shard, batch) {
-            Ok(told) => return Ok(PartAnswer::Produce(told)),
-            Err(fault) => return Err(fault),
-        },
-        Part::Visit { shard, visit } => match visit_part(rt, shared, passes, now, shard, visit) {
-            Ok(told) => return Ok(PartAnswer::Visit(told)),
-            Err(fault) => return Err(fault),
-        },
-        Part::Look { shard, group } => match look(rt, shared, passes, now, shard, group) {
-            Ok(told) => return Ok(PartAnswer::Look(told)),
-            Err(fault) => return Err(fault),
-        },
+        Part::Produce { shard, batch } => {
+            return ask_part(rt, shared, passes, now, shard, PartAsk::Produce(batch));
+        }
+        Part::Visit { shard, visit } => {
+            return ask_part(rt, shared, passes, now, shard, PartAsk::Visit(visit));
+        }
+        Part::Look { shard, group } => {
+            return ask_part(rt, shared, passes, now, shard, PartAsk::Look(group));
+        }
         Part::Heartbeat(request) => match heartbeat(rt, shared, passes, now, request) {
             Ok(told) => return Ok(PartAnswer::Heartbeat(told)),
             Err(fault) => return Err(fault),

@@ -1,12 +1,11 @@
 use Rattle.std.proofs.Common.{◌≤◌, true}
-use Rattle.broker_run.specs.Acting.{AreOf, StaySame}
+use Rattle.broker_run.specs.Acting.{StayOf}
 use Rattle.broker_run.specs.Serving.{Goes, scene}
 use Rattle.broker_run.proofs.connection.talk.Given as goal
 
 abbrev pub invariant-loop : goal.invariant-loop
 invariant-loop g l = record {
-  of : AreOf l.initial.shared l.passes;
-  same : StaySame l.fn.passes l.passes;
+  stay : StayOf l.initial.shared l.fn.passes l.passes;
   goes : Goes l.initial.conf g.D.Disk.seen l.initial.shared true
       (scene l.fn.conn l.fn.passes (g.K.Link.left l.fn.link) (g.K.Link.held l.fn.link) (g.C.Clock.told l.fn.clock))
       (scene l.conn l.passes (g.K.Link.left l.link) (g.K.Link.held l.link) (g.C.Clock.told l.clock));

@@ -1,13 +1,14 @@
 use Rattle.std.proofs.Common.{rules, ◌≡◌, Some, refl}
-use Rattle.conn_core.specs.declared.next.Next.TheVariants.{Closed}
+use Rattle.conn_core.specs.declared.next.Next.TheVariants.{Ask, Closed}
 use Rattle.conn_core.specs.Turning.{Waits, awaited_part, turn}
 use Rattle.broker_run.specs.Serving.{Asked, Stopped}
 use Rattle.broker_run.proofs.Runs.{asked, breaks_asked, breaks_fed, breaks_here, err_so, goes_none, if_ok_so, received, turned_one}
-use Rattle.broker_run.proofs.Places.{stay_same}
+use Rattle.broker_run.proofs.Hosted.{part_hosted}
+use Rattle.broker_run.proofs.Places.{stay_none}
 use Rattle.broker_run.proofs.connection.turn.Goals as goal
 
-pub returns-in-Ok-Idle-clause-same : goal.returns-in-Ok-Idle-clause-same
-returns-in-Ok-Idle-clause-same g c = stay_same c.args.passes.now
+pub returns-in-Ok-Idle-clause-stay : goal.returns-in-Ok-Idle-clause-stay
+returns-in-Ok-Idle-clause-stay g c = stay_none c.args.shared.now c.args.passes.now c.requires.ready.of
 
 pub returns-in-Ok-Idle-clause-ok : goal.returns-in-Ok-Idle-clause-ok
 returns-in-Ok-Idle-clause-ok g c =
@@ -21,6 +22,13 @@ returns-in-Ok-Idle-clause-err g c =
     let is : c.next_part.new.self ≡ (turn c.args.conf.now c.args.conn.now).conn = search rules in
     let e = c.receive.ensures in
     rw e.same (err_so c.receive.result (λ r. breaks_fed c.args.conf.now g.D.Disk.seen c.args.shared.now _ _ _ c.args.passes.now _ _ _ _ is r.1) e.err)
+
+pub ask-requires : goal.ask-requires
+ask-requires g c =
+    let awaits : awaited_part c.next_part.new.self ≡ Some c.in-Ok-Ask.part = search rules in
+    let tells : Ask c.in-Ok-Ask.part ≡ (turn c.args.conf.now c.args.conn.now).next = search rules in
+    let r = c.requires.ready in
+    record { of = r.of; asked = awaits; hosted = part_hosted c.args.conf.now c.args.shared.now c.args.conn.now c.in-Ok-Ask.part r.hosts r.hosted tells }
 
 pub returns-in-Ok-clause-ok : goal.returns-in-Ok-clause-ok
 returns-in-Ok-clause-ok g c =
@@ -36,8 +44,8 @@ returns-in-Err-ask-clause-err g c =
     let a : Stopped c.args.conf.now g.D.Disk.seen c.args.shared.now c.in-Ok-Ask.part c.next_part.new.self c.ask.new.conn c.args.passes.now c.ask.new.passes (g.C.Clock.told c.args.clock.now) (g.C.Clock.told c.ask.new.clock) = search rules in
     breaks_asked c.args.conf.now g.D.Disk.seen c.args.shared.now c.in-Ok-Ask.part _ _ _ _ _ _ _ _ _ is awaits a
 
-pub returns-in-Ok-Closed-clause-same : goal.returns-in-Ok-Closed-clause-same
-returns-in-Ok-Closed-clause-same g c = stay_same c.args.passes.now
+pub returns-in-Ok-Closed-clause-stay : goal.returns-in-Ok-Closed-clause-stay
+returns-in-Ok-Closed-clause-stay g c = stay_none c.args.shared.now c.args.passes.now c.requires.ready.of
 
 pub returns-in-Ok-Closed-clause-ok : goal.returns-in-Ok-Closed-clause-ok
 returns-in-Ok-Closed-clause-ok g c =
@@ -45,24 +53,24 @@ returns-in-Ok-Closed-clause-ok g c =
     let tells : (turn c.args.conf.now c.args.conn.now).next ≡ Closed c.in-Ok-Closed.cause = search rules in
     (c.args.conn.now, goes_none c.args.conf.now g.D.Disk.seen c.args.shared.now _, refl, (tells, is))
 
-pub returns-in-Ok-Ready-clause-same : goal.returns-in-Ok-Ready-clause-same
-returns-in-Ok-Ready-clause-same g c = stay_same c.args.passes.now
+pub returns-in-Ok-Ready-clause-stay : goal.returns-in-Ok-Ready-clause-stay
+returns-in-Ok-Ready-clause-stay g c = stay_none c.args.shared.now c.args.passes.now c.requires.ready.of
 
 pub returns-in-Ok-Ready-clause-ok : goal.returns-in-Ok-Ready-clause-ok
 returns-in-Ok-Ready-clause-ok g c =
     let is : c.next_part.new.self ≡ (turn c.args.conf.now c.args.conn.now).conn = search rules in
     turned_one c.args.conf.now g.D.Disk.seen c.args.shared.now _ _ _ _ _ _ is
 
-pub returns-in-Ok-Gone-clause-same : goal.returns-in-Ok-Gone-clause-same
-returns-in-Ok-Gone-clause-same g c = stay_same c.args.passes.now
+pub returns-in-Ok-Gone-clause-stay : goal.returns-in-Ok-Gone-clause-stay
+returns-in-Ok-Gone-clause-stay g c = stay_none c.args.shared.now c.args.passes.now c.requires.ready.of
 
 pub returns-in-Ok-Gone-clause-ok : goal.returns-in-Ok-Gone-clause-ok
 returns-in-Ok-Gone-clause-ok g c =
     let is : c.next_part.new.self ≡ (turn c.args.conf.now c.args.conn.now).conn = search rules in
     turned_one c.args.conf.now g.D.Disk.seen c.args.shared.now _ _ _ _ _ _ is
 
-pub returns-in-Err-clause-same : goal.returns-in-Err-clause-same
-returns-in-Err-clause-same g c = stay_same c.args.passes.now
+pub returns-in-Err-clause-stay : goal.returns-in-Err-clause-stay
+returns-in-Err-clause-stay g c = stay_none c.args.shared.now c.args.passes.now c.requires.ready.of
 
 pub returns-in-Err-clause-err : goal.returns-in-Err-clause-err
 returns-in-Err-clause-err g c =
