@@ -2,6 +2,7 @@
 -- a call to that of those after it. Shapes: what writes and cuts make of each shape. Texts: a text that is read frame by frame.
 -- Total: each content is journal text, or is damaged at a place. Whole: text that ends with its last gate.
 pub mod Changes
+pub mod FrameReads
 pub mod Once
 pub mod Repairs
 pub mod Shaped

@@ -1,2 +1,3 @@
 pub mod Frames
 pub mod Journals
+pub mod Reading

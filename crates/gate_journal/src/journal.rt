@@ -1,16 +1,22 @@
-ghost use Rattle.std.specs.Prelude.{◌≡◌, ◌⊎◌, ◌+◌, ◌≤◌, List, ℕ, length, Some, IfOk, OnOk, OnErr};
+ghost use Rattle.std.specs.Prelude.{◌≡◌, ◌≢◌, ◌⊎◌, ◌+◌, ◌≤◌, List, ℕ, length, Some, Err, IfOk, OnOk, OnErr};
 ghost use Rattle.std.specs.declared.option.Option.{Option};
 ghost use Rattle.edge_io.specs.Armed.{ArmsAlone};
-ghost use Rattle.edge_io.specs.Counting.{MakesCalls};
+ghost use Rattle.edge_io.specs.Counting.{MakesCalls, MakesUpTo};
+ghost use Rattle.edge_io.specs.Disk.{IsTold};
 ghost use Rattle.edge_io.specs.Moments.{Elapses, LeavesOnly};
-ghost use Rattle.gate_journal.specs.Frames.{IsBeforeOrAfter, IsWithPending, IsFrame, frame_in, framed};
+ghost use Rattle.gate_journal.specs.Frames.{IsBeforeOrAfter, IsWithPending, IsFrame, blocks, frame_in, framed};
+ghost use Rattle.gate_journal.specs.Reading.{HasFrameAt, ReadsOnly};
+ghost use Rattle.share_model.specs.Rooms.{Appends, Reserves};
 
+use crate::reading::append_frame;
 use crate::writer::{Mending, Writer};
 use edge_io::{Disk, FaultMode};
-use share_model::StoreFault;
+use share_model::{BatchRead, Room, StoreFault};
 use std::marker::Model;
 
 const MAX_END: u64 = 1 << 62;
+
+const MAX_FRAME: u32 = 33554432;
 
 // Sets the length before the frame and the closed gate behind it.
 fn set_frame(buffer: &mut [u8])
@@ -108,6 +114,66 @@ impl<D: Disk> Journal<D> {
             return Err(StoreFault::Device);
         }
         Ok(number)
+    }
+
+    /// The place of the last gate, which will be that of the next frame.
+    pub fn last_gate(&self) -> u64
+        ensures end { result + 1 ≡ self.now.end }
+        ensures place { (frames : List (List ℕ)) (pending : Option (List ℕ)) → Stands D.seen self.now frames pending → result ≡ length (blocks frames) }
+    {
+        self.writer.end - 1
+    }
+
+    /// Appends the frame whose gate stands at `place` to a room. It makes two device calls, which read the length and the frame;
+    /// the first that fails is the last.
+    ///
+    /// It finds no memory only where the spare number of the room is below the frame's length. After a refusal the room has the
+    /// bytes that it had, and its spare number is no smaller. The frames and what is pending stay in any case.
+    pub fn read_frame(&mut self, place: u64, out: &mut Room) -> Result<(), BatchRead>
+        requires { (frame : List ℕ) × HasFrameAt D.seen self.old place frame }
+
+        // At Ok that frame stands behind the bytes of the room, where the disk tells its content.
+        ensures ok { OnOk result (IsTold (D.seen self.old.disk).content → (frame : List ℕ) → HasFrameAt D.seen self.old place frame →
+            Appends out.old out.new frame) }
+        ensures err { OnErr result (Reserves out.old out.new 0) }
+        ensures spared { IsTold (D.seen self.old.disk).content → (frame : List ℕ) → HasFrameAt D.seen self.old place frame →
+            length frame ≤ out.old.spare → result ≢ Err BatchRead.NoMemory }
+
+        // Nothing is changed.
+        ensures only { ReadsOnly D.seen self.old self.new }
+        ensures disk { MakesUpTo D.seen 2 self.old.disk self.new.disk (result ≡ Err BatchRead.Device) }
+    {
+        self.read_frame_within(place, MAX_FRAME, out)
+    }
+
+    /// The same of a frame that is known to have at most so many bytes: no more is appended, so also where the disk doesn't tell
+    /// its content, a room with a spare number of so many is enough.
+    pub fn read_frame_within(
+        &mut self,
+        place: u64,
+        most: u32,
+        out: &mut Room,
+    ) -> Result<(), BatchRead>
+        requires { (frame : List ℕ) × HasFrameAt D.seen self.old place frame × (length frame ≤ most) }
+
+        // At Ok that frame stands behind the bytes of the room, where the disk tells its content.
+        ensures ok { OnOk result (IsTold (D.seen self.old.disk).content → (frame : List ℕ) → HasFrameAt D.seen self.old place frame →
+            length frame ≤ most → Appends out.old out.new frame) }
+        ensures err { OnErr result (Reserves out.old out.new 0) }
+        ensures spared { IsTold (D.seen self.old.disk).content → (frame : List ℕ) → HasFrameAt D.seen self.old place frame →
+            length frame ≤ out.old.spare → result ≢ Err BatchRead.NoMemory }
+        ensures roomy { most ≤ out.old.spare → result ≢ Err BatchRead.NoMemory }
+
+        // Nothing is changed.
+        ensures only { ReadsOnly D.seen self.old self.new }
+        ensures disk { MakesUpTo D.seen 2 self.old.disk self.new.disk (result ≡ Err BatchRead.Device) }
+    {
+        let space = self.writer.end - place - 6; // from the frame to the last gate
+        let most = u64::from(most).min(space) as usize;
+        let mut bytes = out.take();
+        let read = append_frame(&mut self.writer.disk, place, most, &mut bytes);
+        *out = Room::of(bytes);
+        read
     }
 
     /// Whether a call of its disk has failed for want of memory.

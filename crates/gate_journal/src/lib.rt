@@ -11,6 +11,7 @@ mod buffer;
 mod device;
 mod journal;
 mod opening;
+mod reading;
 mod repair;
 mod text;
 mod writer;

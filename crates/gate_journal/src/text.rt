@@ -12,7 +12,7 @@ use std::alloc::{AllocError, Global};
 const MAX_FRAME: usize = 33554432;
 
 // The number of four bytes.
-fn word(bytes: &[u8]) -> usize
+pub fn word(bytes: &[u8]) -> usize
     requires { length bytes.now ≡ 4 }
     ensures is { to_be_bytes w32 result ≡ bytes.now }
     ensures range { result < 2 ^ 32 }

@@ -123,3 +123,12 @@ pub enum LogFault {
     /// There was no memory for it. Nothing was written.
     NoMemory,
 }
+
+/// Why bytes that stand on a disk were not given. What they were to be appended to has the bytes that it had.
+#[derive(Clone, Copy, Debug)]
+pub enum BatchRead {
+    /// A device call failed.
+    Device,
+    /// There was no memory for the bytes.
+    NoMemory,
+}

@@ -19,7 +19,7 @@ mod visit;
 pub use ack::{AckBatch, AckFault, AckKind, AckList};
 pub use blob::Blob;
 pub use close_cause::CloseCause;
-pub use fault::{BatchFault, Code, LogFault, StoreFault, codes_have_their_numbers};
+pub use fault::{BatchFault, BatchRead, Code, LogFault, StoreFault, codes_have_their_numbers};
 pub use flex_fields::NoMemory;
 pub use foreign::{ForeignAnswer, ForeignOp, StateBatch};
 pub use hold::{Grant, Hold};

@@ -1,9 +1,10 @@
-ghost use Rattle.std.specs.Prelude.{◌≡◌, ◌≤◌, [], length, OnOk, OnErr, IsOk};
+ghost use Rattle.std.specs.Prelude.{◌≡◌, ◌≤◌, ◌-◌, [], length, OnOk, OnErr, IsOk, vec_len, vec_capacity};
 
 use crate::blob::Blob;
 use flex_fields::NoMemory;
 use std::alloc::Global;
 use std::marker::Model;
+use std::mem;
 
 /// Bytes that grow, with room set aside for more.
 ///
@@ -70,5 +71,24 @@ impl Room {
     {
         let Room { bytes } = self;
         Blob::new(bytes)
+    }
+
+    /// A room of the bytes of a vector, whose spare capacity is the spare number. It takes no memory.
+    pub fn of(bytes: Vec<u8>) -> Room
+        ensures bytes { result.bytes ≡ bytes.items }
+        ensures spare { result.spare ≡ vec_capacity bytes - vec_len bytes }
+    {
+        Room { bytes }
+    }
+
+    /// The vector with the bytes, whose spare capacity is the spare number. An empty room stays behind. It takes no
+    /// memory.
+    pub fn take(&mut self) -> Vec<u8>
+        ensures bytes { result.items ≡ self.old.bytes }
+        ensures spare { vec_capacity result - vec_len result ≡ self.old.spare }
+        ensures left { self.new.bytes ≡ [] }
+    {
+        let alloc = *self.bytes.allocator();
+        mem::replace(&mut self.bytes, Vec::new(alloc))
     }
 }
