@@ -3,3 +3,4 @@ pub mod Rows
 pub mod Acting
 pub mod Telling
 pub mod Serving
+pub mod Expiring

@@ -3,9 +3,11 @@
 #![tactic(auto)]
 
 mod connection;
+mod expiry;
 mod parts;
 mod rows;
 mod shared;
 
 pub use connection::{Ended, serve_connection};
+pub use expiry::{TurnAnswer, expiry_turn};
 pub use shared::{Passes, ShardSet, Shared, close_shards, lock_shards};
