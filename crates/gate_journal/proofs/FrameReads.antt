@@ -40,6 +40,14 @@ module _ (c : List ℕ) (place : ℕ) (frame : List ℕ) (is : IsFrameIn c place
       (omega (arith, is.at, length-append is.before (1 ∷ to_be_bytes w32 (length frame)))))
       ∙ take_at frame is.after n (sym len)
 
+-- one frame stands at a place
+pub frame_once : (c : List ℕ) (place : ℕ) (f g : List ℕ) → IsFrameIn c place f → IsFrameIn c place g → f ≡ g
+frame_once c place f g p q =
+    let head : to_be_bytes w32 (length f) ≡ take 4 (drop (place + 1) c) =
+    sym (ap (λ (l : List ℕ). take 4 l) (behind c place f p) ∙ take_at (to_be_bytes w32 (length f)) (f ++ p.after) 4 refl) in
+    let len : length f ≡ length g = word_is c place g q (length f) (omega (arith, p.fit.1)) head in
+    sym (body_is c place f p (length f) refl) ∙ body_is c place g q (length f) len
+
 pub on_ok_both : {T E : Type 0} (r : Result T E) (P Q R : Type 0) → OnOk r P → OnOk r Q → (P → Q → R) → OnOk r R
 on_ok_both (Ok x) P Q R p q f = f p q
 on_ok_both (Err e) P Q R p q f = tt

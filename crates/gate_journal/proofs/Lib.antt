@@ -1,4 +1,4 @@
--- Changes: a change of a disk and the sync behind it. Once: a text is read in one way. Repairs: what the repair of a text's end leaves. Shaped: from the shape of the images before
+-- Changes: a change of a disk and the sync behind it. FrameReads: a frame is read at its place. Once: a text is read in one way. Repairs: what the repair of a text's end leaves. Shaped: from the shape of the images before
 -- a call to that of those after it. Shapes: what writes and cuts make of each shape. Texts: a text that is read frame by frame.
 -- Total: each content is journal text, or is damaged at a place. Whole: text that ends with its last gate.
 pub mod Changes

@@ -1,6 +1,6 @@
 -- Frames by their places on the disk, and reading that changes nothing. This project's own.
 -- Worked example: in `01 00000001 61 01 00000002 6263 00` the gate of the frame `61` stands at 0, and that of `6263` at 6.
-use Rattle.std.specs.Prelude.{◌≡◌, ℕ, List, ◌∷◌, ◌++◌, length}
+use Rattle.std.specs.Prelude.{◌≡◌, ◌+◌, ◌≤◌, ℕ, List, ◌∷◌, ◌++◌, length, take}
 use Rattle.std.specs.declared.option.Option.{Option}
 use Rattle.edge_io.specs.Disk.{SameContent, SameImages}
 use Rattle.edge_io.specs.Moments.{LeavesOnly}
@@ -39,3 +39,9 @@ pub record ReadsOnly {D : Type 0} (seen : D → DiskView) (old new : Writer D) :
   pub looks : LooksAt seen old.disk new.disk
   pub rest : new ≡ record { disk = new.disk; end = old.end; count = old.count; mending = old.mending }
   pub stands : (frames : List (List ℕ)) (pending : Option (List ℕ)) → Stands seen old frames pending → Stands seen new frames pending
+
+-- the old bytes, and behind them at most so many
+pub record ExtendsWithin (most : ℕ) (old new : List ℕ) : Type 0 where
+  pub front : take (length old) new ≡ old
+  pub longer : length old ≤ length new
+  pub within : length new ≤ length old + most

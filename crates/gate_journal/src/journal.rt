@@ -5,7 +5,7 @@ ghost use Rattle.edge_io.specs.Counting.{MakesCalls, MakesUpTo};
 ghost use Rattle.edge_io.specs.Disk.{IsTold};
 ghost use Rattle.edge_io.specs.Moments.{Elapses, LeavesOnly};
 ghost use Rattle.gate_journal.specs.Frames.{IsBeforeOrAfter, IsWithPending, IsFrame, blocks, frame_in, framed};
-ghost use Rattle.gate_journal.specs.Reading.{HasFrameAt, ReadsOnly};
+ghost use Rattle.gate_journal.specs.Reading.{ExtendsWithin, HasFrameAt, ReadsOnly};
 ghost use Rattle.share_model.specs.Rooms.{Appends, Reserves};
 
 use crate::reading::append_frame;
@@ -159,6 +159,7 @@ impl<D: Disk> Journal<D> {
         // At Ok that frame stands behind the bytes of the room, where the disk tells its content.
         ensures ok { OnOk result (IsTold (D.seen self.old.disk).content → (frame : List ℕ) → HasFrameAt D.seen self.old place frame →
             length frame ≤ most → Appends out.old out.new frame) }
+        ensures extends { OnOk result (ExtendsWithin most out.old.bytes out.new.bytes) }
         ensures err { OnErr result (Reserves out.old out.new 0) }
         ensures spared { IsTold (D.seen self.old.disk).content → (frame : List ℕ) → HasFrameAt D.seen self.old place frame →
             length frame ≤ out.old.spare → result ≢ Err BatchRead.NoMemory }

@@ -5,7 +5,7 @@ ghost use Rattle.edge_io.specs.Armed.{RunsOn};
 ghost use Rattle.edge_io.specs.Causes.{HasCause, Rose};
 ghost use Rattle.edge_io.specs.Counting.{DoesCalls, DoesUpTo, FailsInCalls, MakesUpTo};
 ghost use Rattle.edge_io.specs.Disk.{WhereTold};
-ghost use Rattle.gate_journal.specs.Reading.{IsFrameIn, LooksAt};
+ghost use Rattle.gate_journal.specs.Reading.{ExtendsWithin, IsFrameIn, LooksAt};
 
 use crate::text::word;
 use edge_io::{Disk, Failed};
@@ -39,7 +39,7 @@ fn append_at<D: Disk>(
     ensures err { OnErr result (out.new.items ≡ out.old.items) }
     ensures spare { OnErr result (vec_capacity out.old - vec_len out.old ≤ vec_capacity out.new - vec_len out.new) }
     ensures less { OnOk result (vec_capacity out.old - vec_len out.old ≤ vec_capacity out.new - vec_len out.new + len) }
-    ensures len { OnOk result (length out.new.items ≡ length out.old.items + len) }
+    ensures extends { OnOk result (ExtendsWithin len out.old.items out.new.items) }
     ensures spared { len ≤ vec_capacity out.old - vec_len out.old → result ≢ Err BatchRead.NoMemory }
     ensures looks { LooksAt D.seen disk.old disk.new }
     ensures disk { MakesUpTo D.seen 1 disk.old disk.new (result ≡ Err BatchRead.Device) }
@@ -70,6 +70,7 @@ pub fn append_frame<D: Disk>(
     ensures ok { OnOk result ((c frame : List ℕ) → (D.seen disk.old).content ≡ Some c → IsFrameIn c place frame → length frame ≤ most →
         (out.new.items ≡ out.old.items ++ frame)
         × (vec_capacity out.old - vec_len out.old ≤ vec_capacity out.new - vec_len out.new + length frame)) }
+    ensures extends { OnOk result (ExtendsWithin most out.old.items out.new.items) }
     ensures err { OnErr result ((out.new.items ≡ out.old.items) × (vec_capacity out.old - vec_len out.old ≤ vec_capacity out.new - vec_len out.new)) }
     ensures spared { (c frame : List ℕ) → (D.seen disk.old).content ≡ Some c → IsFrameIn c place frame →
         length frame ≤ vec_capacity out.old - vec_len out.old → result ≢ Err BatchRead.NoMemory }

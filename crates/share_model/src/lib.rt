@@ -2,6 +2,7 @@
 #![tactic(auto)]
 
 mod ack;
+mod batch_place;
 mod blob;
 mod close_cause;
 mod fault;
@@ -17,6 +18,7 @@ mod run;
 mod visit;
 
 pub use ack::{AckBatch, AckFault, AckKind, AckList};
+pub use batch_place::BatchPlace;
 pub use blob::Blob;
 pub use close_cause::CloseCause;
 pub use fault::{BatchFault, BatchRead, Code, LogFault, StoreFault, codes_have_their_numbers};
