@@ -214,8 +214,8 @@ fn disks_of_part<D: Disk>(state: PartState<D>) -> (D, D, D)
     }
 }
 
-// Puts the disks of a partition back.
-fn put_part_back<D: Disk, B: Bay<D = D>>(slot: PartSlot<D>, bay: &mut B)
+/// Puts the disks of a partition back.
+pub fn put_part_back<D: Disk, B: Bay<D = D>>(slot: PartSlot<D>, bay: &mut B)
     requires named { IsNamed (hosted_slot slot) }
     requires held { IsHeldState slot.state }
     requires apart { AreDistinct (disks_of (hosted_slot slot)) }

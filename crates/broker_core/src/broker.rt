@@ -250,6 +250,16 @@ impl<D: Disk + Drop> Core<D> {
         put_hosts_back(hosts, bay);
     }
 
+    /// Its configuration and its shards. Who was connected is forgotten.
+    pub fn into_hosts(self) -> (Config, Hosts<D>)
+        ensures conf { result.0 ≡ self.conf }
+        ensures hosts { parts_of result.1 ≡ self.hosts }
+        ensures whole { IsWhole (core_of self.conf [] self.hosts) }
+    {
+        let Core { conf, hosts, .. } = self;
+        (conf, hosts)
+    }
+
     /// Its configuration.
     pub fn conf(&self) -> &Config
         ensures { result.now ≡ self.now.conf }

@@ -16,6 +16,7 @@ mod slot;
 mod timers;
 mod told;
 
+pub use bay::{put_foreign_back, put_part_back};
 pub use broker::Core;
 pub use fault::{CoreFault, CoreOpen};
 pub use hosts::Hosts;
