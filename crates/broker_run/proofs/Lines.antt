@@ -21,6 +21,10 @@ module _ {A : Type 0} (P : A → Type 0) where
   all_front [] x p = tt
   all_front (y ∷ xs) x p = (p.0, all_front xs x p.1)
 
+  pub all_rest : (xs ys : List A) → AllByRecursion P (xs ++ ys) → AllByRecursion P ys
+  all_rest [] ys p = p
+  all_rest (x ∷ xs) ys p = all_rest xs ys p.1
+
   pub all_last : (xs : List A) (x : A) → AllByRecursion P (xs ++ x ∷ []) → P x
   all_last [] x p = p.0
   all_last (y ∷ xs) x p = all_last xs x p.1

@@ -1,7 +1,7 @@
 -- Rows of passes, one of each lock, and what is left of a shard when its lock is closed. This project's own.
 -- For example with three threads each lock gives three passes. The rows come back from the threads in some order, are joined into one row
 -- whose passes stand for three each, and close the locks.
-use Rattle.std.specs.Prelude.{◌≡◌, ℕ, List, length, map}
+use Rattle.std.specs.Prelude.{◌≡◌, ℕ, List, length}
 use Rattle.std.specs.List.{AllByRecursion, AllZip}
 use Rattle.edge_io.specs.Views.{DiskView}
 use Rattle.shard_lock.specs.History.{Leads}
@@ -10,7 +10,7 @@ use Rattle.broker_shards.specs.Acts.{ActsForeign, ActsMembers, ActsPart}
 use Rattle.broker_shards.specs.Hosts.{Host}
 use Rattle.broker_shards.specs.declared.foreign.ForeignHost.{ForeignHost}
 use Rattle.broker_shards.specs.declared.members.MembersHost.{MembersHost}
-use Rattle.broker_run.specs.Shared.{PassesParts, SharedParts}
+use Rattle.broker_run.specs.Shared.{ShardParts, PassesParts, SharedParts}
 use Rattle.broker_run.specs.declared.shared.ShardSet.{ShardSet}
 
 module _ {S E A : Type 0} where
@@ -46,14 +46,6 @@ module _ {D : Type 0} where
     pub members : shared.members.seats ≡ seats
     pub foreign : shared.foreign.seats ≡ seats
 
-  -- locks that were made around these shards
-  pub record LocksAround (shards : ShardSet D) (shared : SharedParts D) : Type 0 where
-    pub parts : map (λ l. l.first) shared.parts ≡ shards.parts.items
-    pub members : shared.members.first ≡ shards.members
-    pub foreign : shared.foreign.first ≡ shards.foreign
-
-  -- these shards are what was left of those in the locks
-  pub record AreClosed (seen : D → DiskView) (shared : SharedParts D) (shards : ShardSet D) : Type 0 where
-    pub parts : AllZip (Ends (ActsPart seen)) shared.parts shards.parts.items
-    pub members : Ends ActsMembers shared.members shards.members
-    pub foreign : Ends (ActsForeign seen) shared.foreign shards.foreign
+  -- what contracts see of shards that have no locks yet
+  abbrev pub shards_of : ShardSet D → ShardParts D
+  shards_of shards = record { parts = shards.parts.items; members = shards.members; foreign = shards.foreign }

@@ -2,12 +2,16 @@
 //! thread serves through them.
 #![tactic(auto)]
 
+mod close;
 mod connection;
 mod expiry;
+mod open;
 mod parts;
 mod rows;
 mod shared;
 
+pub use close::close_shared;
 pub use connection::{Ended, serve_connection};
 pub use expiry::{TurnAnswer, expiry_turn};
-pub use shared::{Passes, ShardSet, Shared, close_shards, lock_shards};
+pub use open::open_shared;
+pub use shared::{Passes, Shared};

@@ -1,8 +1,7 @@
 // Rows of passes, one of each lock.
-ghost use Rattle.std.specs.Prelude.{◌≡◌, ◌<◌, ◌≤◌, ◌+◌, ◌++◌, ◌∷◌, [], IfOk, length, map, vec_capacity};
+ghost use Rattle.std.specs.Prelude.{◌≡◌, ◌<◌, ◌+◌, ◌++◌, ◌∷◌, [], IfOk, length, map};
 ghost use Rattle.std.specs.List.{AllByRecursion, AllZip};
-ghost use Rattle.broker_shards.specs.Acts.{ActsPart};
-ghost use Rattle.broker_run.specs.Rows.{Ends, RowOf, StandsFor};
+ghost use Rattle.broker_run.specs.Rows.{RowOf, StandsFor};
 
 use crate::shared::Passes;
 use broker_shards::{ForeignHost, MembersHost, PartHost};
@@ -107,34 +106,4 @@ pub fn join_parts<D: Disk + Drop>(
         let place = others.len();
         locks[place].join(&mut into[place], other);
     }
-}
-
-// Takes the first one. The room stays.
-fn take_first<T>(items: &mut Vec<T>) -> T
-    requires { 0 < length items.old.items }
-    ensures items { items.old.items ≡ result ∷ items.new.items }
-    ensures room { vec_capacity items.new ≡ vec_capacity items.old }
-{
-    items.remove(0)
-}
-
-/// The partitions, once a pass of each lock stands for all. There is room for them.
-pub fn close_parts<D: Disk + Drop>(
-    locks: Vec<ShardLock<PartHost<D>>>,
-    passes: Vec<Pass<PartHost<D>>>,
-    room: Vec<PartHost<D>>,
-) -> Vec<PartHost<D>>
-    requires room { (room.items ≡ []) × (length locks.items ≤ vec_capacity room) }
-    requires all { (seats : _) × AllZip (StandsFor seats) locks.items passes.items × AllByRecursion (λ l. l.seats ≡ seats) locks.items }
-    ensures { AllZip (Ends (ActsPart D.seen)) locks.items result.items }
-{
-    let mut locks = locks;
-    let mut passes = passes;
-    let mut hosts = room;
-    while !locks.is_empty() {
-        let lock = take_first(&mut locks);
-        let pass = take_first(&mut passes);
-        hosts.push_reserved(lock.close(pass));
-    }
-    hosts
 }

@@ -1,8 +1,9 @@
 // Locks around all shards, and passes through them.
-ghost use Rattle.std.specs.Prelude.{◌≡◌, ◌<◌, ◌≤◌, ◌+◌, ◌++◌, ◌∷◌, [], IfOk, length, vec_capacity};
-ghost use Rattle.broker_run.specs.Rows.{AreAll, AreClosed, IsRow, LocksAround};
+ghost use Rattle.std.specs.Prelude.{◌≡◌, ◌<◌, ◌+◌, ◌++◌, ◌∷◌, [], IfOk};
+ghost use Rattle.broker_run.specs.Rows.{AreAll, IsRow, shards_of};
+ghost use Rattle.broker_run.specs.Shared.{first_shards};
 
-use crate::rows::{close_parts, join_parts, lock_parts, make_rows};
+use crate::rows::{join_parts, lock_parts, make_rows};
 use broker_shards::{ForeignHost, MembersHost, PartHost};
 use edge_io::Disk;
 use shard_lock::{Pass, ShardLock};
@@ -100,7 +101,8 @@ pub fn lock_shards<D: Disk + Drop>(
     seats: u32,
 ) -> Result<(Shared<D>, Vec<Passes<D>>), NoMemory>
     requires { 0 < seats }
-    ensures locks { IfOk result (λ r. LocksAround shards r.0 × (r.0.conf ≡ conf)) }
+    ensures locks { IfOk result (λ r. first_shards r.0 ≡ shards_of shards) }
+    ensures conf { IfOk result (λ r. r.0.conf ≡ conf) }
     ensures passes { IfOk result (λ r. AreAll r.0 seats r.1.items) }
 {
     let ShardSet {
@@ -137,8 +139,8 @@ fn merge<D: Disk + Drop>(shared: &Shared<D>, into: &mut Passes<D>, other: Passes
     shared.foreign.join(&mut into.foreign, foreign);
 }
 
-// Joins all rows into one.
-fn gather<D: Disk + Drop>(shared: &Shared<D>, passes: Vec<Passes<D>>) -> Passes<D>
+/// Joins all rows into one.
+pub fn gather<D: Disk + Drop>(shared: &Shared<D>, passes: Vec<Passes<D>>) -> Passes<D>
     requires { (seats : _) × AreAll shared.now seats passes.items × (0 < seats) }
     ensures { (seats : _) → AreAll shared.now seats passes.items → IsRow seats shared.now result }
 {
@@ -151,37 +153,4 @@ fn gather<D: Disk + Drop>(shared: &Shared<D>, passes: Vec<Passes<D>>) -> Passes<
         merge(shared, &mut into, other);
     }
     into
-}
-
-/// Joins all passes, and gives the shards back, for which there is room. Each is in the state that a legal history leaves, which has
-/// exactly the entries of all passes of its lock. It takes no memory.
-pub fn close_shards<D: Disk + Drop>(
-    shared: Shared<D>,
-    passes: Vec<Passes<D>>,
-    room: Vec<PartHost<D>>,
-) -> ShardSet<D>
-    requires all { (seats : _) × AreAll shared seats passes.items × (0 < seats) }
-    requires room { (room.items ≡ []) × (length shared.parts ≤ vec_capacity room) }
-    ensures { AreClosed D.seen shared result }
-{
-    let pass = gather(&shared, passes);
-    let Shared {
-        parts,
-        members,
-        foreign,
-        ..
-    } = shared;
-    let Passes {
-        parts: part_passes,
-        members: member_pass,
-        foreign: foreign_pass,
-    } = pass;
-    let parts = close_parts(parts, part_passes, room);
-    let members = members.close(member_pass);
-    let foreign = foreign.close(foreign_pass);
-    ShardSet {
-        parts,
-        members,
-        foreign,
-    }
 }

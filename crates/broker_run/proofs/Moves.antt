@@ -1,0 +1,145 @@
+-- Histories of shards in memory, and of the states for which they stand.
+use Rattle.std.proofs.Common.{◌≡◌, ◌⊎◌, inl, inr, refl, sym, ap, ◌∙◌, subst, List, [], ◌∷◌, Bool, is_some, Option, Some, None, Ok, Err}
+use Rattle.edge_io.specs.Views.{DiskView}
+use Rattle.foreign_coord.specs.Shards.{ForeignShardState, Carries as CarriesForeign}
+use Rattle.share_part.specs.Shards.{PartShardState, Carries}
+use Rattle.shard_lock.specs.History.{Leads}
+use Rattle.shard_lock.specs.Passes.{LockParts}
+use Rattle.shard_lock.specs.declared.shard.Entry.{Entry}
+use Rattle.broker_model.specs.Acting.{Begun, HalvesOn}
+use Rattle.broker_model.specs.Hosted.{Hosted}
+use Rattle.broker_core.specs.Hosts.{hosted_slot}
+use Rattle.broker_core.proofs.Opening.{carried_stands}
+use Rattle.broker_core.proofs.Reopens.{images_left}
+use Rattle.broker_shards.specs.Acts.{ActsForeign, ActsPart, begun_by}
+use Rattle.broker_shards.specs.Hosts.{Host, holding}
+use Rattle.broker_shards.specs.declared.foreign.ForeignEvent.{ForeignEvent}
+use Rattle.broker_shards.specs.declared.foreign.ForeignHost.{ForeignHost}
+use Rattle.broker_shards.specs.declared.part.PartEvent.{PartEvent}
+use Rattle.broker_run.specs.Closing.{LeavesForeign, LeavesPart, MovesForeign, MovesPart, StepsPart, StepsStates}
+use Rattle.broker_run.specs.Opening.{slot_of}
+use Rattle.broker_run.specs.Rows.{Ends}
+use Rattle.broker_run.specs.Shared.{PartAnswer, StateAnswer}
+
+module _ {D : Type 0} (seen : D → DiskView) where
+  -- ---- a partition
+
+  abbrev Carried : Host D → PartShardState → Type 0
+  Carried h s = Carries seen holding h.part s
+
+  part_moves : (old new : Host D) (event : PartEvent) (answer : PartAnswer) (s : PartShardState) → ActsPart seen old event answer new → Carried old s
+      → (t : PartShardState) × MovesPart seen old new event answer s t × Carried new t
+  part_moves old new event (Ok told) s a k =
+      let n = a.acts.steps s k in (n.0, (a.acts.did, a.acts.asks, a.acts.tells, n.2), n.1)
+  part_moves old new event (Err fault) s a k = go (a.acts s k) where
+    go : Carried new s
+        ⊎ ((begun : Begun) × (begun_by event.ask ≡ Some begun) × (after : PartShardState) × Carried new after
+        × HalvesOn seen old.part.conf old.part new.part event.now s begun after)
+        → (t : PartShardState) × MovesPart seen old new event (Err fault) s t × Carried new t
+    go (inl same) = (s, inl refl, same)
+    go (inr (begun, is, after, carries, halves)) = (after, inr (begun, is, halves), carries)
+
+  part_leads : (h : Host D) (es : List (Entry PartEvent PartAnswer)) (g : Host D) (s : PartShardState) → Leads (ActsPart seen) h es g → Carried h s
+      → (t : PartShardState) × Leads (StepsPart seen) (h, s) es (g, t) × Carried g t
+  part_leads h [] g s l k = (s, (λ i. (l i, s)), subst (λ (x : Host D). Carried x s) l k)
+  part_leads h (e ∷ es) g s (m, a, more) k =
+      let n = part_moves h m e.event e.answer s a k in
+      let r = part_leads m es g n.0 more n.2 in
+      (r.0, ((m, n.0), record { acts = a; moves = n.1 }, r.1), r.2)
+
+  abbrev told : D → Bool
+  told d = is_some (seen d).content
+
+  -- what no act changes of it
+  pub record StaysPart (old new : Host D) : Type 0 where
+    pub topic : new.topic ≡ old.topic
+    pub conf : new.conf ≡ old.conf
+    pub own : new.part.conf ≡ old.part.conf
+    pub log : told new.part.log.journal.disk ≡ told old.part.log.journal.disk
+    pub first : told new.part.states.journal.live.disk ≡ told old.part.states.journal.live.disk
+    pub second : told new.part.states.journal.idle ≡ told old.part.states.journal.idle
+
+  pub part_stays : (h : Host D) (es : List (Entry PartEvent PartAnswer)) (g : Host D) → Leads (ActsPart seen) h es g → StaysPart h g
+  part_stays h [] g l =
+      subst (λ (x : Host D). StaysPart h x) l (record { topic = refl; conf = refl; own = refl; log = refl; first = refl; second = refl })
+  part_stays h (e ∷ es) g (m, a, more) =
+      let r = part_stays m es g more in
+      record {
+        topic = r.topic ∙ a.topic;
+        conf = r.conf ∙ a.conf;
+        own = r.own ∙ a.goes_on.conf;
+        log = r.log ∙ a.goes_on.log.told;
+        first = r.first ∙ a.goes_on.first.told;
+        second = r.second ∙ ap told a.goes_on.second;
+      }
+
+  pub same_hosted : (h : Host D) (es : List (Entry PartEvent PartAnswer)) (g : Host D) → Leads (ActsPart seen) h es g
+      → hosted_slot (slot_of g) ≡ hosted_slot (slot_of h)
+  same_hosted h es g l =
+      let k = part_stays h es g l in
+      λ i. record { topic = k.topic i; conf = k.conf i }
+
+  pub leaves_part : (lock : LockParts (Host D)) (last : Host D) → Ends (ActsPart seen) lock last → LeavesPart seen lock last
+  leaves_part lock last e =
+      let k = part_stays lock.first e.pass.seen last e.leads in
+      record {
+        ends = e;
+        same = (k.topic, k.conf);
+        stands = λ s c.
+            let r = part_leads lock.first e.pass.seen last s e.leads c.carries in (
+              r.0,
+              r.1,
+              record {
+                stand = images_left seen lock.first.conf last.part r.0 (k.own ∙ c.conf_is) r.2;
+                log_told = k.log ∙ c.log.told;
+                first_told = k.first ∙ c.first.told;
+                second_told = k.second ∙ c.second.told;
+              },
+            );
+      }
+
+  -- ---- foreign state
+
+  abbrev CarriedStates : ForeignHost D → ForeignShardState → Type 0
+  CarriedStates h s = CarriesForeign seen h.foreign s
+
+  states_move : (old new : ForeignHost D) (event : ForeignEvent) (answer : StateAnswer) (s : ForeignShardState) → ActsForeign seen old event answer new
+      → CarriedStates old s → (t : ForeignShardState) × MovesForeign seen old new event answer s t × CarriedStates new t
+  states_move old new event (Ok answer) s a k =
+      let n = a.acts.steps s k in (n.0, (n.1, n.3), n.2)
+  states_move old new event (Err fault) s a k =
+      (s, refl, subst (λ x. CarriesForeign seen x s) (sym a.acts) k)
+
+  states_lead : (h : ForeignHost D) (es : List (Entry ForeignEvent StateAnswer)) (g : ForeignHost D) (s : ForeignShardState) → Leads (ActsForeign seen) h es g
+      → CarriedStates h s → (t : ForeignShardState) × Leads (StepsStates seen) (h, s) es (g, t) × CarriedStates g t
+  states_lead h [] g s l k = (s, (λ i. (l i, s)), subst (λ (x : ForeignHost D). CarriedStates x s) l k)
+  states_lead h (e ∷ es) g s (m, a, more) k =
+      let n = states_move h m e.event e.answer s a k in
+      let r = states_lead m es g n.0 more n.2 in
+      (r.0, ((m, n.0), record { acts = a; moves = n.1 }, r.1), r.2)
+
+  states_told : (h : ForeignHost D) (es : List (Entry ForeignEvent StateAnswer)) (g : ForeignHost D) → Leads (ActsForeign seen) h es g
+      → (told g.foreign.journal.live.disk ≡ told h.foreign.journal.live.disk) × (told g.foreign.journal.idle ≡ told h.foreign.journal.idle)
+  states_told h [] g l = (
+    ap (λ (x : ForeignHost D). told x.foreign.journal.live.disk) (sym l),
+    ap (λ (x : ForeignHost D). told x.foreign.journal.idle) (sym l),
+  )
+  states_told h (e ∷ es) g (m, a, more) =
+      let r = states_told m es g more in (r.0 ∙ a.first.told, r.1 ∙ ap told a.second)
+
+  pub leaves_foreign : (lock : LockParts (ForeignHost D)) (last : ForeignHost D) → Ends (ActsForeign seen) lock last → LeavesForeign seen lock last
+  leaves_foreign lock last e =
+      let k = states_told lock.first e.pass.seen last e.leads in
+      record {
+        ends = e;
+        stands = λ s c.
+            let r = states_lead lock.first e.pass.seen last s e.leads c.carries in (
+              r.0,
+              r.1,
+              record {
+                stand = carried_stands seen last.foreign r.0 r.2;
+                told = k.0 ∙ c.told;
+                second_told = k.1 ∙ c.second_told;
+              },
+            );
+      }

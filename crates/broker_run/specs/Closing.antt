@@ -1,0 +1,106 @@
+-- What is left of a broker's shards when their locks are closed, and how their disks are put back. This project's own.
+-- For example two threads produced a batch each to partition 0 of `orders`, the one of them with a fault of the log's disk. The contents
+-- that are put back stand for a log of the other's batch, with or without that one.
+use Rattle.std.specs.Prelude.{◌≡◌, ◌⊎◌, ◌≤◌, ℕ, List, [], true, false, Some, Result, Ok, Err}
+use Rattle.std.specs.List.{AllZip}
+use Rattle.std.specs.declared.option.Option.{Option}
+use Rattle.edge_io.specs.Bays.{SameSlot}
+use Rattle.edge_io.specs.Causes.{Rose}
+use Rattle.edge_io.specs.Views.{BayView, DiskView}
+use Rattle.flex_fields.specs.declared.fault.NoMemory.{NoMemory}
+use Rattle.foreign_coord.specs.Shards.{ForeignShardState, StepsForeign}
+use Rattle.share_model.specs.declared.fault.StoreFault.{StoreFault}
+use Rattle.share_model.specs.declared.foreign.ForeignAnswer.{ForeignAnswer}
+use Rattle.share_part.specs.Shards.{PartShardState}
+use Rattle.shard_lock.specs.History.{Leads}
+use Rattle.shard_lock.specs.Passes.{LockParts}
+use Rattle.topic_conf.specs.Configs.{ConfigParts}
+use Rattle.broker_model.specs.Acting.{Begun, HalvesOn, StepsOn}
+use Rattle.broker_model.specs.Hosted.{IsOneOf, IsTaken}
+use Rattle.broker_model.specs.Shards.{PartCall}
+use Rattle.broker_core.specs.Bays.{AreOut, ArePutBack, HasRisen, TellsStill}
+use Rattle.broker_core.specs.Carried.{IsCarried, IsPartCarried}
+use Rattle.broker_core.specs.Hosts.{PartStandsAlone, StandAlone, disks_in}
+use Rattle.broker_shards.specs.Acts.{ActsForeign, ActsMembers, ActsPart, asked_by, begun_by, told_by}
+use Rattle.broker_shards.specs.Hosts.{Host}
+use Rattle.broker_shards.specs.declared.foreign.ForeignEvent.{ForeignEvent}
+use Rattle.broker_shards.specs.declared.foreign.ForeignHost.{ForeignHost}
+use Rattle.broker_shards.specs.declared.part.PartEvent.{PartEvent}
+use Rattle.broker_shards.specs.declared.part.PartTold.{PartTold}
+use Rattle.broker_run.specs.Opening.{hosts_of, names_in}
+use Rattle.broker_run.specs.Rows.{Ends}
+use Rattle.broker_run.specs.Shared.{PartAnswer, ShardParts, SharedParts, StateAnswer}
+
+-- ---- histories of states
+
+-- A call of the machine leads from the one state of a partition to the other; where no memory was found, nothing was done, or a visit's
+-- acknowledgements or the first groups of an expiry were.
+abbrev pub MovesPart : {D : Type 0} → (D → DiskView) → (old new : Host D) → PartEvent → PartAnswer → PartShardState → PartShardState → Type 0
+MovesPart seen old new event (Ok told) s t = (did : PartCall) × (event.ask ≡ asked_by did) × (told ≡ told_by did)
+    × StepsOn seen old.part.conf old.part new.part event.now s did t
+MovesPart seen old new event (Err fault) s t = (t ≡ s)
+    ⊎ ((begun : Begun) × (begun_by event.ask ≡ Some begun) × HalvesOn seen old.part.conf old.part new.part event.now s begun t)
+
+-- an act on a partition in memory, and on the state for which it stands
+pub record StepsPart {D : Type 0} (seen : D → DiskView) (old : Host D × PartShardState) (event : PartEvent) (answer : PartAnswer)
+    (new : Host D × PartShardState) : Type 0 where
+  pub acts : ActsPart seen old.0 event answer new.0
+  pub moves : MovesPart seen old.0 new.0 event answer old.1 new.1
+
+abbrev pub MovesForeign : {D : Type 0} → (D → DiskView) → (old new : ForeignHost D) → ForeignEvent → StateAnswer → ForeignShardState → ForeignShardState
+    → Type 0
+MovesForeign seen old new event (Ok answer) s t = (fault : Option StoreFault)
+    × StepsForeign (Rose (seen old.foreign.journal.live.disk).faults (seen new.foreign.journal.live.disk).faults) old.foreign.journal.live.end s event.op
+    answer fault t
+MovesForeign seen old new event (Err fault) s t = t ≡ s
+
+-- an act on foreign state in memory, and on the state for which it stands
+pub record StepsStates {D : Type 0} (seen : D → DiskView) (old : ForeignHost D × ForeignShardState) (event : ForeignEvent) (answer : StateAnswer)
+    (new : ForeignHost D × ForeignShardState) : Type 0 where
+  pub acts : ActsForeign seen old.0 event answer new.0
+  pub moves : MovesForeign seen old.0 new.0 event answer old.1 new.1
+
+-- ---- what is left
+
+-- A legal history leads from the partition as its lock was made to this one, and has exactly the entries of all passes of the lock. From
+-- each state for which the first one stood it leads to one for which each image of the disks stands now, its log and its tables each with
+-- or without the pending write.
+pub record LeavesPart {D : Type 0} (seen : D → DiskView) (lock : LockParts (Host D)) (last : Host D) : Type 0 where
+  pub ends : Ends (ActsPart seen) lock last
+  pub same : (last.topic ≡ lock.first.topic) × (last.conf ≡ lock.first.conf)
+  pub stands : (s : PartShardState) → IsPartCarried seen lock.first.conf lock.first.part s → (t : PartShardState)
+      × Leads (StepsPart seen) (lock.first, s) ends.pass.seen (last, t)
+      × PartStandsAlone seen lock.first.conf t last.part.log.journal.disk last.part.states.journal.live.disk last.part.states.journal.idle
+
+-- the same of foreign state
+pub record LeavesForeign {D : Type 0} (seen : D → DiskView) (lock : LockParts (ForeignHost D)) (last : ForeignHost D) : Type 0 where
+  pub ends : Ends (ActsForeign seen) lock last
+  pub stands : (s : ForeignShardState) → IsCarried seen lock.first.foreign s → (t : ForeignShardState)
+      × Leads (StepsStates seen) (lock.first, s) ends.pass.seen (last, t)
+      × StandAlone seen t last.foreign.journal.live.disk last.foreign.journal.idle
+
+pub record AreLeft {D : Type 0} (seen : D → DiskView) (shared : SharedParts D) (last : ShardParts D) : Type 0 where
+  pub parts : AllZip (LeavesPart seen) shared.parts last.parts
+  pub members : Ends ActsMembers shared.members last.members
+  pub foreign : LeavesForeign seen shared.foreign last.foreign
+
+-- ---- disks
+
+-- The disks of these shards are put back into the bay from which they were taken: each is told there, none is out, and the bay's count rises
+-- where one of theirs rose. A disk that isn't the broker's is as it was.
+pub record ArePut {B D : Type 0} (bay_seen : B → BayView D) (seen : D → DiskView) (conf : ConfigParts) (old : B) (shards : ShardParts D)
+    (new : B) : Type 0 where
+  pub back : ArePutBack bay_seen old new (disks_in (hosts_of shards))
+  pub are_in : (name : List ℕ) → IsOneOf (names_in shards) name → (bay_seen new).out name ≡ false
+  pub none_out : AreOut bay_seen (names_in shards) old → AreOut bay_seen [] new
+  pub noted : (name : List ℕ) → (bay_seen new).taken name ≡ (bay_seen old).taken name
+  pub others : (name : List ℕ) → (IsTaken conf name → ⊥) → SameSlot bay_seen name old new
+  pub rises : HasRisen bay_seen seen old (disks_in (hosts_of shards)) → Rose (bay_seen old).faults (bay_seen new).faults
+  pub later : (bay_seen old).faults ≤ (bay_seen new).faults
+  pub told : TellsStill bay_seen old new
+
+-- what closing the locks leaves
+pub record Closes {B D : Type 0} (bay_seen : B → BayView D) (seen : D → DiskView) (shared : SharedParts D) (old new : B) : Type 0 where
+  pub last : ShardParts D
+  pub left : AreLeft seen shared last
+  pub put : ArePut bay_seen seen shared.conf old last new
