@@ -21,11 +21,12 @@ use Rattle.broker_shards.specs.Hosts.{Host}
 use Rattle.broker_shards.specs.declared.foreign.ForeignHost.{ForeignHost}
 use Rattle.broker_shards.specs.declared.members.MembersHost.{MembersHost}
 use Rattle.broker_shards.specs.declared.part.PartEvent.{PartEvent}
-use Rattle.broker_run.specs.Closing.{ArePut, Closes, LeavesPart}
+use Rattle.broker_run.specs.Closing.{AreLeft, ArePut, Closes, LeavesPart}
 use Rattle.broker_run.specs.Opening.{AreWhole, hosted_in, hosts_of, names_in as names_of, slot_of}
 use Rattle.broker_run.specs.Rows.{Ends, StandsFor}
 use Rattle.broker_run.specs.Shared.{PartAnswer, ShardParts, SharedParts, first_shards}
 use Rattle.broker_run.proofs.Lines.{map_snoc, zip_snoc}
+use Rattle.broker_run.proofs.Standing.{all_stand}
 use Rattle.broker_run.proofs.Moves.{leaves_foreign, leaves_part, same_hosted}
 
 map_then : {A B : Type 0} (f : A → B) (xs ys : List A) → map f (xs ++ ys) ≡ map f xs ++ map f ys
@@ -199,12 +200,14 @@ module _ {B D : Type 0} (bay_seen : B → BayView D) (seen : D → DiskView) whe
         → Closes bay_seen seen shared old new
     closes_all new members foreign member_ends foreign_ends back =
         let all : ShardParts D = record { parts = last; members = members; foreign = foreign } in
+        let left : AreLeft seen shared all = record {
+          parts = leaves_parts shared.parts last closed;
+          members = member_ends;
+          foreign = leaves_foreign seen shared.foreign foreign foreign_ends;
+        } in
         record {
           last = all;
-          left = record {
-            parts = leaves_parts shared.parts last closed;
-            members = member_ends;
-            foreign = leaves_foreign seen shared.foreign foreign foreign_ends;
-          };
+          left = left;
+          stand = λ s k. all_stand seen shared all left s k;
           put = put_all shared.conf all old new apart_last (hosted_last ∙ whole.hosts) (mid, puts, back);
         }

@@ -1,5 +1,5 @@
 -- Histories of shards in memory, and of the states for which they stand.
-use Rattle.std.proofs.Common.{◌≡◌, ◌⊎◌, inl, inr, refl, sym, ap, ◌∙◌, subst, List, [], ◌∷◌, Bool, is_some, Option, Some, None, Ok, Err}
+use Rattle.std.proofs.Common.{◌≡◌, ◌⊎◌, inl, inr, refl, sym, ap, ◌∙◌, subst, List, [], ◌∷◌, Bool, is_some, Some, Ok, Err}
 use Rattle.edge_io.specs.Views.{DiskView}
 use Rattle.foreign_coord.specs.Shards.{ForeignShardState, Carries as CarriesForeign}
 use Rattle.share_part.specs.Shards.{PartShardState, Carries}
@@ -7,7 +7,6 @@ use Rattle.shard_lock.specs.History.{Leads}
 use Rattle.shard_lock.specs.Passes.{LockParts}
 use Rattle.shard_lock.specs.declared.shard.Entry.{Entry}
 use Rattle.broker_model.specs.Acting.{Begun, HalvesOn}
-use Rattle.broker_model.specs.Hosted.{Hosted}
 use Rattle.broker_core.specs.Hosts.{hosted_slot}
 use Rattle.broker_core.proofs.Opening.{carried_stands}
 use Rattle.broker_core.proofs.Reopens.{images_left}

@@ -7,7 +7,6 @@ use Rattle.broker_model.specs.Machine.{Machine}
 use Rattle.broker_core.specs.Bays.{AreOut, AreTakenFrom, IsFirst, TellsDisks}
 use Rattle.broker_core.specs.Cores.{CoreParts, IsCore, core_of, state_of}
 use Rattle.broker_core.specs.Hosts.{HostsParts, all_names, disks_in, hosted_slots}
-use Rattle.broker_core.specs.declared.fault.CoreOpen.{CoreOpen}
 use Rattle.broker_core.specs.declared.fault.CoreOpen.TheVariants as open_fault
 use Rattle.broker_run.specs.Opening.{AreWhole, IsOpening, IsRefused, hosts_of}
 use Rattle.broker_run.specs.Shared.{ShardParts}

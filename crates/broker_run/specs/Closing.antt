@@ -1,35 +1,32 @@
 -- What is left of a broker's shards when their locks are closed, and how their disks are put back. This project's own.
 -- For example two threads produced a batch each to partition 0 of `orders`, the one of them with a fault of the log's disk. The contents
 -- that are put back stand for a log of the other's batch, with or without that one.
-use Rattle.std.specs.Prelude.{◌≡◌, ◌⊎◌, ◌≤◌, ℕ, List, [], true, false, Some, Result, Ok, Err}
+use Rattle.std.specs.Prelude.{◌≡◌, ◌⊎◌, ◌≤◌, ℕ, List, [], ◌∷◌, false, Some, Ok, Err}
 use Rattle.std.specs.List.{AllZip}
 use Rattle.std.specs.declared.option.Option.{Option}
 use Rattle.edge_io.specs.Bays.{SameSlot}
 use Rattle.edge_io.specs.Causes.{Rose}
 use Rattle.edge_io.specs.Views.{BayView, DiskView}
-use Rattle.flex_fields.specs.declared.fault.NoMemory.{NoMemory}
 use Rattle.foreign_coord.specs.Shards.{ForeignShardState, StepsForeign}
 use Rattle.share_model.specs.declared.fault.StoreFault.{StoreFault}
-use Rattle.share_model.specs.declared.foreign.ForeignAnswer.{ForeignAnswer}
 use Rattle.share_part.specs.Shards.{PartShardState}
 use Rattle.shard_lock.specs.History.{Leads}
 use Rattle.shard_lock.specs.Passes.{LockParts}
 use Rattle.topic_conf.specs.Configs.{ConfigParts}
 use Rattle.broker_model.specs.Acting.{Begun, HalvesOn, StepsOn}
 use Rattle.broker_model.specs.Hosted.{IsOneOf, IsTaken}
-use Rattle.broker_model.specs.Shards.{PartCall}
+use Rattle.broker_model.specs.Shards.{HostedPart, PartCall, Shards}
 use Rattle.broker_core.specs.Bays.{AreOut, ArePutBack, HasRisen, TellsStill}
 use Rattle.broker_core.specs.Carried.{IsCarried, IsPartCarried}
-use Rattle.broker_core.specs.Hosts.{PartStandsAlone, StandAlone, disks_in}
+use Rattle.broker_core.specs.Hosts.{AreCarried, PartStandsAlone, StandAlone, StandStill, disks_in}
 use Rattle.broker_shards.specs.Acts.{ActsForeign, ActsMembers, ActsPart, asked_by, begun_by, told_by}
 use Rattle.broker_shards.specs.Hosts.{Host}
 use Rattle.broker_shards.specs.declared.foreign.ForeignEvent.{ForeignEvent}
 use Rattle.broker_shards.specs.declared.foreign.ForeignHost.{ForeignHost}
 use Rattle.broker_shards.specs.declared.part.PartEvent.{PartEvent}
-use Rattle.broker_shards.specs.declared.part.PartTold.{PartTold}
 use Rattle.broker_run.specs.Opening.{hosts_of, names_in}
 use Rattle.broker_run.specs.Rows.{Ends}
-use Rattle.broker_run.specs.Shared.{PartAnswer, ShardParts, SharedParts, StateAnswer}
+use Rattle.broker_run.specs.Shared.{PartAnswer, ShardParts, SharedParts, StateAnswer, first_shards}
 
 -- ---- histories of states
 
@@ -84,6 +81,28 @@ pub record AreLeft {D : Type 0} (seen : D → DiskView) (shared : SharedParts D)
   pub members : Ends ActsMembers shared.members last.members
   pub foreign : LeavesForeign seen shared.foreign last.foreign
 
+-- the states of partitions before and behind, which the histories of their locks lead to
+abbrev pub PartsLead : {D : Type 0} → (seen : D → DiskView) (locks : List (LockParts (Host D))) (last : List (Host D)) → AllZip (LeavesPart seen) locks last
+    → List HostedPart → List HostedPart → Type 0
+PartsLead seen [] [] left [] [] = Unit {0}
+PartsLead seen [] [] left [] (q ∷ new) = ⊥
+PartsLead seen [] [] left (p ∷ old) new = ⊥
+PartsLead seen [] (h ∷ last) left old new = ⊥
+PartsLead seen (l ∷ locks) [] left old new = ⊥
+PartsLead seen (l ∷ locks) (h ∷ last) left [] new = ⊥
+PartsLead seen (l ∷ locks) (h ∷ last) left (p ∷ old) [] = ⊥
+PartsLead seen (l ∷ locks) (h ∷ last) left (p ∷ old) (q ∷ new) = (q.hosted ≡ p.hosted)
+    × Leads (StepsPart seen) (l.first, p.shard) left.0.ends.pass.seen (h, q.shard) × PartsLead seen locks last left.1 old new
+
+-- From these states of all shards the histories lead to states for which the disks stand now, each shard with or without its pending writes.
+pub record StandBehind {D : Type 0} (seen : D → DiskView) (shared : SharedParts D) (last : ShardParts D) (left : AreLeft seen shared last)
+    (before : Shards) : Type 0 where
+  pub after : Shards
+  pub parts : PartsLead seen shared.parts last.parts left.parts before.parts after.parts
+  pub members : after.members ≡ last.members.members
+  pub foreign : Leads (StepsStates seen) (shared.foreign.first, before.foreign) left.foreign.ends.pass.seen (last.foreign, after.foreign)
+  pub still : StandStill seen after (disks_in (hosts_of last))
+
 -- ---- disks
 
 -- The disks of these shards are put back into the bay from which they were taken: each is told there, none is out, and the bay's count rises
@@ -103,4 +122,5 @@ pub record ArePut {B D : Type 0} (bay_seen : B → BayView D) (seen : D → Disk
 pub record Closes {B D : Type 0} (bay_seen : B → BayView D) (seen : D → DiskView) (shared : SharedParts D) (old new : B) : Type 0 where
   pub last : ShardParts D
   pub left : AreLeft seen shared last
+  pub stand : (s : Shards) → AreCarried seen (hosts_of (first_shards shared)) s → StandBehind seen shared last left s
   pub put : ArePut bay_seen seen shared.conf old last new

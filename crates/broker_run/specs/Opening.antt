@@ -19,7 +19,7 @@ use Rattle.broker_core.specs.declared.slot.ForeignSlot.TheVariants as foreign
 use Rattle.broker_core.specs.declared.slot.PartSlot.{PartSlot}
 use Rattle.broker_core.specs.declared.slot.PartState.TheVariants as part
 use Rattle.broker_shards.specs.Hosts.{Host}
-use Rattle.broker_run.specs.Shared.{ShardParts, SharedParts}
+use Rattle.broker_run.specs.Shared.{ShardParts}
 
 -- ---- the shards as one thread would hold them
 

@@ -3,10 +3,8 @@
 -- whose passes stand for three each, and close the locks.
 use Rattle.std.specs.Prelude.{◌≡◌, ℕ, List, length}
 use Rattle.std.specs.List.{AllByRecursion, AllZip}
-use Rattle.edge_io.specs.Views.{DiskView}
 use Rattle.shard_lock.specs.History.{Leads}
 use Rattle.shard_lock.specs.Passes.{Account, IsOf, LockParts, PassParts, passes_of}
-use Rattle.broker_shards.specs.Acts.{ActsForeign, ActsMembers, ActsPart}
 use Rattle.broker_shards.specs.Hosts.{Host}
 use Rattle.broker_shards.specs.declared.foreign.ForeignHost.{ForeignHost}
 use Rattle.broker_shards.specs.declared.members.MembersHost.{MembersHost}

@@ -1,4 +1,4 @@
-use Rattle.std.proofs.Common.{◌≡◌, ◌∷◌, [], ℕ, List, subst, sym, ap, ◌∙◌}
+use Rattle.std.proofs.Common.{◌≡◌, ◌∷◌, [], List, subst, sym, ap, ◌∙◌}
 use Rattle.std.specs.List.{AllByRecursion, AllZip}
 use Rattle.shard_lock.specs.Passes.{LockParts, PassParts}
 use Rattle.broker_model.specs.Hosted.{Hosted, IsOneOf, part_disks, state_a, state_b}

@@ -1,4 +1,4 @@
-use Rattle.std.proofs.Common.{◌≡◌, ap, ◌∙◌, Err}
+use Rattle.std.proofs.Common.{ap, ◌∙◌, Err}
 use Rattle.broker_core.specs.declared.fault.CoreOpen.TheVariants as open_fault
 use Rattle.broker_run.specs.Shared.{first_shards}
 use Rattle.broker_run.proofs.Openings.{both_ok, err_is, no_memory_found, opening_of}

@@ -1,0 +1,58 @@
+-- The states of all shards for which the disks stand that are put back.
+use Rattle.std.proofs.Common.{◌≡◌, refl, sym, ap, ◌∙◌, subst, List, [], ◌∷◌, map, Some}
+use Rattle.std.specs.List.{AllZip}
+use Rattle.edge_io.specs.Views.{DiskView}
+use Rattle.share_part.specs.Hosting.{PartConfParts}
+use Rattle.share_part.specs.Shards.{PartShardState}
+use Rattle.shard_lock.specs.Passes.{LockParts}
+use Rattle.broker_model.specs.Hosted.{Hosted, first_of, log_of, second_of}
+use Rattle.broker_model.specs.Shards.{HostedPart, Shards}
+use Rattle.broker_core.specs.Hosts.{AreCarried, IsPartSlot, PartStandsAlone, PartStill, PartsStill, hosted_slot, slots_disks}
+use Rattle.broker_shards.specs.Hosts.{Host}
+use Rattle.broker_run.specs.Closing.{AreLeft, LeavesPart, PartsLead, StandBehind}
+use Rattle.broker_run.specs.Opening.{hosts_of, slot_of}
+use Rattle.broker_run.specs.Shared.{ShardParts, SharedParts, first_shards}
+
+module _ {D : Type 0} (seen : D → DiskView) where
+  parts_stand : (locks : List (LockParts (Host D))) (last : List (Host D)) (left : AllZip (LeavesPart seen) locks last) (ps : List HostedPart)
+      → AllZip (IsPartSlot seen) (map slot_of (map (λ l. l.first) locks)) ps
+      → (qs : List HostedPart) × PartsLead seen locks last left ps qs × PartsStill seen (slots_disks (map slot_of last)) qs
+  parts_stand [] [] left [] k = ([], tt, tt)
+  parts_stand [] [] left (p ∷ ps) k = absurd k
+  parts_stand [] (h ∷ last) left ps k = absurd left
+  parts_stand (l ∷ locks) [] left ps k = absurd left
+  parts_stand (l ∷ locks) (h ∷ last) left [] k = absurd k
+  parts_stand (l ∷ locks) (h ∷ last) left (p ∷ ps) k =
+      let one = left.0.stands p.shard k.0.state in
+      let rest = parts_stand locks last left.1 ps k.1 in
+      (record { hosted = p.hosted; shard = one.0 } ∷ rest.0, (refl, one.1, rest.1), (still one.0 one.2, rest.2))
+    where
+      is : hosted_slot (slot_of h) ≡ p.hosted
+      is = (λ i. record { topic = left.0.same.0 i; conf = left.0.same.1 i }) ∙ sym k.0.hosted
+
+      still : (t : PartShardState) → PartStandsAlone seen l.first.conf t h.part.log.journal.disk h.part.states.journal.live.disk h.part.states.journal.idle
+          → PartStill seen (log_of (hosted_slot (slot_of h)), Some h.part.log.journal.disk) (first_of (hosted_slot (slot_of h)), Some h.part.states.journal.live.disk)
+          (second_of (hosted_slot (slot_of h)), Some h.part.states.journal.idle) (record { hosted = p.hosted; shard = t })
+      still t alone = record {
+        log = h.part.log.journal.disk;
+        first = h.part.states.journal.live.disk;
+        second = h.part.states.journal.idle;
+        log_is = λ i. (log_of (is i), Some h.part.log.journal.disk);
+        first_is = λ i. (first_of (is i), Some h.part.states.journal.live.disk);
+        second_is = λ i. (second_of (is i), Some h.part.states.journal.idle);
+        alone = subst (λ (c : PartConfParts). PartStandsAlone seen c t h.part.log.journal.disk h.part.states.journal.live.disk h.part.states.journal.idle)
+            (sym (ap (λ (x : Hosted). x.conf) k.0.hosted)) alone;
+      }
+
+  pub all_stand : (shared : SharedParts D) (last : ShardParts D) (left : AreLeft seen shared last) (s : Shards) → AreCarried seen (hosts_of (first_shards shared)) s
+      → StandBehind seen shared last left s
+  all_stand shared last left s k =
+      let p = parts_stand shared.parts last.parts left.parts s.parts k.parts in
+      let f = left.foreign.stands s.foreign k.foreign in
+      record {
+        after = record { parts = p.0; members = last.members.members; foreign = f.0 };
+        parts = p.1;
+        members = refl;
+        foreign = f.1;
+        still = record { parts = p.2; foreign = f.2 };
+      }
