@@ -1,6 +1,10 @@
 -- The acknowledgements of a visit as a step of the shard, and what follows them.
-use Rattle.std.proofs.Common.{◌≡◌, ◌≢◌, ◌⊎◌, ⊎_elim, ◌∙◌, inl, inr, refl, sym, ap, subst, arith, ℕ, max, ◌≤◌, List, Option, Some, None}
-use Rattle.std.specs.Prelude.{Result, Ok, Err, IsErr, IsSome}
+use Rattle.std.proofs.Common.{◌≡◌, ◌≢◌, ◌⊎◌, ⊎_elim, ◌∙◌, inl, inr, refl, sym, ap, subst, arith, ℕ, max, ◌≤◌, List, Option, Some, None, Bool, true, cond}
+use Rattle.std.specs.Prelude.{Result, Ok, Err, IsErr, IsSome, is_none}
+use Rattle.std.specs.BTreeMap.{is_at}
+use Rattle.std.specs.Cmp.Lexicographic.{slice_cmp, nat_list_cmp_total}
+use Rattle.std.specs.Ordering.{nat_cmp}
+use Rattle.std.proofs.lemmas.Map.Lookups.{exact_bytes}
 use Rattle.ack_ranges.specs.Batches.{IsWellFormed, kind_at}
 use Rattle.coord_checkpoint.specs.Disks.{HasFailed}
 use Rattle.edge_io.specs.Armed.{RunsOn, StarvesUnarmed}
@@ -35,9 +39,12 @@ use Rattle.share_part.specs.Settling.{Acts, AreHeldBy, held_after}
 use Rattle.share_part.specs.Shards.{PartShardState, PartParts, Carries, IsStill, IsUntouched, held_in, raised_to, with_held}
 use Rattle.share_part.specs.Storing.{AcksOnce, SettlesGroup, StoresGroup}
 use Rattle.share_part.specs.Visits.{AreToWrite, AreWritten, StepsAcks}
+use Rattle.share_part.specs.Writes.{WritesActs, WritesAcks, WritesPart, WritesThen, held_behind}
 use Rattle.share_part.specs.declared.limits.Limits.{Limits}
 use Rattle.share_part.proofs.Holding.{AreKept}
-use Rattle.share_part.proofs.Storage.{behind, quiet_same, stands_same, stands_stored, still, stored_device, stored_later, stored_quiet, stored_steps}
+use Rattle.share_part.proofs.Mapping.{at_self}
+use Rattle.share_part.proofs.Parting.{all_pass}
+use Rattle.share_part.proofs.Storage.{behind, quiet_same, stands_same, stands_stored, still, stored_device, stored_later, stored_quiet, stored_steps, stored_writes}
 use Rattle.share_part.proofs.Visiting.{carried, shard_of, untouched}
 use Rattle.edge_io.specs.Views.{DiskView}
 
@@ -266,6 +273,49 @@ module _ {D W : Type 0} (seen : D → DiskView) (holding : W → Held) (visit : 
   quiet_acked ack (inr (inl n)) none = still_quiet n.3.0
   quiet_acked ack (inr (inr g)) none = quiet_settled ack g.2 none
 
+  -- which record is stored
+  abbrev Writes : AckOutcome → Type 0
+  Writes ack = WritesAcks seen old.conf old.log.batches visit was old.states states ack
+
+  writes_stored : (fault : Option StoreFault) → StoresGroup seen Failed old.conf old.log.batches visit.group acts was old.states states Same Ends (Ok fault)
+      → WritesActs seen old.conf old.log.batches visit.group acts was old.states states fault
+  writes_stored fault h = stored_writes seen holding visit.group acts old states windows old.clock sound few hosted kept fault h
+
+  writes_settled : (ack : AckOutcome) → Settles (Ok ack) → Writes ack
+  writes_settled (NotHeld o) h = h.1
+  writes_settled (Malformed f) h = absurd h
+  writes_settled Done h = writes_stored None h.1
+  writes_settled (Store fault) h = writes_stored (Some fault) h.1
+
+  pub writes_acked : (ack : AckOutcome) → Acked (Ok ack) → Writes ack
+  writes_acked ack (inl m) = subst Writes (sym (ok_same ack (Malformed m.0) m.1)) m.3.0
+  writes_acked ack (inr (inl n)) = subst Writes (sym (ok_same ack Done n.2)) (inl (n.1, n.3.0))
+  writes_acked ack (inr (inr g)) = writes_settled ack g.2
+
+  -- what is held behind them
+  abbrev Holds : AckOutcome → Type 0
+  Holds ack = held_in holding windows visit.group ≡ held_behind visit was ack
+
+  none_end : NameNone acts → Same → held_in holding windows visit.group ≡ held_after acts was
+  none_end none same = same visit.group ∙ sym (all_pass (λ e. is_none (acts e.0)) was (λ e. ap is_none (none e.0)))
+
+  own_held : (b : Bool) → b ≡ true → (its others : Held) → cond b its others ≡ its
+  own_held b is its others = ap (λ (t : Bool). cond t its others) is
+
+  holds_settled : (ack : AckOutcome) → Settles (Ok ack) → Holds ack
+  holds_settled (NotHeld o) h = h.2 visit.group
+  holds_settled (Malformed f) h = absurd h
+  holds_settled Done h = ⊎_elim
+      (λ n. none_end n.0 n.2)
+      (λ g. g.2 visit.group ∙ own_held (is_at (slice_cmp nat_cmp visit.group) visit.group) (at_self (slice_cmp nat_cmp) nat_list_cmp_total exact_bytes visit.group) (held_after acts was) was)
+      h.1
+  holds_settled (Store fault) h = h.1.2 visit.group
+
+  pub holds_acked : (ack : AckOutcome) → Acked (Ok ack) → Holds ack
+  holds_acked ack (inl m) = subst Holds (sym (ok_same ack (Malformed m.0) m.1)) (same_of m.3.1 visit.group)
+  holds_acked ack (inr (inl n)) = subst Holds (sym (ok_same ack Done n.2)) (none_end n.1 (same_of n.3.1))
+  holds_acked ack (inr (inr g)) = holds_settled ack g.2
+
   -- ---- nothing has changed
 
   same_all : states ≡ old.states → Same → IsUntouched holding old mid
@@ -305,6 +355,7 @@ module _ {D W : Type 0} (seen : D → DiskView) (holding : W → Held) (visit : 
   none_acked now r e is h idle (Err f) none = record {
     steps = tt;
     memory = inl (unanswered e (subst Acked is h));
+    records = inl (unanswered e (subst Acked is h)).states;
     quiet = tt;
     ack_sound = tt;
     sound = tt;
@@ -381,6 +432,11 @@ module _ {D W : Type 0} (seen : D → DiskView) (holding : W → Held) (visit : 
                 },
               );
           memory = tt;
+          records = record {
+            between = states;
+            acks = writes_acked ack acked;
+            follows = subst (λ (h : Held). WritesThen seen old.conf old.log.batches visit h states new.states inner.then visit.then) (holds_acked ack acked) o.records;
+          };
           quiet = λ none none_then told. o.quiet none_then (runs.told ∙ told) ∙ quiet_acked ack acked none told;
           ack_sound = λ fault told bare. more.stays (runs.told ∙ told) (device_sound ack acked fault told bare);
           sound = λ fault told bare. o.sound fault (runs.told ∙ told) (runs.unarmed told bare);
@@ -399,12 +455,13 @@ module _ {D W : Type 0} (seen : D → DiskView) (holding : W → Held) (visit : 
     stopped : (e : want) (done : Result VisitAnswer want) → done ≡ Err e → FollowsOnce seen holding now visit mid new done → (after : PartParts D W)
         → after.conf ≡ new.conf → after.log ≡ new.log → after.states ≡ new.states
         → (IsUntouched holding old after ⊎ ((s : PartShardState) → Carries seen holding old s → AcksStand seen holding now visit old after s))
-        → (f : want) → VisitsOnce seen holding now visit old after (Err f)
-    stopped e done is once after conf log same memory f =
+        → WritesPart seen old.conf old.log.batches visit was old.states after.states → (f : want) → VisitsOnce seen holding now visit old after (Err f)
+    stopped e done is once after conf log same memory records f =
         let o = subst (FollowsOnce seen holding now visit mid new) is once in
         record {
           steps = tt;
           memory = memory;
+          records = records;
           quiet = tt;
           ack_sound = tt;
           sound = tt;
@@ -432,7 +489,7 @@ module _ {D W : Type 0} (seen : D → DiskView) (holding : W → Held) (visit : 
           states = u.states ∙ b.states;
           clock = u.clock;
           held = λ group. u.held group ∙ b.held group;
-        })) f
+        })) (inl (u.states ∙ b.states)) f
 
 -- ---- they were written, and what follows found no memory
 
@@ -483,4 +540,10 @@ module _ {D W : Type 0} (seen : D → DiskView) (holding : W → Held) (visit : 
           acks = steps_as seen holding visit once states windows sound few hosted kept now new r ack r_is r_acked idle runs more (raised_to now s) first.0 first.2;
           follows = subst (λ (h : Held). TakesMemory visit.member h visit.then) (sym (first.1.held visit.group)) o.follows;
         },
-      ))) f
+      )))
+      (inr (
+        ack,
+        written,
+        subst (λ (s : StoreParts D). WritesAcks seen old.conf old.log.batches visit (held_in holding old.windows visit.group) old.states s ack) (sym u.states)
+            (writes_acked seen holding visit old states windows sound few hosted kept ack (subst (Acked seen holding visit old states windows sound few hosted kept) r_is r_acked)),
+      )) f

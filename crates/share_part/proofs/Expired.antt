@@ -13,7 +13,9 @@ use Rattle.edge_io.proofs.Runs.{runs_none, runs_then}
 use Rattle.gate_journal.specs.Journals.{IsQuiet}
 use Rattle.flex_fields.specs.declared.fault.NoMemory.{NoMemory as want}
 use Rattle.share_coord.specs.Parts.{StoreParts}
+use Rattle.part_log.specs.Logs.{LogParts}
 use Rattle.share_model.specs.Held.{Held}
+use Rattle.share_model.specs.Logs.{Batch}
 use Rattle.share_model.specs.declared.fault.StoreFault.{StoreFault}
 use Rattle.share_model.specs.declared.fault.StoreFault.TheVariants.{Device}
 use Rattle.share_model.specs.declared.visit.ExpireAnswer.{ExpireAnswer}
@@ -26,10 +28,11 @@ use Rattle.share_part.specs.Once.{ExpiresOnce, IsNothingDue}
 use Rattle.share_part.specs.Releasing.{ReleasesOnce, due_groups, has_due}
 use Rattle.share_part.specs.Settling.{held_after, is_chosen, releasing}
 use Rattle.share_part.specs.Shards.{Carries, PartParts, PartShardState, held_in, raised_to}
+use Rattle.share_part.specs.Writes.{WritesActs, WritesGroups}
 use Rattle.share_part.specs.declared.release.Released.{Released}
 use Rattle.share_part.specs.declared.release.Released.TheVariants.{Done as released, Store as unreleased}
 use Rattle.share_part.specs.declared.settle.Whose.TheVariants.{Due}
-use Rattle.share_part.proofs.Expiries.{NextIn, StepsTo, all_done, all_pass, apart_from, in_back, in_front, max_again, next_in, none_due_of, none_in, one_fails, one_more, order_behind, some_due_of, stores_as}
+use Rattle.share_part.proofs.Expiries.{NextIn, StepsTo, all_done, all_pass, apart_from, in_back, in_front, max_again, next_in, none_due_of, none_in, one_fails, one_more, order_behind, some_due_of, stores_as, wrote_one, wrote_past}
 use Rattle.share_part.proofs.Holding.{AreKept}
 use Rattle.share_part.proofs.Ordered.{IsIn, InOrder, due_is_filter, entries_sorted, found_all, groups_order, none_due}
 use Rattle.lock_index.specs.Windows.{IsRising}
@@ -54,6 +57,12 @@ module _ {D W : Type 0} (seen : D → DiskView) (holding : W → Held) (now : �
   abbrev Runs : D → D → Type 0
   Runs a b = RunsOn seen a b
 
+  abbrev held_then : List ℕ → Held
+  held_then = held_in holding entry.windows
+
+  abbrev Wrote : List (List ℕ) → StoreParts D → StoreParts D → Type 0
+  Wrote done old new = WritesGroups seen entry.conf entry.log.batches clock held_then done old new
+
   -- a shard that was carried has come so far
   pub record Far (s : PartShardState) (current : PartParts D W) (i freed : ℕ) : Type 0 where
     pub shard : PartShardState
@@ -69,6 +78,7 @@ module _ {D W : Type 0} (seen : D → DiskView) (holding : W → Held) (now : �
     pub order : InOrder rest
     pub fresh : (g : List ℕ) → IsIn rest g → shard.held g ≡ held_in holding entry.windows g
     pub to : StepsTo entry.conf (seen (disk entry)).faults (end entry) done 0 (raised_to now s) (seen (disk current)).faults (end current) freed (raised_to now shard)
+    pub wrote : Wrote done entry.states current.states
 
   pub record SoFar (current : PartParts D W) (i freed : ℕ) : Type 0 where
     pub conf : current.conf ≡ entry.conf
@@ -108,6 +118,7 @@ module _ {D W : Type 0} (seen : D → DiskView) (holding : W → Held) (now : �
           order = groups_order entry.conf entry.log.batches entry.states.entries by_key hosted;
           fresh = λ g h. c.held g;
           to = (refl, refl, refl, refl);
+          wrote = refl;
         };
   }
 
@@ -141,6 +152,20 @@ module _ {D W : Type 0} (seen : D → DiskView) (holding : W → Held) (now : �
           ap (λ (n : ℕ). due_count n (f.shard.held g)) f.clock_is
           ∙ ap (due_count clock) (f.fresh g (in_rest g there))
           ∙ none_due_of clock (held_in holding entry.windows g) (next.fail g there))
+
+      wrote_here : Wrote (f.done ++ next.passed) entry.states current.states
+      wrote_here = wrote_past seen entry.conf entry.log.batches clock held_then f.done next.passed entry.states current.states f.wrote
+          (λ g there. none_due_of clock (held_in holding entry.windows g) (next.fail g there))
+
+      abbrev Acts : PartConfParts → List Batch → Held → Option StoreFault → Type 0
+      Acts conf log held fault = WritesActs seen conf log group (ending clock held) held current.states after.states fault
+
+      wrote_next : (fault : Option StoreFault) → Acts current.conf current.log.batches (held_in holding current.windows group) fault
+          → Acts entry.conf entry.log.batches (held_then group) fault
+      wrote_next fault acts =
+          subst (λ (l : Held). Acts entry.conf entry.log.batches l fault) (sym (f.carries.held group) ∙ group_held)
+          (subst (λ (l : LogParts D). Acts entry.conf l.batches (held_in holding current.windows group) fault) h.log
+          (subst (λ (c : PartConfParts). Acts c current.log.batches (held_in holding current.windows group) fault) h.conf acts))
 
       parts_are : groups ≡ (f.done ++ next.passed) ++ (group ∷ next.behind)
       parts_are = f.parted ∙ ap (λ (l : List (List ℕ)). f.done ++ l) next.is ∙ sym (append_assoc f.done next.passed (group ∷ next.behind))
@@ -206,6 +231,8 @@ module _ {D W : Type 0} (seen : D → DiskView) (holding : W → Held) (now : �
                 left = n.left;
                 order = behind.0;
                 fresh = λ g there. held_same s f r.0 r.2.stores g (apart_from group n.behind g behind.1 there) ∙ f.fresh g (behind_rest s f g there);
+                wrote = wrote_one seen entry.conf entry.log.batches clock held_then (f.done ++ n.passed) group entry.states current.states after.states (wrote_here s f)
+                    (wrote_next s f None o.records);
                 to = subst (StepsTo entry.conf (seen (disk entry)).faults (end entry) ((f.done ++ n.passed) ++ group ∷ []) 0 (raised_to now s) (seen (disk after)).faults (end after) (more_freed freed count)) (raised_same s f r.0 r.2.clock_is)
                     (subst (λ (m : ℕ). StepsTo entry.conf (seen (disk entry)).faults (end entry) ((f.done ++ n.passed) ++ group ∷ []) 0 (raised_to now s) (seen (disk after)).faults (end after) (more_freed freed m) r.0)
                     (ap (λ (n : ℕ). due_count n (f.shard.held group)) f.clock_is ∙ sym counted) to);
@@ -256,6 +283,10 @@ module _ {D W : Type 0} (seen : D → DiskView) (holding : W → Held) (now : �
                   },
                 );
             memory = tt;
+            records = λ s c.
+                let f = h.steps s c in
+                let n = next s f in
+                (f.done ++ n.passed, n.behind, parts_are s f, current.states, wrote_here s f, wrote_next s f (Some fault) o.records);
             quiet = λ none. absurd (none freed group fault refl);
             nothing_due = λ nothing. absurd (none_left by_group due_is rising nothing);
             sound = λ m g told bare unarmed. o.sound (ap unreleased (told_device freed m group g fault Device told)) (h.runs.told ∙ bare) (h.runs.unarmed bare unarmed);
@@ -299,6 +330,9 @@ module _ {D W : Type 0} (seen : D → DiskView) (holding : W → Held) (now : �
                   },
                 )))
                 (cases_lt i 1);
+            records = λ s c.
+                let f = h.steps s c in
+                (f.done, f.rest, f.parted, subst (λ (p : PartParts D W). Wrote f.done entry.states p.states) (sym o.memory) f.wrote);
             quiet = tt;
             nothing_due = λ nothing. absurd (none_left by_group due_is rising nothing);
             sound = tt;
@@ -353,6 +387,11 @@ module _ {D W : Type 0} (seen : D → DiskView) (holding : W → Held) (now : �
             },
           );
       memory = tt;
+      records = λ s c.
+          let f = h.steps s c in
+          subst (λ (l : List (List ℕ)). Wrote l entry.states current.states) (sym f.parted)
+          (wrote_past seen entry.conf entry.log.batches clock held_then f.done f.rest entry.states current.states f.wrote
+          (λ g there. none_due_of clock (held_in holding entry.windows g) (none_in IsDue f.rest (f.left ∙ drop_none due i past) g there)));
       quiet = λ none. h.quiet;
       nothing_due = λ nothing.
           let none : due ≡ [] = due_is ∙ none_due holding clock entry.windows entry.windows (found_all holding clock entry.windows by_group) rising nothing in
@@ -370,4 +409,4 @@ module _ {D W : Type 0} (seen : D → DiskView) (holding : W → Held) (now : �
   -- no memory is found for the list of the groups
   pub none_begins : (answer : Result ExpireAnswer want) → IsErr answer → (IsNothingDue holding entry.windows clock → ⊥) → ExpiresOnce seen holding now entry entry answer
   none_begins (Ok answer) none some = absurd (let clash : ⊥ = cc in clash)
-  none_begins (Err e) none some = record { steps = tt; memory = inl refl; quiet = tt; nothing_due = λ nothing. absurd (some nothing); sound = tt; ends = λ s c. omega arith; log = refl; idle = refl; conf = refl }
+  none_begins (Err e) none some = record { steps = tt; memory = inl refl; records = λ s c. ([], groups, refl, refl); quiet = tt; nothing_due = λ nothing. absurd (some nothing); sound = tt; ends = λ s c. omega arith; log = refl; idle = refl; conf = refl }

@@ -7,7 +7,10 @@ use Rattle.std.specs.BTreeMap.{is_at}
 use Rattle.std.specs.Ordering.{is_eq}
 use Rattle.std.specs.declared.cmp.Ordering.TheVariants.{Less}
 use Rattle.std.proofs.lemmas.Bool.Decides.{nat_tests}
+use Rattle.edge_io.specs.Views.{DiskView}
+use Rattle.share_coord.specs.Parts.{StoreParts}
 use Rattle.share_model.specs.Held.{Held}
+use Rattle.share_model.specs.Logs.{Batch}
 use Rattle.share_model.specs.declared.fault.StoreFault.{StoreFault}
 use Rattle.share_model.specs.declared.fault.StoreFault.TheVariants.{Device, Full}
 use Rattle.share_model.specs.declared.visit.ExpireAnswer.TheVariants.{Done, Store}
@@ -17,6 +20,7 @@ use Rattle.share_part.specs.Hosting.{PartConfParts}
 use Rattle.share_part.specs.Releasing.{has_due}
 use Rattle.share_part.specs.Settling.{Acts, is_chosen}
 use Rattle.share_part.specs.Shards.{IsStill, PartShardState, raised_to}
+use Rattle.share_part.specs.Writes.{WritesActs, WritesGroups}
 use Rattle.share_part.specs.declared.settle.Whose.TheVariants.{Due}
 use Rattle.share_part.proofs.Letting.{counted_none, none_named}
 use Rattle.share_part.proofs.Ordered.{IsIn, InOrder, id_cmp}
@@ -213,3 +217,27 @@ some_due_of clock held some = by_count (due_count clock held) some
     by_count : (n : ℕ) → not (nat_eq n 0) ≡ true → 0 < n
     by_count zero e = absurd (let clash : ⊥ = cc in clash)
     by_count (suc n) e = omega arith
+
+-- ---- which records are stored
+
+module _ {D : Type 0} (seen : D → DiskView) (conf : PartConfParts) (log : List Batch) (clock : ℕ) (held : List ℕ → Held) where
+  abbrev Wrote : List (List ℕ) → StoreParts D → StoreParts D → Type 0
+  Wrote groups old new = WritesGroups seen conf log clock held groups old new
+
+  abbrev Acted : List ℕ → StoreParts D → StoreParts D → Type 0
+  Acted group old new = WritesActs seen conf log group (ending clock (held group)) (held group) old new None
+
+  -- groups of which nothing is due store nothing
+  pub wrote_past : (groups passed : List (List ℕ)) (old new : StoreParts D) → Wrote groups old new → ((g : List ℕ) → IsIn passed g → due_count clock (held g) ≡ 0)
+      → Wrote (groups ++ passed) old new
+  wrote_past [] [] old new h none = h
+  wrote_past [] (g ∷ passed) old new h none = (
+    old,
+    inl (none_named (is_chosen (Due clock)) (held g) (counted_none (is_chosen (Due clock)) (held g) (none g (inl refl))), refl),
+    wrote_past [] passed old new h (λ other there. none other (inr there)),
+  )
+  wrote_past (group ∷ groups) passed old new h none = (h.0, h.1, wrote_past groups passed h.0 new h.2 none)
+
+  pub wrote_one : (groups : List (List ℕ)) (group : List ℕ) (old mid new : StoreParts D) → Wrote groups old mid → Acted group mid new → Wrote (groups ++ group ∷ []) old new
+  wrote_one [] group old mid new h acted = (new, subst (λ (s : StoreParts D). Acted group s new) h acted, refl)
+  wrote_one (first ∷ groups) group old mid new h acted = (h.0, h.1, wrote_one groups group h.0 mid new h.2 acted)

@@ -23,12 +23,13 @@ use Rattle.share_part.specs.Once.{FollowsOnce}
 use Rattle.share_part.specs.Releasing.{Counts, ReleasesOnce, fault_in, told_in}
 use Rattle.share_part.specs.Settling.{Acts, is_chosen, releasing}
 use Rattle.share_part.specs.Shards.{PartParts, PartShardState, Carries, IsUntouched, held_in}
+use Rattle.share_part.specs.Writes.{WritesActs, WritesThen}
 use Rattle.share_part.specs.declared.release.Released.{Released}
 use Rattle.share_part.specs.declared.release.Released.TheVariants.{Done, Store}
 use Rattle.share_part.specs.declared.settle.Whose.{Whose}
 use Rattle.share_part.specs.declared.settle.Whose.TheVariants.{Member}
 use Rattle.share_part.proofs.Holding.{AreKept}
-use Rattle.share_part.proofs.Storage.{Stores, stands_stored, stored_device, stored_later, stored_none, stored_quiet, stored_steps}
+use Rattle.share_part.proofs.Storage.{Stores, stands_stored, stored_device, stored_later, stored_none, stored_quiet, stored_steps, stored_writes}
 use Rattle.edge_io.specs.Views.{DiskView}
 
 is_store : (r : Released) (fault : StoreFault) → fault_in r ≡ Some fault → r ≡ Store fault
@@ -87,6 +88,7 @@ module _ {D W : Type 0} (seen : D → DiskView) (holding : W → Held) (group : 
           unwritten = stored_none seen holding group acts old states windows clock sound few hosted kept (told_in (Ok r)) h;
           named = tt;
           memory = tt;
+          records = stored_writes seen holding group acts old states windows old.clock sound few hosted kept (fault_in r) h;
           quiet = quiet_by r h;
           sound = λ fault. stored_device seen holding group acts old states windows clock sound few hosted kept (fault_in r) h (ap fault_in fault);
           ends = λ s c. stored_later seen holding group acts old states windows clock sound few hosted kept (told_in (Ok r)) h
@@ -106,6 +108,7 @@ module _ {D W : Type 0} (seen : D → DiskView) (holding : W → Held) (group : 
           unwritten = λ none. h.0;
           named = named;
           memory = λ i. record { conf = old.conf; log = old.log; states = h.0 i; windows = same i; clock = old.clock };
+          records = tt;
           quiet = tt;
           sound = tt;
           ends = λ s c. stored_later seen holding group acts old states windows old.clock sound few hosted kept (told_in (Err f)) h
@@ -124,6 +127,9 @@ module _ {D W : Type 0} (seen : D → DiskView) (holding : W → Held)
 
   abbrev Once : Result Released want → Type 0
   Once result = ReleasesOnce seen holding clock visit.group (Member visit.member) old new result
+
+  abbrev was_held : Held
+  was_held = held_in holding old.windows visit.group
 
   told_as : (s t : PartShardState) (answer : VisitAnswer) (outcome : ThenOutcome) (r : Released) → IsEmptyAnswer outcome answer → fault_of outcome ≡ fault_in r
       → StoresActs old.conf Rising old.states.journal.live.end s visit.group (releases_of visit.member (s.held visit.group)) t (fault_in r)
@@ -159,6 +165,9 @@ module _ {D W : Type 0} (seen : D → DiskView) (holding : W → Held)
             );
         follows = tt;
         memory = tt;
+        records = subst (WritesThen seen old.conf old.log.batches visit was_held old.states new.states answer.then) (sym is)
+            (subst (WritesActs seen old.conf old.log.batches visit.group (releases_of visit.member was_held) was_held old.states new.states)
+            (sym (ap fault_of empty.outcome_is ∙ same)) o.records);
         quiet = λ none. o.quiet (λ fault is. none fault (empty.outcome_is ∙ is_told outcome fault (same ∙ ap fault_in is)));
         sound = λ fault. o.sound (is_store r Device (sym same ∙ (ap fault_of (sym empty.outcome_is) ∙ ap fault_of fault)));
         unwritten = λ s c. none_let_go s c o.unwritten;
@@ -182,4 +191,4 @@ module _ {D W : Type 0} (seen : D → DiskView) (holding : W → Held)
   kept_back result e none once (Ok answer) failed = absurd (let clash : ⊥ = cc in clash)
   kept_back result e none once (Err f) failed =
       let o = subst Once none once in
-      record { steps = tt; follows = subst (TakesMemory visit.member (held_in holding old.windows visit.group)) (sym is) o.named; memory = unchanged o.memory; quiet = tt; sound = tt; unwritten = λ s c. none_let_go s c o.unwritten; ends = o.ends; log = o.log; idle = o.idle; conf = o.conf }
+      record { steps = tt; follows = subst (TakesMemory visit.member (held_in holding old.windows visit.group)) (sym is) o.named; memory = unchanged o.memory; records = tt; quiet = tt; sound = tt; unwritten = λ s c. none_let_go s c o.unwritten; ends = o.ends; log = o.log; idle = o.idle; conf = o.conf }

@@ -1,5 +1,5 @@
 -- The table that a group has, or would get.
-use Rattle.std.proofs.Common.{◌≡◌, ◌∙◌, sym, ap, subst, ℕ, pos, List, [], Option, Some, None}
+use Rattle.std.proofs.Common.{◌≡◌, ◌∙◌, sym, ap, subst, ℕ, ℤ, pos, List, [], Option, Some, None}
 use Rattle.std.specs.Prelude.{IsSome, Result, Ok, unwrap_or}
 use Rattle.std.specs.BTreeMap.{is_at}
 use Rattle.std.specs.Cmp.Lexicographic.{slice_cmp}
@@ -20,12 +20,15 @@ use Rattle.share_model.specs.declared.run.Run.{Run}
 use Rattle.share_model.specs.declared.visit.ThenOutcome.{ThenOutcome}
 use Rattle.share_model.specs.declared.visit.ThenOutcome.TheVariants.{Done}
 use Rattle.share_coord.specs.Calls.{IsInitialised}
+use Rattle.share_coord.specs.Holding.{WritesOnce}
 use Rattle.share_coord.specs.Parts.{StoreParts}
+use Rattle.share_coord.specs.Recorded.{StoresOne, init_record}
 use Rattle.share_coord.specs.Stored.{Entries, kept_at}
+use Rattle.share_coord.specs.declared.fault.CoordFault.{CoordFault}
 use Rattle.share_part.specs.Collecting.{LieAtSlots}
 use Rattle.share_part.specs.Hosting.{PartConfParts, AreHeldWell, AreHosted, HoldsWell, key_of}
 use Rattle.share_coord.specs.States.{states_of}
-use Rattle.share_part.specs.Making.{MakesOnce, MakesTableOnce, state_for}
+use Rattle.share_part.specs.Making.{IsTableRecord, MakesOnce, MakesTableOnce, Tells, state_for}
 use Rattle.share_part.specs.Shards.{first_start, held_in, held_of, new_state}
 use Rattle.share_part.specs.Tables.{MayGoOut, Table, table_of}
 use Rattle.share_part.proofs.Seeing.{goes_out, state_seen, view_of}
@@ -89,10 +92,23 @@ pub made_table : {D : Type 0} (seen : D → DiskView) (Failed : D → D → Type
     (conf : PartConfParts) (group : List ℕ) (end : ℕ) (old new : StoreParts D) (result : Result ThenOutcome want) (key : KeyParts) (start : ℕ)
     → key ≡ key_of conf group → start ≡ first_start conf.reset end
     → (IsSome (kept_at old.entries key) → (new ≡ old) × (result ≡ Ok Done))
-    → (kept_at old.entries key ≡ None → MakesOnce seen Failed (IsInitialised old.entries key (pos 0) (pos start)) old new result)
+    → (kept_at old.entries key ≡ None → MakesOnce seen Failed (IsInitialised old.entries key (pos 0) (pos start)) (IsTableRecord old.entries key start) old new result)
     → MakesTableOnce seen Failed conf group end old new result
 made_table seen Failed conf group end old new result key start is at there absent = record {
   there = subst (λ (k : KeyParts). IsSome (kept_at old.entries k) → (new ≡ old) × (result ≡ Ok Done)) is there;
-  absent = subst (λ (k : KeyParts). kept_at old.entries k ≡ None → MakesOnce seen Failed (IsInitialised old.entries k (pos 0) (pos (first_start conf.reset end))) old new result) is
-      (subst (λ (s : ℕ). kept_at old.entries key ≡ None → MakesOnce seen Failed (IsInitialised old.entries key (pos 0) (pos s)) old new result) at absent);
+  absent = subst (λ (k : KeyParts). kept_at old.entries k ≡ None
+      → MakesOnce seen Failed (IsInitialised old.entries k (pos 0) (pos (first_start conf.reset end))) (IsTableRecord old.entries k (first_start conf.reset end)) old new result) is
+      (subst (λ (s : ℕ). kept_at old.entries key ≡ None → MakesOnce seen Failed (IsInitialised old.entries key (pos 0) (pos s)) (IsTableRecord old.entries key s) old new result) at absent);
+}
+
+-- a table whose write was answered, by the start as it was given
+pub made_of : {D : Type 0} (seen : D → DiskView) (Failed : D → D → Type 0) (old new : StoreParts D) (key : KeyParts) (z : ℤ) (done : Result (Unit {0}) CoordFault)
+    (start : ℕ) → z ≡ pos start → (result : Result ThenOutcome want) → Tells done result → WritesOnce seen Failed (IsInitialised old.entries key (pos 0) z) old new done
+    → StoresOne seen (λ one. one ≡ init_record old.entries key (pos 0) z) old.journal new.journal done
+    → MakesOnce seen Failed (IsInitialised old.entries key (pos 0) (pos start)) (IsTableRecord old.entries key start) old new result
+made_of seen Failed old new key z done start is result tells once one = record {
+  done = done;
+  tells = tells;
+  once = subst (λ (n : ℤ). WritesOnce seen Failed (IsInitialised old.entries key (pos 0) n) old new done) is once;
+  one = subst (λ (n : ℤ). StoresOne seen (λ one. one ≡ init_record old.entries key (pos 0) n) old.journal new.journal done) is one;
 }

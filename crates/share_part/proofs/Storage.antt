@@ -30,6 +30,7 @@ use Rattle.share_part.specs.Settling.{Acts, IsSettled, held_after}
 use Rattle.share_part.specs.Shards.{PartShardState, PartParts, Carries, IsPendingHosted, held_in, with_held}
 use Rattle.share_part.specs.Storing.{IsActsStored, IsStored, StoresGroup}
 use Rattle.share_part.specs.Tables.{table_of}
+use Rattle.share_part.specs.Writes.{WritesActs}
 use Rattle.share_part.proofs.Holding.{AreKept, kept_settled, same_kept, set_kept}
 use Rattle.share_part.proofs.Seeing.{hosted_more}
 use Rattle.share_part.proofs.Staying.{settled_hosted}
@@ -258,3 +259,9 @@ module _ {D W : Type 0} (seen : D → DiskView) (holding : W → Held) (group : 
   pub stored_quiet : Stores (Ok None) → IsQuiet seen old.states.journal.live.disk states.journal.live.disk
   stored_quiet (inl n) = quiet_same n.1
   stored_quiet (inr h) = h.1.once.quiet
+
+  -- which record is stored
+  pub stored_writes : (fault : Option StoreFault) → Stores (Ok fault) → WritesActs seen old.conf old.log.batches group acts was old.states states fault
+  stored_writes None (inl n) = inl (n.0, n.1)
+  stored_writes None (inr h) = inr (h.0, h.1)
+  stored_writes (Some fault) h = (h.0, h.1)

@@ -37,12 +37,13 @@ use Rattle.share_part.specs.Hosting.{PartConfParts, AreHosted, HoldsWell, KeepsH
 use Rattle.share_coord.specs.States.{states_of}
 use Rattle.share_part.specs.declared.plan.Plan.{Plan}
 use Rattle.share_part.specs.Collecting.{IsPlanOf}
-use Rattle.share_part.specs.Making.{MakesOnce, MakesTableOnce, Tells, numbered_bytes, state_for}
+use Rattle.share_part.specs.Making.{IsTableRecord, MakesOnce, MakesTableOnce, Tells, numbered_bytes, state_for}
 use Rattle.share_part.specs.Once.{Followed, FollowsOnce}
 use Rattle.share_part.specs.Following.{Acquires, Does, Fetches, HasNothingToWrite, IsEmptyAnswer, MakesTable, StepsThen, TakesMemory}
 use Rattle.share_part.specs.Shards.{PartShardState, PartParts, Carries, IsStill, IsPendingHosted, IsUntouched, held_in, with_held, new_state, first_start}
 use Rattle.share_part.specs.Tables.{table_of, with_holds}
 use Rattle.share_part.specs.Walks.{acquired, AreRunsOf, bytes_in, written_out}
+use Rattle.share_part.specs.Writes.{WritesThen}
 use Rattle.share_part.proofs.Appending.{numbered_is}
 use Rattle.share_part.proofs.Holding.{AreKept, kept_taken, none_kept, one_kept, same_kept, table_kept}
 use Rattle.share_part.proofs.Mapping.{keys_exact, keys_total, set_found}
@@ -183,12 +184,16 @@ module _ {D W : Type 0} (seen : D → DiskView) (holding : W → Held) (now : �
   quiet_same : new.states ≡ old.states → Quiet
   quiet_same same = λ told. ap (λ (s : StoreParts D). (seen s.journal.live.disk).faults) same
 
-  answered : (answer : VisitAnswer) → Writes → (((fault : StoreFault) → answer.then ≢ store_outcome fault) → Quiet)
+  abbrev Records : VisitAnswer → Type 0
+  Records answer = WritesThen seen old.conf old.log.batches visit (held_in holding old.windows visit.group) old.states new.states answer.then visit.then
+
+  answered : (answer : VisitAnswer) → Writes → Records answer → (((fault : StoreFault) → answer.then ≢ store_outcome fault) → Quiet)
       → Followed seen holding now visit old new answer → (answer.then ≡ store_outcome Device → Starves) → Once (Ok answer)
-  answered answer writes quiet visited sound = record {
+  answered answer writes records quiet visited sound = record {
     steps = visited;
     follows = tt;
     memory = tt;
+    records = records;
     quiet = quiet;
     sound = sound;
     unwritten = writes.unwritten;
@@ -205,6 +210,7 @@ module _ {D W : Type 0} (seen : D → DiskView) (holding : W → Held) (now : �
     steps = tt;
     follows = subst (TakesMemory visit.member (held_in holding old.windows visit.group)) (sym fetch) tt;
     memory = record { conf = conf; log = log; states = states; clock = clock; held = held };
+    records = tt;
     quiet = tt;
     sound = tt;
     unwritten = λ s c nothing. states;
@@ -222,7 +228,9 @@ module _ {D W : Type 0} (seen : D → DiskView) (holding : W → Held) (now : �
   -- nothing is fetched
   pub idly : (answer : VisitAnswer) → answer.ack ≡ acknowledged → IsEmptyAnswer Done answer → visit.then ≡ Nothing
       → new.states ≡ old.states → new.windows ≡ old.windows → new.clock ≡ max old.clock now → Once (Ok answer)
-  idly answer ack empty what states windows clock = answered answer (writes_none states) (λ none. quiet_same states)
+  idly answer ack empty what states windows clock = answered answer (writes_none states)
+      (subst (WritesThen seen old.conf old.log.batches visit (held_in holding old.windows visit.group) old.states new.states answer.then) (sym what) states)
+      (λ none. quiet_same states)
       (carried seen holding old (Leads answer) (λ batch pending k.
       let t : PartShardState = record {
         log = record { batches = old.log.batches; pending = batch };
@@ -283,9 +291,19 @@ module _ {D W : Type 0} (seen : D → DiskView) (holding : W → Held) (now : �
     acquires batch pending states now_pending answer state took =
         record { outcome_is = took.outcome_is; grants = took.grants; batches = took.batches; held = refl }
 
+    -- what the store has answered, and was stored of the table
+    abbrev Kept_by : ThenOutcome → Type 0
+    Kept_by outcome = MakesTableOnce seen (HasFailed seen) old.conf visit.group (end_of old.log.batches) old.states new.states (Ok outcome)
+
+    records_of : (answer : VisitAnswer) (outcome : ThenOutcome) → answer.then ≡ outcome → Kept_by outcome → Records answer
+    records_of answer outcome is kept =
+        subst (WritesThen seen old.conf old.log.batches visit (held_in holding old.windows visit.group) old.states new.states answer.then) (sym is_fetch)
+        (subst Kept_by (sym is) kept)
+
     -- the table was there
-    pub acquired_there : (answer : VisitAnswer) (kept : Kept) → kept_at old.states.entries key ≡ Some kept → new.states ≡ old.states → Took answer kept.view → Once (Ok answer)
-    acquired_there answer kept is states took = answered answer (writes_none states) (λ none. quiet_same states)
+    pub acquired_there : (answer : VisitAnswer) (kept : Kept) → kept_at old.states.entries key ≡ Some kept → new.states ≡ old.states → Kept_by Done
+        → Took answer kept.view → Once (Ok answer)
+    acquired_there answer kept is states by took = answered answer (writes_none states) (records_of answer Done took.outcome_is by) (λ none. quiet_same states)
         (carried seen holding old (Leads answer) (λ batch pending k. (
           shard_then batch (states_of old.states.entries) (option_map states_of pending) kept.view,
           carries_with seen holding old new batch pending pending (held_then kept.view) k conf log (ap (λ (s : StoreParts D). s.entries) states)
@@ -330,8 +348,9 @@ module _ {D W : Type 0} (seen : D → DiskView) (holding : W → Held) (now : �
     }
 
     -- the table was made
-    pub acquired_first : (answer : VisitAnswer) (done : Unit {0}) → kept_at old.states.entries key ≡ None → Wrote (Ok done) → Took answer made → Once (Ok answer)
-    acquired_first answer done none once took = answered answer (writes_one none (Ok done) once) (λ told. once.quiet)
+    pub acquired_first : (answer : VisitAnswer) (done : Unit {0}) → kept_at old.states.entries key ≡ None → Wrote (Ok done) → Kept_by Done → Took answer made
+        → Once (Ok answer)
+    acquired_first answer done none once by took = answered answer (writes_one none (Ok done) once) (records_of answer Done took.outcome_is by) (λ told. once.quiet)
         (carried seen holding old (Leads answer) (λ batch pending k. (
           shard_then batch (states_of new.states.entries) None made,
           record {
@@ -392,10 +411,11 @@ module _ {D W : Type 0} (seen : D → DiskView) (holding : W → Held) (now : �
       },
     )
 
-    pub unstored : (answer : VisitAnswer) (fault : StoreFault) → kept_at old.states.entries key ≡ None → Wrote (Err (Store fault)) → Refused answer fault → Once (Ok answer)
-    unstored answer Device none once refused =
+    pub unstored : (answer : VisitAnswer) (fault : StoreFault) → kept_at old.states.entries key ≡ None → Wrote (Err (Store fault)) → Kept_by (store_outcome fault)
+        → Refused answer fault → Once (Ok answer)
+    unstored answer Device none once by refused =
         let failed = once.device refl in
-        answered answer (writes_one none (Err (Store Device)) once) (λ told. absurd (told Device refused.empty.outcome_is))
+        answered answer (writes_one none (Err (Store Device)) once) (records_of answer (store_outcome Device) refused.empty.outcome_is by) (λ told. absurd (told Device refused.empty.outcome_is))
         (carried seen holding old (Leads answer) (λ batch pending k.
         ⊎_elim
         (λ holds. unmade answer Device batch pending pending k refused once.same holds k.pending_hosted none
@@ -404,9 +424,9 @@ module _ {D W : Type 0} (seen : D → DiskView) (holding : W → Held) (now : �
         (failed.0.0, refused.empty, record { states = refl; pending = inr (states_of lost.0, refl, made_states lost.0 lost.1); held = refl }))
         (once.failed pending k.holds)))
         (λ is. failed.0.1)
-    unstored answer (Full at) none once refused =
+    unstored answer (Full at) none once by refused =
         let full = once.full at refl in
-        answered answer (writes_one none (Err (Store (Full at))) once) (λ told. absurd (told (Full at) refused.empty.outcome_is))
+        answered answer (writes_one none (Err (Store (Full at))) once) (records_of answer (store_outcome (Full at)) refused.empty.outcome_is by) (λ told. absurd (told (Full at) refused.empty.outcome_is))
         (carried seen holding old (Leads answer) (λ batch pending k.
         unmade answer (Full at) batch pending pending k refused once.same (held_still seen old.states new.states (once.unchanged (λ e. let never : ⊥ = cc in never)) pending k.holds) k.pending_hosted none (
           full.0,
@@ -433,10 +453,13 @@ module _ {D W : Type 0} (seen : D → DiskView) (holding : W → Held) (now : �
     abbrev Made : ℕ → Result ThenOutcome want → Type 0
     Made end result = MakesTableOnce seen Failed old.conf visit.group end old.states new.states result
 
+    kept_by : (result : Result ThenOutcome want) (outcome : ThenOutcome) → result ≡ Ok outcome → (end : ℕ) → end ≡ end_of old.log.batches → Made end result → Kept_by outcome
+    kept_by result outcome is end at made = subst (λ (r : Result ThenOutcome want). Made (end_of old.log.batches) r) is (subst (λ (e : ℕ). Made e result) at made)
+
     -- what the store has answered
     abbrev Told : Option Kept → Result ThenOutcome want → Type 0
     Told (Some kept) result = (new.states ≡ old.states) × (result ≡ Ok Done)
-    Told None result = MakesOnce seen Failed Written old.states new.states result
+    Told None result = MakesOnce seen Failed Written (IsTableRecord old.states.entries key (first_start old.conf.reset (end_of old.log.batches))) old.states new.states result
 
     told : (result : Result ThenOutcome want) (end : ℕ) → end ≡ end_of old.log.batches → Made end result → (o : Option Kept) → kept_at old.states.entries key ≡ o → Told o result
     told result end at made None is = (subst (λ (n : ℕ). Made n result) at made).absent is
@@ -488,23 +511,24 @@ module _ {D W : Type 0} (seen : D → DiskView) (holding : W → Held) (now : �
     store_done (Err (Store its)) fault tells once = let same : its ≡ fault = cc in subst (λ (f : StoreFault). Wrote (Err (Store f))) same once
     store_done (Err NoMemory) fault tells once = absurd (let clash : ⊥ = cc in clash)
 
-    refused_told : (answer : VisitAnswer) (fault : StoreFault) (o : Option Kept) → kept_at old.states.entries key ≡ o → Told o (Ok (store_outcome fault)) → Refused answer fault → Once (Ok answer)
-    refused_told answer fault None is told refused = unstored answer fault is (store_done told.done fault told.tells told.once) refused
-    refused_told answer fault (Some kept) is told refused = absurd (let e = told.1 in let clash : ⊥ = cc in clash)
+    refused_told : (answer : VisitAnswer) (fault : StoreFault) (o : Option Kept) → kept_at old.states.entries key ≡ o → Told o (Ok (store_outcome fault))
+        → Kept_by (store_outcome fault) → Refused answer fault → Once (Ok answer)
+    refused_told answer fault None is told by refused = unstored answer fault is (store_done told.done fault told.tells told.once) by refused
+    refused_told answer fault (Some kept) is told by refused = absurd (let e = told.1 in let clash : ⊥ = cc in clash)
 
     refused_by : (answer : VisitAnswer) (outcome : ThenOutcome) → outcome ≢ Done → answer.ack ≡ acknowledged → IsEmptyAnswer outcome answer
         → ((group : List ℕ) → held_in holding new.windows group ≡ held_in holding old.windows group) → new.clock ≡ max old.clock now
-        → Told (kept_at old.states.entries key) (Ok outcome) → Once (Ok answer)
-    refused_by answer Done not ack empty held clock t = absurd (not refl)
-    refused_by answer (store_outcome fault) not ack empty held clock t =
-        refused_told answer fault (kept_at old.states.entries key) refl t (record { ack = ack; empty = empty; held = held; clock = clock })
+        → Told (kept_at old.states.entries key) (Ok outcome) → Kept_by outcome → Once (Ok answer)
+    refused_by answer Done not ack empty held clock t by = absurd (not refl)
+    refused_by answer (store_outcome fault) not ack empty held clock t by =
+        refused_told answer fault (kept_at old.states.entries key) refl t by (record { ack = ack; empty = empty; held = held; clock = clock })
 
     pub refused : (answer : VisitAnswer) (outcome : ThenOutcome) → outcome ≢ Done → answer.ack ≡ acknowledged → IsEmptyAnswer outcome answer
         → ((group : List ℕ) → held_in holding new.windows group ≡ held_in holding old.windows group) → new.clock ≡ max old.clock now
         → (result : Result ThenOutcome want) → result ≡ Ok outcome → (end : ℕ) → end ≡ end_of old.log.batches → Made end result → Once (Ok answer)
     refused answer outcome not ack empty held clock result is end at made =
         refused_by answer outcome not ack empty held clock
-        (subst (Told (kept_at old.states.entries key)) is (told result end at made (kept_at old.states.entries key) refl))
+        (subst (Told (kept_at old.states.entries key)) is (told result end at made (kept_at old.states.entries key) refl)) (kept_by result outcome is end at made)
 
     -- it is there, or was made
     abbrev its_state : ShareState
@@ -513,23 +537,25 @@ module _ {D W : Type 0} (seen : D → DiskView) (holding : W → Held) (now : �
     state_is : (o : Option Kept) → kept_at old.states.entries key ≡ o → its_state ≡ unwrap_or (option_map view_of o) made
     state_is o is = ap (λ (s : Option ShareState). unwrap_or s made) (state_seen old.states.entries key ∙ ap (option_map view_of) is)
 
-    done_so : (done : Result (Unit {0}) CoordFault) (answer : VisitAnswer) → Tells done (Ok Done) → Wrote done → kept_at old.states.entries key ≡ None → Took answer made → Once (Ok answer)
-    done_so (Ok u) answer tells once is took = acquired_first answer u is once took
-    done_so (Err Invalid) answer tells once is took = absurd tells
-    done_so (Err Unknown) answer tells once is took = absurd tells
-    done_so (Err (FencedLeader n)) answer tells once is took = absurd tells
-    done_so (Err (FencedState n)) answer tells once is took = absurd tells
-    done_so (Err (TooMany n)) answer tells once is took = absurd tells
-    done_so (Err (Store fault)) answer tells once is took = absurd (let clash : ⊥ = cc in clash)
-    done_so (Err NoMemory) answer tells once is took = absurd (let clash : ⊥ = cc in clash)
+    done_so : (done : Result (Unit {0}) CoordFault) (answer : VisitAnswer) → Tells done (Ok Done) → Wrote done → kept_at old.states.entries key ≡ None → Kept_by Done
+        → Took answer made → Once (Ok answer)
+    done_so (Ok u) answer tells once is by took = acquired_first answer u is once by took
+    done_so (Err Invalid) answer tells once is by took = absurd tells
+    done_so (Err Unknown) answer tells once is by took = absurd tells
+    done_so (Err (FencedLeader n)) answer tells once is by took = absurd tells
+    done_so (Err (FencedState n)) answer tells once is by took = absurd tells
+    done_so (Err (TooMany n)) answer tells once is by took = absurd tells
+    done_so (Err (Store fault)) answer tells once is by took = absurd (let clash : ⊥ = cc in clash)
+    done_so (Err NoMemory) answer tells once is by took = absurd (let clash : ⊥ = cc in clash)
 
-    done_told : (answer : VisitAnswer) (o : Option Kept) → kept_at old.states.entries key ≡ o → Told o (Ok Done) → Took answer its_state → Once (Ok answer)
-    done_told answer None is told took = done_so told.done answer told.tells told.once is (subst (Took answer) (state_is None is) took)
-    done_told answer (Some kept) is told took = acquired_there answer kept is told.0 (subst (Took answer) (state_is (Some kept) is) took)
+    done_told : (answer : VisitAnswer) (o : Option Kept) → kept_at old.states.entries key ≡ o → Told o (Ok Done) → Kept_by Done → Took answer its_state → Once (Ok answer)
+    done_told answer None is told by took = done_so told.done answer told.tells told.once is by (subst (Took answer) (state_is None is) took)
+    done_told answer (Some kept) is told by took = acquired_there answer kept is told.0 by (subst (Took answer) (state_is (Some kept) is) took)
 
     pub fetched : (answer : VisitAnswer) → Took answer its_state → (result : Result ThenOutcome want) → result ≡ Ok Done → (end : ℕ) → end ≡ end_of old.log.batches → Made end result → Once (Ok answer)
     fetched answer took result is end at made =
-        done_told answer (kept_at old.states.entries key) refl (subst (Told (kept_at old.states.entries key)) is (told result end at made (kept_at old.states.entries key) refl)) took
+        done_told answer (kept_at old.states.entries key) refl (subst (Told (kept_at old.states.entries key)) is (told result end at made (kept_at old.states.entries key) refl))
+        (kept_by result Done is end at made) took
 
     -- what is held then
     pub held_by : (w1 w2 : List (List ℕ × W)) → ((group : List ℕ) → held_in holding w1 group ≡ held_in holding old.windows group)

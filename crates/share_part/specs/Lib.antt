@@ -15,6 +15,7 @@ pub mod Releasing
 pub mod Judging
 pub mod Making
 pub mod Storing
+pub mod Writes
 pub mod Once
 pub mod Faults
 pub mod Leaving

@@ -1,15 +1,17 @@
--- The pieces of a fetch. Private clauses cite this alone.
+-- The pieces of a fetch. Of these public clauses cite `MakesTableOnce`, by `Writes`, and the private ones the others.
 -- For example a group without a table gets one with start 0 where new groups begin at 0, and its walk is that of such a table.
 use Rattle.std.specs.Prelude.{◌≡◌, ◌++◌, ℕ, zero, suc, List, [], ◌∷◌, None, Result, Ok, Err, IsErr, IsSome, pos, unwrap_or}
 use Rattle.flex_fields.specs.declared.fault.NoMemory.{NoMemory as want}
 use Rattle.share_model.specs.ForeignRules.{share_state_at}
 use Rattle.share_model.specs.Logs.{Batch, end_of}
+use Rattle.share_model.specs.Keys.{KeyParts}
 use Rattle.share_model.specs.ShareStates.{ShareState}
 use Rattle.share_model.specs.declared.visit.ThenOutcome.{ThenOutcome}
 use Rattle.share_model.specs.declared.visit.ThenOutcome.TheVariants.{Done, Store as store_outcome}
 use Rattle.share_coord.specs.Calls.{IsInitialised}
 use Rattle.share_coord.specs.Holding.{WritesOnce}
 use Rattle.share_coord.specs.Parts.{StoreParts}
+use Rattle.share_coord.specs.Recorded.{StoresOne, init_record}
 use Rattle.share_coord.specs.Stored.{Entries, kept_at}
 use Rattle.share_coord.specs.declared.fault.CoordFault.{CoordFault}
 use Rattle.share_coord.specs.declared.fault.CoordFault.TheVariants.{Invalid, Unknown, FencedLeader, FencedState, TooMany, Store, NoMemory}
@@ -17,6 +19,7 @@ use Rattle.share_part.specs.Hosting.{PartConfParts, key_of}
 use Rattle.share_coord.specs.States.{states_of}
 use Rattle.share_part.specs.Shards.{new_state, first_start}
 use Rattle.edge_io.specs.Views.{DiskView}
+use Rattle.state_records.specs.declared.record.StateRecord.{StateRecord}
 
 -- the state of a group's table, or of the one that it would get
 abbrev pub state_for : PartConfParts → List Batch → Entries → List ℕ → ShareState
@@ -33,19 +36,25 @@ Tells (Err (TooMany runs)) result = ⊥
 Tells (Err (Store fault)) result = result ≡ Ok (store_outcome fault)
 Tells (Err NoMemory) result = IsErr result
 
--- A table that is stored, or isn't.
+-- a new table is stored as a snapshot with its start and no rows
+abbrev pub IsTableRecord : Entries → KeyParts → (start : ℕ) → StateRecord → Type 0
+IsTableRecord old key start one = one ≡ init_record old key (pos 0) (pos start)
+
+-- A table that is stored by one record, or isn't.
 pub record MakesOnce {D : Type 0} (seen : D → DiskView) (Failed : D → D → Type 0)
-    (Written : Entries → Type 0) (old new : StoreParts D) (result : Result ThenOutcome want) : Type 0 where
+    (Written : Entries → Type 0) (Is : StateRecord → Type 0) (old new : StoreParts D) (result : Result ThenOutcome want) : Type 0 where
   pub done : Result (Unit {0}) CoordFault
   pub tells : Tells done result
   pub once : WritesOnce seen Failed Written old new done
+  pub one : StoresOne seen Is old.journal new.journal done
 
 -- The table of a group is there, or is made where the log ends at `end`.
 pub record MakesTableOnce {D : Type 0} (seen : D → DiskView) (Failed : D → D → Type 0)
     (conf : PartConfParts) (group : List ℕ) (end : ℕ) (old new : StoreParts D) (result : Result ThenOutcome want) : Type 0 where
   pub there : IsSome (kept_at old.entries (key_of conf group)) → (new ≡ old) × (result ≡ Ok Done)
   pub absent : kept_at old.entries (key_of conf group) ≡ None →
-      MakesOnce seen Failed (IsInitialised old.entries (key_of conf group) (pos 0) (pos (first_start conf.reset end))) old new result
+      MakesOnce seen Failed (IsInitialised old.entries (key_of conf group) (pos 0) (pos (first_start conf.reset end)))
+      (IsTableRecord old.entries (key_of conf group) (first_start conf.reset end)) old new result
 
 -- the bytes of the batch with this number
 abbrev pub bytes_at : List Batch → ℕ → List ℕ

@@ -1,6 +1,6 @@
 -- What a call on the shard of a partition does, as one record. This project's own.
 -- For example a visit without acknowledgements that finds no memory leaves the shard and its disks as they were.
-use Rattle.std.specs.Prelude.{◌≡◌, ◌≢◌, ◌⊎◌, ◌≤◌, max, ℕ, List, Some, Result, Ok, Err, IfOk, OnErr}
+use Rattle.std.specs.Prelude.{◌≡◌, ◌≢◌, ◌⊎◌, ◌≤◌, max, ℕ, List, Some, Result, Ok, Err, IfOk, MatchResult, OnErr}
 use Rattle.edge_io.specs.Armed.{StarvesUnarmed}
 use Rattle.edge_io.specs.Causes.{Rose}
 use Rattle.edge_io.specs.Moments.{LeavesOnly}
@@ -18,11 +18,13 @@ use Rattle.share_model.specs.declared.visit.ThenOutcome.TheVariants.{Store}
 use Rattle.share_model.specs.declared.visit.Visit.{Visit}
 use Rattle.share_model.specs.declared.visit.VisitAnswer.{VisitAnswer}
 use Rattle.part_log.specs.Shards.{IsLogOf, at_end}
+use Rattle.share_coord.specs.States.{states_of}
 use Rattle.share_part.specs.Acknowledging.{NameNone}
-use Rattle.share_part.specs.Expiring.{ExpiresPart, StepsExpire, ending}
+use Rattle.share_part.specs.Expiring.{ExpiresPart, StepsExpire, ending, groups_of}
 use Rattle.share_part.specs.Following.{HasNothingToWrite, StepsThen, TakesMemory}
 use Rattle.share_part.specs.Shards.{PartShardState, PartParts, Carries, IsUntouched, StepsProduce, held_in}
 use Rattle.share_part.specs.Visits.{AreToWrite, StepsVisit, VisitsPart}
+use Rattle.share_part.specs.Writes.{WritesExpiry, WritesPart, WritesThen, WritesVisit}
 use Rattle.edge_io.specs.Views.{DiskView}
 
 -- no call of the first state disk failed: where it tells its content, its count of faults is as before
@@ -43,6 +45,9 @@ pub record FollowsOnce {D W : Type 0} (seen : D → DiskView) (holding : W → H
   pub steps : IfOk result (Followed seen holding now visit before after)
   pub memory : OnErr result (IsUntouched holding before after)
   pub follows : OnErr result (TakesMemory visit.member (held_in holding before.windows visit.group) visit.then)
+  -- which record is stored
+  pub records : IfOk result (λ answer. WritesThen seen before.conf before.log.batches visit (held_in holding before.windows visit.group)
+      before.states after.states answer.then visit.then)
   -- where the answer tells no store fault, no device call failed
   pub quiet : IfOk result (λ answer. ((fault : StoreFault) → answer.then ≢ Store fault) → AreQuiet seen before after)
   -- with nothing armed, a device fault comes only where the disk finds no memory
@@ -79,6 +84,10 @@ pub record VisitsOnce {D W : Type 0} (seen : D → DiskView) (holding : W → He
   -- where it finds no memory, nothing has changed, or what the acknowledgements left stands, where their write came to the device
   pub memory : OnErr result (IsUntouched holding before after
       ⊎ ((old : PartShardState) → Carries seen holding before old → AcksStand seen holding now visit before after old))
+  -- which records are stored
+  pub records : MatchResult result
+      (WritesVisit seen before.conf before.log.batches visit (held_in holding before.windows visit.group) before.states after.states)
+      (λ e. WritesPart seen before.conf before.log.batches visit (held_in holding before.windows visit.group) before.states after.states)
   -- where the answer tells no store fault, no device call failed
   pub quiet : IfOk result (λ answer. ((fault : StoreFault) → answer.ack ≢ ack_store fault) → ((fault : StoreFault) → answer.then ≢ Store fault) →
       AreQuiet seen before after)
@@ -121,6 +130,9 @@ pub record ExpiresOnce {D W : Type 0} (seen : D → DiskView) (holding : W → H
   -- where it finds no memory, nothing has changed, or what the groups left stands that were done
   pub memory : OnErr result ((after ≡ before)
       ⊎ ((old : PartShardState) → Carries seen holding before old → PartStands seen holding now before after old))
+  -- which records are stored
+  pub records : (old : PartShardState) → Carries seen holding before old → WritesExpiry seen before.conf before.log.batches (max before.clock now)
+      (held_in holding before.windows) (groups_of (states_of before.states.entries)) before.states after.states result
   -- where nothing is due it takes no memory, and raises the clock alone
   pub nothing_due : IsNothingDue holding before.windows (max before.clock now) →
       (result ≡ Ok (Done 0))

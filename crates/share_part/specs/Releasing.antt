@@ -18,6 +18,7 @@ use Rattle.share_part.specs.Hosting.{PartConfParts}
 use Rattle.share_part.specs.Settling.{Acts, IsChange, is_chosen, releasing}
 use Rattle.share_part.specs.Shards.{Carries, PartParts, PartShardState, held_in}
 use Rattle.share_part.specs.Tables.{Table, table_of}
+use Rattle.share_part.specs.Writes.{WritesActs}
 use Rattle.share_part.specs.declared.release.Released.{Released}
 use Rattle.share_part.specs.declared.release.Released.TheVariants.{Done, Store}
 use Rattle.share_part.specs.declared.settle.Change.{Change}
@@ -97,6 +98,10 @@ pub record ReleasesOnce {D W : Type 0} (seen : D → DiskView) (holding : W → 
   -- where it finds no memory, there is something to release, and nothing has changed
   pub named : OnErr result (NameOne (releasing (is_chosen whose) (held_in holding before.windows group)))
   pub memory : OnErr result (after ≡ before)
+  -- which record is stored
+  pub records : IfOk result (λ released. WritesActs seen before.conf before.log.batches group
+      (releasing (is_chosen whose) (held_in holding before.windows group)) (held_in holding before.windows group)
+      before.states after.states (fault_in released))
   -- where no store fault is told, no device call failed
   pub quiet : IfOk result (λ released. ((fault : StoreFault) → released ≢ Store fault) →
       IsQuiet seen before.states.journal.live.disk after.states.journal.live.disk)

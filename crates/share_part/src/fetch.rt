@@ -14,7 +14,7 @@ ghost use Rattle.share_coord.specs.Stored.{kept_at};
 ghost use Rattle.share_part.specs.Collecting.{IsPlanOf};
 ghost use Rattle.share_part.specs.Hosting.{AreHosted, HoldsWell, key_of};
 ghost use Rattle.share_coord.specs.States.{states_of};
-ghost use Rattle.share_part.specs.Making.{MakesOnce, MakesTableOnce, numbered_bytes, state_for};
+ghost use Rattle.share_part.specs.Making.{IsTableRecord, MakesOnce, MakesTableOnce, numbered_bytes, state_for};
 ghost use Rattle.share_part.specs.Shards.{first_start, held_in};
 ghost use Rattle.share_part.specs.Tables.{table_of};
 ghost use Rattle.share_part.specs.Walks.{acquired};
@@ -98,7 +98,8 @@ fn store_state<D: Disk>(
     requires { start ≤ 2 ^ 62 }
     ensures there { IsSome (kept_at states.old.entries key.now) → (states.new ≡ states.old) × (result ≡ Ok ThenOutcome.Done) }
     ensures absent { kept_at states.old.entries key.now ≡ None → MakesOnce D.seen
-        (HasFailed D.seen) (IsInitialised states.old.entries key.now (pos 0) (pos start)) states.old states.new result }
+        (HasFailed D.seen) (IsInitialised states.old.entries key.now (pos 0) (pos start)) (IsTableRecord states.old.entries key.now start)
+        states.old states.new result }
     ensures runs { RunsOn D.seen states.old.journal.live.disk states.new.journal.live.disk }
     ensures idle { states.new.journal.idle ≡ states.old.journal.idle }
 {
