@@ -32,6 +32,7 @@ use Rattle.share_coord.specs.Stored.{Entries}
 use Rattle.share_coord.proofs.Ends.{EndsLater, later_same}
 use Rattle.share_part.specs.Acknowledging.{Acknowledges, AreTheirs, NameNone, NameOne, StoresActs}
 use Rattle.share_part.specs.Following.{Acquires, Does, Fetches, HasNothingToWrite, IsEmptyAnswer, MakesTable, TakesMemory, releases_of}
+use Rattle.share_part.specs.Foreseeing.{IsFetch, with_ack}
 use Rattle.share_part.specs.Hosting.{PartConfParts, AreHosted, key_of}
 use Rattle.share_coord.specs.States.{states_of}
 use Rattle.share_part.specs.Once.{AcksStand, FollowsOnce, VisitsOnce}
@@ -49,9 +50,6 @@ use Rattle.share_part.proofs.Visiting.{carried, shard_of, untouched}
 use Rattle.edge_io.specs.Views.{DiskView}
 
 -- ---- an answer with another outcome of the acknowledgements
-
-abbrev pub with_ack : AckOutcome → VisitAnswer → VisitAnswer
-with_ack ack a = record { ack = ack; then = a.then; grants = a.grants; batches = a.batches }
 
 module _ (conf : PartConfParts) (rose : Type 0) (end : ℕ) (old : PartShardState) (visit : Visit) (ack : AckOutcome) (a : VisitAnswer) (new : PartShardState) where
   empty_as : (o : ThenOutcome) → IsEmptyAnswer o a → IsEmptyAnswer o (with_ack ack a)
@@ -74,7 +72,7 @@ module _ (conf : PartConfParts) (rose : Type 0) (end : ℕ) (old : PartShardStat
   does_as Release h = (empty_as a.then h.0, h.1)
   does_as (Fetch records bytes first) h = fetches_as (record { records = records; bytes = bytes; first = first }) (share_state_at old.states (key_of conf visit.group)) h
 
-ok_same : (a b : AckOutcome) → ◌≡◌ {A = Result AckOutcome want} (Ok a) (Ok b) → a ≡ b
+pub ok_same : (a b : AckOutcome) → ◌≡◌ {A = Result AckOutcome want} (Ok a) (Ok b) → a ≡ b
 ok_same a b e = cc
 
 not_ok : (e : want) (b : AckOutcome) → ◌≡◌ {A = Result AckOutcome want} (Err e) (Ok b) → ⊥
@@ -112,10 +110,19 @@ module _ {D W : Type 0} (seen : D → DiskView) (holding : W → Held) (visit : 
   Settles result = SettlesGroup seen Failed old.conf old.log.batches visit.group visit.member acts was old.states states Same Ends result
 
   abbrev pub Acked : Result AckOutcome want → Type 0
-  Acked result = AcksOnce visit.acks ((states ≡ old.states) × (windows ≡ old.windows)) Settles result
+  Acked result = AcksOnce visit.acks ((states ≡ old.states) × Same) Settles result
 
-  same_of : windows ≡ old.windows → Same
-  same_of is other = ap (λ (w : List (List ℕ × W)). held_in holding w other) is
+  -- the same by what was held at first
+  abbrev SettlesFrom : (List ℕ → Held) → Result AckOutcome want → Type 0
+  SettlesFrom held result = SettlesGroup seen Failed old.conf old.log.batches visit.group visit.member acts (held visit.group) old.states states
+      ((other : List ℕ) → held_in holding windows other ≡ held other)
+      ((other : List ℕ) → held_in holding windows other ≡ with_held held visit.group (held_after acts (held visit.group)) other) result
+
+  abbrev pub AckedFrom : (List ℕ → Held) → Result AckOutcome want → Type 0
+  AckedFrom held result = AcksOnce visit.acks ((states ≡ old.states) × ((other : List ℕ) → held_in holding windows other ≡ held other)) (SettlesFrom held) result
+
+  pub acked_from : (held : List ℕ → Held) → ((other : List ℕ) → held other ≡ held_in holding old.windows other) → (r : Result AckOutcome want) → AckedFrom held r → Acked r
+  acked_from held same r h = subst (λ (f : List ℕ → Held). AckedFrom f r) (λ i group. same group i) h
 
   -- ---- what the shard keeps
 
@@ -142,8 +149,8 @@ module _ {D W : Type 0} (seen : D → DiskView) (holding : W → Held) (visit : 
   stands_settled (Err e) h = stored_stand (Err e) h
 
   pub stands : (r : Result AckOutcome want) → Acked r → Stands
-  stands r (inl m) = same_stand m.3.0 (same_of m.3.1)
-  stands r (inr (inl n)) = same_stand n.3.0 (same_of n.3.1)
+  stands r (inl m) = same_stand m.3.0 m.3.1
+  stands r (inr (inl n)) = same_stand n.3.0 n.3.1
   stands r (inr (inr g)) = stands_settled r g.2
 
   -- ---- the step
@@ -188,9 +195,9 @@ module _ {D W : Type 0} (seen : D → DiskView) (holding : W → Held) (visit : 
 
   pub steps : (ack : AckOutcome) → Acked (Ok ack) → AllSteps ack
   steps ack (inl m) = subst AllSteps (sym (ok_same ack (Malformed m.0) m.1))
-      (unmoved (Malformed m.0) m.3.0 (same_of m.3.1) (λ batch pending. (m.2, record { states = refl; pending = refl; held = refl })))
+      (unmoved (Malformed m.0) m.3.0 m.3.1 (λ batch pending. (m.2, record { states = refl; pending = refl; held = refl })))
   steps ack (inr (inl n)) = subst AllSteps (sym (ok_same ack Done n.2))
-      (unmoved Done n.3.0 (same_of n.3.1) (λ batch pending.
+      (unmoved Done n.3.0 n.3.1 (λ batch pending.
       ((n.0, λ offset some. absurd (none_some (acts offset) (n.1 offset) some)), inl (n.1, record { states = refl; pending = refl; held = refl }))))
   steps ack (inr (inr g)) = settled_steps ack g.0 g.2
 
@@ -312,9 +319,28 @@ module _ {D W : Type 0} (seen : D → DiskView) (holding : W → Held) (visit : 
   holds_settled (Store fault) h = h.1.2 visit.group
 
   pub holds_acked : (ack : AckOutcome) → Acked (Ok ack) → Holds ack
-  holds_acked ack (inl m) = subst Holds (sym (ok_same ack (Malformed m.0) m.1)) (same_of m.3.1 visit.group)
-  holds_acked ack (inr (inl n)) = subst Holds (sym (ok_same ack Done n.2)) (none_end n.1 (same_of n.3.1))
+  holds_acked ack (inl m) = subst Holds (sym (ok_same ack (Malformed m.0) m.1)) (m.3.1 visit.group)
+  holds_acked ack (inr (inl n)) = subst Holds (sym (ok_same ack Done n.2)) (none_end n.1 n.3.1)
   holds_acked ack (inr (inr g)) = holds_settled ack g.2
+
+  -- where they came to the device, the group has a table
+  abbrev HasTable : Type 0
+  HasTable = (state : ShareState) × (share_state_at (states_of old.states.entries) (key_of old.conf visit.group) ≡ Some state)
+
+  pub none_named : NameNone acts → NameOne acts → ⊥
+  none_named none one = none_some (acts one.0) (none one.0) one.1
+
+  table_settled : (ack : AckOutcome) → Settles (Ok ack) → AreWritten visit ack → HasTable
+  table_settled (NotHeld o) h written = absurd written
+  table_settled (Malformed f) h written = absurd h
+  table_settled Done h written = ⊎_elim (λ n. absurd (none_named n.0 written)) (λ g. (g.1.state, g.1.known)) h.1
+  table_settled (Store Device) h written = (h.1.1.state, h.1.1.known)
+  table_settled (Store (Full at)) h written = absurd written
+
+  pub table_there : (ack : AckOutcome) → Acked (Ok ack) → AreWritten visit ack → HasTable
+  table_there ack (inl m) written = absurd (subst (AreWritten visit) (ok_same ack (Malformed m.0) m.1) written)
+  table_there ack (inr (inl n)) written = absurd (none_named n.1 (subst (AreWritten visit) (ok_same ack Done n.2) written))
+  table_there ack (inr (inr g)) written = table_settled ack g.2 written
 
   -- ---- nothing has changed
 
@@ -330,8 +356,8 @@ module _ {D W : Type 0} (seen : D → DiskView) (holding : W → Held) (visit : 
   back_settled (Store (Full at)) h none = same_all (h.1.1.once.unchanged (λ e. let clash : ⊥ = cc in clash)) h.1.2
 
   pub back : (ack : AckOutcome) → Acked (Ok ack) → (AreWritten visit ack → ⊥) → IsUntouched holding old mid
-  back ack (inl m) none = same_all m.3.0 (same_of m.3.1)
-  back ack (inr (inl n)) none = same_all n.3.0 (same_of n.3.1)
+  back ack (inl m) none = same_all m.3.0 m.3.1
+  back ack (inr (inl n)) none = same_all n.3.0 n.3.1
   back ack (inr (inr g)) none = back_settled ack g.2 none
 
   -- acknowledgements that are done are well formed
@@ -521,10 +547,26 @@ module _ {D W : Type 0} (seen : D → DiskView) (holding : W → Held) (visit : 
   abbrev once : PartParts D W
   once = raised now old
 
+  -- a group without a table has nothing to acknowledge, so a release follows what is written
+  none_there : (o : Option ShareState) → o ≡ None → (state : ShareState) → o ≡ Some state → ⊥
+  none_there o none state some = let never : ◌≡◌ {A = Option ShareState} None (Some state) = sym none ∙ some in let clash : ⊥ = cc in clash
+
+  unheld : AreWritten visit ack → share_state_at (states_of old.states.entries) (key_of old.conf visit.group) ≡ None → ⊥
+  unheld written none =
+      let t = table_there seen holding visit old states windows sound few hosted kept ack (subst (Acked seen holding visit old states windows sound few hosted kept) r_is r_acked) written in
+      none_there (share_state_at (states_of old.states.entries) (key_of old.conf visit.group)) none t.0 t.1
+
+  releases : (t : Then) → AreWritten visit ack → (IsFetch t → share_state_at (states_of old.states.entries) (key_of old.conf visit.group) ≡ None)
+      → TakesMemory visit.member (held_in holding windows visit.group) t → t ≡ Release
+  releases Nothing written no_table takes = absurd takes
+  releases Release written no_table takes = refl
+  releases (Fetch records bytes first) written no_table takes = absurd (unheld written (no_table tt))
+
   pub unfollowed_behind : (e : want) (done : Result VisitAnswer want) → done ≡ Err e
       → FollowsOnce seen holding now visit (mid seen holding visit old states windows sound few hosted kept) new done
-      → AreWritten visit ack → (f : want) → VisitsOnce seen holding now visit old (raised now new) (Err f)
-  unfollowed_behind e done is follows written f =
+      → AreWritten visit ack → (IsFetch visit.then → share_state_at (states_of old.states.entries) (key_of old.conf visit.group) ≡ None)
+      → (f : want) → VisitsOnce seen holding now visit old (raised now new) (Err f)
+  unfollowed_behind e done is follows written no_table f =
       let o = subst (FollowsOnce seen holding now visit (mid seen holding visit old states windows sound few hosted kept) new) is follows in
       let u = o.memory in
       stopped seen holding visit old states windows sound few hosted kept now new r ack r_is r_acked idle runs more e done is follows (raised now new) refl refl refl
@@ -538,7 +580,9 @@ module _ {D W : Type 0} (seen : D → DiskView) (holding : W → Held) (visit : 
           ack = ack;
           written = written;
           acks = steps_as seen holding visit once states windows sound few hosted kept now new r ack r_is r_acked idle runs more (raised_to now s) first.0 first.2;
-          follows = subst (λ (h : Held). TakesMemory visit.member h visit.then) (sym (first.1.held visit.group)) o.follows;
+          follows = releases visit.then written no_table o.follows;
+          some = subst (λ (h : Held). NameOne (releases_of visit.member h)) (sym (first.1.held visit.group))
+              (subst (TakesMemory visit.member (held_in holding windows visit.group)) (releases visit.then written no_table o.follows) o.follows);
         },
       )))
       (inr (

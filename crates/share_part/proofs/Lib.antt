@@ -5,6 +5,7 @@ pub mod Slotting
 pub mod Granting
 pub mod Gathering
 pub mod Walking
+pub mod Laying
 pub mod Holdings
 pub mod Appending
 pub mod Mapping
@@ -16,6 +17,7 @@ pub mod Leavings
 pub mod Opens
 pub mod Planning
 pub mod Staying
+pub mod Foreseen
 pub mod Holding
 pub mod Visiting
 pub mod Advancing
@@ -36,3 +38,4 @@ pub mod Ordered
 pub mod Expiries
 pub mod Expired
 pub mod Acked
+pub mod Ahead

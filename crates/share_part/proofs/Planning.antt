@@ -1,6 +1,6 @@
 -- The table that a group has, or would get.
-use Rattle.std.proofs.Common.{◌≡◌, ◌∙◌, sym, ap, subst, ℕ, ℤ, pos, List, [], Option, Some, None}
-use Rattle.std.specs.Prelude.{IsSome, Result, Ok, unwrap_or}
+use Rattle.std.proofs.Common.{◌≡◌, ◌≤◌, ◌∙◌, ◌++◌, refl, sym, ap, subst, cond, ℕ, ℤ, pos, List, [], Option, Some, None}
+use Rattle.std.specs.Prelude.{IfOk, IsSome, Result, Ok, Err, nat_lt, unwrap_or}
 use Rattle.std.specs.BTreeMap.{is_at}
 use Rattle.std.specs.Cmp.Lexicographic.{slice_cmp}
 use Rattle.std.specs.Map.{lookup}
@@ -12,7 +12,7 @@ use Rattle.share_model.specs.ForeignRules.{share_state_at}
 use Rattle.share_model.specs.Held.{Held, hold_at}
 use Rattle.share_model.specs.Keys.{KeyParts}
 use Rattle.share_model.specs.Logs.{Batch, IsLog, end_of}
-use Rattle.share_model.specs.Runs.{row_at}
+use Rattle.share_model.specs.Runs.{IsCanonical, row_at}
 use Rattle.share_model.specs.declared.hold.Hold.{Hold}
 use Rattle.share_model.specs.declared.row.Row.{Row}
 use Rattle.share_model.specs.ShareStates.{ShareState}
@@ -25,12 +25,19 @@ use Rattle.share_coord.specs.Parts.{StoreParts}
 use Rattle.share_coord.specs.Recorded.{StoresOne, init_record}
 use Rattle.share_coord.specs.Stored.{Entries, kept_at}
 use Rattle.share_coord.specs.declared.fault.CoordFault.{CoordFault}
-use Rattle.share_part.specs.Collecting.{LieAtSlots}
+use Rattle.share_part.specs.Collecting.{IsPlanOf, LieAtSlots, left_by}
+use Rattle.share_part.specs.Foreseeing.{HasChange, IsPlanBehind}
+use Rattle.share_part.specs.Settling.{Acts, IsChange, acted, held_after, stored_after}
+use Rattle.share_part.specs.Walks.{acquired}
+use Rattle.share_part.specs.declared.limits.Limits.{Limits}
+use Rattle.share_part.specs.declared.plan.Plan.{Plan}
+use Rattle.share_part.specs.declared.settle.Change.{Change}
+use Rattle.share_part.proofs.Foreseen.{acquired_same, changed_go_out, changed_lie, same_goes}
 use Rattle.share_part.specs.Hosting.{PartConfParts, AreHeldWell, AreHosted, HoldsWell, key_of}
 use Rattle.share_coord.specs.States.{states_of}
 use Rattle.share_part.specs.Making.{IsTableRecord, MakesOnce, MakesTableOnce, Tells, state_for}
 use Rattle.share_part.specs.Shards.{first_start, held_in, held_of, new_state}
-use Rattle.share_part.specs.Tables.{MayGoOut, Table, table_of}
+use Rattle.share_part.specs.Tables.{MayGoOut, Table, delivery_of, table_of}
 use Rattle.share_part.proofs.Seeing.{goes_out, state_seen, view_of}
 use Rattle.share_part.proofs.Writing.{slot_of}
 use Rattle.edge_io.specs.Views.{DiskView}
@@ -112,3 +119,57 @@ made_of seen Failed old new key z done start is result tells once one = record {
   once = subst (λ (n : ℤ). WritesOnce seen Failed (IsInitialised old.entries key (pos 0) n) old new done) is once;
   one = subst (λ (n : ℤ). StoresOne seen (λ one. one ≡ init_record old.entries key (pos 0) n) old.journal new.journal done) is one;
 }
+
+-- ---- the table that a group will have
+
+module _ {W : Type 0} (holding : W → Held) (conf : PartConfParts) (log : List Batch) (entries : Entries) (windows : List (List ℕ × W)) (group : List ℕ)
+    (acts : Acts) (change : Change) (found : HasChange conf.limit acts log (held_in holding windows group) (share_state_at (states_of entries) (key_of conf group)) change) where
+  abbrev was : Held
+  was = held_in holding windows group
+
+  -- it has one
+  pub none_lost : None ≡ option_map view_of (kept_at entries (key_of conf group)) → ⊥
+  none_lost is =
+      let never : ◌≡◌ {A = Option ShareState} None (Some found.0) = sym (state_seen entries (key_of conf group) ∙ sym is) ∙ found.1 in let clash : ⊥ = cc in clash
+
+  module _ (state : ShareState) (there : Some state ≡ option_map view_of (kept_at entries (key_of conf group))) (w : W)
+      (at : Some w ≡ lookup (is_at (slice_cmp nat_cmp group)) windows) (start : ℕ) (rows changed : List Run) (start_is : start ≡ size_of state.start)
+      (rows_are : rows ≡ state.runs) (changed_are : changed ≡ change.runs.items) (next_start : ℕ) (next_is : next_start ≡ unwrap_or change.start start) where
+    table_is : ◌≡◌ {A = Table} (record { start = start; rows = rows; held = holding w }) (table_of (state_for conf log entries group) was)
+    table_is = table_there holding conf log entries windows group state there w at start rows start_is rows_are
+
+    same_state : found.0 ≡ state_for conf log entries group
+    same_state = sym (ap (λ (o : Option ShareState). unwrap_or o (new_state conf (end_of log))) found.1)
+
+    its_change : IsChange conf.limit acts log (record { start = start; rows = rows; held = holding w }) change
+    its_change = subst (λ (t : Table). IsChange conf.limit acts log t change) (ap (λ (s : ShareState). table_of s was) same_state ∙ sym table_is) found.2
+
+    are : (o : ℕ) → row_at changed o ≡ cond (nat_lt o next_start) None (acted conf.limit acts (holding w) o)
+    are o = ap (λ (l : List Run). row_at l o) changed_are ∙ its_change.settles.rows o
+        ∙ ap (λ (n : ℕ). cond (nat_lt o n) None (acted conf.limit acts (holding w) o)) (sym next_is)
+
+    pub changed_canonical : IsCanonical changed
+    changed_canonical = subst IsCanonical (sym changed_are) its_change.settles.canonical
+
+    pub changed_out : conf.limit ≤ 10 → MayGoOut changed
+    changed_out few = changed_go_out conf.limit acts (holding w) changed next_start are few
+
+    pub changed_lies : LieAtSlots log rows (holding w) → LieAtSlots log (changed ++ rows) (left_by changed (holding w))
+    changed_lies lie = changed_lie conf.limit acts (holding w) changed next_start are log rows lie
+
+    -- the walk is that over the table that they leave
+    pub behind : IsLog log → (limits : Limits) (plan : Plan)
+        → IsPlanOf log plan (acquired log (record { start = next_start; rows = changed ++ rows; held = left_by changed (holding w) }) limits)
+        → IsPlanBehind conf.limit acts log (table_of (state_for conf log entries group) was) change limits plan
+    behind sound limits plan planned = subst (λ (t : Table). IsPlanBehind conf.limit acts log t change limits plan) table_is (λ next left.
+        let size : size_of next.start ≡ next_start = ap size_of left.start ∙ sym next_is in
+        let goes : (o : ℕ) → next_start ≤ o → delivery_of (record { start = next_start; rows = changed ++ rows; held = left_by changed (holding w) }) o
+        ≡ delivery_of (table_of next (held_after acts (holding w))) o =
+        same_goes conf.limit acts (holding w) changed next_start are rows next.runs (λ o. left.rows o ∙ ap (λ (n : ℕ). cond (nat_lt o n) None (stored_after conf.limit acts (record { start = start; rows = rows; held = holding w }) o)) (sym next_is)) in
+        subst (IsPlanOf log plan) (acquired_same log sound (record { start = next_start; rows = changed ++ rows; held = left_by changed (holding w) })
+        (table_of next (held_after acts (holding w))) next_start goes limits refl size) planned)
+
+-- what holds of each plan holds of the one that is found
+pub all_ok : (P Q : Plan → Type 0) (r : Result Plan want) → ((plan : Plan) → P plan → Q plan) → IfOk r P → IfOk r Q
+all_ok P Q (Ok plan) f p = f plan p
+all_ok P Q (Err e) f p = tt

@@ -26,7 +26,7 @@ use Rattle.share_part.specs.Tables.{Table, table_of}
 use Rattle.share_part.specs.declared.settle.Change.{Change}
 use Rattle.share_part.specs.declared.settle.Whose.{Whose}
 use Rattle.share_part.proofs.Seeing.{state_seen, view_of}
-use Rattle.share_part.proofs.Settlement.{HasChange}
+use Rattle.share_part.specs.Foreseeing.{HasChange}
 use Rattle.share_part.proofs.Slotting.{slot_below}
 use Rattle.share_part.proofs.Writing.{slot_of}
 

@@ -22,8 +22,9 @@ use Rattle.part_log.specs.Logs.{IsStoredLog}
 use Rattle.share_part.specs.Acting.{JudgesGroup}
 use Rattle.share_part.specs.Hosting.{PartConfParts, AreHeldWell, AreHosted, HoldsWell, IsHosted, key_of}
 use Rattle.share_coord.specs.States.{states_of}
+use Rattle.share_part.specs.Foreseeing.{HasChange}
 use Rattle.share_part.specs.Releasing.{told_in}
-use Rattle.share_part.specs.Settling.{Acts, AreHeldBy, IsChange, Judges}
+use Rattle.share_part.specs.Settling.{Acts, AreHeldBy, Judges}
 use Rattle.share_part.specs.Storing.{IsActsStored, IsRecordOf, IsStored, SettlesGroup, StoresGroup, StoresOnce, TellsStored, start_number}
 use Rattle.share_part.specs.Tables.{table_of}
 use Rattle.share_part.specs.declared.release.Released.{Released}
@@ -33,10 +34,6 @@ use Rattle.share_part.specs.declared.settle.Judged.TheVariants.{NotHeld, Changes
 use Rattle.share_part.proofs.Visiting.{err_is}
 use Rattle.share_part.proofs.Writing.{start_bound, granted, not_many}
 use Rattle.edge_io.specs.Views.{DiskView}
-
--- the state that acts change, and what is to be stored of it
-abbrev pub HasChange : ℕ → Acts → List Batch → Held → Option ShareState → Change → Type 0
-HasChange limit acts log held o change = (state : ShareState) × (o ≡ Some state) × IsChange limit acts log (table_of state held) change
 
 -- acknowledgements of what the member holds
 pub change_there : (limit : ℕ) (member : List ℕ) (acts : Acts) (log : List Batch) (held : Held) (o : Option ShareState) (j : Judged) (change : Change) → j ≡ Changes change

@@ -79,7 +79,7 @@ settled_count limit Accept count = refl
 settled_count limit Release count = refl
 settled_count limit Reject count = refl
 
-settled_again : (limit : ℕ) (kind : AckKind) (count : ℕ) → (settled limit kind count).state ≡ Available → count < limit
+pub settled_again : (limit : ℕ) (kind : AckKind) (count : ℕ) → (settled limit kind count).state ≡ Available → count < limit
 settled_again limit Gap count is = absurd (let clash : ⊥ = cc in clash)
 settled_again limit Accept count is = absurd (let clash : ⊥ = cc in clash)
 settled_again limit Reject count is = absurd (let clash : ⊥ = cc in clash)
@@ -90,7 +90,7 @@ settled_again limit Release count is = by_test (nat_le limit count) refl is
     by_test false e is = grind (arith, nat_tests)
 
 -- a row that is stored after acts is one from before, or that of an act
-abbrev IsOfAct : ℕ → Option Hold → Row → Type 0
+abbrev pub IsOfAct : ℕ → Option Hold → Row → Type 0
 IsOfAct limit hold row = (kind : AckKind) × (its : Hold) × (hold ≡ Some its) × (settled limit kind its.count ≡ row)
 
 some_same : (a b : Row) → ◌≡◌ {A = Option Row} (Some a) (Some b) → a ≡ b

@@ -73,19 +73,19 @@ module _ {D W : Type 0} (seen : D → DiskView) (holding : W → Held) (group : 
   -- ---- what is stored
 
   module _ (done : Result (Unit {0}) CoordFault) (st : Stored done) (es : Entries) (w : IsStored old.states.entries key st.change.start st.change.runs.items es) where
-    its_hosted : IsHosted old.conf old.log.batches key st.state
+    pub its_hosted : IsHosted old.conf old.log.batches key st.state
     its_hosted = hosted key st.state st.known
 
-    its_kept : KeepsHolds old.log.batches (Some st.state) was
+    pub its_kept : KeepsHolds old.log.batches (Some st.state) was
     its_kept = subst (λ (o : Option ShareState). KeepsHolds old.log.batches o was) st.known (kept group)
 
-    abbrev its_next : ShareState
+    abbrev pub its_next : ShareState
     its_next = next old.conf old.log.batches old.states.entries es group st.state was acts st.change its_hosted st.known st.is w
 
-    its_settled : IsSettled old.conf.limit acts old.log.batches (table_of st.state was) its_next
+    pub its_settled : IsSettled old.conf.limit acts old.log.batches (table_of st.state was) its_next
     its_settled = now_settled old.conf old.log.batches old.states.entries es group st.state was acts st.change its_hosted st.known st.is w
 
-    its_states : states_of es ≡ insert_entry key_cmp (states_of old.states.entries) key its_next
+    pub its_states : states_of es ≡ insert_entry key_cmp (states_of old.states.entries) key its_next
     its_states = now_states old.conf old.log.batches old.states.entries es group st.state was acts st.change its_hosted st.known st.is w
 
     are_settled : (batch : Option Batch) (pending : Option Entries) → AreSettled old.conf (shard_of seen holding old batch pending) group acts (states_of es)

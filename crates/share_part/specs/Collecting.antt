@@ -1,7 +1,7 @@
 -- What a walk keeps in memory of what it has taken. Private clauses cite this alone.
 -- For example a walk that took 0 and 1 with count 1 and then 5 keeps the grant from 0 to 1, with the one at 5 growing, and the numbers of
 -- their batches.
-use Rattle.std.specs.Prelude.{◌≡◌, ◌≤◌, ◌<◌, ◌+◌, ◌-◌, ◌++◌, ℕ, zero, suc, List, [], ◌∷◌, length, Option, Some, None, IfSome, IsSome, ◌⊎◌, Bool, true, false}
+use Rattle.std.specs.Prelude.{◌≡◌, ◌≤◌, ◌<◌, ◌+◌, ◌-◌, ◌++◌, ℕ, zero, suc, List, [], ◌∷◌, length, Option, Some, None, IfSome, IsSome, ◌⊎◌, Bool, true, false, filter, is_none}
 use Rattle.std.specs.List.{AllByRecursion}
 use Rattle.std.specs.Prelude.{option_to_list}
 use Rattle.share_model.specs.Held.{Held, hold_at}
@@ -110,6 +110,10 @@ pub record IsStretch (rows : List Run) (held : Held) (slot last : ℕ) (count : 
   pub same : (offset : ℕ) → slot ≤ offset → offset ≤ last → delivery_of (record { start = 0; rows = rows; held = held }) offset ≡ count
   pub few : IfSome count (λ count. count ≤ 10)
   pub there : count ≡ None → (offset : ℕ) → slot ≤ offset → offset ≤ last → IsSome (hold_at held offset) ⊎ IsSome (row_at rows offset)
+
+-- what is held, but for the offsets of which there is one of these rows
+abbrev pub left_by : List Run → Held → Held
+left_by changed held = filter (λ entry. is_none (row_at changed entry.0)) held
 
 -- what is held or stored lies at slots
 pub record LieAtSlots (log : List Batch) (rows : List Run) (held : Held) : Type 0 where

@@ -14,6 +14,7 @@ pub mod Expiring
 pub mod Releasing
 pub mod Judging
 pub mod Making
+pub mod Foreseeing
 pub mod Storing
 pub mod Writes
 pub mod Once

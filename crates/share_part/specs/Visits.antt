@@ -7,11 +7,12 @@ use Rattle.ack_ranges.specs.Batches.{kind_at}
 use Rattle.share_model.specs.declared.fault.StoreFault.TheVariants.{Device, Full}
 use Rattle.share_model.specs.declared.visit.AckOutcome.{AckOutcome}
 use Rattle.share_model.specs.declared.visit.AckOutcome.TheVariants.{Done, Malformed, NotHeld, Store}
+use Rattle.share_model.specs.declared.visit.Then.TheVariants.{Release}
 use Rattle.share_model.specs.declared.visit.Visit.{Visit}
 use Rattle.share_model.specs.declared.visit.VisitAnswer.{VisitAnswer}
 use Rattle.edge_io.specs.Causes.{Rose}
 use Rattle.share_part.specs.Acknowledging.{Acknowledges, AreTheirs, NameOne}
-use Rattle.share_part.specs.Following.{Does, HasNothingToWrite, TakesMemory}
+use Rattle.share_part.specs.Following.{Does, HasNothingToWrite, releases_of}
 use Rattle.share_part.specs.Hosting.{PartConfParts}
 use Rattle.share_part.specs.Shards.{PartShardState, raised_to}
 
@@ -51,11 +52,12 @@ pub record StepsVisit (conf : PartConfParts) (count later end last : ℕ) (old :
   pub clock : new.clock ≡ max old.clock now
   pub log : new.log ≡ old.log
 
--- Memory ran out behind the acknowledgements of a visit: their write came to the device, and what they left stands, with the clock raised. What
--- follows them takes memory.
+-- Memory ran out behind the acknowledgements of a visit: their write came to the device, and what they left stands, with the clock raised. A
+-- release follows them, of a record at least: a fetch takes its memory before they are written.
 pub record VisitsPart (conf : PartConfParts) (rose : Type 0) (end : ℕ) (old : PartShardState) (now : ℕ) (visit : Visit)
     (new : PartShardState) : Type 0 where
   pub ack : AckOutcome
   pub written : AreWritten visit ack
   pub acks : StepsAcks conf rose end (raised_to now old) visit ack new
-  pub follows : TakesMemory visit.member (new.held visit.group) visit.then
+  pub follows : visit.then ≡ Release
+  pub some : NameOne (releases_of visit.member (new.held visit.group))

@@ -1,5 +1,5 @@
 // The acknowledgements of a visit.
-ghost use Rattle.std.specs.Prelude.{◌≡◌, ℕ, List, Some, None, [], IfSome, IfNone, IfOk};
+ghost use Rattle.std.specs.Prelude.{◌≡◌, ℕ, List, Some, None, Ok, [], IfSome, IfNone, IfOk};
 ghost use Rattle.coord_checkpoint.specs.Disks.{HasFailed};
 ghost use Rattle.edge_io.specs.Armed.{RunsOn};
 ghost use Rattle.topic_conf.specs.Configs.{IsLimit};
@@ -11,21 +11,35 @@ ghost use Rattle.share_part.specs.Hosting.{AreHosted, HoldsWell, key_of};
 ghost use Rattle.share_coord.specs.States.{states_of};
 ghost use Rattle.share_part.specs.Settling.{held_after};
 ghost use Rattle.share_part.specs.Shards.{held_in, with_held};
+ghost use Rattle.share_part.specs.Foreseeing.{HasSpare, JudgesAcks};
 ghost use Rattle.share_part.specs.Storing.{AcksOnce, SettlesGroup};
 
 use crate::conf::PartConf;
 use crate::ending::end_acknowledged;
 use crate::fetch::start_of;
-use crate::settle::{Judged, acknowledge};
+use crate::settle::{Change, Judged, acknowledge};
 use crate::storing::store_change;
 use ack_ranges::{Pieces, check};
 use edge_io::Disk;
 use lock_index::Window;
 use part_log::PartLog;
 use share_coord::Coord;
-use share_model::{AckBatch, AckOutcome, Name, NoMemory, Visit};
+use share_model::{AckBatch, AckFault, AckOutcome, Name, NoMemory, Visit};
 use std::alloc::Global;
 use std::collections::BTreeMap;
+
+/// What the acknowledgements of a visit come to, before anything is stored.
+#[derive(Drop)]
+pub enum Acks {
+    /// They aren't well formed.
+    Malformed(AckFault),
+    /// There are none, or they name no offset.
+    Empty,
+    /// The member doesn't hold this offset, the least such one.
+    NotHeld(u64),
+    /// This is to be stored.
+    Changes(Change),
+}
 
 // The least offset that well-formed acknowledgements name. `None` where they name none.
 pub fn first_named(batches: &[AckBatch]) -> Option<u64>
@@ -76,35 +90,72 @@ fn judge_group<D: Disk, W: Window>(
     }
 }
 
-// Does the well-formed acknowledgements of a group, of which `first` is the least offset, by one write.
-fn settle_group<D: Disk, W: Window>(
+/// What the acknowledgements of a visit come to.
+pub fn judge_acks<D: Disk, W: Window>(
     alloc: Global,
+    conf: &PartConf,
+    log: &PartLog<D>,
+    states: &Coord<D>,
+    windows: &BTreeMap<Name, W>,
+    visit: &Visit,
+) -> Result<Acks, NoMemory>
+    requires sound { IsStoredLog log.now.batches }
+    requires well { HoldsWell log.now.batches (share_state_at (states_of states.now.entries) (key_of conf.now visit.now.group))
+        (held_in W.held windows.now.entries visit.now.group) }
+    ensures { IfOk result (JudgesAcks conf.now.limit visit.now log.now.batches (held_in W.held windows.now.entries visit.now.group)
+        (share_state_at (states_of states.now.entries) (key_of conf.now visit.now.group))) }
+{
+    let batches = visit.acks.as_slice();
+    if let Err(fault) = check(batches) {
+        return Ok(Acks::Malformed(fault));
+    }
+    let Some(first) = first_named(batches) else {
+        return Ok(Acks::Empty);
+    };
+    match judge_group(alloc, conf, log, states, windows, visit, first)? {
+        Judged::NotHeld(offset) => Ok(Acks::NotHeld(offset)),
+        Judged::Changes(change) => Ok(Acks::Changes(change)),
+    }
+}
+
+/// Does the acknowledgements of a visit, by what they come to: all of them by one write, or none. The holds of the named offsets end once they
+/// are stored, and what was set aside for holds stays.
+///
+/// Nothing changes where they aren't well formed, where the member doesn't hold an offset that they name, or after want of memory; after a
+/// store fault the table is as it was.
+pub fn settle_acks<D: Disk, W: Window>(
     conf: &PartConf,
     log: &PartLog<D>,
     states: &mut Coord<D>,
     windows: &mut BTreeMap<Name, W>,
     visit: &Visit,
-    first: u64,
+    acks: &Acks,
 ) -> Result<AckOutcome, NoMemory>
     requires sound { IsStoredLog log.now.batches }
     requires limit { IsLimit conf.now.limit }
-    requires well_formed { IsWellFormed visit.now.acks }
-    requires first { IsFirstNamed (kind_at visit.now.acks) first }
     requires hosted { AreHosted conf.now log.now.batches (states_of states.old.entries) }
     requires well { HoldsWell log.now.batches (share_state_at (states_of states.old.entries) (key_of conf.now visit.now.group))
         (held_in W.held windows.old.entries visit.now.group) }
-    ensures settles { SettlesGroup D.seen (HasFailed D.seen) conf.now log.now.batches
+    requires judged { JudgesAcks conf.now.limit visit.now log.now.batches (held_in W.held windows.old.entries visit.now.group)
+        (share_state_at (states_of states.old.entries) (key_of conf.now visit.now.group)) acks.now }
+    ensures once { AcksOnce visit.now.acks
+        ((states.new ≡ states.old) × ((other : List ℕ) → held_in W.held windows.new.entries other ≡ held_in W.held windows.old.entries other))
+        (SettlesGroup D.seen (HasFailed D.seen) conf.now log.now.batches
         visit.now.group visit.now.member (kind_at visit.now.acks) (held_in W.held windows.old.entries visit.now.group) states.old states.new
         ((other : List ℕ) → held_in W.held windows.new.entries other ≡ held_in W.held windows.old.entries other)
         ((other : List ℕ) → held_in W.held windows.new.entries other ≡ with_held (held_in W.held windows.old.entries) visit.now.group
-        (held_after (kind_at visit.now.acks) (held_in W.held windows.old.entries visit.now.group)) other) result }
+        (held_after (kind_at visit.now.acks) (held_in W.held windows.old.entries visit.now.group)) other)) result }
+    ensures malformed { (fault : AckFault) → acks.now ≡ Acks.Malformed fault → result ≡ Ok (AckOutcome.Malformed fault) }
+    ensures spare { (n : ℕ) → HasSpare W.spare windows.old.entries visit.now.group n → HasSpare W.spare windows.new.entries visit.now.group n }
     ensures runs { RunsOn D.seen states.old.journal.live.disk states.new.journal.live.disk }
     ensures idle { states.new.journal.idle ≡ states.old.journal.idle }
+    ensures range { IsLimit conf.now.limit }
 {
-    let judged = judge_group(alloc, conf, log, states, windows, visit, first)?;
-    let change = match judged {
-        Judged::NotHeld(offset) => return Ok(AckOutcome::NotHeld { offset }),
-        Judged::Changes(change) => change,
+    let change = match acks {
+        Acks::Malformed(fault) => return Ok(AckOutcome::Malformed(*fault)),
+        Acks::Empty => return Ok(AckOutcome::Done),
+        Acks::NotHeld(offset) => return Ok(AckOutcome::NotHeld { offset: *offset }),
+        Acks::Changes(change) => change,
     };
     let key = conf.key(&visit.group);
     let fault = store_change(states, &key, change.start, &change.runs)?;
@@ -113,41 +164,4 @@ fn settle_group<D: Disk, W: Window>(
     }
     end_acknowledged(windows, &visit.group, visit.acks.as_slice());
     Ok(AckOutcome::Done)
-}
-
-/// Does the acknowledgements of a visit: all of them by one write, or none. The holds of the named offsets end once they are stored.
-///
-/// Nothing changes where they aren't well formed, where the member doesn't hold an offset that they name, or after want of memory; after a
-/// store fault the table is as it was.
-pub fn acknowledge_visit<D: Disk, W: Window>(
-    alloc: Global,
-    conf: &PartConf,
-    log: &PartLog<D>,
-    states: &mut Coord<D>,
-    windows: &mut BTreeMap<Name, W>,
-    visit: &Visit,
-) -> Result<AckOutcome, NoMemory>
-    requires sound { IsStoredLog log.now.batches }
-    requires limit { IsLimit conf.now.limit }
-    requires hosted { AreHosted conf.now log.now.batches (states_of states.old.entries) }
-    requires well { HoldsWell log.now.batches (share_state_at (states_of states.old.entries) (key_of conf.now visit.now.group))
-        (held_in W.held windows.old.entries visit.now.group) }
-    ensures once { AcksOnce visit.now.acks ((states.new ≡ states.old) × (windows.new.entries ≡ windows.old.entries))
-        (SettlesGroup D.seen (HasFailed D.seen) conf.now log.now.batches
-        visit.now.group visit.now.member (kind_at visit.now.acks) (held_in W.held windows.old.entries visit.now.group) states.old states.new
-        ((other : List ℕ) → held_in W.held windows.new.entries other ≡ held_in W.held windows.old.entries other)
-        ((other : List ℕ) → held_in W.held windows.new.entries other ≡ with_held (held_in W.held windows.old.entries) visit.now.group
-        (held_after (kind_at visit.now.acks) (held_in W.held windows.old.entries visit.now.group)) other)) result }
-    ensures runs { RunsOn D.seen states.old.journal.live.disk states.new.journal.live.disk }
-    ensures idle { states.new.journal.idle ≡ states.old.journal.idle }
-    ensures range { IsLimit conf.now.limit }
-{
-    let batches = visit.acks.as_slice();
-    if let Err(fault) = check(batches) {
-        return Ok(AckOutcome::Malformed(fault));
-    }
-    let Some(first) = first_named(batches) else {
-        return Ok(AckOutcome::Done);
-    };
-    settle_group(alloc, conf, log, states, windows, visit, first)
 }

@@ -1,11 +1,12 @@
 // Ends the holds that acts were stored of.
-ghost use Rattle.std.specs.Prelude.{◌≡◌, ◌<◌, ℕ, List, IsSome};
+ghost use Rattle.std.specs.Prelude.{◌≡◌, ◌≤◌, ◌<◌, ℕ, List, IsSome};
 ghost use Rattle.std.specs.BTreeMap.{is_at};
 ghost use Rattle.std.specs.Cmp.Lexicographic.{slice_cmp};
 ghost use Rattle.std.specs.Map.{lookup};
 ghost use Rattle.std.specs.Ordering.{nat_cmp};
 ghost use Rattle.ack_ranges.specs.Batches.{IsWellFormed, kind_at};
 ghost use Rattle.ack_ranges.specs.Pieces.{piece_at};
+ghost use Rattle.share_part.specs.Foreseeing.{HasSpare};
 ghost use Rattle.share_part.specs.Settling.{held_after};
 ghost use Rattle.share_part.specs.Shards.{held_in, with_held};
 
@@ -18,7 +19,8 @@ use std::sync::ledger::{Blank, Ledger};
 
 // Ends the holds of the offsets of pieces.
 fn end_pieces<W: Window, L: Ledger>(window: &mut W, mut pieces: Pieces<'_>, steps: &mut Steps<L>)
-    ensures { W.held window.new ≡ held_after (piece_at pieces.entry) (W.held window.old) }
+    ensures held { W.held window.new ≡ held_after (piece_at pieces.entry) (W.held window.old) }
+    ensures spare { W.spare window.old ≤ W.spare window.new }
 {
     while let Some(piece) = pieces.next_piece() {
         window.end_hold_counted(piece.first, piece.last, steps);
@@ -30,7 +32,8 @@ fn end_in_ledger<W: Window, L: Ledger>(window: &mut W, pieces: Pieces<'_>, blank
     requires name { blank.name ≡ L.name }
     requires parts { blank.parts ≡ L.parts }
     requires some { 0 < blank.parts }
-    ensures { W.held window.new ≡ held_after (piece_at pieces.entry) (W.held window.old) }
+    ensures held { W.held window.new ≡ held_after (piece_at pieces.entry) (W.held window.old) }
+    ensures spare { W.spare window.old ≤ W.spare window.new }
 {
     let mut steps = Steps::<L>::new(blank);
     end_pieces(window, pieces, &mut steps);
@@ -44,7 +47,8 @@ pub fn end_acknowledged<W: Window>(
 )
     requires there { IsSome (lookup (is_at (slice_cmp nat_cmp group.now)) windows.old.entries) }
     requires well_formed { IsWellFormed batches.now }
-    ensures { (other : List ℕ) → held_in W.held windows.new.entries other ≡ with_held (held_in W.held windows.old.entries) group.now
+    ensures spare { (n : ℕ) → HasSpare W.spare windows.old.entries group.now n → HasSpare W.spare windows.new.entries group.now n }
+    ensures held { (other : List ℕ) → held_in W.held windows.new.entries other ≡ with_held (held_in W.held windows.old.entries) group.now
         (held_after (kind_at batches.now) (held_in W.held windows.old.entries group.now)) other }
 {
     match windows.get_mut(group) {

@@ -1,5 +1,5 @@
 // The pieces of a fetch.
-ghost use Rattle.std.specs.Prelude.{◌≡◌, ◌≤◌, ◌<◌, ◌^◌, ◌++◌, pos, ◌≤ℤ◌, List, None, Ok, IsSome, IfOk, OnOk, length, vec_len};
+ghost use Rattle.std.specs.Prelude.{◌≡◌, ◌≤◌, ◌<◌, ◌^◌, ◌++◌, pos, ◌≤ℤ◌, List, None, Ok, true, false, IsSome, IfOk, OnOk, length, vec_len};
 ghost use Rattle.std.specs.BTreeMap.{is_at};
 ghost use Rattle.std.specs.Cmp.Lexicographic.{slice_cmp};
 ghost use Rattle.std.specs.List.{AllByRecursion};
@@ -11,7 +11,10 @@ ghost use Rattle.share_model.specs.ForeignRules.{share_state_at, size_of};
 ghost use Rattle.part_log.specs.Logs.{IsStoredLog};
 ghost use Rattle.share_coord.specs.Calls.{IsInitialised};
 ghost use Rattle.share_coord.specs.Stored.{kept_at};
+ghost use Rattle.ack_ranges.specs.Batches.{kind_at};
+ghost use Rattle.topic_conf.specs.Configs.{IsLimit};
 ghost use Rattle.share_part.specs.Collecting.{IsPlanOf};
+ghost use Rattle.share_part.specs.Foreseeing.{HasChange, IsPlanBehind};
 ghost use Rattle.share_part.specs.Hosting.{AreHosted, HoldsWell, key_of};
 ghost use Rattle.share_coord.specs.States.{states_of};
 ghost use Rattle.share_part.specs.Making.{IsTableRecord, MakesOnce, MakesTableOnce, numbered_bytes, state_for};
@@ -22,13 +25,14 @@ ghost use Rattle.share_part.specs.Walks.{acquired};
 use crate::conf::PartConf;
 use crate::limits::Limits;
 use crate::plan::Plan;
-use crate::walk::plan;
+use crate::settle::Change;
+use crate::walk::{plan, plan_laid};
 use edge_io::Disk;
 use lock_index::Window;
 use offset_runs::Runs;
 use part_log::PartLog;
 use share_coord::{Coord, CoordFault, StateView};
-use share_model::{Key, Name, NoMemory, Reset, Room, ThenOutcome};
+use share_model::{Key, Name, NoMemory, Reset, Room, ThenOutcome, Visit};
 use std::alloc::Global;
 use std::collections::BTreeMap;
 
@@ -87,6 +91,51 @@ pub fn planned<D: Disk, W: Window>(
             )
         }
     }
+}
+
+/// Whether a group has a table.
+pub fn has_table<D: Disk>(conf: &PartConf, states: &Coord<D>, group: &Name) -> bool
+    ensures there { result ≡ true → IsSome (share_state_at (states_of states.now.entries) (key_of conf.now group.now)) }
+    ensures none { result ≡ false → share_state_at (states_of states.now.entries) (key_of conf.now group.now) ≡ None }
+{
+    match states.look(&conf.key(group)) {
+        Some(_) => true,
+        None => false,
+    }
+}
+
+/// What a fetch will take of the table that a group has, once acknowledgements change it so. It costs the runs and the batches that it walks.
+pub fn planned_behind<D: Disk, W: Window>(
+    alloc: Global,
+    conf: &PartConf,
+    log: &PartLog<D>,
+    states: &Coord<D>,
+    windows: &BTreeMap<Name, W>,
+    visit: &Visit,
+    change: &Change,
+    limits: Limits,
+) -> Result<Plan, NoMemory>
+    requires there { IsSome (lookup (is_at (slice_cmp nat_cmp visit.now.group)) windows.now.entries) }
+    requires sound { IsStoredLog log.now.batches }
+    requires limit { IsLimit conf.now.limit }
+    requires hosted { AreHosted conf.now log.now.batches (states_of states.now.entries) }
+    requires well { HoldsWell log.now.batches (share_state_at (states_of states.now.entries) (key_of conf.now visit.now.group))
+        (held_in W.held windows.now.entries visit.now.group) }
+    requires change { HasChange conf.now.limit (kind_at visit.now.acks) log.now.batches (held_in W.held windows.now.entries visit.now.group)
+        (share_state_at (states_of states.now.entries) (key_of conf.now visit.now.group)) change.now }
+    ensures is { IfOk result (IsPlanBehind conf.now.limit (kind_at visit.now.acks) log.now.batches
+        (table_of (state_for conf.now log.now.batches states.now.entries visit.now.group) (held_in W.held windows.now.entries visit.now.group))
+        change.now limits) }
+    ensures grants { IfOk result (λ plan. vec_len plan.grants ≤ 2001) }
+{
+    let Some(window) = windows.get(&visit.group) else {
+        unreachable!()
+    };
+    let Some(view) = states.look(&conf.key(&visit.group)) else {
+        unreachable!()
+    };
+    let start = change.start.unwrap_or(start_of(view));
+    plan_laid(alloc, log, start, &change.runs, &view.runs, window, limits)
 }
 
 // Stores a key's state that has none, with this start.

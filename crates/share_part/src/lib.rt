@@ -14,6 +14,7 @@ mod laws;
 mod limits;
 mod opening;
 mod plan;
+mod ready;
 mod release;
 mod settle;
 mod shard;

@@ -1,4 +1,4 @@
-ghost use Rattle.std.specs.Prelude.{◌≡◌, ◌≢◌, ◌↔◌, ◌≤◌, ◌^◌, ℕ, max, true, false, IfOk, IfErr, MatchResult, slice_get, ◌⊎◌};
+ghost use Rattle.std.specs.Prelude.{◌≡◌, ◌≢◌, ◌↔◌, ◌≤◌, ◌^◌, ℕ, IsSome, None, max, true, false, IfOk, IfErr, MatchResult, slice_get, ◌⊎◌};
 ghost use Rattle.std.specs.List.{AllByRecursion};
 ghost use Rattle.std.specs.Map.{keys_of};
 ghost use Rattle.std.specs.Option.{option_copied, option_map};
@@ -10,23 +10,25 @@ ghost use Rattle.coord_checkpoint.specs.Disks.{RunsBoth};
 ghost use Rattle.edge_io.specs.Moments.{LeavesOnly};
 ghost use Rattle.gate_journal.specs.Frames.{StandsAs};
 ghost use Rattle.share_part.specs.Opening.{IsOpened, IsNotOpened};
+ghost use Rattle.share_part.specs.Foreseeing.{IsFetch, JudgesAcks, with_ack};
 ghost use Rattle.share_part.specs.Hosting.{key_of};
 ghost use Rattle.share_coord.specs.States.{states_of};
 ghost use Rattle.share_part.specs.Following.{IsEmptyAnswer};
-ghost use Rattle.share_part.specs.Shards.{Carries, PartShardState};
+ghost use Rattle.share_part.specs.Shards.{Carries, PartShardState, held_in};
 ghost use Rattle.share_part.specs.Releasing.{ReleasesOnce};
 ghost use Rattle.share_part.specs.Walks.{IsSmallGrant};
 ghost use Rattle.ack_ranges.specs.Batches.{IsWellFormed};
 ghost use Rattle.share_part.specs.Visits.{AreWritten};
 ghost use Rattle.share_part.specs.Once.{ExpiresOnce, FollowsOnce, VisitsOnce, ProducesOnce};
 
-use crate::acks::{acknowledge_visit, first_named};
+use crate::acks::{Acks, first_named, judge_acks, settle_acks};
 use crate::conf::PartConf;
-use crate::fetch::{append_batches, make_table, planned};
+use crate::fetch::{append_batches, has_table, make_table, planned};
 use crate::judge::are_hosted;
 use crate::limits::Limits;
 use crate::opening::{PartFault, PartOpen, fault_of_log, fault_of_states};
 use crate::plan::Plan;
+use crate::ready::{chosen, hand_out, ready};
 use crate::release::{Released, outcome_of, release_held};
 use crate::settle::Whose;
 use crate::windows::{add_window, due_groups, hold, set_aside};
@@ -92,6 +94,24 @@ fn are_written(visit: &Visit, ack: AckOutcome) -> bool
         AckOutcome::NotHeld { .. } => false,
         AckOutcome::Store(StoreFault::Device) => true,
         AckOutcome::Store(StoreFault::Full { .. }) => false,
+    }
+}
+
+// An answer with another outcome of the acknowledgements.
+fn with_ack(ack: AckOutcome, answer: VisitAnswer) -> VisitAnswer
+    ensures { result ≡ with_ack ack answer }
+{
+    let VisitAnswer {
+        then,
+        grants,
+        batches,
+        ..
+    } = answer;
+    VisitAnswer {
+        ack,
+        then,
+        grants,
+        batches,
     }
 }
 
@@ -287,44 +307,27 @@ impl<D: Disk, W: Window> PartShard<D, W> {
         }
     }
 
-    /// Does what a member of a group asks of the partition, at the moment `now`. The shard's clock is raised to it first.
-    ///
-    /// The acknowledgements come first: all are stored by one write and end the holds of the offsets that they name, or none is. What
-    /// the visit asks for follows them, whatever became of them.
-    ///
-    /// A fetch walks the first 2000 slots from the start of the group's table, in order, and acquires those that are available, until
-    /// the record limit is used up, or a batch doesn't fit. The first fetch of a group makes its table, which is stored first; where
-    /// that fails nothing is acquired. After want of memory nothing has changed; but where a write of the acknowledgements came to the
-    /// device before, what they left stands, and the clock is raised.
-    pub fn visit(&mut self, now: u64, visit: &Visit) -> Result<VisitAnswer, NoMemory>
+    // Does a visit whose acknowledgements come to this. It asks for no fetch of a group that has a table.
+    fn visit_plain(&mut self, now: u64, visit: &Visit, acks: &Acks) -> Result<VisitAnswer, NoMemory>
         requires now { now ≤ 2 ^ 62 }
+        requires judged { JudgesAcks self.old.conf.limit visit.now self.old.log.batches (held_in W.held self.old.windows visit.now.group)
+            (share_state_at (states_of self.old.states.entries) (key_of self.old.conf visit.now.group)) acks.now }
+        requires table { IsFetch visit.now.then → share_state_at (states_of self.old.states.entries) (key_of self.old.conf visit.now.group) ≡ None }
         ensures once { VisitsOnce D.seen W.held now visit.now self.old self.new result }
         ensures runs { RunsOn D.seen
             self.old.states.journal.live.disk self.new.states.journal.live.disk }
         ensures ranges { IfOk result (λ answer. AllByRecursion IsSmallGrant answer.grants) }
     {
-        let ack = acknowledge_visit(
-            self.alloc,
+        let ack = settle_acks(
             &self.conf,
             &self.log,
             &mut self.states,
             &mut self.windows,
             visit,
+            acks,
         )?;
         match self.follow(now, visit) {
-            Ok(
-                VisitAnswer {
-                    then,
-                    grants,
-                    batches,
-                    ..
-                },
-            ) => Ok(VisitAnswer {
-                ack,
-                then,
-                grants,
-                batches,
-            }),
+            Ok(answer) => Ok(with_ack(ack, answer)),
             Err(fault) => {
                 if !are_written(visit, ack) {
                     return Err(fault);
@@ -333,6 +336,100 @@ impl<D: Disk, W: Window> PartShard<D, W> {
                 Err(fault)
             }
         }
+    }
+
+    // Does a visit whose acknowledgements come to this, and that fetches for a group that has a table. All memory is taken before the write.
+    fn visit_table(
+        &mut self,
+        now: u64,
+        visit: &Visit,
+        acks: &Acks,
+        limits: Limits,
+    ) -> Result<VisitAnswer, NoMemory>
+        requires now { now ≤ 2 ^ 62 }
+        requires fetch { visit.now.then ≡ Then.Fetch limits.records limits.bytes limits.first }
+        requires judged { JudgesAcks self.old.conf.limit visit.now self.old.log.batches (held_in W.held self.old.windows visit.now.group)
+            (share_state_at (states_of self.old.states.entries) (key_of self.old.conf visit.now.group)) acks.now }
+        requires table { IsSome (share_state_at (states_of self.old.states.entries) (key_of self.old.conf visit.now.group)) }
+        ensures once { VisitsOnce D.seen W.held now visit.now self.old self.new result }
+        ensures runs { RunsOn D.seen
+            self.old.states.journal.live.disk self.new.states.journal.live.disk }
+        ensures ranges { IfOk result (λ answer. AllByRecursion IsSmallGrant answer.grants) }
+    {
+        let ready = ready(
+            self.alloc,
+            &self.conf,
+            &self.log,
+            &self.states,
+            &mut self.windows,
+            visit,
+            acks,
+            limits,
+        )?;
+        let ack = settle_acks(
+            &self.conf,
+            &self.log,
+            &mut self.states,
+            &mut self.windows,
+            visit,
+            acks,
+        )?;
+        self.clock = self.clock.max(now);
+        let (plan, out) = chosen(ready, ack);
+        let answer = hand_out(
+            &self.conf,
+            &mut self.log,
+            &mut self.windows,
+            self.clock,
+            visit,
+            plan,
+            out,
+        );
+        Ok(with_ack(ack, answer))
+    }
+
+    /// Does what a member of a group asks of the partition, at the moment `now`. The shard's clock is raised to it first.
+    ///
+    /// The acknowledgements come first: all are stored by one write and end the holds of the offsets that they name, or none is. What
+    /// the visit asks for follows them, whatever became of them.
+    ///
+    /// A fetch walks the first 2000 slots from the start of the group's table, in order, and acquires those that are available, until
+    /// the record limit is used up, or a batch doesn't fit. The first fetch of a group makes its table, which is stored first; where
+    /// that fails nothing is acquired. A fetch of a group that has a table takes all its memory before the acknowledgements are written.
+    /// After want of memory nothing has changed; but where a write of the acknowledgements came to the device before, and a release behind
+    /// them found none, what they left stands, and the clock is raised.
+    pub fn visit(&mut self, now: u64, visit: &Visit) -> Result<VisitAnswer, NoMemory>
+        requires now { now ≤ 2 ^ 62 }
+        ensures once { VisitsOnce D.seen W.held now visit.now self.old self.new result }
+        ensures runs { RunsOn D.seen
+            self.old.states.journal.live.disk self.new.states.journal.live.disk }
+        ensures ranges { IfOk result (λ answer. AllByRecursion IsSmallGrant answer.grants) }
+    {
+        let acks = judge_acks(
+            self.alloc,
+            &self.conf,
+            &self.log,
+            &self.states,
+            &self.windows,
+            visit,
+        )?;
+        let Then::Fetch {
+            records,
+            bytes,
+            first,
+        } = visit.then
+        else {
+            return self.visit_plain(now, visit, &acks);
+        };
+        if !has_table(&self.conf, &self.states, &visit.group) {
+            return self.visit_plain(now, visit, &acks);
+        }
+        let limits = Limits {
+            records,
+            bytes,
+            first,
+        };
+        self.visit_table(now, visit, &acks, limits)
     }
 
     /// Gives back the records whose acquisition lock has ended. The clock is raised to `now` first, and a lock has ended that ends at the clock

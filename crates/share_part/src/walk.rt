@@ -1,10 +1,11 @@
 // The acquisition walk. It goes by the runs of what is held and stored, and by batches.
-ghost use Rattle.std.specs.Prelude.{◌≡◌, ◌≤◌, ◌<◌, ◌^◌, ◌+◌, ℕ, IfOk, OnOk, IfSome, None, vec_len};
+ghost use Rattle.std.specs.Prelude.{◌≡◌, ◌≤◌, ◌<◌, ◌^◌, ◌+◌, ◌++◌, ℕ, IfOk, OnOk, IfSome, None, vec_len};
 ghost use Rattle.share_model.specs.Held.{Held, hold_at};
 ghost use Rattle.share_model.specs.Logs.{IsSlot};
+ghost use Rattle.share_model.specs.Runs.{IsCanonical};
 ghost use Rattle.share_model.specs.declared.row.RowState.TheVariants.{Available};
 ghost use Rattle.part_log.specs.Logs.{IsStoredLog};
-ghost use Rattle.share_part.specs.Collecting.{Collects, GoesOver, IsPlanOf, IsStretch, LieAtSlots};
+ghost use Rattle.share_part.specs.Collecting.{Collects, GoesOver, IsPlanOf, IsStretch, LieAtSlots, left_by};
 ghost use Rattle.share_part.specs.Slots.{next_slot};
 ghost use Rattle.share_part.specs.Tables.{MayGoOut, one_more};
 ghost use Rattle.share_part.specs.Walks.{Walk, acquired};
@@ -17,7 +18,7 @@ use edge_io::Disk;
 use lock_index::Window;
 use offset_runs::Runs;
 use part_log::PartLog;
-use share_model::{NoMemory, RowState};
+use share_model::{NoMemory, RowState, Run};
 use std::alloc::Global;
 
 /// How many slots from the start of a table a walk goes over.
@@ -86,10 +87,34 @@ fn stretch_from<W: Window>(rows: &Runs, window: &W, slot: u64) -> Stretch
     }
 }
 
+// The same once rows are laid over what is held and stored, which end the holds of their offsets.
+fn stretch_laid<W: Window>(changed: &[Run], rows: &Runs, window: &W, slot: u64) -> Stretch
+    requires canonical { IsCanonical changed.now }
+    requires changed { MayGoOut changed.now }
+    requires rows { MayGoOut rows.now }
+    ensures { IsStretch (changed.now ++ rows.now) (left_by changed.now (W.held window.now)) slot result.last result.count }
+{
+    let Some(run) = run_from(changed, slot) else {
+        return stretch_from(rows, window, slot);
+    };
+    if slot < run.first {
+        let stretch = stretch_from(rows, window, slot);
+        return Stretch {
+            last: stretch.last.min(run.first - 1),
+            count: stretch.count,
+        };
+    }
+    Stretch {
+        last: run.last,
+        count: delivery_of(run.state, run.count),
+    }
+}
+
 // The slots from one on, as many as go out alike, and at most so many. Tells how many. `None` where the walk ends at the first.
 fn step<D: Disk, W: Window>(
     collector: &mut Collector,
     log: &PartLog<D>,
+    changed: &[Run],
     rows: &Runs,
     window: &W,
     slot: u64,
@@ -98,14 +123,16 @@ fn step<D: Disk, W: Window>(
     requires sound { IsStoredLog log.now.batches }
     requires slot { IsSlot log.now.batches slot }
     requires rows { MayGoOut rows.now }
-    requires lie { LieAtSlots log.now.batches rows.now (W.held window.now) }
+    requires canonical { IsCanonical changed.now }
+    requires changed { MayGoOut changed.now }
+    requires lie { LieAtSlots log.now.batches (changed.now ++ rows.now) (left_by changed.now (W.held window.now)) }
     requires most { 1 ≤ most }
     ensures goes { IfOk result (λ on. (start : ℕ) (walk : Walk) → Collects log.now.batches collector.old walk →
-        GoesOver log.now.batches (record { start = start; rows = rows.now; held = W.held window.now }) collector.new walk slot on) }
+        GoesOver log.now.batches (record { start = start; rows = changed.now ++ rows.now; held = left_by changed.now (W.held window.now) }) collector.new walk slot on) }
     ensures most { IfOk result (λ on. IfSome on (λ n. n ≤ most)) }
     ensures grants { OnOk result (vec_len collector.new.grants ≤ vec_len collector.old.grants + 1) }
 {
-    let stretch = stretch_from(rows, window, slot);
+    let stretch = stretch_laid(changed, rows, window, slot);
     let Some(count) = stretch.count else {
         let more = u64::from(most - 1).min(stretch.last - slot);
         return Ok(Some(more as u32 + 1));
@@ -127,15 +154,18 @@ fn collect<D: Disk, W: Window>(
     alloc: Global,
     log: &PartLog<D>,
     start: u64,
+    changed: &[Run],
     rows: &Runs,
     window: &W,
     limits: Limits,
 ) -> Result<Collector, NoMemory>
     requires sound { IsStoredLog log.now.batches }
     requires rows { MayGoOut rows.now }
-    requires lie { LieAtSlots log.now.batches rows.now (W.held window.now) }
+    requires canonical { IsCanonical changed.now }
+    requires changed { MayGoOut changed.now }
+    requires lie { LieAtSlots log.now.batches (changed.now ++ rows.now) (left_by changed.now (W.held window.now)) }
     ensures takes { IfOk result (λ c. Collects log.now.batches c
-        (acquired log.now.batches (record { start = start; rows = rows.now; held = W.held window.now }) limits)) }
+        (acquired log.now.batches (record { start = start; rows = changed.now ++ rows.now; held = left_by changed.now (W.held window.now) }) limits)) }
     ensures grants { IfOk result (λ c. vec_len c.grants ≤ 2000) }
 {
     let mut collector = Collector::new(alloc, limits);
@@ -145,7 +175,7 @@ fn collect<D: Disk, W: Window>(
         let Some(slot) = next_slot(log, from) else {
             return Ok(collector);
         };
-        let Some(n) = step(&mut collector, log, rows, window, slot, left)? else {
+        let Some(n) = step(&mut collector, log, changed, rows, window, slot, left)? else {
             return Ok(collector);
         };
         from = slot + u64::from(n);
@@ -154,7 +184,30 @@ fn collect<D: Disk, W: Window>(
     Ok(collector)
 }
 
-/// What a fetch will take of a table with this start, these rows and these holds. It costs the runs and the batches that it walks.
+/// What a fetch will take of a table with this start, these rows and these holds, once `changed` is laid over the rows and ends the holds of
+/// its offsets. It costs the runs and the batches that it walks.
+pub fn plan_laid<D: Disk, W: Window>(
+    alloc: Global,
+    log: &PartLog<D>,
+    start: u64,
+    changed: &[Run],
+    rows: &Runs,
+    window: &W,
+    limits: Limits,
+) -> Result<Plan, NoMemory>
+    requires sound { IsStoredLog log.now.batches }
+    requires rows { MayGoOut rows.now }
+    requires canonical { IsCanonical changed.now }
+    requires changed { MayGoOut changed.now }
+    requires lie { LieAtSlots log.now.batches (changed.now ++ rows.now) (left_by changed.now (W.held window.now)) }
+    ensures is { IfOk result (λ plan. IsPlanOf log.now.batches plan
+        (acquired log.now.batches (record { start = start; rows = changed.now ++ rows.now; held = left_by changed.now (W.held window.now) }) limits)) }
+    ensures grants { IfOk result (λ plan. vec_len plan.grants ≤ 2001) }
+{
+    collect(alloc, log, start, changed, rows, window, limits)?.finish()
+}
+
+/// What a fetch will take of a table with this start, these rows and these holds.
 pub fn plan<D: Disk, W: Window>(
     alloc: Global,
     log: &PartLog<D>,
@@ -170,5 +223,5 @@ pub fn plan<D: Disk, W: Window>(
         (acquired log.now.batches (record { start = start; rows = rows.now; held = W.held window.now }) limits)) }
     ensures grants { IfOk result (λ plan. vec_len plan.grants ≤ 2001) }
 {
-    collect(alloc, log, start, rows, window, limits)?.finish()
+    plan_laid(alloc, log, start, &[], rows, window, limits)
 }
