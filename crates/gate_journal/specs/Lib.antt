@@ -1,3 +1,4 @@
 pub mod Frames
 pub mod Journals
 pub mod Reading
+pub mod Visits

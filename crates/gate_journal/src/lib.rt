@@ -9,14 +9,19 @@
 
 mod buffer;
 mod device;
+mod each;
 mod journal;
 mod opening;
+mod pieces;
 mod reading;
 mod repair;
 mod text;
+mod visit;
 mod writer;
 
 pub use buffer::buffer_of;
+pub use each::start_each;
 pub use journal::Journal;
 pub use opening::{StartFault, start};
 pub use text::journal_text_is_read_one_way;
+pub use visit::FrameVisit;

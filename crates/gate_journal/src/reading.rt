@@ -28,7 +28,7 @@ fn frame_len<D: Disk>(disk: &mut D, place: u64) -> Result<usize, Failed>
 }
 
 // Appends so many bytes that stand at a place.
-fn append_at<D: Disk>(
+pub fn append_at<D: Disk>(
     disk: &mut D,
     place: u64,
     len: usize,
@@ -40,6 +40,7 @@ fn append_at<D: Disk>(
     ensures spare { OnErr result (vec_capacity out.old - vec_len out.old ≤ vec_capacity out.new - vec_len out.new) }
     ensures less { OnOk result (vec_capacity out.old - vec_len out.old ≤ vec_capacity out.new - vec_len out.new + len) }
     ensures extends { OnOk result (ExtendsWithin len out.old.items out.new.items) }
+    ensures len { OnOk result (length out.new.items ≡ length out.old.items + len) }
     ensures spared { len ≤ vec_capacity out.old - vec_len out.old → result ≢ Err BatchRead.NoMemory }
     ensures looks { LooksAt D.seen disk.old disk.new }
     ensures disk { MakesUpTo D.seen 1 disk.old disk.new (result ≡ Err BatchRead.Device) }

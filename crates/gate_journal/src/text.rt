@@ -23,7 +23,7 @@ pub fn word(bytes: &[u8]) -> usize
 }
 
 // The frame behind an open gate, and the bytes from the next gate on.
-fn next_frame(behind: &[u8]) -> Option<(&[u8], &[u8])>
+pub fn next_frame(behind: &[u8]) -> Option<(&[u8], &[u8])>
     ensures { MatchOption result (IsBroken behind.now)
         (λ x. IsFrame x.0.now × (0 < length x.1.now) × (behind.now ≡ behind_gate x.0.now ++ x.1.now)) }
 {

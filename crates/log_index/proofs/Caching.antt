@@ -1,6 +1,6 @@
 -- What is cached.
-use Rattle.std.proofs.Common.{◌≡◌, ◌⊎◌, inl, inr, ℕ, List, ◌++◌, Contains, refl, sym, ap, ◌∙◌, subst, arith, rules, true, nat_eq}
-use Rattle.std.proofs.Common.{length, ◌≤◌, Option, Some, Result, Ok, Err, OnOk, OnErr, IsOk, MatchResult}
+use Rattle.std.proofs.Common.{◌≡◌, ◌⊎◌, inl, inr, ℕ, List, Contains, refl, sym, subst, rules, true, nat_eq}
+use Rattle.std.proofs.Common.{length, ◌≤◌, Some, Result, Ok, Err, OnOk, OnErr, IsOk}
 use Rattle.std.specs.Map.{lookup}
 use Rattle.share_model.specs.Rooms.{Appends, Filled}
 use Rattle.share_model.specs.declared.fault.BatchRead.{BatchRead}
@@ -17,10 +17,13 @@ same_number k n e = search rules
 pub put_also : (c : LruCache ℕ (List ℕ)) (number : ℕ) (bytes : List ℕ) → CachesAlso c.entries number (λ b. b ≡ bytes) (put_entries nat_eq c number bytes)
 put_also c number bytes k b has = elim (Contains-put_entries nat_eq c number bytes (k, b) has) [
   | inl was ↦ inl was
-  | inr is ↦ inr (elim is.1 [
-    | inl same ↦ same
-    | inr found ↦ same_number number k found.2
-  ], is.0)
+  | inr is ↦ inr (
+    elim is.1 [
+      | inl same ↦ same
+      | inr found ↦ same_number number k found.2
+    ],
+    is.0,
+  )
 ]
 
 -- what was put, if there was memory for it
@@ -38,7 +41,6 @@ pub found_here : (es : List (ℕ × List ℕ)) (number : ℕ) (bytes : List ℕ)
 found_here es number bytes found =
     let at = Contains-lookup (nat_eq number) es bytes found in
     subst (λ k. Contains es (k, bytes)) (same_number number at.0 at.2) at.1
-
 
 -- what the match of an append makes
 pub appended_ok : (old new : Filled) (slice bytes : List ℕ) (read : Result (Unit {0}) BatchRead) → slice ≡ bytes → read ≡ Ok tt → Appends old new slice → IsAppended read old new bytes

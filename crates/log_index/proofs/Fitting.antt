@@ -1,6 +1,6 @@
 -- The cache fits the journal, before a read and after it.
-use Rattle.std.proofs.Common.{◌≡◌, ◌≢◌, ◌⊎◌, inl, inr, ℕ, ◌≤◌, ◌<◌, ◌+◌, List, [], ◌∷◌, ◌++◌, length, take, drop, take-append-drop, length-append, length-drop, ◌-◌, get_or, Contains, zero, suc}
-use Rattle.std.proofs.Common.{refl, sym, ap, ◌∙◌, subst, arith, rules, Option, Some, Result, Ok, Err, OnOk, OnErr, IsOk, is_some, true}
+use Rattle.std.proofs.Common.{◌≡◌, ◌≢◌, inl, inr, ℕ, ◌≤◌, ◌<◌, List, [], ◌∷◌, ◌++◌, length, take, drop, take-append-drop, length-append, length-drop, ◌-◌, get_or, Contains, zero, suc}
+use Rattle.std.proofs.Common.{refl, sym, ap, ◌∙◌, subst, arith, rules, Some, Result, Ok, Err, OnOk, IsOk, is_some}
 use Rattle.std.proofs.Math.Seq.{get_or-append_seam}
 use Rattle.std.proofs.lemmas.List.{drop_at, take_all}
 use Rattle.edge_io.specs.Disk.{IsTold}

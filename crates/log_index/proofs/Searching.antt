@@ -1,6 +1,6 @@
 -- Batches by offset.
-use Rattle.std.proofs.Common.{◌≡◌, inl, inr, ℕ, zero, suc, ◌+◌, ◌<◌, ◌≤◌, max, List, [], ◌∷◌, ◌++◌, length, get_or, refl, sym, ap, ◌∙◌, arith}
-use Rattle.std.specs.Prelude.{map, Some, nat_lt, true, false}
+use Rattle.std.proofs.Common.{◌≡◌, inl, inr, ℕ, zero, suc, ◌+◌, ◌<◌, ◌≤◌, max, List, [], ◌∷◌, ◌++◌, length, get_or, refl, ap, arith}
+use Rattle.std.specs.Prelude.{Some, nat_lt, true, false}
 use Rattle.std.proofs.Common.{rules}
 use Rattle.std.specs.List.Sorted.{IsNonDecreasingBy}
 use Rattle.share_model.specs.Logs.{Batch, Covers, IsNextSlot, IsSlot, RisesFrom, end_of}
@@ -95,7 +95,6 @@ ends_by xs o n within pass fail = record {
   below = λ k d lt. lt_yes _ _ (pass k d (omega arith) lt);
   behind = λ k d lo hi. lt_no _ _ (fail k d lo hi);
 }
-
 
 -- ---- one more
 

@@ -61,8 +61,9 @@ impl LogIndex {
         requires order { base ≤ last }
         requires behind { end_of (log_of self.old.entries) ≤ base }
         ensures ok { OnOk result (self.new ≡ record {
-            entries = self.old.entries ++ record { base = base; last = last; size = size; place = place } ∷ [];
-            cached = self.old.cached }) }
+          entries = self.old.entries ++ record { base = base; last = last; size = size; place = place } ∷ [];
+          cached = self.old.cached;
+        }) }
         ensures err { OnErr result (self.new ≡ self.old) }
     {
         self.entries.push(Entry {

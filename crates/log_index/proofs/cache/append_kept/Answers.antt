@@ -1,4 +1,4 @@
-use Rattle.std.proofs.Common.{sym, ap, subst, nat_eq, Contains, List, ℕ}
+use Rattle.std.proofs.Common.{sym, subst, nat_eq, Contains, List, ℕ}
 use Rattle.lru.specs.LruCache.{LruCache}
 use Rattle.lru.proofs.CallerLemmas.{Contains-promoted}
 use Rattle.log_index.proofs.Caching.{appended_err, appended_ok, found_here}

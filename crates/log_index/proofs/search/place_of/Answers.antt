@@ -1,6 +1,5 @@
 use Rattle.std.proofs.Common.{arith, refl, length, get_or, ◌<◌}
-use Rattle.log_index.specs.declared.entry.Entry.{Entry}
-use Rattle.log_index.proofs.Searching.{There, none_left, there}
+use Rattle.log_index.proofs.Searching.{none_left, there}
 use Rattle.log_index.proofs.search.place_of.Goals as goal
 
 pub returns-then-count-entries : goal.returns-then-count-entries

@@ -1,4 +1,4 @@
-use Rattle.std.proofs.Common.{◌≤◌, List, sym, ap, subst, arith}
+use Rattle.std.proofs.Common.{◌≤◌, List, sym, subst, arith}
 use Rattle.share_model.specs.Logs.{IsLog, end_of}
 use Rattle.log_index.specs.Indexes.{IndexParts, log_of}
 use Rattle.log_index.specs.declared.entry.Entry.{Entry}

@@ -1,4 +1,4 @@
-use Rattle.std.proofs.Common.{◌<◌, ◌≡◌, inl, ◌++◌, List, ℕ, length, sym, ap, subst, arith, Contains}
+use Rattle.std.proofs.Common.{◌<◌, ◌≡◌, inl, ◌++◌, length, sym, ap, subst, Contains}
 use Rattle.share_model.specs.Rooms.{Filled}
 use Rattle.log_index.specs.Indexes.{IndexParts, IsEntryAt}
 use Rattle.log_index.specs.declared.entry.Entry.{Entry}
