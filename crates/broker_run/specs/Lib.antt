@@ -6,3 +6,4 @@ pub mod Acting
 pub mod Telling
 pub mod Serving
 pub mod Expiring
+pub mod Homes

@@ -1,0 +1,10 @@
+use Rattle.std.proofs.Common.{◌≤◌, vec_len}
+use Rattle.std.specs.List.{AllByRecursion}
+use Rattle.broker_run.specs.Homes.{IsHome}
+use Rattle.broker_run.proofs.jobs.start_workers.Given as goal
+
+abbrev pub invariant-loop-row : goal.invariant-loop-row
+invariant-loop-row g l = AllByRecursion (IsHome g.B.Naming.shared) l.passes.items × (g.P.Spawner.faults l.fn.spawner ≤ g.P.Spawner.faults l.spawner)
+
+abbrev pub decreases-loop-row : goal.decreases-loop-row
+decreases-loop-row g l = vec_len l.passes

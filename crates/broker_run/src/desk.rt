@@ -1,0 +1,102 @@
+// The desk of a server, a lock under which links wait for a worker and passes come back.
+ghost use Rattle.std.specs.Prelude.{◌≡◌, vec_len};
+
+use crate::naming::{Handed, Naming};
+use edge_io::Disk;
+use share_model::NoMemory;
+use std::alloc::Global;
+use std::collections::VecDeque;
+use std::mem;
+use std::sync::{Condvar, Mutex, Wait};
+
+/// What lies under the lock: links that wait for a worker, whether the end was told, and the passes that came back.
+#[derive(Drop)]
+struct Papers<K, D: Disk, B: Naming<D>> {
+    links: VecDeque<(u32, K)>,
+    ended: bool,
+    home: Vec<Handed<D, B>>,
+}
+
+/// The desk. Whoever changes what lies on it wakes those who wait there.
+#[derive(Drop)]
+pub struct Desk<K, D: Disk, B: Naming<D>> {
+    papers: Mutex<Papers<K, D, B>>,
+    moved: Condvar,
+}
+
+impl<K, D: Disk, B: Naming<D>> Desk<K, D, B> {
+    /// An empty desk, with room for so many rows of passes.
+    pub fn new(alloc: Global, seats: usize) -> Result<Desk<K, D, B>, NoMemory>
+    where
+        K: Drop,
+        D: Drop,
+        B: Drop,
+    {
+        let home = Vec::with_capacity(alloc, seats)?;
+        let papers = Papers {
+            links: VecDeque::new(alloc),
+            ended: false,
+            home,
+        };
+        Ok(Desk {
+            papers: Mutex::new(papers),
+            moved: Condvar::new(),
+        })
+    }
+
+    /// The next link, for which it waits. None: the end was told, and no link is left.
+    pub fn next<R: Wait>(&self, rt: &R) -> Option<(u32, K)> {
+        let mut papers = self.moved.wait_while(rt, self.papers.lock(rt), |papers| {
+            papers.links.is_empty() && !papers.ended
+        });
+        papers.links.pop_front()
+    }
+
+    /// Puts a link down for a worker.
+    pub fn put<R: Wait>(&self, rt: &R, number: u32, link: K) -> Result<(), NoMemory>
+    where
+        K: Drop,
+    {
+        let mut papers = self.papers.lock(rt);
+        papers.links.push_back((number, link))?;
+        self.moved.notify_all();
+        Ok(())
+    }
+
+    /// Tells all jobs the end.
+    pub fn end<R: Wait>(&self, rt: &R) {
+        let mut papers = self.papers.lock(rt);
+        papers.ended = true;
+        self.moved.notify_all();
+    }
+
+    /// Whether the end was told.
+    pub fn is_ended<R: Wait>(&self, rt: &R) -> bool {
+        let papers = self.papers.lock(rt);
+        papers.ended
+    }
+
+    /// Hands passes back. There is room for those of all seats.
+    pub fn give_back<R: Wait>(&self, rt: &R, handed: Handed<D, B>)
+    where
+        D: Drop,
+        B: Drop,
+    {
+        let mut guard = self.papers.lock(rt);
+        let papers = &mut *guard;
+        if papers.home.len() < papers.home.capacity() {
+            papers.home.push_reserved(handed);
+        }
+        self.moved.notify_all();
+    }
+
+    /// Waits until the passes of so many seats came back, and takes them.
+    pub fn all_home<R: Wait>(&self, rt: &R, alloc: Global, seats: usize) -> Vec<Handed<D, B>>
+        ensures { vec_len result ≡ seats }
+    {
+        let mut papers = self.moved.wait_while(rt, self.papers.lock(rt), |papers| {
+            papers.home.len() != seats
+        });
+        mem::replace(&mut papers.home, Vec::new(alloc))
+    }
+}

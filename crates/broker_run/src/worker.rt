@@ -1,0 +1,134 @@
+// What the jobs of a server do: a worker serves links from the desk, and the expiry worker expires locks and sessions, each through its own passes.
+use crate::connection::serve_connection;
+use crate::desk::Desk;
+use crate::expiry::expiry_turn;
+use crate::naming::{Handed, Named, Naming};
+use edge_io::{Clock, Disk, Gate, Link};
+use std::alloc::Global;
+use std::sync::{Arc, Wait};
+
+/// What a job has: its own passes and clock, and with the others the locks and the desk.
+#[derive(Drop)]
+pub struct Hand<R, K, C, D: Disk, B: Naming<D>> {
+    pub rt: R,
+    pub shared: Named<D, B>,
+    pub desk: Arc<Desk<K, D, B>, Global>,
+    pub handed: Handed<D, B>,
+    pub clock: C,
+}
+
+// Serves one link.
+fn serve_link<R: Wait, K: Link, C: Clock, G: Gate, D: Disk, B: Naming<D>>(
+    rt: &R,
+    alloc: Global,
+    shared: &Named<D, B>,
+    handed: Handed<D, B>,
+    number: u32,
+    link: &mut K,
+    clock: &mut C,
+    gate: &G,
+) -> Handed<D, B> {
+    let mut passes = handed.into_passes();
+    let _ended = serve_connection(
+        rt,
+        alloc,
+        shared.get(),
+        &mut passes,
+        number,
+        link,
+        clock,
+        gate,
+    );
+    Handed::new(passes)
+}
+
+// Serves links from the desk until the end was told and none is left.
+fn serve_all<R: Wait, K: Link + Drop, C: Clock, G: Gate, D: Disk, B: Naming<D>>(
+    rt: &R,
+    alloc: Global,
+    shared: &Named<D, B>,
+    desk: &Desk<K, D, B>,
+    handed: Handed<D, B>,
+    clock: &mut C,
+    gate: &G,
+) -> Handed<D, B> {
+    let mut handed = handed;
+    for _ in rt.forever() {
+        let Some((number, mut link)) = desk.next(rt) else {
+            return handed;
+        };
+        handed = serve_link::<R, K, C, G, D, B>(
+            rt, alloc, shared, handed, number, &mut link, clock, gate,
+        );
+    }
+    unreachable!()
+}
+
+// One turn of expiries.
+fn expire<R: Wait, C: Clock, D: Disk, B: Naming<D>>(
+    rt: &R,
+    shared: &Named<D, B>,
+    handed: Handed<D, B>,
+    clock: &mut C,
+) -> Handed<D, B> {
+    let mut passes = handed.into_passes();
+    let _answer = expiry_turn(rt, shared.get(), &mut passes, clock);
+    Handed::new(passes)
+}
+
+// Does a turn of expiries and pauses for a second, again and again, until the end was told.
+fn expire_all<R: Wait, K, C: Clock, D: Disk, B: Naming<D>>(
+    rt: &R,
+    shared: &Named<D, B>,
+    desk: &Desk<K, D, B>,
+    handed: Handed<D, B>,
+    clock: &mut C,
+) -> Handed<D, B> {
+    let mut handed = handed;
+    for _ in rt.forever() {
+        if desk.is_ended(rt) {
+            return handed;
+        }
+        handed = expire::<R, C, D, B>(rt, shared, handed, clock);
+        clock.pause(1000);
+    }
+    unreachable!()
+}
+
+impl<R: Wait + Drop, K: Link + Drop, C: Clock + Drop, D: Disk + Drop, B: Naming<D> + Drop> Hand<
+    R,
+    K,
+    C,
+    D,
+    B,
+> {
+    /// The job of a worker. It lets go of the locks before its passes come back.
+    pub fn work<G: Gate + Drop>(self, alloc: Global, gate: Arc<G, Global>) {
+        let Hand {
+            rt,
+            shared,
+            desk,
+            handed,
+            mut clock,
+        } = self;
+        let handed = serve_all::<R, K, C, G, D, B>(
+            &rt, alloc, &shared, &desk, handed, &mut clock, &*gate,
+        );
+        drop(shared);
+        desk.give_back(&rt, handed);
+    }
+
+    /// The job of the expiry worker.
+    pub fn sweep(self) {
+        let Hand {
+            rt,
+            shared,
+            desk,
+            handed,
+            mut clock,
+        } = self;
+        let handed = expire_all::<R, K, C, D, B>(&rt, &shared, &desk, handed, &mut clock);
+        drop(shared);
+        desk.give_back(&rt, handed);
+    }
+}
