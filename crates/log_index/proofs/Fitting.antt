@@ -1,8 +1,8 @@
 -- The cache fits the journal, before a read and after it.
-use Rattle.std.proofs.Common.{◌≡◌, ◌≢◌, inl, inr, ℕ, ◌≤◌, ◌<◌, List, [], ◌∷◌, ◌++◌, length, take, drop, take-append-drop, length-append, length-drop, ◌-◌, get_or, Contains, zero, suc}
+use Rattle.std.proofs.Common.{◌+◌, ◌⊎◌, ◌≡◌, ◌≢◌, inl, inr, ℕ, ◌≤◌, ◌<◌, List, [], ◌∷◌, ◌++◌, length, take, drop, take-append-drop, length-append, length-drop, ◌-◌, get_or, Contains, zero, suc}
 use Rattle.std.proofs.Common.{refl, sym, ap, ◌∙◌, subst, arith, rules, Some, Result, Ok, Err, OnOk, IsOk, is_some}
 use Rattle.std.proofs.Math.Seq.{get_or-append_seam}
-use Rattle.std.proofs.lemmas.List.{drop_at, take_all}
+use Rattle.std.proofs.lemmas.List.{drop_at, get_or_append_left, take_all}
 use Rattle.edge_io.specs.Disk.{IsTold}
 use Rattle.edge_io.specs.Views.{DiskView}
 use Rattle.gate_journal.specs.Reading.{ExtendsWithin, HasFrameAt, ReadsOnly}
@@ -174,3 +174,39 @@ fits_more seen old a number entry cached r before after fits here ok extends als
     on_ok_is : (r : Result (Unit {0}) BatchRead) (P : Type 0) → OnOk r P → IsOk r → P
     on_ok_is (Ok x) P p is = p
     on_ok_is (Err x) P p is = absurd (search (rules, is))
+
+-- ---- one batch more, for those who append to the journal and push
+
+last_or_before : (entries : List Entry) (e x : Entry) (n : ℕ) → IsEntryAt (entries ++ e ∷ []) n x → IsEntryAt entries n x ⊎ ((n ≡ length entries) × (e ≡ x))
+last_or_before entries e x n at =
+    let below : n < length entries + 1 = omega (arith, entry_below (entries ++ e ∷ []) n x at, length-append entries (e ∷ [])) in
+    let found : get_or (entries ++ e ∷ []) n x ≡ x = entry_is (entries ++ e ∷ []) n x x at in
+    elim (split n (length entries)) [
+      | inl lt ↦ inl (subst (λ (f : Entry). IsEntryAt entries n f) (sym (get_or_append_left entries (e ∷ []) x n lt) ∙ found) (entry_at entries n x lt))
+      | inr le ↦
+          let last : n ≡ length entries = omega (arith, below, le) in
+          inr (last, sym (get_or-append_seam entries e [] x) ∙ ap (λ (k : ℕ). get_or (entries ++ e ∷ []) k x) (sym last) ∙ found)
+    ]
+  where
+    split : (n m : ℕ) → (n < m) ⊎ (m ≤ n)
+    split n m = grind arith
+
+-- what holds of an index still does when a frame was appended to its journal and pushed
+pub pushed_fits : {D : Type 0} (seen : D → DiskView) (old : IndexParts) (a b : Writer D) (e : Entry) (frame : List ℕ) → Indexes seen old a
+    → ((place : ℕ) (frame : List ℕ) → HasFrameAt seen a place frame → HasFrameAt seen b place frame) → (IsTold (seen b.disk).content → IsTold (seen a.disk).content)
+    → HasFrameAt seen b e.place frame → length frame ≡ e.size → Indexes seen (record { entries = old.entries ++ e ∷ []; cached = old.cached }) b
+pushed_fits seen old a b e frame fits keeps back here size = record {
+  frames = λ n x at. elim (last_or_before old.entries e x n at) [
+    | inl was ↦ let f = fits.frames n x was in (f.0, keeps x.place f.0 f.1, f.2)
+    | inr is ↦ (frame, subst (λ (f : Entry). HasFrameAt seen b f.place frame) is.1 here, size ∙ ap (λ (f : Entry). f.size) is.1)
+  ];
+  cached = λ told n bytes x has at. elim (last_or_before old.entries e x n at) [
+    | inl was ↦ keeps x.place bytes (fits.cached (back told) n bytes x has was)
+    | inr is ↦ absurd (omega (arith, is.0, fits.known n bytes has))
+  ];
+  known = λ n bytes has. omega (arith, fits.known n bytes has, length-append old.entries (e ∷ []));
+  short = λ n bytes x has at. elim (last_or_before old.entries e x n at) [
+    | inl was ↦ fits.short n bytes x has was
+    | inr is ↦ absurd (omega (arith, is.0, fits.known n bytes has))
+  ];
+}
