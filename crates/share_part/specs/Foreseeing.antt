@@ -1,5 +1,7 @@
--- The table that acts will leave, told before they are stored: what a fetch will take of it. Private clauses cite this alone.
--- For example where `a` holds 0 to 2 and accepts 0, a fetch behind it begins at 1, and where it releases 1 it takes that again.
+-- The table that acts will leave, told before they are stored: what a fetch will take of it. Private clauses cite this
+-- alone.
+-- For example where `a` holds 0 to 2 and accepts 0, a fetch behind it begins at 1, and where it releases 1 it takes that
+-- again.
 use Rattle.std.specs.Prelude.{◌≡◌, ◌≤◌, ℕ, pos, List, [], vec_len, IfSome, IsSome, Option, None, Some, nat_lt, unwrap_or, if◌then◌else◌}
 use Rattle.std.specs.BTreeMap.{is_at}
 use Rattle.std.specs.Cmp.Lexicographic.{slice_cmp}
@@ -46,13 +48,15 @@ IsPlanBehind limit acts log table change limits plan = (next : ShareState) → I
 
 -- the state of a group, and what acts change of it
 abbrev pub HasChange : ℕ → Acts → List Batch → Held → Option ShareState → Change → Type 0
-HasChange limit acts log held o change = (state : ShareState) × (o ≡ Some state) × IsChange limit acts log (table_of state held) change
+HasChange limit acts log held o change =
+    (state : ShareState) × (o ≡ Some state) × IsChange limit acts log (table_of state held) change
 
 -- what the acknowledgements of a visit come to for a group that holds this, and has this state, if it has one
 abbrev pub JudgesAcks : ℕ → Visit → List Batch → Held → Option ShareState → Acks → Type 0
 JudgesAcks limit visit log held state (Malformed fault) = IsFirstFault visit.acks fault
 JudgesAcks limit visit log held state Empty = IsWellFormed visit.acks × NameNone (kind_at visit.acks)
-JudgesAcks limit visit log held state (NotHeld least) = IsWellFormed visit.acks × NameOne (kind_at visit.acks) × IsLeastMissing visit.member (kind_at visit.acks) held least
+JudgesAcks limit visit log held state (NotHeld least) = IsWellFormed visit.acks × NameOne (kind_at visit.acks)
+    × IsLeastMissing visit.member (kind_at visit.acks) held least
 JudgesAcks limit visit log held state (Changes change) = IsWellFormed visit.acks × NameOne (kind_at visit.acks)
     × AreHeldBy visit.member (kind_at visit.acks) held × HasChange limit (kind_at visit.acks) log held state change
 
@@ -61,7 +65,8 @@ abbrev pub HasSpare : {W : Type 0} → (W → ℕ) → List (List ℕ × W) → 
 HasSpare spare windows group n = IsSome (lookup (is_at (slice_cmp nat_cmp group)) windows)
     × IfSome (lookup (is_at (slice_cmp nat_cmp group)) windows) (λ w. n ≤ spare w)
 
--- memory is set aside for what a fetch will take: in the window of the group for its holds, and in the room for the bytes of its batches
+-- memory is set aside for what a fetch will take: in the window of the group for its holds, and in the room for the
+-- bytes of its batches
 abbrev pub HasRoomFor : {W : Type 0} → (W → ℕ) → List (List ℕ × W) → List ℕ → Filled → Plan → Type 0
 HasRoomFor spare windows group out plan = HasSpare spare windows group plan.count × (plan.size ≤ out.spare)
 
@@ -71,15 +76,16 @@ MovesBy limit visit log table limits (Malformed fault) moves = moves ≡ None
 MovesBy limit visit log table limits Empty moves = moves ≡ None
 MovesBy limit visit log table limits (NotHeld least) moves = moves ≡ None
 MovesBy limit visit log table limits (Changes change) None = ⊥
-MovesBy limit visit log table limits (Changes change) (Some plan) = IsPlanBehind limit (kind_at visit.acks) log table change limits plan
+MovesBy limit visit log table limits (Changes change) (Some plan) =
+    IsPlanBehind limit (kind_at visit.acks) log table change limits plan
 
 -- few enough grants that an answer can tell them
 abbrev pub IsTold : Plan → Type 0
 IsTold plan = vec_len plan.grants ≤ 2001
 
 -- a fetch of a group that has this table is ready, whatever becomes of the write before it
-pub record IsReady {W : Type 0} (spare : W → ℕ) (windows : List (List ℕ × W)) (limit : ℕ) (visit : Visit) (log : List Batch) (table : Table)
-    (acks : Acks) (limits : Limits) (ready : Ready) : Type 0 where
+pub record IsReady {W : Type 0} (spare : W → ℕ) (windows : List (List ℕ × W)) (limit : ℕ) (visit : Visit)
+    (log : List Batch) (table : Table) (acks : Acks) (limits : Limits) (ready : Ready) : Type 0 where
   pub empty : ready.out.bytes ≡ []
   pub stays : IsPlanOf log ready.stays (acquired log table limits)
   pub moves : MovesBy limit visit log table limits acks ready.moves

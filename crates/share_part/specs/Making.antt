@@ -42,7 +42,8 @@ IsTableRecord old key start one = one ≡ init_record old key (pos 0) (pos start
 
 -- A table that is stored by one record, or isn't.
 pub record MakesOnce {D : Type 0} (seen : D → DiskView) (Failed : D → D → Type 0)
-    (Written : Entries → Type 0) (Is : StateRecord → Type 0) (old new : StoreParts D) (result : Result ThenOutcome want) : Type 0 where
+    (Written : Entries → Type 0) (Is : StateRecord → Type 0) (old new : StoreParts D)
+    (result : Result ThenOutcome want) : Type 0 where
   pub done : Result (Unit {0}) CoordFault
   pub tells : Tells done result
   pub once : WritesOnce seen Failed Written old new done

@@ -46,8 +46,8 @@ pub record FollowsOnce {D W : Type 0} (seen : D → DiskView) (holding : W → H
   pub memory : OnErr result (IsUntouched holding before after)
   pub follows : OnErr result (TakesMemory visit.member (held_in holding before.windows visit.group) visit.then)
   -- which record is stored
-  pub records : IfOk result (λ answer. WritesThen seen before.conf before.log.batches visit (held_in holding before.windows visit.group)
-      before.states after.states answer.then visit.then)
+  pub records : IfOk result (λ answer. WritesThen seen before.conf before.log.batches visit
+      (held_in holding before.windows visit.group) before.states after.states answer.then visit.then)
   -- where the answer tells no store fault, no device call failed
   pub quiet : IfOk result (λ answer. ((fault : StoreFault) → answer.then ≢ Store fault) → AreQuiet seen before after)
   -- with nothing armed, a device fault comes only where the disk finds no memory
@@ -86,8 +86,10 @@ pub record VisitsOnce {D W : Type 0} (seen : D → DiskView) (holding : W → He
       ⊎ ((old : PartShardState) → Carries seen holding before old → AcksStand seen holding now visit before after old))
   -- which records are stored
   pub records : MatchResult result
-      (WritesVisit seen before.conf before.log.batches visit (held_in holding before.windows visit.group) before.states after.states)
-      (λ e. WritesPart seen before.conf before.log.batches visit (held_in holding before.windows visit.group) before.states after.states)
+      (WritesVisit seen before.conf before.log.batches visit (held_in holding before.windows visit.group)
+      before.states after.states)
+      (λ e. WritesPart seen before.conf before.log.batches visit (held_in holding before.windows visit.group)
+      before.states after.states)
   -- where the answer tells no store fault, no device call failed
   pub quiet : IfOk result (λ answer. ((fault : StoreFault) → answer.ack ≢ ack_store fault) → ((fault : StoreFault) → answer.then ≢ Store fault) →
       AreQuiet seen before after)
@@ -131,7 +133,8 @@ pub record ExpiresOnce {D W : Type 0} (seen : D → DiskView) (holding : W → H
   pub memory : OnErr result ((after ≡ before)
       ⊎ ((old : PartShardState) → Carries seen holding before old → PartStands seen holding now before after old))
   -- which records are stored
-  pub records : (old : PartShardState) → Carries seen holding before old → WritesExpiry seen before.conf before.log.batches (max before.clock now)
+  pub records : (old : PartShardState) → Carries seen holding before old →
+      WritesExpiry seen before.conf before.log.batches (max before.clock now)
       (held_in holding before.windows) (groups_of (states_of before.states.entries)) before.states after.states result
   -- where nothing is due it takes no memory, and raises the clock alone
   pub nothing_due : IsNothingDue holding before.windows (max before.clock now) →

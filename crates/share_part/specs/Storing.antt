@@ -1,5 +1,5 @@
--- What became of the one write that stores acts, and which record it stores. Of these public clauses cite `IsActsStored`, by `Writes`, and the
--- private ones the others.
+-- What became of the one write that stores acts, and which record it stores. Of these public clauses cite
+-- `IsActsStored`, by `Writes`, and the private ones the others.
 -- For example a write that fails at the device is told by its fault, and leaves the states.
 use Rattle.std.specs.Prelude.{◌≡◌, ◌⊎◌, ℕ, ℤ, pos, negsuc, List, Option, Some, None, Result, Ok, Err, IsErr}
 use Rattle.flex_fields.specs.declared.fault.NoMemory.{NoMemory as want}

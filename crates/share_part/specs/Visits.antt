@@ -52,8 +52,9 @@ pub record StepsVisit (conf : PartConfParts) (count later end last : ℕ) (old :
   pub clock : new.clock ≡ max old.clock now
   pub log : new.log ≡ old.log
 
--- Memory ran out behind the acknowledgements of a visit: their write came to the device, and what they left stands, with the clock raised. A
--- release follows them, of a record at least: a fetch takes its memory before they are written.
+-- Memory ran out behind the acknowledgements of a visit: their write came to the device, and what they left stands,
+-- with the clock raised. A release follows them, of a record at least: a fetch takes its memory before they are
+-- written.
 pub record VisitsPart (conf : PartConfParts) (rose : Type 0) (end : ℕ) (old : PartShardState) (now : ℕ) (visit : Visit)
     (new : PartShardState) : Type 0 where
   pub ack : AckOutcome

@@ -1,9 +1,11 @@
--- Which records the calls on a shard store: one a write, and a write for each list of acts and each new table (KIP-932 stores a share group's
--- state as snapshots and updates; what an update holds is this project's own).
--- Acts on a group's table store an update with the rows that they changed, from the new start on, and with -1 in place of the start where it
--- stays; behind 500 updates it is a snapshot of the whole table. A new table is stored as a snapshot with its start and no rows.
--- Worked example: a log has one batch from 0 to 9, the start is 0, nothing is stored, and `a` holds 0 to 9 with count 1. An accept of 3 stores an
--- update with start -1 and the row of 3. An accept of 0 behind it stores an update with start 1 and no rows: that of 3 isn't stored again.
+-- Which records the calls on a shard store: one a write, and a write for each list of acts and each new table
+-- (KIP-932 stores a share group's state as snapshots and updates; what an update holds is this project's own).
+-- Acts on a group's table store an update with the rows that they changed, from the new start on, and with -1 in
+-- place of the start where it stays; behind 500 updates it is a snapshot of the whole table. A new table is stored
+-- as a snapshot with its start and no rows.
+-- Worked example: a log has one batch from 0 to 9, the start is 0, nothing is stored, and `a` holds 0 to 9 with count
+-- 1. An accept of 3 stores an update with start -1 and the row of 3. An accept of 0 behind it stores an update with
+-- start 1 and no rows: that of 3 isn't stored again.
 use Rattle.std.specs.Prelude.{◌≡◌, ◌⊎◌, ◌++◌, ℕ, List, [], ◌∷◌, Option, Some, None, Result, Ok, Err}
 use Rattle.ack_ranges.specs.Batches.{kind_at}
 use Rattle.coord_checkpoint.specs.Disks.{HasFailed}
@@ -32,23 +34,26 @@ use Rattle.share_part.specs.Settling.{Acts, held_after}
 use Rattle.share_part.specs.Storing.{IsActsStored}
 use Rattle.share_part.specs.Visits.{AreWritten}
 
--- Acts on the table of a group that held this, by the fault that their write met, if it met one. Where they name no offset there is no write.
-abbrev pub WritesActs : {D : Type 0} → (D → DiskView) → PartConfParts → (log : List Batch) → (group : List ℕ) → Acts → (was : Held)
-    → (old new : StoreParts D) → Option StoreFault → Type 0
-WritesActs seen conf log group acts was old new None =
-    (NameNone acts × (new ≡ old)) ⊎ (NameOne acts × IsActsStored seen (HasFailed seen) conf log group acts was old new (Ok tt))
+-- Acts on the table of a group that held this, by the fault that their write met, if it met one. Where they name no
+-- offset there is no write.
+abbrev pub WritesActs : {D : Type 0} → (D → DiskView) → PartConfParts → (log : List Batch) → (group : List ℕ) → Acts
+    → (was : Held) → (old new : StoreParts D) → Option StoreFault → Type 0
+WritesActs seen conf log group acts was old new None = (NameNone acts × (new ≡ old))
+    ⊎ (NameOne acts × IsActsStored seen (HasFailed seen) conf log group acts was old new (Ok tt))
 WritesActs seen conf log group acts was old new (Some fault) =
     NameOne acts × IsActsStored seen (HasFailed seen) conf log group acts was old new (Err (store_fault fault))
 
 -- ---- a visit
 
 -- the acknowledgements, by their answer
-abbrev pub WritesAcks : {D : Type 0} → (D → DiskView) → PartConfParts → (log : List Batch) → Visit → (was : Held) → (old new : StoreParts D)
-    → AckOutcome → Type 0
+abbrev pub WritesAcks : {D : Type 0} → (D → DiskView) → PartConfParts → (log : List Batch) → Visit → (was : Held)
+    → (old new : StoreParts D) → AckOutcome → Type 0
 WritesAcks seen conf log visit was old new (Malformed fault) = new ≡ old
 WritesAcks seen conf log visit was old new (NotHeld offset) = new ≡ old
-WritesAcks seen conf log visit was old new Done = WritesActs seen conf log visit.group (kind_at visit.acks) was old new None
-WritesAcks seen conf log visit was old new (Store fault) = WritesActs seen conf log visit.group (kind_at visit.acks) was old new (Some fault)
+WritesAcks seen conf log visit was old new Done =
+    WritesActs seen conf log visit.group (kind_at visit.acks) was old new None
+WritesAcks seen conf log visit was old new (Store fault) =
+    WritesActs seen conf log visit.group (kind_at visit.acks) was old new (Some fault)
 
 -- what the group holds behind them
 abbrev pub held_behind : Visit → Held → AckOutcome → Held
@@ -58,8 +63,8 @@ held_behind visit was Done = held_after (kind_at visit.acks) was
 held_behind visit was (Store fault) = was
 
 -- what follows them, by its answer
-abbrev pub WritesThen : {D : Type 0} → (D → DiskView) → PartConfParts → (log : List Batch) → Visit → (was : Held) → (old new : StoreParts D)
-    → ThenOutcome → Then → Type 0
+abbrev pub WritesThen : {D : Type 0} → (D → DiskView) → PartConfParts → (log : List Batch) → Visit → (was : Held)
+    → (old new : StoreParts D) → ThenOutcome → Then → Type 0
 WritesThen seen conf log visit was old new outcome Nothing = new ≡ old
 WritesThen seen conf log visit was old new outcome Release =
     WritesActs seen conf log visit.group (releases_of visit.member was) was old new (fault_of outcome)
@@ -67,34 +72,39 @@ WritesThen seen conf log visit was old new outcome (Fetch records bytes first) =
     MakesTableOnce seen (HasFailed seen) conf visit.group (end_of log) old new (Ok outcome)
 
 -- a visit that is answered
-pub record WritesVisit {D : Type 0} (seen : D → DiskView) (conf : PartConfParts) (log : List Batch) (visit : Visit) (was : Held)
-    (old new : StoreParts D) (answer : VisitAnswer) : Type 0 where
+pub record WritesVisit {D : Type 0} (seen : D → DiskView) (conf : PartConfParts) (log : List Batch) (visit : Visit)
+    (was : Held) (old new : StoreParts D) (answer : VisitAnswer) : Type 0 where
   -- the states between the two writes
   pub between : StoreParts D
   pub acks : WritesAcks seen conf log visit was old between answer.ack
-  pub follows : WritesThen seen conf log visit (held_behind visit was answer.ack) between new answer.then visit.then
+  pub follows :
+      WritesThen seen conf log visit (held_behind visit was answer.ack) between new answer.then visit.then
 
 -- a visit that finds no memory: nothing is written, or the acknowledgements are, and nothing behind them
-abbrev pub WritesPart : {D : Type 0} → (D → DiskView) → PartConfParts → (log : List Batch) → Visit → (was : Held) → (old new : StoreParts D) → Type 0
-WritesPart seen conf log visit was old new =
-    (new ≡ old) ⊎ ((ack : AckOutcome) × AreWritten visit ack × WritesAcks seen conf log visit was old new ack)
+abbrev pub WritesPart : {D : Type 0} → (D → DiskView) → PartConfParts → (log : List Batch) → Visit → (was : Held)
+    → (old new : StoreParts D) → Type 0
+WritesPart seen conf log visit was old new = (new ≡ old)
+    ⊎ ((ack : AckOutcome) × AreWritten visit ack × WritesAcks seen conf log visit was old new ack)
 
 -- ---- an expiry
 
 -- what has ended by the clock is released of groups one after another, each by a write of its own
-abbrev pub WritesGroups : {D : Type 0} → (D → DiskView) → PartConfParts → (log : List Batch) → (clock : ℕ) → (List ℕ → Held) → List (List ℕ)
-    → (old new : StoreParts D) → Type 0
+abbrev pub WritesGroups : {D : Type 0} → (D → DiskView) → PartConfParts → (log : List Batch) → (clock : ℕ)
+    → (List ℕ → Held) → List (List ℕ) → (old new : StoreParts D) → Type 0
 WritesGroups seen conf log clock held [] old new = new ≡ old
 WritesGroups {D} seen conf log clock held (group ∷ groups) old new = (between : StoreParts D)
     × WritesActs seen conf log group (ending clock (held group)) (held group) old between None
     × WritesGroups seen conf log clock held groups between new
 
--- An expiry over these groups: all are done, or those up to one whose write fails, or some of them where it finds no memory.
-abbrev pub WritesExpiry : {D : Type 0} → (D → DiskView) → PartConfParts → (log : List Batch) → (clock : ℕ) → (List ℕ → Held) → List (List ℕ)
-    → (old new : StoreParts D) → Result ExpireAnswer NoMemory → Type 0
-WritesExpiry seen conf log clock held groups old new (Ok (expired freed)) = WritesGroups seen conf log clock held groups old new
-WritesExpiry {D} seen conf log clock held groups old new (Ok (expire_store freed group fault)) = (done : List (List ℕ)) × (behind : List (List ℕ))
-    × (groups ≡ done ++ (group ∷ behind)) × (between : StoreParts D) × WritesGroups seen conf log clock held done old between
+-- An expiry over these groups: all are done, or those up to one whose write fails, or some of them where it finds no
+-- memory.
+abbrev pub WritesExpiry : {D : Type 0} → (D → DiskView) → PartConfParts → (log : List Batch) → (clock : ℕ)
+    → (List ℕ → Held) → List (List ℕ) → (old new : StoreParts D) → Result ExpireAnswer NoMemory → Type 0
+WritesExpiry seen conf log clock held groups old new (Ok (expired freed)) =
+    WritesGroups seen conf log clock held groups old new
+WritesExpiry {D} seen conf log clock held groups old new (Ok (expire_store freed group fault)) =
+    (done : List (List ℕ)) × (behind : List (List ℕ)) × (groups ≡ done ++ (group ∷ behind))
+    × (between : StoreParts D) × WritesGroups seen conf log clock held done old between
     × WritesActs seen conf log group (ending clock (held group)) (held group) between new (Some fault)
 WritesExpiry seen conf log clock held groups old new (Err e) = (done : List (List ℕ)) × (behind : List (List ℕ))
     × (groups ≡ done ++ behind) × WritesGroups seen conf log clock held done old new

@@ -100,9 +100,11 @@ pub fn judge_acks<D: Disk, W: Window>(
     visit: &Visit,
 ) -> Result<Acks, NoMemory>
     requires sound { IsStoredLog log.now.batches }
-    requires well { HoldsWell log.now.batches (share_state_at (states_of states.now.entries) (key_of conf.now visit.now.group))
+    requires well { HoldsWell log.now.batches
+        (share_state_at (states_of states.now.entries) (key_of conf.now visit.now.group))
         (held_in W.held windows.now.entries visit.now.group) }
-    ensures { IfOk result (JudgesAcks conf.now.limit visit.now log.now.batches (held_in W.held windows.now.entries visit.now.group)
+    ensures { IfOk result (JudgesAcks conf.now.limit visit.now log.now.batches
+        (held_in W.held windows.now.entries visit.now.group)
         (share_state_at (states_of states.now.entries) (key_of conf.now visit.now.group))) }
 {
     let batches = visit.acks.as_slice();
@@ -134,19 +136,24 @@ pub fn settle_acks<D: Disk, W: Window>(
     requires sound { IsStoredLog log.now.batches }
     requires limit { IsLimit conf.now.limit }
     requires hosted { AreHosted conf.now log.now.batches (states_of states.old.entries) }
-    requires well { HoldsWell log.now.batches (share_state_at (states_of states.old.entries) (key_of conf.now visit.now.group))
+    requires well { HoldsWell log.now.batches
+        (share_state_at (states_of states.old.entries) (key_of conf.now visit.now.group))
         (held_in W.held windows.old.entries visit.now.group) }
-    requires judged { JudgesAcks conf.now.limit visit.now log.now.batches (held_in W.held windows.old.entries visit.now.group)
+    requires judged { JudgesAcks conf.now.limit visit.now log.now.batches
+        (held_in W.held windows.old.entries visit.now.group)
         (share_state_at (states_of states.old.entries) (key_of conf.now visit.now.group)) acks.now }
     ensures once { AcksOnce visit.now.acks
-        ((states.new ≡ states.old) × ((other : List ℕ) → held_in W.held windows.new.entries other ≡ held_in W.held windows.old.entries other))
+        ((states.new ≡ states.old)
+        × ((other : List ℕ) → held_in W.held windows.new.entries other ≡ held_in W.held windows.old.entries other))
         (SettlesGroup D.seen (HasFailed D.seen) conf.now log.now.batches
         visit.now.group visit.now.member (kind_at visit.now.acks) (held_in W.held windows.old.entries visit.now.group) states.old states.new
         ((other : List ℕ) → held_in W.held windows.new.entries other ≡ held_in W.held windows.old.entries other)
         ((other : List ℕ) → held_in W.held windows.new.entries other ≡ with_held (held_in W.held windows.old.entries) visit.now.group
         (held_after (kind_at visit.now.acks) (held_in W.held windows.old.entries visit.now.group)) other)) result }
-    ensures malformed { (fault : AckFault) → acks.now ≡ Acks.Malformed fault → result ≡ Ok (AckOutcome.Malformed fault) }
-    ensures spare { (n : ℕ) → HasSpare W.spare windows.old.entries visit.now.group n → HasSpare W.spare windows.new.entries visit.now.group n }
+    ensures malformed { (fault : AckFault) → acks.now ≡ Acks.Malformed fault →
+        result ≡ Ok (AckOutcome.Malformed fault) }
+    ensures spare { (n : ℕ) → HasSpare W.spare windows.old.entries visit.now.group n →
+        HasSpare W.spare windows.new.entries visit.now.group n }
     ensures runs { RunsOn D.seen states.old.journal.live.disk states.new.journal.live.disk }
     ensures idle { states.new.journal.idle ≡ states.old.journal.idle }
     ensures range { IsLimit conf.now.limit }

@@ -47,7 +47,8 @@ pub fn end_acknowledged<W: Window>(
 )
     requires there { IsSome (lookup (is_at (slice_cmp nat_cmp group.now)) windows.old.entries) }
     requires well_formed { IsWellFormed batches.now }
-    ensures spare { (n : ℕ) → HasSpare W.spare windows.old.entries group.now n → HasSpare W.spare windows.new.entries group.now n }
+    ensures spare { (n : ℕ) → HasSpare W.spare windows.old.entries group.now n →
+        HasSpare W.spare windows.new.entries group.now n }
     ensures held { (other : List ℕ) → held_in W.held windows.new.entries other ≡ with_held (held_in W.held windows.old.entries) group.now
         (held_after (kind_at batches.now) (held_in W.held windows.old.entries group.now)) other }
 {

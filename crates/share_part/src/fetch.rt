@@ -104,7 +104,8 @@ pub fn has_table<D: Disk>(conf: &PartConf, states: &Coord<D>, group: &Name) -> b
     }
 }
 
-/// What a fetch will take of the table that a group has, once acknowledgements change it so. It costs the runs and the batches that it walks.
+/// What a fetch will take of the table that a group has, once acknowledgements change it so. It costs the runs and the
+/// batches that it walks.
 pub fn planned_behind<D: Disk, W: Window>(
     alloc: Global,
     conf: &PartConf,
@@ -119,12 +120,15 @@ pub fn planned_behind<D: Disk, W: Window>(
     requires sound { IsStoredLog log.now.batches }
     requires limit { IsLimit conf.now.limit }
     requires hosted { AreHosted conf.now log.now.batches (states_of states.now.entries) }
-    requires well { HoldsWell log.now.batches (share_state_at (states_of states.now.entries) (key_of conf.now visit.now.group))
+    requires well { HoldsWell log.now.batches
+        (share_state_at (states_of states.now.entries) (key_of conf.now visit.now.group))
         (held_in W.held windows.now.entries visit.now.group) }
-    requires change { HasChange conf.now.limit (kind_at visit.now.acks) log.now.batches (held_in W.held windows.now.entries visit.now.group)
+    requires change { HasChange conf.now.limit (kind_at visit.now.acks) log.now.batches
+        (held_in W.held windows.now.entries visit.now.group)
         (share_state_at (states_of states.now.entries) (key_of conf.now visit.now.group)) change.now }
     ensures is { IfOk result (IsPlanBehind conf.now.limit (kind_at visit.now.acks) log.now.batches
-        (table_of (state_for conf.now log.now.batches states.now.entries visit.now.group) (held_in W.held windows.now.entries visit.now.group))
+        (table_of (state_for conf.now log.now.batches states.now.entries visit.now.group)
+        (held_in W.held windows.now.entries visit.now.group))
         change.now limits) }
     ensures grants { IfOk result (λ plan. vec_len plan.grants ≤ 2001) }
 {
@@ -147,8 +151,8 @@ fn store_state<D: Disk>(
     requires { start ≤ 2 ^ 62 }
     ensures there { IsSome (kept_at states.old.entries key.now) → (states.new ≡ states.old) × (result ≡ Ok ThenOutcome.Done) }
     ensures absent { kept_at states.old.entries key.now ≡ None → MakesOnce D.seen
-        (HasFailed D.seen) (IsInitialised states.old.entries key.now (pos 0) (pos start)) (IsTableRecord states.old.entries key.now start)
-        states.old states.new result }
+        (HasFailed D.seen) (IsInitialised states.old.entries key.now (pos 0) (pos start))
+        (IsTableRecord states.old.entries key.now start) states.old states.new result }
     ensures runs { RunsOn D.seen states.old.journal.live.disk states.new.journal.live.disk }
     ensures idle { states.new.journal.idle ≡ states.old.journal.idle }
 {

@@ -9,8 +9,8 @@ pub struct Plan {
     pub size: u32,
 }
 
-/// What a fetch will take of a table, planned before the write that comes before it: of the table as it is, and as that write will leave it,
-/// where there is one. The room is large enough for either.
+/// What a fetch will take of a table, planned before the write that comes before it: of the table as it is, and as that
+/// write will leave it, where there is one. The room is large enough for either.
 #[derive(Drop)]
 pub struct Ready {
     pub stays: Plan,

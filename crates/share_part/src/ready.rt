@@ -47,12 +47,15 @@ fn planned_moves<D: Disk, W: Window>(
     requires sound { IsStoredLog log.now.batches }
     requires limit { IsLimit conf.now.limit }
     requires hosted { AreHosted conf.now log.now.batches (states_of states.now.entries) }
-    requires well { HoldsWell log.now.batches (share_state_at (states_of states.now.entries) (key_of conf.now visit.now.group))
+    requires well { HoldsWell log.now.batches
+        (share_state_at (states_of states.now.entries) (key_of conf.now visit.now.group))
         (held_in W.held windows.now.entries visit.now.group) }
-    requires judged { JudgesAcks conf.now.limit visit.now log.now.batches (held_in W.held windows.now.entries visit.now.group)
+    requires judged { JudgesAcks conf.now.limit visit.now log.now.batches
+        (held_in W.held windows.now.entries visit.now.group)
         (share_state_at (states_of states.now.entries) (key_of conf.now visit.now.group)) acks.now }
     ensures moves { IfOk result (MovesBy conf.now.limit visit.now log.now.batches
-        (table_of (state_for conf.now log.now.batches states.now.entries visit.now.group) (held_in W.held windows.now.entries visit.now.group))
+        (table_of (state_for conf.now log.now.batches states.now.entries visit.now.group)
+        (held_in W.held windows.now.entries visit.now.group))
         limits acks.now) }
     ensures told { IfOk result (λ moves. IfSome moves IsTold) }
 {
@@ -78,8 +81,8 @@ fn larger(stays: &Plan, moves: &Option<Plan>) -> (u32, u32)
     }
 }
 
-/// Plans a fetch of a group that has a table, whatever becomes of the write of the acknowledgements before it, and sets aside all the
-/// memory that it takes.
+/// Plans a fetch of a group that has a table, whatever becomes of the write of the acknowledgements before it, and sets
+/// aside all the memory that it takes.
 pub fn ready<D: Disk, W: Window>(
     alloc: Global,
     conf: &PartConf,
@@ -93,13 +96,17 @@ pub fn ready<D: Disk, W: Window>(
     requires sound { IsStoredLog log.now.batches }
     requires limit { IsLimit conf.now.limit }
     requires hosted { AreHosted conf.now log.now.batches (states_of states.now.entries) }
-    requires well { HoldsWell log.now.batches (share_state_at (states_of states.now.entries) (key_of conf.now visit.now.group))
+    requires well { HoldsWell log.now.batches
+        (share_state_at (states_of states.now.entries) (key_of conf.now visit.now.group))
         (held_in W.held windows.old.entries visit.now.group) }
-    requires judged { JudgesAcks conf.now.limit visit.now log.now.batches (held_in W.held windows.old.entries visit.now.group)
+    requires judged { JudgesAcks conf.now.limit visit.now log.now.batches
+        (held_in W.held windows.old.entries visit.now.group)
         (share_state_at (states_of states.now.entries) (key_of conf.now visit.now.group)) acks.now }
-    ensures held { (other : List ℕ) → held_in W.held windows.new.entries other ≡ held_in W.held windows.old.entries other }
+    ensures held { (other : List ℕ) →
+        held_in W.held windows.new.entries other ≡ held_in W.held windows.old.entries other }
     ensures ready { IfOk result (IsReady W.spare windows.new.entries conf.now.limit visit.now log.now.batches
-        (table_of (state_for conf.now log.now.batches states.now.entries visit.now.group) (held_in W.held windows.old.entries visit.now.group))
+        (table_of (state_for conf.now log.now.batches states.now.entries visit.now.group)
+        (held_in W.held windows.old.entries visit.now.group))
         acks.now limits) }
 {
     let group = &visit.group;
@@ -128,7 +135,8 @@ pub fn chosen(ready: Ready, ack: AckOutcome) -> (Plan, Room)
     }
 }
 
-/// Answers a fetch by its plan: copies the batches, and holds the offsets until the clock plus the lock duration. It takes no memory.
+/// Answers a fetch by its plan: copies the batches, and holds the offsets until the clock plus the lock duration. It
+/// takes no memory.
 pub fn hand_out<D: Disk, W: Window>(
     conf: &PartConf,
     log: &mut PartLog<D>,

@@ -310,9 +310,11 @@ impl<D: Disk, W: Window> PartShard<D, W> {
     // Does a visit whose acknowledgements come to this. It asks for no fetch of a group that has a table.
     fn visit_plain(&mut self, now: u64, visit: &Visit, acks: &Acks) -> Result<VisitAnswer, NoMemory>
         requires now { now ≤ 2 ^ 62 }
-        requires judged { JudgesAcks self.old.conf.limit visit.now self.old.log.batches (held_in W.held self.old.windows visit.now.group)
+        requires judged { JudgesAcks self.old.conf.limit visit.now self.old.log.batches
+            (held_in W.held self.old.windows visit.now.group)
             (share_state_at (states_of self.old.states.entries) (key_of self.old.conf visit.now.group)) acks.now }
-        requires table { IsFetch visit.now.then → share_state_at (states_of self.old.states.entries) (key_of self.old.conf visit.now.group) ≡ None }
+        requires table { IsFetch visit.now.then →
+            share_state_at (states_of self.old.states.entries) (key_of self.old.conf visit.now.group) ≡ None }
         ensures once { VisitsOnce D.seen W.held now visit.now self.old self.new result }
         ensures runs { RunsOn D.seen
             self.old.states.journal.live.disk self.new.states.journal.live.disk }
@@ -338,7 +340,8 @@ impl<D: Disk, W: Window> PartShard<D, W> {
         }
     }
 
-    // Does a visit whose acknowledgements come to this, and that fetches for a group that has a table. All memory is taken before the write.
+    // Does a visit whose acknowledgements come to this, and that fetches for a group that has a table. All memory is
+    // taken before the write.
     fn visit_table(
         &mut self,
         now: u64,
@@ -348,9 +351,11 @@ impl<D: Disk, W: Window> PartShard<D, W> {
     ) -> Result<VisitAnswer, NoMemory>
         requires now { now ≤ 2 ^ 62 }
         requires fetch { visit.now.then ≡ Then.Fetch limits.records limits.bytes limits.first }
-        requires judged { JudgesAcks self.old.conf.limit visit.now self.old.log.batches (held_in W.held self.old.windows visit.now.group)
+        requires judged { JudgesAcks self.old.conf.limit visit.now self.old.log.batches
+            (held_in W.held self.old.windows visit.now.group)
             (share_state_at (states_of self.old.states.entries) (key_of self.old.conf visit.now.group)) acks.now }
-        requires table { IsSome (share_state_at (states_of self.old.states.entries) (key_of self.old.conf visit.now.group)) }
+        requires table { IsSome
+            (share_state_at (states_of self.old.states.entries) (key_of self.old.conf visit.now.group)) }
         ensures once { VisitsOnce D.seen W.held now visit.now self.old self.new result }
         ensures runs { RunsOn D.seen
             self.old.states.journal.live.disk self.new.states.journal.live.disk }

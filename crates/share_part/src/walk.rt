@@ -92,7 +92,8 @@ fn stretch_laid<W: Window>(changed: &[Run], rows: &Runs, window: &W, slot: u64) 
     requires canonical { IsCanonical changed.now }
     requires changed { MayGoOut changed.now }
     requires rows { MayGoOut rows.now }
-    ensures { IsStretch (changed.now ++ rows.now) (left_by changed.now (W.held window.now)) slot result.last result.count }
+    ensures { IsStretch (changed.now ++ rows.now) (left_by changed.now (W.held window.now))
+        slot result.last result.count }
 {
     let Some(run) = run_from(changed, slot) else {
         return stretch_from(rows, window, slot);
@@ -128,7 +129,8 @@ fn step<D: Disk, W: Window>(
     requires lie { LieAtSlots log.now.batches (changed.now ++ rows.now) (left_by changed.now (W.held window.now)) }
     requires most { 1 ≤ most }
     ensures goes { IfOk result (λ on. (start : ℕ) (walk : Walk) → Collects log.now.batches collector.old walk →
-        GoesOver log.now.batches (record { start = start; rows = changed.now ++ rows.now; held = left_by changed.now (W.held window.now) }) collector.new walk slot on) }
+        GoesOver log.now.batches
+        (record { start = start; rows = changed.now ++ rows.now; held = left_by changed.now (W.held window.now) }) collector.new walk slot on) }
     ensures most { IfOk result (λ on. IfSome on (λ n. n ≤ most)) }
     ensures grants { OnOk result (vec_len collector.new.grants ≤ vec_len collector.old.grants + 1) }
 {
@@ -165,7 +167,8 @@ fn collect<D: Disk, W: Window>(
     requires changed { MayGoOut changed.now }
     requires lie { LieAtSlots log.now.batches (changed.now ++ rows.now) (left_by changed.now (W.held window.now)) }
     ensures takes { IfOk result (λ c. Collects log.now.batches c
-        (acquired log.now.batches (record { start = start; rows = changed.now ++ rows.now; held = left_by changed.now (W.held window.now) }) limits)) }
+        (acquired log.now.batches
+        (record { start = start; rows = changed.now ++ rows.now; held = left_by changed.now (W.held window.now) }) limits)) }
     ensures grants { IfOk result (λ c. vec_len c.grants ≤ 2000) }
 {
     let mut collector = Collector::new(alloc, limits);
@@ -184,8 +187,8 @@ fn collect<D: Disk, W: Window>(
     Ok(collector)
 }
 
-/// What a fetch will take of a table with this start, these rows and these holds, once `changed` is laid over the rows and ends the holds of
-/// its offsets. It costs the runs and the batches that it walks.
+/// What a fetch will take of a table with this start, these rows and these holds, once `changed` is laid over the rows
+/// and ends the holds of its offsets. It costs the runs and the batches that it walks.
 pub fn plan_laid<D: Disk, W: Window>(
     alloc: Global,
     log: &PartLog<D>,
@@ -201,7 +204,8 @@ pub fn plan_laid<D: Disk, W: Window>(
     requires changed { MayGoOut changed.now }
     requires lie { LieAtSlots log.now.batches (changed.now ++ rows.now) (left_by changed.now (W.held window.now)) }
     ensures is { IfOk result (λ plan. IsPlanOf log.now.batches plan
-        (acquired log.now.batches (record { start = start; rows = changed.now ++ rows.now; held = left_by changed.now (W.held window.now) }) limits)) }
+        (acquired log.now.batches
+        (record { start = start; rows = changed.now ++ rows.now; held = left_by changed.now (W.held window.now) }) limits)) }
     ensures grants { IfOk result (λ plan. vec_len plan.grants ≤ 2001) }
 {
     collect(alloc, log, start, changed, rows, window, limits)?.finish()
