@@ -1,5 +1,5 @@
 -- Passes of the locks that are named, before and after acts through them.
-use Rattle.std.proofs.Common.{◌≡◌, ◌∙◌, ℕ, List, [], ◌∷◌, Option, Some, sym, subst}
+use Rattle.std.proofs.Common.{◌∙◌, ℕ, List, [], ◌∷◌, Option, sym, subst}
 use Rattle.std.specs.List.{AllByRecursion, AllZip}
 use Rattle.shard_lock.specs.Passes.{IsOf, LockParts, PassParts, StaysSame}
 use Rattle.broker_run.specs.Acting.{AreOf, StayOf}

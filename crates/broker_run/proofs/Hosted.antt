@@ -1,7 +1,5 @@
 -- A connection that is served asks hosted partitions alone.
-use Rattle.std.proofs.Common.{◌≡◌, ◌≢◌, ◌≤◌, ℕ, List, [], ◌∷◌, Option, Bool, true, Result, sym, ap, ◌∙◌, subst, arith, length}
-use Rattle.std.specs.Io.KnownBytes.{IsAtEnd}
-use Rattle.edge_io.specs.Causes.{Rose}
+use Rattle.std.proofs.Common.{◌≡◌, ◌≢◌, ◌≤◌, ℕ, List, [], ◌∷◌, Option, Bool, sym, subst, arith, length}
 use Rattle.edge_io.specs.Views.{DiskView}
 use Rattle.topic_conf.specs.Configs.{ConfigParts}
 use Rattle.call_fold.specs.declared.part.Part.{Part}

@@ -1,5 +1,5 @@
 -- One pass of several acts, and what an act through it told.
-use Rattle.std.proofs.Common.{◌≡◌, ◌∙◌, ◌<◌, ℕ, zero, suc, List, All, [], ◌∷◌, ◌++◌, Option, Some, Result, Ok, refl, sym, ap, subst, arith, length, get_or, set}
+use Rattle.std.proofs.Common.{◌≡◌, ◌∙◌, ◌<◌, ℕ, zero, suc, List, All, [], ◌∷◌, ◌++◌, Result, Ok, refl, sym, subst, arith, length, get_or, set}
 use Rattle.std.specs.List.{AllZip}
 use Rattle.edge_io.specs.Views.{DiskView}
 use Rattle.flex_fields.specs.declared.fault.NoMemory.{NoMemory}
@@ -13,7 +13,6 @@ use Rattle.broker_shards.specs.Hosts.{Host, holding}
 use Rattle.broker_shards.specs.declared.foreign.ForeignEvent.{ForeignEvent}
 use Rattle.broker_shards.specs.declared.foreign.ForeignHost.{ForeignHost}
 use Rattle.broker_shards.specs.declared.members.MembersEvent.{MembersEvent}
-use Rattle.broker_shards.specs.declared.members.MembersHost.{MembersHost}
 use Rattle.broker_shards.specs.declared.members.MembersTold.{MembersTold}
 use Rattle.broker_shards.specs.declared.part.PartEvent.{PartEvent}
 use Rattle.broker_shards.specs.declared.part.PartTold.{PartTold}

@@ -1,4 +1,3 @@
-use Rattle.std.proofs.Common.{◌≡◌, ◌+◌}
 use Rattle.broker_run.specs.Acting.{StayOf}
 use Rattle.broker_run.specs.Expiring.{Expires}
 use Rattle.broker_run.proofs.expiry.expire_parts.Given as goal
