@@ -85,8 +85,9 @@ fn judge(batches: &[AckBatch]) -> Result<(), AckFault>
 
 /// How many pieces well-formed batches have, or the first fault of batches that aren't well formed.
 ///
-/// The offsets of a batch aren't negative and are in order, and they lie behind those of the batch before it; the number of types
-/// is 1 or that of the offsets, and each type is 0, 1, 2 or 3. It takes no memory, and time for each batch and each type.
+/// The offsets of a batch aren't negative and are in order, and they lie behind those of the batch before it; the
+/// number of types is 1 or that of the offsets, and each type is 0, 1, 2 or 3. It takes no memory, and time for each
+/// batch and each type.
 pub fn check(batches: &[AckBatch]) -> Result<u32, AckFault>
     requires few { length batches.now < 2 ^ 32 }
     requires few_types { types_in batches.now < 2 ^ 32 }

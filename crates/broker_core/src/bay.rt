@@ -240,7 +240,8 @@ pub fn put_parts_back<D: Disk + Drop, B: Bay<D = D>>(slots: Vec<PartSlot<D>>, ba
     }
 }
 
-/// Takes the disks of these partitions, and opens their shards, one partition after another. After a refusal each disk is back in the bay.
+/// Takes the disks of these partitions, and opens their shards, one partition after another. After a refusal each
+/// disk is back in the bay.
 pub fn take_parts<D: Disk + Drop, B: Bay<D = D>>(
     alloc: Global,
     bay: &mut B,

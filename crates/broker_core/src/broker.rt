@@ -32,9 +32,9 @@ use topic_conf::Config;
 
 /// The broker over its disks: who is connected, and the shards.
 ///
-/// It is opened by [`Core::start`], does one event at a time, and gives its disks back by [`Core::finish`]. A contract sees its
-/// configuration, the connections in the order of their numbers, the hosted partitions in the order of their shards, the members of all
-/// groups, and foreign state.
+/// It is opened by [`Core::start`], does one event at a time, and gives its disks back by [`Core::finish`]. A
+/// contract sees its configuration, the connections in the order of their numbers, the hosted partitions in the order
+/// of their shards, the members of all groups, and foreign state.
 #[derive(Drop)]
 pub struct Core<D: Disk> {
     conf: Config,
@@ -184,8 +184,9 @@ fn advance<D: Disk + Drop>(
 }
 
 impl<D: Disk + Drop> Core<D> {
-    /// Takes the broker's disks from the bay, and opens its shards: those that the disks stand for, with nothing pending, to which nobody
-    /// is connected. The hosted partitions come first, in the order of the configuration, and foreign state last.
+    /// Takes the broker's disks from the bay, and opens its shards: those that the disks stand for, with nothing
+    /// pending, to which nobody is connected. The hosted partitions come first, in the order of the configuration,
+    /// and foreign state last.
     ///
     /// After a refusal each disk is back in the bay.
     pub fn start<B: Bay<D = D>>(
@@ -202,8 +203,9 @@ impl<D: Disk + Drop> Core<D> {
         ensures taken { IfOk result (λ core. AreOut B.seen (all_names (hosted_slots core.hosts.parts)) bay.new) }
         ensures counts { IfOk result (λ core. AreTakenFrom B.seen D.seen conf bay.old bay.new (disks_in core.hosts)) }
         ensures back { OnErr result (AreOut B.seen [] bay.new) }
-        // After a refusal each image of a disk is one that it had, or stands for the frames of one. No power is lost and no fault is armed.
-        // Where a fault of a disk or of the bay is told, no call on a disk found no memory, and the bay has found it at each.
+        // After a refusal each image of a disk is one that it had, or stands for the frames of one. No power is lost
+        // and no fault is armed. Where a fault of a disk or of the bay is told, no call on a disk found no memory,
+        // and the bay has found it at each.
         ensures stays { IfErr result (λ e. (name : List ℕ) → StaysAs B.seen D.seen (IsOfDevice e) name bay.old bay.new) }
         ensures fed { IfErr result (λ e. IsOfDevice e → (B.seen bay.new).starved ≡ false) }
         // A disk that isn't the broker's is as it was.
@@ -283,9 +285,9 @@ impl<D: Disk + Drop> Core<D> {
 
     /// Does one event, and gives what comes of it, in order.
     ///
-    /// An event on a connection, a partition or a disk that isn't there, and an open of a connection that is, change nothing and give
-    /// nothing. At an `Err` the part in hand was done whole, or not at all, or up to one of its writes; no event may follow, and `finish`
-    /// puts the disks back.
+    /// An event on a connection, a partition or a disk that isn't there, and an open of a connection that is, change
+    /// nothing and give nothing. At an `Err` the part in hand was done whole, or not at all, or up to one of its
+    /// writes; no event may follow, and `finish` puts the disks back.
     pub fn event(&mut self, event: &Event) -> Result<Vec<Outcome>, CoreFault>
         requires open { AreOpen self.old.hosts }
         requires moment { HasMoment event.now }
@@ -295,12 +297,13 @@ impl<D: Disk + Drop> Core<D> {
             Advances D.seen self.old event.now outcomes.items self.new) }
         ensures open { OnOk result (AreOpen self.new.hosts) }
 
-        // On such disks it fails for want of memory alone, and the disks stand for the machine before the event, or behind it, or behind
-        // some of its writes.
+        // On such disks it fails for want of memory alone, and the disks stand for the machine before the event, or
+        // behind it, or behind some of its writes.
         ensures stopped { IfErr result (λ e. (m : Machine) → IsCore D.seen self.old m →
             StopsIn D.seen self.old m event.now self.new × (e ≡ CoreFault.NoMemory)) }
 
-        // On any disks: a fault that is told is that of a hosted partition. Why it was not opened again, which comes of a power loss alone.
+        // On any disks: a fault that is told is that of a hosted partition. Why it was not opened again, which comes
+        // of a power loss alone.
         ensures told { IfOk result (λ outcomes. All (IsTold self.old.conf.topics) outcomes.items) }
         ensures reopen { (f : CoreOpen) → result ≡ Err (CoreFault.Reopen f) →
             ((choice : ℕ) × (event.now ≡ Power choice)) × (f ≢ CoreOpen.Bay) × (f ≢ CoreOpen.NoMemory) }

@@ -111,8 +111,8 @@ fn done<D: Disk>(
     }
 }
 
-// One step of a client: one part, or the answer to a request that asks none, or the end. Beside the outcomes it tells whether
-// the client is gone.
+// One step of a client: one part, or the answer to a request that asks none, or the end. Beside the outcomes it tells
+// whether the client is gone.
 fn step<D: Disk>(
     alloc: Global,
     conf: &Config,

@@ -11,7 +11,8 @@ use share_model::NoMemory;
 /// Why a broker was not opened.
 #[derive(Drop)]
 pub enum CoreOpen {
-    /// The content of this disk isn't store text: this byte, counted from 0, is the first that the format doesn't allow.
+    /// The content of this disk isn't store text: this byte, counted from 0, is the first that the format doesn't
+    /// allow.
     Damaged { disk: DiskName, place: u64 },
     /// A call of a disk failed.
     Device,

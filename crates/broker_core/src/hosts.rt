@@ -13,7 +13,8 @@ use share_members::GroupShard;
 use share_model::NoMemory;
 use std::alloc::Global;
 
-/// The shards: those of the hosted partitions, in the order of their numbers, the members of all groups, and foreign state.
+/// The shards: those of the hosted partitions, in the order of their numbers, the members of all groups, and foreign
+/// state.
 #[derive(Drop)]
 pub struct Hosts<D: Disk> {
     pub parts: Vec<PartSlot<D>>,

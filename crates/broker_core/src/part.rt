@@ -167,7 +167,8 @@ fn one_starved<D: Disk>(disks: &(D, D, D)) -> bool
     disks.0.starved() || disks.1.starved() || disks.2.starved()
 }
 
-/// Opens the partition of a topic on its disks, which come back at an `Err`: that of its log, and the two of its states.
+/// Opens the partition of a topic on its disks, which come back at an `Err`: that of its log, and the two of its
+/// states.
 pub fn open_part<D: Disk>(
     alloc: Global,
     topic: &Name,

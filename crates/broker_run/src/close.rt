@@ -61,8 +61,9 @@ fn close_parts<D: Disk + Drop, B: Bay<D = D>>(
     }
 }
 
-/// Joins all passes and closes the locks, and puts the disks of each shard back into the bay from which they were taken. They stand for
-/// the states that legal histories leave, which have exactly the entries of these passes. It takes no memory.
+/// Joins all passes and closes the locks, and puts the disks of each shard back into the bay from which they were
+/// taken. They stand for the states that legal histories leave, which have exactly the entries of these passes. It
+/// takes no memory.
 pub fn close_shared<D: Disk + Drop, B: Bay<D = D>>(
     shared: Shared<D>,
     passes: Vec<Passes<D>>,

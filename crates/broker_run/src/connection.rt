@@ -266,9 +266,10 @@ fn serve<R: Wait, D: Disk, K: Link, C: Clock, G: Gate>(
 
 /// Serves the connection of a link, through these passes, until it has closed and what its members held is released.
 ///
-/// The bytes that the link gives are fed to a connection that has just come. Each part that it asks is done by one act of the pass of its
-/// shard, at a moment of its own, and its answer is given. A finished reply is written at once. The link is read only where the connection
-/// waits. Where the peer ends or a call of the link fails, the releases are done all the same; where no memory is found, the call ends there.
+/// The bytes that the link gives are fed to a connection that has just come. Each part that it asks is done by one
+/// act of the pass of its shard, at a moment of its own, and its answer is given. A finished reply is written at
+/// once. The link is read only where the connection waits. Where the peer ends or a call of the link fails, the
+/// releases are done all the same; where no memory is found, the call ends there.
 pub fn serve_connection<R: Wait, D: Disk, K: Link, C: Clock, G: Gate>(
     rt: &R,
     alloc: Global,

@@ -129,8 +129,8 @@ fn expire_parts<R: Wait, D: Disk, C: Clock>(
     answer
 }
 
-/// Expires each hosted partition once and ticks the members once, each at a moment of its own. An act that finds no memory leaves the others
-/// as they are, and is counted.
+/// Expires each hosted partition once and ticks the members once, each at a moment of its own. An act that finds no
+/// memory leaves the others as they are, and is counted.
 pub fn expiry_turn<R: Wait, D: Disk, C: Clock>(
     rt: &R,
     broker: &Shared<D>,

@@ -124,7 +124,8 @@ fn give_all_back<R: Wait, K, D: Disk + Drop, B: Naming<D> + Drop>(
     }
 }
 
-// Starts the expiry worker: false where its job was refused. Where it finds no memory, its passes come back to the desk.
+// Starts the expiry worker: false where its job was refused. Where it finds no memory, its passes come back to the
+// desk.
 fn start_sweeper<
     R: Wait + Clone + Drop + Send + Sync + 'static,
     K: Link + Drop + Send + 'static,
@@ -225,7 +226,8 @@ fn start_workers<
     Ok(true)
 }
 
-// Starts the expiry worker and the other workers: false where a job was refused. Passes that no job took are given back.
+// Starts the expiry worker and the other workers: false where a job was refused. Passes that no job took are given
+// back.
 fn start_all<
     R: Wait + Clone + Drop + Send + Sync + 'static,
     K: Link + Drop + Send + 'static,
@@ -397,10 +399,12 @@ where
     Some((end, shared, passes))
 }
 
-/// Serves so many links, and gives the locks back with all their passes, once every job has ended. None: memory ran out before a job was started.
+/// Serves so many links, and gives the locks back with all their passes, once every job has ended. None: memory ran
+/// out before a job was started.
 ///
-/// One job expires locks and sessions, once a second; each other row of passes goes to a worker. Then links are taken, and each is handed to one
-/// worker. Where a job is refused, the end is told to all, and that job is done here.
+/// One job expires locks and sessions, once a second; each other row of passes goes to a worker. Then links are
+/// taken, and each is handed to one worker. Where a job is refused, the end is told to all, and that job is done
+/// here.
 pub fn serve_links<
     R: Wait + Clone + Drop + Send + Sync + 'static,
     C: Clock + Drop + Send + 'static,

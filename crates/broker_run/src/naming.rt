@@ -1,4 +1,5 @@
-// Passes that are handed to jobs and come back, and the locks beside them. Both know by their types of which locks they are.
+// Passes that are handed to jobs and come back, and the locks beside them. Both know by their types of which locks
+// they are.
 ghost use Rattle.std.specs.Prelude.{◌≡◌, IfOk};
 ghost use Rattle.std.specs.Arc.{arc_value};
 ghost use Rattle.broker_run.specs.Homes.{IsHome, IsNamed};

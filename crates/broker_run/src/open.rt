@@ -78,7 +78,8 @@ fn shards_in<D: Disk + Drop>(alloc: Global, hosts: Hosts<D>) -> Result<ShardSet<
     })
 }
 
-// A lock around each shard of a broker that was just opened, and so many passes. Where no memory is found its disks are dropped.
+// A lock around each shard of a broker that was just opened, and so many passes. Where no memory is found its disks
+// are dropped.
 fn lock_core<D: Disk + Drop>(
     alloc: Global,
     core: Core<D>,
@@ -101,10 +102,11 @@ fn lock_core<D: Disk + Drop>(
     Ok(locked)
 }
 
-/// Takes the broker's disks from the bay, opens its shards, and makes a lock around each, with so many passes: those that the disks stand
-/// for, with nothing pending, to which nobody is connected.
+/// Takes the broker's disks from the bay, opens its shards, and makes a lock around each, with so many passes: those
+/// that the disks stand for, with nothing pending, to which nobody is connected.
 ///
-/// After a refusal other than for want of memory each disk is back in the bay. Where no memory is found, disks may be dropped.
+/// After a refusal other than for want of memory each disk is back in the bay. Where no memory is found, disks may be
+/// dropped.
 pub fn open_shared<D: Disk + Drop, B: Bay<D = D>>(
     alloc: Global,
     bay: &mut B,

@@ -12,7 +12,8 @@ use std::alloc::Global;
 use std::marker::Model;
 use topic_conf::Config;
 
-/// All shards of a broker: those of the hosted partitions in the order of their numbers, the members of all groups, and foreign state.
+/// All shards of a broker: those of the hosted partitions in the order of their numbers, the members of all groups,
+/// and foreign state.
 #[derive(Drop)]
 pub struct ShardSet<D: Disk> {
     pub parts: Vec<PartHost<D>>,

@@ -1,4 +1,5 @@
-// What the jobs of a server do: a worker serves links from the desk, and the expiry worker expires locks and sessions, each through its own passes.
+// What the jobs of a server do: a worker serves links from the desk, and the expiry worker expires locks and
+// sessions, each through its own passes.
 use crate::connection::serve_connection;
 use crate::desk::Desk;
 use crate::expiry::expiry_turn;

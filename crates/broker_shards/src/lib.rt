@@ -1,5 +1,5 @@
-//! The shards of a broker as several threads share them. Each does one event at a time, and the relation that its lock's history keeps
-//! is the machine's own step.
+//! The shards of a broker as several threads share them. Each does one event at a time, and the relation that its
+//! lock's history keeps is the machine's own step.
 #![tactic(auto)]
 
 mod foreign;

@@ -1,5 +1,5 @@
-//! A request in hand as a fold over its entries: which part a shard has to do next, and the reply that its answers make.
-//! Each call of a connection is an instance of it.
+//! A request in hand as a fold over its entries: which part a shard has to do next, and the reply that its answers
+//! make. Each call of a connection is an instance of it.
 #![tactic(auto)]
 
 mod call;

@@ -6,7 +6,8 @@ use share_model::NoMemory;
 use std::alloc::Global;
 use std::collections::VecDeque;
 
-/// The first rows, so many of them, or all where there are fewer; the others are left. After want of memory some may be gone.
+/// The first rows, so many of them, or all where there are fewer; the others are left. After want of memory some may
+/// be gone.
 #[tactic(auto, using(crate::proofs::Steps::take_none, crate::proofs::Steps::drop_none))]
 pub fn next_rows<R: Drop>(
     alloc: Global,

@@ -1,4 +1,5 @@
-// Large values are dropped by a call before an early return: at a `?` their drop would be proved where it stands, each time anew.
+// Large values are dropped by a call before an early return: at a `?` their drop would be proved where it stands,
+// each time anew.
 ghost use Rattle.std.specs.Prelude.{◌≡◌, ◌≤◌, ◌+◌, ◌∷◌, ◌↔◌, [], length, OnOk, OnErr, IfOk, IfSome, IfNone};
 ghost use Rattle.share_session.specs.Plans.{releases_of};
 ghost use Rattle.share_calls.specs.Changes.{Fits, changed};
@@ -26,11 +27,13 @@ use std::marker::Model;
 use std::mem;
 use topic_conf::Config;
 
-/// One connection: what a client has sent, the request that is being answered, its share sessions, and the replies that are finished.
+/// One connection: what a client has sent, the request that is being answered, its share sessions, and the replies
+/// that are finished.
 ///
-/// Requests are answered in order, and the next frame is begun when the one before is answered. A request that wants no reply,
-/// a Produce with acks 0, has none. Bytes may come in any pieces. The calls of one connection that take a configuration are given
-/// the same one. A connection that closes asks the release of all that the members of its sessions hold, before it is gone.
+/// Requests are answered in order, and the next frame is begun when the one before is answered. A request that wants
+/// no reply, a Produce with acks 0, has none. Bytes may come in any pieces. The calls of one connection that take a
+/// configuration are given the same one. A connection that closes asks the release of all that the members of its
+/// sessions hold, before it is gone.
 #[derive(Drop)]
 pub struct Conn {
     alloc: Global,
@@ -120,9 +123,10 @@ impl Conn {
         }
     }
 
-    /// The connection is closed, by either side. Bytes that no request took, the request in hand and the sessions go; replies that are
-    /// finished can still be taken. What the members of the sessions hold is released next: sessions in the order in which they were
-    /// opened, and the partitions of each in the order in which they joined. It takes no memory.
+    /// The connection is closed, by either side. Bytes that no request took, the request in hand and the sessions go;
+    /// replies that are finished can still be taken. What the members of the sessions hold is released next: sessions
+    /// in the order in which they were opened, and the partitions of each in the order in which they joined. It takes
+    /// no memory.
     pub fn end(&mut self)
         ensures { self.new ≡ conn_after_end self.old }
     {
@@ -312,10 +316,11 @@ impl Conn {
         }
     }
 
-    /// What the connection does next: it waits, asks a part, has answered a request that needs no further part, closes, or
-    /// is gone. What a request does to the sessions is done when its frame is taken up. It waits exactly where it isn't closing, no request is in hand, and what is unread begins with neither a whole
-    /// frame nor the size of one that is too long. Until a `give` or an `end` it answers the same part. After want of memory
-    /// all is as before.
+    /// What the connection does next: it waits, asks a part, has answered a request that needs no further part,
+    /// closes, or is gone. What a request does to the sessions is done when its frame is taken up. It waits exactly
+    /// where it isn't closing, no request is in hand, and what is unread begins with neither a whole frame nor the
+    /// size of one that is too long. Until a `give` or an `end` it answers the same part. After want of memory all is
+    /// as before.
     pub fn next_part(&mut self, conf: &Config) -> Result<Next, NoMemory>
         ensures next { IfOk result (λ next. Tells (turn conf.now self.old) next self.new) }
         ensures idle { IfOk result (λ next. (next ≡ Next.Idle) ↔ Waits self.old) }
@@ -378,9 +383,10 @@ impl Conn {
         }
     }
 
-    /// The answer to the part that `next_part` asked: of its kind, each offset at most 2^63 - 1 and each count at most 32767.
-    /// With the last answer the reply, if there is one, is finished, unless it is too long: then `next_part` closes the connection.
-    /// Where no part is asked nothing changes. The answer to a release takes it off, whatever it is. Want of memory ends the connection as `end` does.
+    /// The answer to the part that `next_part` asked: of its kind, each offset at most 2^63 - 1 and each count at
+    /// most 32767. With the last answer the reply, if there is one, is finished, unless it is too long: then
+    /// `next_part` closes the connection. Where no part is asked nothing changes. The answer to a release takes it
+    /// off, whatever it is. Want of memory ends the connection as `end` does.
     pub fn give(&mut self, _conf: &Config, answer: PartAnswer) -> Result<(), NoMemory>
         requires fits { FitsIn (awaited_part self.old) answer }
         ensures answer { OnOk result (self.new ≡ conn_after_answer answer self.old) }

@@ -1,6 +1,7 @@
 //! The requests that are served: with what each begins.
 //!
-//! A request or a reply is dropped by a call before a `?`: at the `?` its drop would be proved where it stands, each time anew.
+//! A request or a reply is dropped by a call before a `?`: at the `?` its drop would be proved where it stands, each
+//! time anew.
 ghost use Rattle.std.specs.Prelude.{◌≡◌, List, IfOk};
 ghost use Rattle.share_calls.specs.Changes.{Fits};
 ghost use Rattle.conn_core.specs.Beginning.{Begins, metadata_begins, coordinator_begins, versions_begins, produce_begins, fetch_begins, acknowledge_begins};

@@ -45,8 +45,8 @@ fn first_fault(fault: StartFault) -> CoordOpen
 
 /// Opens a store: reads the frames of its first disk, and looks that the second one has none.
 ///
-/// Each disk is synced before it is read. The end of the first one is repaired, as `start` of a journal does it; the second one
-/// keeps its content. At an `Err` both disks come back.
+/// Each disk is synced before it is read. The end of the first one is repaired, as `start` of a journal does it; the
+/// second one keeps its content. At an `Err` both disks come back.
 pub fn open<D: Disk>(
     alloc: Global,
     first: D,
@@ -92,8 +92,9 @@ pub fn open<D: Disk>(
 impl<D: Disk> StateJournal<D> {
     /// Adds a frame, and answers its number, from 0 on. It takes no memory.
     ///
-    /// `buffer` has the frame, of 1 to 33554432 bytes, behind four bytes of any value and before one. At `Device` the frame is
-    /// pending, or the one that was pending still is. At `Full` the journal would end past 2^62 bytes, and nothing is changed.
+    /// `buffer` has the frame, of 1 to 33554432 bytes, behind four bytes of any value and before one. At `Device` the
+    /// frame is pending, or the one that was pending still is. At `Full` the journal would end past 2^62 bytes, and
+    /// nothing is changed.
     pub fn append(&mut self, buffer: &mut [u8]) -> Result<u64, StoreFault>
         requires { IsFrame (frame_in buffer.old) }
 
@@ -109,7 +110,8 @@ impl<D: Disk> StateJournal<D> {
         // At Ok no device call failed.
         ensures quiet { OnOk result (IsQuiet D.seen self.old.live.disk self.new.live.disk) }
 
-        // At each moment since the call began a crash leaves the frames, with or without the pending one, or with this one.
+        // At each moment since the call began a crash leaves the frames, with or without the pending one, or with
+        // this one.
         ensures any_moment { (frames : List (List ℕ)) (pending : Option (List ℕ)) → Keeps D.seen self.old frames pending →
             LeavesPairs D.seen self.old.live.disk self.new.live.disk self.old.idle self.new.idle
             (λ a b. WithinWrite (IsListed a b) frames (and_pending frames pending) (frames ++ frame_in buffer.old ∷ [])) }

@@ -1,5 +1,5 @@
-//! CRC-32C, the cyclic redundancy check with Castagnoli's polynomial (RFC 3720, appendix B.4), as record batches of Kafka
-//! and iSCSI have it.
+//! CRC-32C, the cyclic redundancy check with Castagnoli's polynomial (RFC 3720, appendix B.4), as record batches of
+//! Kafka and iSCSI have it.
 #![tactic(auto)]
 
 ghost use Rattle.std.specs.Prelude.{◌≡◌, ℕ, List, bit_xor};

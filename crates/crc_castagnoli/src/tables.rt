@@ -1,4 +1,5 @@
-// What is left of each byte after the steps of one to eight bytes. The check computes each entry anew, so none is trusted.
+// What is left of each byte after the steps of one to eight bytes. The check computes each entry anew, so none is
+// trusted.
 ghost use Rattle.std.specs.Prelude.{◌≡◌, slice_index};
 ghost use Rattle.crc_castagnoli.specs.Division.{steps};
 

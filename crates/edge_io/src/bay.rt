@@ -38,8 +38,8 @@ pub trait Bay {
         ensures want { (seen self.old).steady → OnErr result ((seen self.new).starved ≡ true) }
         ensures cause { HasCause (seen self.old).faults (seen self.new).faults result };
 
-    /// Puts a disk back. Its faults since it was taken are added to the bay's count, which stays at `u64::MAX` once it is
-    /// there.
+    /// Puts a disk back. Its faults since it was taken are added to the bay's count, which stays at `u64::MAX` once
+    /// it is there.
     fn put_back(&mut self, name: &DiskName, given: Self::D)
         requires { (seen self.old).out name.now ≡ true }
         ensures there { Holds ((seen self.old).disk name.now) ((seen self.new).disk name.now) given }

@@ -55,8 +55,8 @@ impl From<AllocError> for ReadError {
 
 /// Reads a source to its end, and puts the bytes behind those of `out`.
 ///
-/// At `Failed` `out` has gained what was read before the fault. At `NoMemory` it has gained all that was read but the last
-/// piece, of at most 4096 bytes, which is lost.
+/// At `Failed` `out` has gained what was read before the fault. At `NoMemory` it has gained all that was read but the
+/// last piece, of at most 4096 bytes, which is lost.
 pub fn read_to_end<S: Source>(source: &mut S, out: &mut Vec<u8>) -> Result<(), ReadError>
     ensures ok { OnOk result (IfSome (S.left source.old) (λ bytes. out.new.items ≡ out.old.items ++ bytes)) }
     ensures end { OnOk result (S.ended source.new ≡ true) }

@@ -1,8 +1,8 @@
-//! What the broker meets outside itself, as traits: byte sources and sinks, disks, and bays of disks; and for a server links and where
-//! they come from, clocks, and what starts its workers.
+//! What the broker meets outside itself, as traits: byte sources and sinks, disks, and bays of disks; and for a
+//! server links and where they come from, clocks, and what starts its workers.
 //!
-//! Each trait keeps a count of its faults that never falls. A call answers [`Failed`] only where the
-//! count of what it was handed rose in that call, so an error always has a cause outside.
+//! Each trait keeps a count of its faults that never falls. A call answers [`Failed`] only where the count of what it
+//! was handed rose in that call, so an error always has a cause outside.
 #![tactic(auto)]
 
 mod bay;

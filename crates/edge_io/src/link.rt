@@ -9,8 +9,8 @@ use crate::streams::Failed;
 
 /// One connection: the bytes that its peer sends, and those that it is sent.
 ///
-/// It is a trait of its own and no source beside a sink: a read changes nothing of what was sent, a write nothing of what is
-/// left to be read, and one count has the faults of both.
+/// It is a trait of its own and no source beside a sink: a read changes nothing of what was sent, a write nothing of
+/// what is left to be read, and one count has the faults of both.
 pub trait Link {
     /// The bytes that are left to be read, where the link tells them. A socket tells nothing.
     ghost left: { Self → Option (List ℕ) };

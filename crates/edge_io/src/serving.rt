@@ -53,8 +53,8 @@ pub enum GatePlace {
     Replied { link: u32 },
 }
 
-/// What a worker passes by, before each part and after each reply. A test may hold a worker there; nothing that a broker keeps
-/// changes by it.
+/// What a worker passes by, before each part and after each reply. A test may hold a worker there; nothing that a
+/// broker keeps changes by it.
 pub trait Gate {
     fn at(&self, place: GatePlace);
 }

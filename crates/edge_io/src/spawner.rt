@@ -6,8 +6,9 @@ use std::thread::Threads;
 
 /// What jobs are started by. [`start`] starts one.
 ///
-/// The type of the job is a parameter of that function and not of a method here: in a method's implementation nothing is known of
-/// the job but the method's own bounds, and these don't show that what the job holds may go to another thread.
+/// The type of the job is a parameter of that function and not of a method here: in a method's implementation nothing
+/// is known of the job but the method's own bounds, and these don't show that what the job holds may go to another
+/// thread.
 pub trait Spawner {
     type Rt: Threads;
 

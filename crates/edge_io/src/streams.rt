@@ -49,8 +49,8 @@ pub trait Sink {
     /// How many faults there were. The count stays at `u64::MAX` once it is there.
     ghost faults: { Self → ℕ };
 
-    /// Takes a front of `bytes`, at least one byte unless `bytes` is empty, and answers how many it took. Only a write that
-    /// fails raises the count of faults.
+    /// Takes a front of `bytes`, at least one byte unless `bytes` is empty, and answers how many it took. Only a
+    /// write that fails raises the count of faults.
     fn write(&mut self, bytes: &[u8]) -> Result<usize, Failed>
         ensures bound { WritesAtMost result bytes.now }
         ensures some { TakesSome result bytes.now }

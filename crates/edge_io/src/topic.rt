@@ -12,8 +12,8 @@ fn is_topic_byte(byte: u8) -> bool
     byte.is_ascii_alphanumeric() || byte == b'.' || byte == b'_' || byte == b'-'
 }
 
-/// Whether a topic may have this name: 1 to 249 ASCII letters, digits, `.`, `_` and `-`, and neither `.` nor `..`. This is
-/// Kafka's rule.
+/// Whether a topic may have this name: 1 to 249 ASCII letters, digits, `.`, `_` and `-`, and neither `.` nor `..`.
+/// This is Kafka's rule.
 pub fn is_topic_name(name: &[u8]) -> bool
     ensures { IsTrue result ↔ IsTopicName name.now }
 {

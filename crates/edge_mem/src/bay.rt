@@ -100,7 +100,8 @@ fn make(alloc: Global, slots: &mut Vec<Slot>, name: &DiskName) -> Result<MemDisk
 }
 
 impl MemBay {
-    /// A bay with no disks yet. With no call listed it is sound. The calls of `take` whose numbers, from 0 on, are in `failing` fail.
+    /// A bay with no disks yet. With no call listed it is sound. The calls of `take` whose numbers, from 0 on, are in
+    /// `failing` fail.
     pub fn new(alloc: Global, failing: Vec<u64>) -> MemBay
         ensures state { result ≡ record { slots = []; failing = failing.items; calls = 0; starved = false; faults = 0 } }
         ensures sound { failing.items ≡ [] → IsSound bay_view disk_view result }
@@ -159,8 +160,8 @@ impl Bay for MemBay {
         ensures want { self.old.failing ≡ [] → OnErr result (self.new.starved ≡ true) }
         ensures cause { HasCause self.old.faults self.new.faults result }
 
-        // It gives the disk that is told. It fails where the list says so or where it finds no memory; where the list says
-        // so it asks for none.
+        // It gives the disk that is told. It fails where the list says so or where it finds no memory; where the list
+        // says so it asks for none.
         ensures disk { IfOk result (λ d. d ≡ disk_at self.old name.now) }
         ensures fails { FailsBy (Contains self.old.failing self.old.calls) self.old.starved self.new.starved result }
         ensures memory { Contains self.old.failing self.old.calls → self.new.starved ≡ self.old.starved }

@@ -6,8 +6,9 @@ ghost use Rattle.edge_mem.specs.Clocks.{moment_at, told_by, after_one};
 use edge_io::Clock;
 use std::marker::Model;
 
-/// A clock that goes on by one step at each answer: the answer numbered i, from 0 on, is its first moment plus i times its step, at most
-/// 2^62. It tells its answers as long as there are fewer than `u64::MAX`. A pause passes at once.
+/// A clock that goes on by one step at each answer: the answer numbered i, from 0 on, is its first moment plus i
+/// times its step, at most 2^62. It tells its answers as long as there are fewer than `u64::MAX`. A pause passes at
+/// once.
 #[derive(Drop)]
 pub struct MemClock {
     first: u64,

@@ -153,8 +153,8 @@ impl Disk for MemDisk {
         ensures fails { IsTold (disk_view self.old).content → RunsAsArmed (tears self.old.armed) (disk_view self.old) (disk_view self.new) result }
         ensures cause { HasCause self.old.faults self.new.faults result }
 
-        // One that is done is the event that happened. A broken one leaves nothing, or the first half, by the mode of the
-        // fault. Without memory it changes nothing.
+        // One that is done is the event that happened. A broken one leaves nothing, or the first half, by the mode of
+        // the fault. Without memory it changes nothing.
         ensures past { MatchResult result (λ _. self.new.past ≡ with_event self.old.past (Wrote place bytes.now))
             (λ _. (self.new.past ≡ failed_write (broken_by self.old.armed) place bytes.now self.old.past) ⊎
             ((self.new.starved ≡ true) × (self.new.past ≡ self.old.past))) }

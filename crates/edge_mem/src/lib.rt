@@ -1,7 +1,8 @@
-//! Sources, sinks, disks, bays, clocks, links and listeners in memory, whose contracts tell all that they hold and when they fail.
+//! Sources, sinks, disks, bays, clocks, links and listeners in memory, whose contracts tell all that they hold and
+//! when they fail.
 //!
-//! They stand in for files and connections wherever a run is to be repeated: in recorded sessions, in tests,
-//! and in every statement that speaks of bytes.
+//! They stand in for files and connections wherever a run is to be repeated: in recorded sessions, in tests, and in
+//! every statement that speaks of bytes.
 #![tactic(auto)]
 
 mod bay;

@@ -10,7 +10,8 @@ use crate::source::MemSource;
 use edge_io::{Failed, Link, Sink, Source};
 use std::marker::Model;
 
-/// A link in memory: a source has what the peer sends, and a sink keeps what it is sent. Each of their calls fails where they do.
+/// A link in memory: a source has what the peer sends, and a sink keeps what it is sent. Each of their calls fails
+/// where they do.
 #[derive(Drop)]
 pub struct MemLink {
     source: MemSource,

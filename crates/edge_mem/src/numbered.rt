@@ -5,7 +5,8 @@ ghost use Rattle.edge_io.specs.Causes.{CountsFault, HasCause, Rose, raised};
 use edge_io::Failed;
 use std::marker::Model;
 
-/// The calls of a stream, a listener or a bay in memory: the numbers of those that fail, how many there were, and how many failed.
+/// The calls of a stream, a listener or a bay in memory: the numbers of those that fail, how many there were, and how
+/// many failed.
 #[derive(Drop)]
 pub struct Calls {
     failing: Vec<u64>,

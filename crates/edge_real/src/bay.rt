@@ -17,9 +17,9 @@ use std::marker::Model;
 
 /// The disks of a folder: each is the file of its name under it. A file that is missing is an empty disk.
 ///
-/// The first `take` makes the folder where it is missing, and locks its file `lock~` for as long as the bay lives. Where another
-/// program has that lock, `take` fails, and the next one tries again. A disk that is put back keeps its file open, and is given
-/// again when its name is taken.
+/// The first `take` makes the folder where it is missing, and locks its file `lock~` for as long as the bay lives.
+/// Where another program has that lock, `take` fails, and the next one tries again. A disk that is put back keeps its
+/// file open, and is given again when its name is taken.
 #[derive(Drop)]
 pub struct FolderBay<S: Folders> {
     alloc: Global,

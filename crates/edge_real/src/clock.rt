@@ -4,8 +4,8 @@ use edge_io::Clock as Moments;
 use std::thread;
 use std::time::{Clock, Duration, SystemTime};
 
-/// The system's clock, in milliseconds since 1970. Where it can't be read, it answers the moment that it read last, 0 at first. It tells
-/// no answers.
+/// The system's clock, in milliseconds since 1970. Where it can't be read, it answers the moment that it read last, 0
+/// at first. It tells no answers.
 #[derive(Drop)]
 pub struct SystemClock<R> {
     rt: R,

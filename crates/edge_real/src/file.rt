@@ -35,10 +35,11 @@ impl<F> Model for FileDisk<F> {
 }
 
 impl<F: OpenedFile> FileDisk<F> {
-    /// Opens the file of that name under a folder that is there. A file that is missing is made, empty, with the folders between.
+    /// Opens the file of that name under a folder that is there. A file that is missing is made, empty, with the
+    /// folders between.
     ///
-    /// It syncs the given folder and those from there to the file, so that the file's name lasts: three syncs, or two for a
-    /// foreign disk. After an error the file may be there.
+    /// It syncs the given folder and those from there to the file, so that the file's name lasts: three syncs, or two
+    /// for a foreign disk. After an error the file may be there.
     pub fn open<S: Folders<File = F>>(
         alloc: Global,
         system: &mut S,
@@ -71,8 +72,8 @@ impl<F: OpenedFile> FileDisk<F> {
         &self.name
     }
 
-    /// The last call that the system did not do, and what it said. A call that comes behind a failed sync asks nothing of
-    /// the system, and leaves the words of that sync.
+    /// The last call that the system did not do, and what it said. A call that comes behind a failed sync asks
+    /// nothing of the system, and leaves the words of that sync.
     pub fn last_fault(&self) -> Option<SystemFault> {
         self.last
     }

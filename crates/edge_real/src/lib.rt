@@ -1,9 +1,10 @@
-//! Sources and sinks over std's readers and writers, disks over files, a bay of disks over a folder; and for a server links over TCP,
-//! threads and the system's clock.
+//! Sources and sinks over std's readers and writers, disks over files, a bay of disks over a folder; and for a server
+//! links over TCP, threads and the system's clock.
 //!
 //! This is the trusted edge: no clause can say what a file, a pipe or a terminal holds, so these adapters tell no
 //! bytes, and their contracts say only how they count faults. That a real file keeps what is asked of a disk is a
-//! premise, and no theorem. Each adapter keeps what the operating system said at its last fault, for the program to tell.
+//! premise, and no theorem. Each adapter keeps what the operating system said at its last fault, for the program to
+//! tell.
 #![tactic(auto)]
 
 mod bay;

@@ -14,8 +14,8 @@ use std::net::SocketAddr;
 
 /// A link over a stream, as a TCP socket. It tells no bytes.
 ///
-/// A call that a signal interrupts is tried again; a write that takes nothing of a piece is a fault. Each fault is told with the peer's
-/// address.
+/// A call that a signal interrupts is tried again; a write that takes nothing of a piece is a fault. Each fault is
+/// told with the peer's address.
 #[derive(Drop)]
 pub struct TcpLink<S, N> {
     stream: S,

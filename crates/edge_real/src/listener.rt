@@ -14,8 +14,8 @@ use std::{io, thread};
 
 /// The links that come to a TCP socket. More may always come.
 ///
-/// The first `next` binds the socket; where that fails, the next one tries again. A fault of accepting that passes, as a peer that is gone
-/// again and no descriptor that is free, is told, and after a pause it is tried again.
+/// The first `next` binds the socket; where that fails, the next one tries again. A fault of accepting that passes,
+/// as a peer that is gone again and no descriptor that is free, is told, and after a pause it is tried again.
 #[derive(Drop)]
 pub struct TcpLinks<R: Net, N> {
     rt: R,
@@ -39,8 +39,9 @@ impl<R: Net, N> Model for TcpLinks<R, N> {
 // The pause before a peer is accepted again.
 const PAUSE_MS: u64 = 10;
 
-// The numbers of Linux for the faults of `accept` that say nothing of the socket itself. Its manual page names those of the network,
-// which are to be tried again; of the others the process or the machine has no descriptor or no room left for now.
+// The numbers of Linux for the faults of `accept` that say nothing of the socket itself. Its manual page names those
+// of the network, which are to be tried again; of the others the process or the machine has no descriptor or no room
+// left for now.
 const PASSING: [i32; 18] = [
     1, 4, 11, 12, 23, 24, 64, 71, 92, 95, 100, 101, 103, 104, 105, 110, 112, 113,
 ];
@@ -76,8 +77,8 @@ fn accept<R: Clock, L: OpenListener, N: SocketNotices>(
 }
 
 impl<R: Net, N: SocketNotices> TcpLinks<R, N> {
-    /// The links that come to this host's address and port. Nothing is asked of the system yet. The port 0 stands for one that the system
-    /// chooses.
+    /// The links that come to this host's address and port. Nothing is asked of the system yet. The port 0 stands for
+    /// one that the system chooses.
     pub fn new(rt: R, host: String, port: u16, notices: N) -> TcpLinks<R, N>
         ensures { result ≡ record { given = 0; faults = 0 } }
     {

@@ -81,8 +81,8 @@ fn copy(alloc: Global, text: &str) -> io::Result<String> {
     Ok(format!(in alloc; "{text}")?)
 }
 
-/// Opens the file of a name below a folder. What is missing on its way is made, and each folder is synced from the given one
-/// to the file's, so that the name lasts.
+/// Opens the file of a name below a folder. What is missing on its way is made, and each folder is synced from the
+/// given one to the file's, so that the name lasts.
 pub fn open_below<S: Folders>(
     alloc: Global,
     system: &mut S,

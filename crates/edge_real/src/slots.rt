@@ -9,8 +9,8 @@ use crate::system::OpenedFile;
 use edge_io::{Disk, DiskName};
 use std::io;
 
-/// A slot for the disk of a name: whether it is out, the disk where it was put back, and the count of faults with which it was
-/// taken last.
+/// A slot for the disk of a name: whether it is out, the disk where it was put back, and the count of faults with
+/// which it was taken last.
 #[derive(Drop)]
 pub struct Slot<F> {
     pub name: DiskName,
@@ -110,8 +110,8 @@ pub fn set_out<F: Drop>(slots: &mut Vec<Slot<F>>, name: &DiskName, count: u64) -
     Ok(())
 }
 
-/// Keeps a disk under a name that was out, and answers how much its count of faults rose since. A disk of another name is closed, and
-/// the file of this name is opened when it is taken next.
+/// Keeps a disk under a name that was out, and answers how much its count of faults rose since. A disk of another
+/// name is closed, and the file of this name is opened when it is taken next.
 pub fn set_in<F: OpenedFile>(slots: &mut Vec<Slot<F>>, name: &DiskName, disk: FileDisk<F>) -> u64
     requires { out_in (found slots.old.items name.now) ≡ true }
     ensures is_in { out_in (found slots.new.items name.now) ≡ false }

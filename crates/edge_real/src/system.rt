@@ -4,7 +4,8 @@ use std::os::unix::fs::FileExt;
 use std::rt::Files;
 use std::{fs, io};
 
-/// The calls that a disk makes of its file, as POSIX `fstat`, `pread`, `pwrite`, `ftruncate` and `fdatasync`, and `flock`.
+/// The calls that a disk makes of its file, as POSIX `fstat`, `pread`, `pwrite`, `ftruncate` and `fdatasync`, and
+/// `flock`.
 ///
 /// A fake of it shows which calls a disk makes, as no file can.
 pub trait OpenedFile: Drop {
@@ -23,8 +24,8 @@ pub trait OpenedFile: Drop {
     /// Brings what was written, and the length, to the device.
     fn sync_data(&mut self) -> io::Result<()>;
 
-    /// Takes the file's exclusive lock, until the file is closed. Where another opening of the file has it, it is of the
-    /// kind `WouldBlock`, and doesn't wait.
+    /// Takes the file's exclusive lock, until the file is closed. Where another opening of the file has it, it is of
+    /// the kind `WouldBlock`, and doesn't wait.
     fn lock(&mut self) -> io::Result<()>;
 }
 

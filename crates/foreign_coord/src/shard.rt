@@ -169,10 +169,11 @@ impl<D: Disk> ForeignShard<D> {
         }
     }
 
-    /// Does a call, and answers it by the rules of the share-group state calls. A write whose record couldn't be stored is answered
-    /// with code 56, and changes no state.
+    /// Does a call, and answers it by the rules of the share-group state calls. A write whose record couldn't be
+    /// stored is answered with code 56, and changes no state.
     ///
-    /// It takes its memory first. A call that is refused, a read, and a delete of a key that isn't there make no device call.
+    /// It takes its memory first. A call that is refused, a read, and a delete of a key that isn't there make no
+    /// device call.
     pub fn act(&mut self, op: &ForeignOp) -> Result<ForeignAnswer, NoMemory>
         // Where it answers, a step of the shard was made; where it finds no memory, nothing has changed.
         ensures ok { IfOk result (λ answer. (old : ForeignShardState) → Carries D.seen self.old old → (new : ForeignShardState) × (fault : Option StoreFault)
@@ -224,8 +225,8 @@ impl<D: Disk> ForeignShard<D> {
         self.coord.states()
     }
 
-    /// The key at a place, in byte order of group, topic and partition, from place 0 on. It goes past the keys before it;
-    /// [`ForeignShard::states`] is for a walk.
+    /// The key at a place, in byte order of group, topic and partition, from place 0 on. It goes past the keys before
+    /// it; [`ForeignShard::states`] is for a walk.
     pub fn key_at(&self, place: u64) -> Option<&Key>
         ensures { option_copied result ≡ slice_get (keys_of self.now.entries) place }
     {

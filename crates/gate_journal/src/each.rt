@@ -55,19 +55,19 @@ fn recover_each<D: Disk, V: FrameVisit>(
     Ok((end, count))
 }
 
-/// Opens the journal of a disk as `start` does, and hands over its frames one by one, each with the place of its gate, in place of
-/// a list of all.
+/// Opens the journal of a disk as `start` does, and hands over its frames one by one, each with the place of its
+/// gate, in place of a list of all.
 ///
-/// The content is read in pieces of 65536 bytes, of which those are kept that aren't handed over yet: with a frame longer than
-/// that, the frame. So the memory that it takes is a frame, a piece and what the visitor keeps. At an `Err` the disk comes back,
-/// and some of the frames may have been handed over.
+/// The content is read in pieces of 65536 bytes, of which those are kept that aren't handed over yet: with a frame
+/// longer than that, the frame. So the memory that it takes is a frame, a piece and what the visitor keeps. At an
+/// `Err` the disk comes back, and some of the frames may have been handed over.
 pub fn start_each<D: Disk, V: FrameVisit>(
     alloc: Global,
     mut disk: D,
     visit: &mut V,
 ) -> Result<Journal<D>, (D, StartFault)>
-    // The frames that were handed over are those that the content stands for, each image stands for them from now on, and nothing is
-    // pending.
+    // The frames that were handed over are those that the content stands for, each image stands for them from now on,
+    // and nothing is pending.
     ensures ok { IfOk result (λ j. OpensEach D.seen disk j (V.seen visit.old) (V.seen visit.new)) }
 
     // A content that stands for frames is never damaged, and hands these frames over.

@@ -70,15 +70,16 @@ impl<D: Disk> Journal<D> {
 
     /// Adds a frame, and answers its number, from 0 on. It takes no memory.
     ///
-    /// `buffer` has the frame, of 1 to 33554432 bytes, behind four bytes of any value and before one. For every answer but
-    /// `Full` the five are set to the frame's length and a closed gate, so that one device write carries all.
+    /// `buffer` has the frame, of 1 to 33554432 bytes, behind four bytes of any value and before one. For every
+    /// answer but `Full` the five are set to the frame's length and a closed gate, so that one device write carries
+    /// all.
     ///
-    /// An append that finds nothing to mend makes four device calls: a write, a sync, a write of one byte, a sync. Mending
-    /// makes two or four more before them. The first call that fails is the last.
+    /// An append that finds nothing to mend makes four device calls: a write, a sync, a write of one byte, a sync.
+    /// Mending makes two or four more before them. The first call that fails is the last.
     ///
-    /// At `Device` the frame is pending, or the one that was pending still is; the buffer still has the frame, so the same
-    /// append can be tried again. At `Full` the frame would end past 2^62 bytes, and nothing is changed, the buffer
-    /// included; `end` is the number of bytes up to the last gate and with it.
+    /// At `Device` the frame is pending, or the one that was pending still is; the buffer still has the frame, so the
+    /// same append can be tried again. At `Full` the frame would end past 2^62 bytes, and nothing is changed, the
+    /// buffer included; `end` is the number of bytes up to the last gate and with it.
     pub fn append(&mut self, buffer: &mut [u8]) -> Result<u64, StoreFault>
         requires { IsFrame (frame_in buffer.old) }
 
@@ -91,7 +92,8 @@ impl<D: Disk> Journal<D> {
             Stands D.seen self.new frames pending ⊎ Stands D.seen self.new frames (Some (frame_in buffer.old))) }
         ensures full { RefusesFull self.old self.new buffer.old buffer.new result }
 
-        // At each moment since the call began a crash leaves the frames, with or without the pending one, or with this one.
+        // At each moment since the call began a crash leaves the frames, with or without the pending one, or with
+        // this one.
         ensures any_moment { (frames : List (List ℕ)) (pending : Option (List ℕ)) → Stands D.seen self.old frames pending →
             LeavesOnly D.seen self.old.disk self.new.disk (λ c. IsWithPending frames pending c ⊎ IsBeforeOrAfter frames (frame_in buffer.old) c) }
 
@@ -124,11 +126,12 @@ impl<D: Disk> Journal<D> {
         self.writer.end - 1
     }
 
-    /// Appends the frame whose gate stands at `place` to a room. It makes two device calls, which read the length and the frame;
-    /// the first that fails is the last.
+    /// Appends the frame whose gate stands at `place` to a room. It makes two device calls, which read the length and
+    /// the frame; the first that fails is the last.
     ///
-    /// It finds no memory only where the spare number of the room is below the frame's length. After a refusal the room has the
-    /// bytes that it had, and its spare number is no smaller. The frames and what is pending stay in any case.
+    /// It finds no memory only where the spare number of the room is below the frame's length. After a refusal the
+    /// room has the bytes that it had, and its spare number is no smaller. The frames and what is pending stay in any
+    /// case.
     pub fn read_frame(&mut self, place: u64, out: &mut Room) -> Result<(), BatchRead>
         requires { (frame : List ℕ) × HasFrameAt D.seen self.old place frame }
 
@@ -146,8 +149,8 @@ impl<D: Disk> Journal<D> {
         self.read_frame_within(place, MAX_FRAME, out)
     }
 
-    /// The same of a frame that is known to have at most so many bytes: no more is appended, so also where the disk doesn't tell
-    /// its content, a room with a spare number of so many is enough.
+    /// The same of a frame that is known to have at most so many bytes: no more is appended, so also where the disk
+    /// doesn't tell its content, a room with a spare number of so many is enough.
     pub fn read_frame_within(
         &mut self,
         place: u64,

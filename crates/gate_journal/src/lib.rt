@@ -1,10 +1,10 @@
 //! A journal on a disk that may crash at any moment: a list of frames that grows by one frame at a time.
 //!
 //! Journal text is made of *gates*. A gate is one byte: open where it is 1, and closed otherwise. Behind an open gate
-//! stand the length of a frame, as a big-endian u32, and the frame, and then the next gate; the last gate is closed. So
-//! an append writes the frame with its length and a closed gate behind the last gate, syncs, opens the gate, and syncs
-//! again. Whatever of these calls a crash cuts short, the content stands for the frames before, or for those with the new
-//! one. No checksum is trusted for that.
+//! stand the length of a frame, as a big-endian u32, and the frame, and then the next gate; the last gate is closed.
+//! So an append writes the frame with its length and a closed gate behind the last gate, syncs, opens the gate, and
+//! syncs again. Whatever of these calls a crash cuts short, the content stands for the frames before, or for those
+//! with the new one. No checksum is trusted for that.
 #![tactic(auto)]
 
 mod buffer;

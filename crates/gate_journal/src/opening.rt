@@ -127,9 +127,9 @@ fn recover<D: Disk>(alloc: Global, disk: &mut D) -> Result<(Vec<Blob>, u64), Sta
 
 /// Opens the journal of a disk: reads the frames that its content stands for, and repairs its end.
 ///
-/// It syncs first, so that what it reads is what a crash would leave. Then it writes a closed gate to an empty disk, or
-/// cuts off what stands behind the last gate, and syncs again: two device calls where there is nothing to repair, and four
-/// where there is. The first that fails is the last. At an `Err` the disk comes back, at `Damaged` and
+/// It syncs first, so that what it reads is what a crash would leave. Then it writes a closed gate to an empty disk,
+/// or cuts off what stands behind the last gate, and syncs again: two device calls where there is nothing to repair,
+/// and four where there is. The first that fails is the last. At an `Err` the disk comes back, at `Damaged` and
 /// `NoMemory` with the content that it had. It reads the content into memory once, and copies each frame.
 pub fn start<D: Disk>(
     alloc: Global,

@@ -30,7 +30,8 @@ fn cut_front(held: &mut Vec<u8>, used: usize)
     held.truncate(rest);
 }
 
-/// Reads journal text to its last gate and hands its frames over, and answers the place behind that gate and the number of frames.
+/// Reads journal text to its last gate and hands its frames over, and answers the place behind that gate and the
+/// number of frames.
 pub fn visit_frames<D: Disk, V: FrameVisit>(
     alloc: Global,
     disk: &mut D,

@@ -1,5 +1,5 @@
-// Adapters: which calls of the system they make, and what they make of its answers. What they make of real files is shown by the
-// built program.
+// Adapters: which calls of the system they make, and what they make of its answers. What they make of real files is
+// shown by the built program.
 //
 // | Line | Gives |
 // |---|---|

@@ -42,7 +42,8 @@ pub fn name_read(alloc: Global, text: &str) -> io::Result<String> {
     }
 }
 
-/// Takes a disk out and puts it back, of which the second call is to fail; another disk is empty. Gives what doesn't hold.
+/// Takes a disk out and puts it back, of which the second call is to fail; another disk is empty. Gives what doesn't
+/// hold.
 pub fn bay_told(alloc: Global) -> io::Result<String> {
     let Some(name) = DiskName::hosted(b"orders", 0, DiskPlace::StateA) else {
         return word(alloc, "no name");

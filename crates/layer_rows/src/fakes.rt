@@ -81,7 +81,8 @@ impl OpenedFile for FakeFile {
 }
 
 impl FakeFolders {
-    /// Calls of which the first of this kind fails. Where a folder's parent is missing, the first that makes a folder says so.
+    /// Calls of which the first of this kind fails. Where a folder's parent is missing, the first that makes a folder
+    /// says so.
     pub fn new(alloc: Global, failing: Option<SystemCall>, missing: bool) -> FakeFolders {
         FakeFolders {
             failing,
@@ -132,7 +133,8 @@ impl Folders for FakeFolders {
     }
 }
 
-/// A stream whose calls end so, one after the other; those behind the list are done. It takes and gives a byte at a time.
+/// A stream whose calls end so, one after the other; those behind the list are done. It takes and gives a byte at a
+/// time.
 #[derive(Drop)]
 pub struct Flaky {
     calls: usize,

@@ -8,9 +8,9 @@
 // | `seal` | the checksum of a record batch is set to what the bytes give |
 // | `KIND TEXT` | the bytes are read as this kind, and give that text |
 //
-// A text is the value, and `written HEX` behind it where the value is written as other bytes; or a fault and its place. Each
-// proper front of bytes that are read has to be refused. In values `null` is Kafka's null. The kinds are in `kinds.rt`,
-// `messages.rt`, `batches.rt`, `records.rt`, `acks.rt`, `values.rt` and `sessions.rt`.
+// A text is the value, and `written HEX` behind it where the value is written as other bytes; or a fault and its
+// place. Each proper front of bytes that are read has to be refused. In values `null` is Kafka's null. The kinds are
+// in `kinds.rt`, `messages.rt`, `batches.rt`, `records.rt`, `acks.rt`, `values.rt` and `sessions.rt`.
 use crate::acks::ack_told;
 use crate::batches::{batch_told, made_told, placed_told, record_of, unchecked_told};
 use crate::kinds::wire_told;

@@ -25,7 +25,8 @@ fn told<M: Message + Wire + Debug>(alloc: Global, bytes: &[u8]) -> io::Result<St
     }
 }
 
-/// What bytes are as a message of a client's first calls, or of a producer, or as one of those below. `None` where there is no such kind.
+/// What bytes are as a message of a client's first calls, or of a producer, or as one of those below. `None` where
+/// there is no such kind.
 pub fn client_told(alloc: Global, kind: &str, bytes: &[u8]) -> io::Result<Option<String>> {
     let text = match kind {
         "ApiVersionsRequest" => told::<ApiVersionsRequest>(alloc, bytes),

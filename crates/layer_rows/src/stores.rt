@@ -1,4 +1,5 @@
-// Stores: disks, journals, logs and streams. A line is done. The heads of `disks.rt`, `logs.rt` and `streams.rt` say which there are.
+// Stores: disks, journals, logs and streams. A line is done. The heads of `disks.rt`, `logs.rt` and `streams.rt` say
+// which there are.
 use crate::bay::{bay_told, name_read, name_told};
 use crate::disks::Store;
 use crate::streams::Streams;

@@ -8,7 +8,8 @@ use std::alloc::Global;
 use std::marker::Model;
 use std::sync::ledger::Ledger;
 
-/// Runs of held offsets, and room for more. Only `set`, `put_at` and `take_at` change them, and each of these is a step, as `at` is.
+/// Runs of held offsets, and room for more. Only `set`, `put_at` and `take_at` change them, and each of these is a
+/// step, as `at` is.
 ///
 /// A contract sees the runs, and the room: how many runs there can be with no memory.
 #[derive(Drop)]

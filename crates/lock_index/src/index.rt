@@ -6,8 +6,8 @@ use share_model::NoMemory;
 use std::alloc::Global;
 use std::marker::Model;
 
-/// The pairs of lock end, in milliseconds, and first offset of runs that are held, by rising end, and by rising offset where the ends
-/// are equal. No pair stands twice.
+/// The pairs of lock end, in milliseconds, and first offset of runs that are held, by rising end, and by rising
+/// offset where the ends are equal. No pair stands twice.
 ///
 /// A contract sees the pairs, and the room: how many there can be with no memory.
 #[derive(Drop)]

@@ -5,8 +5,8 @@ ghost use Rattle.lock_index.specs.declared.run.HoldRun.{HoldRun};
 
 use share_model::Hold;
 
-/// Consecutive offsets, `first` and `last` with them, that are held in one way: by one member, until one moment, and with
-/// one delivery count.
+/// Consecutive offsets, `first` and `last` with them, that are held in one way: by one member, until one moment, and
+/// with one delivery count.
 #[derive(Clone, Copy)]
 pub struct HoldRun {
     pub first: u64,

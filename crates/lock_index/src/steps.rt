@@ -3,9 +3,11 @@ ghost use Rattle.std.specs.Prelude.{◌≡◌, ◌<◌, ◌+◌};
 use std::marker::Model;
 use std::sync::ledger::{Blank, Book, Ledger, Share};
 
-/// How many steps were taken. It takes no bytes, and nothing is counted when the program runs: contracts alone see the number.
+/// How many steps were taken. It takes no bytes, and nothing is counted when the program runs: contracts alone see
+/// the number.
 ///
-/// A step is one call of `at`, `set`, `put_at` or `take_at` of a [`HoldList`](crate::HoldList), and only these raise it.
+/// A step is one call of `at`, `set`, `put_at` or `take_at` of a [`HoldList`](crate::HoldList), and only these raise
+/// it.
 #[derive(Drop)]
 pub struct Steps<L: Ledger> {
     book: Book<L>,

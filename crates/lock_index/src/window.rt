@@ -57,8 +57,8 @@ pub trait Window: Sized + Drop {
         ensures keeps { OnErr result (spare self.new ≡ spare self.old) }
         ensures spared { n ≤ spare self.old → IsOk result };
 
-    /// Holds an offset, in place of an older hold of it. After want of memory, which needs that none was set aside, the window
-    /// is as it was.
+    /// Holds an offset, in place of an older hold of it. After want of memory, which needs that none was set aside,
+    /// the window is as it was.
     fn hold(&mut self, offset: u64, hold: Hold) -> Result<(), NoMemory>
         ensures ok { OnOk result (held self.new ≡ insert_entry nat_cmp (held self.old) offset hold) }
         ensures spends { OnOk result (spare self.old ≤ spare self.new + 1) }
@@ -66,8 +66,9 @@ pub trait Window: Sized + Drop {
         ensures keeps { OnErr result (spare self.new ≡ spare self.old) }
         ensures spared { 1 ≤ spare self.old → IsOk result };
 
-    /// Holds the offsets from `first` to `last` in one way, each in place of an older hold of it; there are none where `last` is below
-    /// `first`. After want of memory, which needs that it wasn't set aside for so many, the window is as it was.
+    /// Holds the offsets from `first` to `last` in one way, each in place of an older hold of it; there are none
+    /// where `last` is below `first`. After want of memory, which needs that it wasn't set aside for so many, the
+    /// window is as it was.
     fn hold_range(&mut self, first: u64, last: u64, hold: Hold) -> Result<(), NoMemory>
         ensures ok { OnOk result (held self.new ≡ holding first ((last + 1) - first) hold (held self.old)) }
         ensures spends { OnOk result (spare self.old ≤ spare self.new + ((last + 1) - first)) }
@@ -75,13 +76,14 @@ pub trait Window: Sized + Drop {
         ensures keeps { OnErr result (spare self.new ≡ spare self.old) }
         ensures spared { (last + 1) - first ≤ spare self.old → IsOk result };
 
-    /// Ends the holds of the offsets from `first` to `last`; there are none where `last` is below `first`. It takes no memory.
+    /// Ends the holds of the offsets from `first` to `last`; there are none where `last` is below `first`. It takes
+    /// no memory.
     fn end_hold(&mut self, first: u64, last: u64)
         ensures held { held self.new ≡ without_range first last (held self.old) }
         ensures spare { spare self.old ≤ spare self.new };
 
-    /// Does what `end_hold` does, and counts its steps: for each run that the range meets there are at least one and at most four, and beside
-    /// these at most sixteen.
+    /// Does what `end_hold` does, and counts its steps: for each run that the range meets there are at least one and
+    /// at most four, and beside these at most sixteen.
     fn end_hold_counted<L: Ledger>(&mut self, first: u64, last: u64, steps: &mut Steps<L>)
         ensures held { held self.new ≡ without_range first last (held self.old) }
         ensures spare { spare self.old ≤ spare self.new }

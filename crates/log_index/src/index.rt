@@ -55,8 +55,8 @@ impl LogIndex {
         })
     }
 
-    /// Adds a batch behind the others: its first and last offset, the number of its bytes, and the place of its frame's gate. Nothing is
-    /// cached by it. After a refusal the index is as it was.
+    /// Adds a batch behind the others: its first and last offset, the number of its bytes, and the place of its
+    /// frame's gate. Nothing is cached by it. After a refusal the index is as it was.
     pub fn push(&mut self, base: u64, last: u64, size: u32, place: u64) -> Result<(), NoMemory>
         requires order { base ≤ last }
         requires behind { end_of (log_of self.old.entries) ≤ base }
@@ -89,12 +89,12 @@ impl LogIndex {
         place_of(&self.entries, offset)
     }
 
-    /// Appends the bytes of the batch with this number, from 0 on, to a room: those that are cached for it, and else those of its frame,
-    /// which are then cached, if there is memory for that. The 64 that were read last are cached.
+    /// Appends the bytes of the batch with this number, from 0 on, to a room: those that are cached for it, and else
+    /// those of its frame, which are then cached, if there is memory for that. The 64 that were read last are cached.
     ///
-    /// The answer with the cache is the answer without it. It finds no memory only where the spare number of the room is below the
-    /// frame's length. After a refusal the room has the bytes that it had, and its spare number is no smaller. The entries, the
-    /// journal's frames and what is pending there stay in any case.
+    /// The answer with the cache is the answer without it. It finds no memory only where the spare number of the room
+    /// is below the frame's length. After a refusal the room has the bytes that it had, and its spare number is no
+    /// smaller. The entries, the journal's frames and what is pending there stay in any case.
     pub fn read<D: Disk>(
         &mut self,
         journal: &mut Journal<D>,
@@ -104,7 +104,8 @@ impl LogIndex {
         requires number { number < length self.old.entries }
         requires fits { Indexes D.seen self.old journal.old }
 
-        // At Ok the frame at the place of that entry stands behind the bytes of the room, where the disk tells its content.
+        // At Ok the frame at the place of that entry stands behind the bytes of the room, where the disk tells its
+        // content.
         ensures ok { OnOk result (IsTold (D.seen journal.old.disk).content → (e : Entry) (frame : List ℕ) → IsEntryAt self.old.entries number e →
             HasFrameAt D.seen journal.old e.place frame → Appends out.old out.new frame) }
         ensures err { OnErr result (Reserves out.old out.new 0) }

@@ -1,4 +1,5 @@
-//! The calls that a Kafka client makes first, ApiVersions, Metadata and FindCoordinator, and a producer's call, Produce.
+//! The calls that a Kafka client makes first, ApiVersions, Metadata and FindCoordinator, and a producer's call,
+//! Produce.
 //!
 //! Each message is a struct, its schema in `specs/`, and two calls that read and write its body.
 #![tactic(auto)]

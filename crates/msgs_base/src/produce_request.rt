@@ -110,7 +110,8 @@ impl Wire for ProduceRequest {
     }
 }
 
-/// Reads the body of a Produce request; the records of each partition are copied once. Places count from its first byte.
+/// Reads the body of a Produce request; the records of each partition are copied once. Places count from its first
+/// byte.
 pub fn read_produce_request(alloc: Global, bytes: &[u8]) -> Result<ProduceRequest, WireFault>
     ensures { ReadsWhole produce_request bytes.now result }
 {

@@ -24,8 +24,8 @@ pub struct Assignment {
     pub topic_partitions: Items<AssignedTopic>,
 }
 
-/// The epoch that a member has now, when it is to send the next heartbeat, and its assignment where it may be new; or an
-/// error.
+/// The epoch that a member has now, when it is to send the next heartbeat, and its assignment where it may be new; or
+/// an error.
 #[derive(Debug, Drop)]
 pub struct HeartbeatReply {
     pub throttle_time_ms: i32,

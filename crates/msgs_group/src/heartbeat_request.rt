@@ -8,8 +8,8 @@ use flex_fields::{
 };
 use std::alloc::Global;
 
-/// A member of a share group joins (epoch 0), stays (its epoch) or leaves (epoch -1). Null names leave its subscription as it
-/// is.
+/// A member of a share group joins (epoch 0), stays (its epoch) or leaves (epoch -1). Null names leave its
+/// subscription as it is.
 #[derive(Debug, Drop)]
 pub struct HeartbeatRequest {
     pub group_id: Text,

@@ -20,8 +20,8 @@ pub fn put_optional<T: Wire>(out: &mut Out, value: &Option<T>) -> Result<(), NoM
     }
 }
 
-/// A structure or null, as a field that is taken: the byte -1 alone, or 1 and then the structure. Any other byte is refused as
-/// `BadLength`.
+/// A structure or null, as a field that is taken: the byte -1 alone, or 1 and then the structure. Any other byte is
+/// refused as `BadLength`.
 #[derive(Drop)]
 pub struct Optional<T> {
     value: Option<T>,

@@ -1,8 +1,8 @@
 //! The messages of share consumers in the Kafka protocol (KIP-932): ShareFetch and ShareAcknowledge, version 1 each.
 //!
-//! Each message is a struct, its schema in `specs/`, and two calls that read and write its body. Topics stand in one form in
-//! all of them. A read copies the record batches once, from the bytes into the message, and a write once, from the message
-//! into the bytes.
+//! Each message is a struct, its schema in `specs/`, and two calls that read and write its body. Topics stand in one
+//! form in all of them. A read copies the record batches once, from the bytes into the message, and a write once,
+//! from the message into the bytes.
 #![tactic(auto)]
 
 mod nodes;

@@ -19,7 +19,8 @@ pub struct AcquiredRecords {
     pub delivery_count: i16,
 }
 
-/// What became of one partition: its acknowledgements, and the records that were acquired with the batches that have them.
+/// What became of one partition: its acknowledgements, and the records that were acquired with the batches that have
+/// them.
 #[derive(Debug, Drop)]
 pub struct FetchedPartition {
     pub partition_index: i32,

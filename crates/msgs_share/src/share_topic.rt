@@ -4,7 +4,8 @@ use flex_fields::{Cursor, Items, NoMemory, Out, Wire, WireFault, put_structure, 
 use std::alloc::Global;
 use uuid::Uuid;
 
-/// Offsets, `first_offset` and `last_offset` with them, and what is said of their records: one type for each, or one for all.
+/// Offsets, `first_offset` and `last_offset` with them, and what is said of their records: one type for each, or one
+/// for all.
 #[derive(Debug, Drop)]
 pub struct AcknowledgementBatch {
     pub first_offset: i64,

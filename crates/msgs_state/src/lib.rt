@@ -1,7 +1,7 @@
 //! The share-group state calls of the Kafka protocol (KIP-932): Initialize-, Read-, Write- and DeleteShareGroupState.
 //!
-//! The requests have one form, and so have the replies: what differs is what is said of one partition. Each message has its
-//! schema in `specs/`, and two calls that read and write its body.
+//! The requests have one form, and so have the replies: what differs is what is said of one partition. Each message
+//! has its schema in `specs/`, and two calls that read and write its body.
 #![tactic(auto)]
 
 mod delete_request;

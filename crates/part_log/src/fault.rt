@@ -3,8 +3,8 @@ use thiserror::Error;
 /// Why a log was not opened.
 #[derive(Clone, Copy, Debug, Error)]
 pub enum OpenFault {
-    /// The content is no log text: at this place stands an open gate that no frame and gate follow, or whose frame is no stored
-    /// batch or begins below the end of the log before it.
+    /// The content is no log text: at this place stands an open gate that no frame and gate follow, or whose frame is
+    /// no stored batch or begins below the end of the log before it.
     #[error("the log is damaged at byte {place}")]
     Damaged { place: u64 },
     /// The disk failed.

@@ -13,8 +13,8 @@ pub fn a_frame_is_one_batch()
     ensures only { (b : Batch) → IsStored b → b ≡ batch_in b.bytes }
 {}
 
-/// A content stands for one log, or is damaged at one place, and not both. That there is no third case is said without telling which
-/// of the two it is.
+/// A content stands for one log, or is damaged at one place, and not both. That there is no third case is said
+/// without telling which of the two it is.
 pub fn log_text_is_read_one_way()
     ensures either { (c : List ℕ) → ((log : List Batch) → IsLogText c log → ⊥) → ((place : ℕ) → IsNoLogText c place → ⊥) → ⊥ }
     ensures logs { (c : List ℕ) (log other : List Batch) → IsLogText c log → IsLogText c other → log ≡ other }

@@ -31,11 +31,12 @@ use std::marker::Model;
 
 const OFFSETS: u64 = 1 << 62;
 
-/// The log of a partition: a list of record batches on a disk, which grows by one batch at a time and survives a crash at any
-/// moment.
+/// The log of a partition: a list of record batches on a disk, which grows by one batch at a time and survives a
+/// crash at any moment.
 ///
-/// A contract sees its batches, each with its first and last offset, the offsets of its records and its bytes, and beside them
-/// the writing end of its journal. Each batch stands in one frame of the journal, and its bytes are kept in memory besides.
+/// A contract sees its batches, each with its first and last offset, the offsets of its records and its bytes, and
+/// beside them the writing end of its journal. Each batch stands in one frame of the journal, and its bytes are kept
+/// in memory besides.
 #[derive(Drop)]
 pub struct PartLog<D: Disk> {
     journal: Journal<D>,
@@ -80,8 +81,8 @@ impl<D: Disk> PartLog<D> {
 
     /// Opens the log of a disk: reads the batches that its content stands for, in time linear in the content.
     ///
-    /// It syncs first, so that what it reads is what a crash would leave, and repairs the end of the journal. At an `Err` the disk
-    /// comes back.
+    /// It syncs first, so that what it reads is what a crash would leave, and repairs the end of the journal. At an
+    /// `Err` the disk comes back.
     pub fn open(alloc: Global, disk: D) -> Result<PartLog<D>, (D, OpenFault)>
         // The log is the one that the content stands for; each image stands for it from now on, and nothing is pending.
         ensures kept { IfOk result (λ log. Keeps D.seen log None) }
@@ -180,10 +181,10 @@ impl<D: Disk> PartLog<D> {
 
     /// Adds a batch as a producer sends it, at the log's end and with leader epoch 0, and answers its base.
     ///
-    /// What isn't a batch in the produced form is refused with its first fault. Where its last offset would be 2^62 or more, it is
-    /// refused as full with the log's end, and where the journal has no room with the journal's. At `Device` the batch is pending,
-    /// or the one that was pending still is; at each other refusal nothing is changed. It makes one copy of the batch, which is
-    /// then kept, and one device write for it.
+    /// What isn't a batch in the produced form is refused with its first fault. Where its last offset would be 2^62
+    /// or more, it is refused as full with the log's end, and where the journal has no room with the journal's. At
+    /// `Device` the batch is pending, or the one that was pending still is; at each other refusal nothing is changed.
+    /// It makes one copy of the batch, which is then kept, and one device write for it.
     pub fn append(&mut self, batch: &[u8]) -> Result<u64, LogFault>
         // What isn't a batch is refused with its first fault.
         ensures batch { (fault : BatchFault) → (result ≡ Err (LogFault.Batch fault)) ↔ IsFirstFault Form.Produced batch.now fault }
@@ -206,8 +207,8 @@ impl<D: Disk> PartLog<D> {
 
     /// Adds a batch as a log keeps it, with the base that it has and all its bytes, and answers its base.
     ///
-    /// What isn't a batch in the stored form is refused with its first fault, and one whose base is below the log's end with that
-    /// end. The other refusals, and what stands after each, are those of `append`.
+    /// What isn't a batch in the stored form is refused with its first fault, and one whose base is below the log's
+    /// end with that end. The other refusals, and what stands after each, are those of `append`.
     pub fn load(&mut self, batch: &[u8]) -> Result<u64, LogFault>
         // What isn't a batch is refused with its first fault, and what begins below the log's end with that end.
         ensures batch { (fault : BatchFault) → (result ≡ Err (LogFault.Batch fault)) ↔ IsFirstFault Form.Stored batch.now fault }
@@ -262,8 +263,9 @@ impl<D: Disk> PartLog<D> {
         end_of(&self.entries)
     }
 
-    /// Appends the bytes of the batch with this number, from 0 on, to a room. It finds no memory only where the spare number of the
-    /// room is below their number, and the room is then as it was. The log stays as it is, and no device is called.
+    /// Appends the bytes of the batch with this number, from 0 on, to a room. It finds no memory only where the spare
+    /// number of the room is below their number, and the room is then as it was. The log stays as it is, and no
+    /// device is called.
     pub fn batch_bytes(&mut self, number: u64, out: &mut Room) -> Result<(), BatchRead>
         requires { number < length self.old.batches }
         ensures ok { OnOk result ((b : Batch) → IsAt self.old.batches number b → Appends out.old out.new b.bytes) }

@@ -6,8 +6,8 @@ use crate::client::take_client;
 use flex_fields::{Cursor, Text, WireFault};
 use std::alloc::Global;
 
-/// Takes what every request header begins with: the key, the version and the correlation id. After a refusal the cursor may
-/// stand anywhere.
+/// Takes what every request header begins with: the key, the version and the correlation id. After a refusal the
+/// cursor may stand anywhere.
 pub fn take_head_start(cursor: &mut Cursor<'_>) -> Result<(i16, (i16, i32)), WireFault>
     ensures read { Moves cursor.new result (head_start.read cursor.old) }
     ensures memory { TakesNoMemory result }
@@ -18,8 +18,8 @@ pub fn take_head_start(cursor: &mut Cursor<'_>) -> Result<(i16, (i16, i32)), Wir
     Ok((key, (version, correlation)))
 }
 
-/// Takes what stands behind that in a request header of version 2: the client id, and tags. After a refusal the cursor may
-/// stand anywhere.
+/// Takes what stands behind that in a request header of version 2: the client id, and tags. After a refusal the
+/// cursor may stand anywhere.
 #[tactic(auto, unfolding(crate::specs::InTwo::head_rest))]
 pub fn take_head_rest(alloc: Global, cursor: &mut Cursor<'_>) -> Result<Option<Text>, WireFault>
     ensures { Moves cursor.new result (head_rest.read cursor.old) }

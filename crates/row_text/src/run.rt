@@ -139,8 +139,8 @@ fn run_file<R: Rows>(
     tally.close(rt)
 }
 
-/// Runs the cases of the files that the arguments name. Prints a line for each check that fails, and last how many cases
-/// passed and failed.
+/// Runs the cases of the files that the arguments name. Prints a line for each check that fails, and last how many
+/// cases passed and failed.
 pub fn run_files<R: Rows>(rt: &HostRuntime, mut rows: R) -> io::Result<()> {
     let mut tally = Tally::new(rt.alloc());
     for file in env::args(rt)?.skip(1) {

@@ -68,8 +68,8 @@ fn differs(alloc: Global, line: &str, want: &str) -> io::Result<String> {
     Ok(format!(in alloc; "there is `{line}`, and `{want}` is wanted")?)
 }
 
-/// What differs between a text and the one that is wanted: the first line, or the number of lines. `None` where they are
-/// equal.
+/// What differs between a text and the one that is wanted: the first line, or the number of lines. `None` where they
+/// are equal.
 pub fn compared(alloc: Global, got: &str, wanted: &str) -> io::Result<Option<String>>
     ensures { IfOk result (λ why. is_some why ≡ false ↔ got.now ≡ wanted.now) }
 {

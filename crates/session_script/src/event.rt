@@ -22,7 +22,8 @@ pub enum Event {
         conn: u32,
         now: u64,
     },
-    /// The broker frees what is locked no longer on this partition of the topic of this name, at this moment in milliseconds.
+    /// The broker frees what is locked no longer on this partition of the topic of this name, at this moment in
+    /// milliseconds.
     Expire {
         topic: Name,
         part: u32,

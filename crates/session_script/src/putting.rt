@@ -50,7 +50,8 @@ fn put_whole(
     put_line(text, outcome_line(alloc, outcome, conf))
 }
 
-/// Adds the line of an outcome to a text that waits. The configuration tells the name of the partition that a fault is of.
+/// Adds the line of an outcome to a text that waits. The configuration tells the name of the partition that a fault
+/// is of.
 ///
 /// After want of memory the text is as it was.
 pub fn put_outcome(

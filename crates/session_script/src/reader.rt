@@ -270,7 +270,8 @@ impl ScriptReader {
         Err(malformed)
     }
 
-    /// Whether a line is pending whole that isn't the last one. Then the next call of [`ScriptReader::take_event`] reads nothing.
+    /// Whether a line is pending whole that isn't the last one. Then the next call of [`ScriptReader::take_event`]
+    /// reads nothing.
     pub fn is_ready(&mut self) -> bool
         ensures same { self.new ≡ self.old }
         ensures ready { result ≡ true → HasEventLine self.new.pending }

@@ -19,8 +19,8 @@ pub fn cut(text: &str) -> Option<(&str, &str)>
     text.split_once(' ')
 }
 
-/// The number up to `limit` that is written as `word`: in decimal, with no sign and no leading zero. `None` where there is
-/// none. Scripts and command lines have their numbers in this form.
+/// The number up to `limit` that is written as `word`: in decimal, with no sign and no leading zero. `None` where
+/// there is none. Scripts and command lines have their numbers in this form.
 pub fn number(limit: u64, word: &str) -> Option<u64>
     ensures { MatchOption result (IsNoNumber limit word.now) (IsNumber limit word.now) }
 {

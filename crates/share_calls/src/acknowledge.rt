@@ -133,8 +133,8 @@ fn ack_stage(
     go_on(alloc, hand, left, VecDeque::new(alloc))
 }
 
-/// A ShareAcknowledge begins: with its first visit, or its reply. Behind it stands what it does to the session of its member, `None` where
-/// it is refused; the connection has room for that. The sessions aren't changed yet.
+/// A ShareAcknowledge begins: with its first visit, or its reply. Behind it stands what it does to the session of its
+/// member, `None` where it is refused; the connection has room for that. The sessions aren't changed yet.
 pub fn ack_call(
     alloc: Global,
     conf: &Config,

@@ -26,8 +26,8 @@ pub type FetchStage = Stage<Asking<FetchHand, Visiting, Option<FetchRow>>>;
 
 const MOST_BYTES: u32 = 16_777_216;
 
-/// What a ShareFetch keeps from visit to visit: the lock duration in milliseconds, how many records and bytes of batches are left to
-/// its reply, and whether no batch is in it yet.
+/// What a ShareFetch keeps from visit to visit: the lock duration in milliseconds, how many records and bytes of
+/// batches are left to its reply, and whether no batch is in it yet.
 #[derive(Drop)]
 pub struct FetchHand {
     lock_ms: i32,
@@ -231,8 +231,8 @@ fn fetch_stage(
     go_on(alloc, hand, left, VecDeque::new(alloc))
 }
 
-/// A ShareFetch begins: with its first visit, or its reply. Behind it stands what it does to the session of its member, `None` where it is
-/// refused; the connection has room for that. The sessions aren't changed yet.
+/// A ShareFetch begins: with its first visit, or its reply. Behind it stands what it does to the session of its
+/// member, `None` where it is refused; the connection has room for that. The sessions aren't changed yet.
 pub fn fetch_call(
     alloc: Global,
     conf: &Config,

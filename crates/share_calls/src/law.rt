@@ -15,14 +15,15 @@ pub fn each_shard_is_told_by_its_partition()
         partition_of topics shard ≡ Some (record { topic_id = id; index = pos index }) }
 {}
 
-/// A ShareFetch visits the partitions of its plan, in order, each with the limits less all that was given before. Its reply tells each
-/// told partition by the answer to its own visit, in the order of the visits, and behind them those that aren't hosted.
+/// A ShareFetch visits the partitions of its plan, in order, each with the limits less all that was given before. Its
+/// reply tells each told partition by the answer to its own visit, in the order of the visits, and behind them those
+/// that aren't hosted.
 pub fn each_fetched_partition_is_told_by_its_own_visit()
     ensures { TellsByItsVisit }
 {}
 
-/// A ShareAcknowledge visits the partitions of its plan, in order. Its reply has the topics and partitions of the request, each partition
-/// told by the answer to its own visit, or by its code where it isn't hosted.
+/// A ShareAcknowledge visits the partitions of its plan, in order. Its reply has the topics and partitions of the
+/// request, each partition told by the answer to its own visit, or by its code where it isn't hosted.
 pub fn each_acknowledged_partition_is_told_by_its_own_visit()
     ensures { TellsByItsAck }
 {}
@@ -32,8 +33,8 @@ pub fn a_heartbeat_is_told_by_its_own_answer()
     ensures { TellsItsHeartbeat }
 {}
 
-/// The reply to a ShareFetch has one element for each topic that has rows, with all of them in their order, and the elements stand in the
-/// order of their first rows.
+/// The reply to a ShareFetch has one element for each topic that has rows, with all of them in their order, and the
+/// elements stand in the order of their first rows.
 pub fn each_topic_has_one_element()
     ensures { HasOneOfEachTopic FetchedPartition }
 {}

@@ -1,6 +1,6 @@
-//! The calls of share consumers in hand (KIP-932): ShareFetch and ShareAcknowledge, with the visits that each asks of the hosted
-//! partitions, those of a fetch with the limits that the visits before left; ShareGroupHeartbeat; and the replies that their answers
-//! make.
+//! The calls of share consumers in hand (KIP-932): ShareFetch and ShareAcknowledge, with the visits that each asks of
+//! the hosted partitions, those of a fetch with the limits that the visits before left; ShareGroupHeartbeat; and the
+//! replies that their answers make.
 #![tactic(auto)]
 
 mod ack_entries;

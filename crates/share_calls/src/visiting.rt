@@ -8,7 +8,8 @@ use share_session::{PlanStep, VisitPlan};
 use std::alloc::Global;
 use std::collections::VecDeque;
 
-/// A visit that is asked, and the partition by which the reply tells it; a release of the partitions that a session had isn't told.
+/// A visit that is asked, and the partition by which the reply tells it; a release of the partitions that a session
+/// had isn't told.
 #[derive(Drop)]
 pub struct Visiting {
     pub step: PlanStep,

@@ -27,10 +27,11 @@ use std::marker::Model;
 
 /// Share-partition states by their keys, which survive a crash at any moment.
 ///
-/// A contract sees the states in the order of their keys (byte order of group, topic and partition), and the journal of their
-/// records on the two disks. Each call that changes a state adds one record: it takes its memory first, then makes the device calls of
-/// one append, and changes the states in memory once these are done. Where a device call fails the states are as before, and the
-/// record is *pending*: a crash may leave it or not, until a later call is answered Ok.
+/// A contract sees the states in the order of their keys (byte order of group, topic and partition), and the journal
+/// of their records on the two disks. Each call that changes a state adds one record: it takes its memory first, then
+/// makes the device calls of one append, and changes the states in memory once these are done. Where a device call
+/// fails the states are as before, and the record is *pending*: a crash may leave it or not, until a later call is
+/// answered Ok.
 #[derive(Drop)]
 pub struct Coord<D: Disk> {
     store: Store<D>,
@@ -50,8 +51,8 @@ impl<D: Disk> Model for Coord<D> {
 impl<D: Disk> Coord<D> {
     /// Opens the states of two disks, which come back at an `Err`.
     ///
-    /// It syncs each disk before it reads it, repairs the end of the journal on `a`, and leaves the content of `b` as it is, in which
-    /// no frame may stand. It is linear in the journal.
+    /// It syncs each disk before it reads it, repairs the end of the journal on `a`, and leaves the content of `b` as
+    /// it is, in which no frame may stand. It is linear in the journal.
     pub fn open(alloc: Global, a: D, b: D) -> Result<Coord<D>, (D, D, CoordOpen)>
         ensures opened { IfOk result (IsOpened D.seen a b) }
         ensures refused { IfErr result (IsNotOpened D.seen a b) }
@@ -89,7 +90,8 @@ impl<D: Disk> Coord<D> {
         }
     }
 
-    /// Gives a key this state epoch and start, leader epoch 0 and no rows, whether it is there or not. It is stored as a snapshot.
+    /// Gives a key this state epoch and start, leader epoch 0 and no rows, whether it is there or not. It is stored
+    /// as a snapshot.
     ///
     /// Refused are a state epoch below 0 or a start below -1, and then a state epoch below the known one.
     pub fn init(&mut self, key: &Key, state_epoch: i32, start: i64) -> Result<(), CoordFault>
@@ -105,13 +107,13 @@ impl<D: Disk> Coord<D> {
         self.store.init(key, state_epoch, start)
     }
 
-    /// Sets both epochs of a key, and its start unless that is -1, and lays these runs over its rows, a later run winning over an
-    /// earlier one; rows below the start go. It is stored as an update with the rows that are written, and as a snapshot where the key
-    /// has 500 updates since its last one.
+    /// Sets both epochs of a key, and its start unless that is -1, and lays these runs over its rows, a later run
+    /// winning over an earlier one; rows below the start go. It is stored as an update with the rows that are
+    /// written, and as a snapshot where the key has 500 updates since its last one.
     ///
-    /// Refused are an epoch below 0, a start below -1 or a run out of range; then a key that isn't there; a leader epoch below the known
-    /// one; a state epoch below the known one; and more than 1000000 runs. It costs the runs that are written, a pass over those of
-    /// the key, and one frame.
+    /// Refused are an epoch below 0, a start below -1 or a run out of range; then a key that isn't there; a leader
+    /// epoch below the known one; a state epoch below the known one; and more than 1000000 runs. It costs the runs
+    /// that are written, a pass over those of the key, and one frame.
     pub fn write(
         &mut self,
         key: &Key,
@@ -172,8 +174,8 @@ impl<D: Disk> Coord<D> {
         }
     }
 
-    /// The key at a place, in byte order of group, topic and partition, from place 0 on. It goes past the keys before it; [`Coord::states`]
-    /// is for a walk.
+    /// The key at a place, in byte order of group, topic and partition, from place 0 on. It goes past the keys before
+    /// it; [`Coord::states`] is for a walk.
     pub fn key_at(&self, place: u64) -> Option<&Key>
         ensures { option_copied result ≡ slice_get (keys_of self.now.entries) place }
     {

@@ -8,8 +8,8 @@ use thiserror::Error;
 /// Why a call on a store of states was refused. The refusals by numbers come in this order, the first that applies.
 #[derive(Clone, Copy, Debug, Error)]
 pub enum CoordFault {
-    /// An epoch is below 0, the start is below -1, or a run isn't one: its offsets aren't in order or don't fit an `i64`, or its
-    /// count doesn't fit an `i16`.
+    /// An epoch is below 0, the start is below -1, or a run isn't one: its offsets aren't in order or don't fit an
+    /// `i64`, or its count doesn't fit an `i16`.
     #[error("a number is out of range")]
     Invalid,
     /// The key isn't there.

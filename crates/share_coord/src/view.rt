@@ -5,8 +5,8 @@ use std::marker::Model;
 
 /// The state of a key: KIP-932's epochs and start offset of a share partition, and its stored rows.
 ///
-/// The epochs are at least 0, `start` is an offset or -1, and the rows are at most 1000000 runs, with offsets below 2^63 and counts
-/// below 2^15. A contract sees the record of the fields.
+/// The epochs are at least 0, `start` is an offset or -1, and the rows are at most 1000000 runs, with offsets below
+/// 2^63 and counts below 2^15. A contract sees the record of the fields.
 #[derive(Drop)]
 pub struct StateView {
     pub state_epoch: i32,
@@ -37,8 +37,8 @@ impl StateView {
     }
 }
 
-/// What a store keeps of a key: its state, how many snapshots it had before the last one, and how many updates since, counted up to
-/// 500.
+/// What a store keeps of a key: its state, how many snapshots it had before the last one, and how many updates since,
+/// counted up to 500.
 #[derive(Drop)]
 pub struct Kept {
     pub view: StateView,

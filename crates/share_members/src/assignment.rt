@@ -101,8 +101,9 @@ fn assigned_topic(
     })
 }
 
-/// What the member of this id and with this subscription is to read, beside the other members. What `members` has of it itself
-/// isn't looked at. It costs the partitions, and for each topic of the subscription a search in that of each member.
+/// What the member of this id and with this subscription is to read, beside the other members. What `members` has of
+/// it itself isn't looked at. It costs the partitions, and for each topic of the subscription a search in that of
+/// each member.
 pub fn assignment(
     alloc: Global,
     topics: &[Topic],

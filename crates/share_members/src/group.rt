@@ -43,8 +43,8 @@ fn later_epoch(changes: usize, epoch: i32) -> i32
     later
 }
 
-// Lets the member of this id take an accepted heartbeat in a group of this epoch; it joins where it isn't there. Where memory
-// runs out nothing has changed.
+// Lets the member of this id take an accepted heartbeat in a group of this epoch; it joins where it isn't there.
+// Where memory runs out nothing has changed.
 fn renew(
     alloc: Global,
     members: &mut BTreeMap<Name, Member>,

@@ -11,8 +11,8 @@ const SESSION_TIMEOUT: u64 = 45000;
 
 /// What a group keeps of a member.
 ///
-/// `topics` are the places of the hosted topics that it subscribes to, rising; `heartbeat` is the moment of its last accepted
-/// heartbeat.
+/// `topics` are the places of the hosted topics that it subscribes to, rising; `heartbeat` is the moment of its last
+/// accepted heartbeat.
 #[derive(Drop)]
 pub struct Member {
     pub epoch: i32,

@@ -23,8 +23,8 @@ use topic_conf::Topic;
 /// When a member is to send its next heartbeat, in milliseconds.
 const HEARTBEAT_INTERVAL: i32 = 5000;
 
-/// What an accepted heartbeat brings: the epoch of its group after it, the member's subscription where it changes, and the
-/// reply.
+/// What an accepted heartbeat brings: the epoch of its group after it, the member's subscription where it changes,
+/// and the reply.
 #[derive(Drop)]
 pub struct Plan {
     pub epoch: i32,
@@ -109,8 +109,8 @@ fn told_assignment(
     Ok(Some(assigned))
 }
 
-/// Plans an accepted heartbeat other than a leave, in a group of this epoch and with these members. It takes the memory of
-/// the reply.
+/// Plans an accepted heartbeat other than a leave, in a group of this epoch and with these members. It takes the
+/// memory of the reply.
 #[tactic(auto, unfolding(crate::specs::Heartbeats::stays))]
 pub fn planned(
     alloc: Global,

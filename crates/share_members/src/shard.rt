@@ -15,8 +15,8 @@ use topic_conf::{Config, TopicList};
 
 /// The members of all share groups, in memory.
 ///
-/// A contract sees the hosted topics, the clock, which is the greatest moment so far, and the groups that have members, in byte
-/// order of their ids. They are whole (`AreWhole`), as `memberships_stay_whole` says.
+/// A contract sees the hosted topics, the clock, which is the greatest moment so far, and the groups that have
+/// members, in byte order of their ids. They are whole (`AreWhole`), as `memberships_stay_whole` says.
 #[derive(Drop)]
 pub struct GroupShard {
     topics: TopicList,
@@ -74,9 +74,9 @@ impl GroupShard {
         })
     }
 
-    /// Does a ShareGroupHeartbeat at this moment, in milliseconds: a member joins, starts again, stays or leaves, or the request
-    /// is refused with code 42, 25, 81 or 110, the first of these that applies. A refused one raises the clock alone. A moment before
-    /// the greatest so far counts as that one.
+    /// Does a ShareGroupHeartbeat at this moment, in milliseconds: a member joins, starts again, stays or leaves, or
+    /// the request is refused with code 42, 25, 81 or 110, the first of these that applies. A refused one raises the
+    /// clock alone. A moment before the greatest so far counts as that one.
     ///
     /// Where memory runs out nothing has changed, not even the clock.
     pub fn heartbeat(
@@ -100,9 +100,10 @@ impl GroupShard {
         Ok(reply)
     }
 
-    /// Removes the members whose last accepted heartbeat was 45000 ms ago or longer at this moment, in milliseconds, and forgets the
-    /// groups that have none then. Each removal is a change of its group. It answers how many were removed, 2^64 - 1 where there were
-    /// more. A moment before the greatest so far counts as that one, and a later one raises the clock.
+    /// Removes the members whose last accepted heartbeat was 45000 ms ago or longer at this moment, in milliseconds,
+    /// and forgets the groups that have none then. Each removal is a change of its group. It answers how many were
+    /// removed, 2^64 - 1 where there were more. A moment before the greatest so far counts as that one, and a later
+    /// one raises the clock.
     ///
     /// It takes no memory, and goes over the members once where nobody is removed, else twice.
     pub fn expire(&mut self, now: u64) -> u64

@@ -35,8 +35,8 @@ impl AckKind {
     }
 }
 
-/// An acknowledgement batch as it came, not yet judged: its first and its last offset, and the numbers of the types, one
-/// for each offset or one for all.
+/// An acknowledgement batch as it came, not yet judged: its first and its last offset, and the numbers of the types,
+/// one for each offset or one for all.
 #[derive(Drop)]
 pub struct AckBatch {
     pub first: i64,
@@ -60,8 +60,8 @@ impl AckBatch {
     }
 }
 
-/// Why acknowledgement batches aren't well formed: the first batch that isn't, counted from 0, and its first fault in the
-/// order of these variants.
+/// Why acknowledgement batches aren't well formed: the first batch that isn't, counted from 0, and its first fault in
+/// the order of these variants.
 #[derive(Clone, Copy, Debug)]
 pub enum AckFault {
     /// Its offsets are negative, or the last one is below the first.
@@ -74,8 +74,8 @@ pub enum AckFault {
     BadType { batch: u32, index: u32 },
 }
 
-/// The acknowledgement batches of one partition in one request, not yet judged. A contract sees them as a list. There are
-/// fewer than 2^32 - 1 of them, with fewer than 2^32 types in all.
+/// The acknowledgement batches of one partition in one request, not yet judged. A contract sees them as a list. There
+/// are fewer than 2^32 - 1 of them, with fewer than 2^32 types in all.
 #[derive(Drop)]
 pub struct AckList {
     batches: Items<AckBatch>,

@@ -117,8 +117,8 @@ pub enum LogFault {
     Batch(BatchFault),
     /// The batch begins below the log's end.
     Behind { end: u64 },
-    /// It couldn't be stored. At `Full` either its last offset would be 2^62 or more, and `end` is the log's end; or the
-    /// journal has no room.
+    /// It couldn't be stored. At `Full` either its last offset would be 2^62 or more, and `end` is the log's end; or
+    /// the journal has no room.
     Store(StoreFault),
     /// There was no memory for it. Nothing was written.
     NoMemory,

@@ -4,7 +4,8 @@ use crate::fault::StoreFault;
 use crate::lists::Grants;
 use crate::name::Name;
 
-/// What one lock guards: the state of a hosted partition, of all group memberships, or of the partitions that aren't hosted.
+/// What one lock guards: the state of a hosted partition, of all group memberships, or of the partitions that aren't
+/// hosted.
 #[derive(Clone, Copy)]
 pub enum ShardId {
     /// The hosted partition with this number.
@@ -15,7 +16,8 @@ pub enum ShardId {
     Foreign,
 }
 
-/// What a share request asks of one hosted partition for a member of a group: its acknowledgements, and what follows them.
+/// What a share request asks of one hosted partition for a member of a group: its acknowledgements, and what follows
+/// them.
 #[derive(Drop)]
 pub struct Visit {
     pub group: Name,
@@ -40,8 +42,8 @@ pub enum Then {
     },
 }
 
-/// What became of a visit: of the acknowledgements, and of what followed them; the runs of offsets that were acquired; and
-/// the batches that cover these, each once, whole and in order.
+/// What became of a visit: of the acknowledgements, and of what followed them; the runs of offsets that were
+/// acquired; and the batches that cover these, each once, whole and in order.
 #[derive(Drop)]
 pub struct VisitAnswer {
     pub ack: AckOutcome,
@@ -79,8 +81,8 @@ pub enum ExpireAnswer {
     Done {
         freed: u64,
     },
-    /// The releases of `group` couldn't be stored. Those of the groups before it are; nothing was given back of it and of the groups
-    /// behind it.
+    /// The releases of `group` couldn't be stored. Those of the groups before it are; nothing was given back of it
+    /// and of the groups behind it.
     Store {
         freed: u64,
         group: Name,

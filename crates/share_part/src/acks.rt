@@ -54,7 +54,8 @@ pub fn first_named(batches: &[AckBatch]) -> Option<u64>
     }
 }
 
-// What well-formed acknowledgements come to on the table of a group, if it has one. A group without a table holds nothing.
+// What well-formed acknowledgements come to on the table of a group, if it has one. A group without a table holds
+// nothing.
 fn judge_group<D: Disk, W: Window>(
     alloc: Global,
     conf: &PartConf,
@@ -120,11 +121,11 @@ pub fn judge_acks<D: Disk, W: Window>(
     }
 }
 
-/// Does the acknowledgements of a visit, by what they come to: all of them by one write, or none. The holds of the named offsets end once they
-/// are stored, and what was set aside for holds stays.
+/// Does the acknowledgements of a visit, by what they come to: all of them by one write, or none. The holds of the
+/// named offsets end once they are stored, and what was set aside for holds stays.
 ///
-/// Nothing changes where they aren't well formed, where the member doesn't hold an offset that they name, or after want of memory; after a
-/// store fault the table is as it was.
+/// Nothing changes where they aren't well formed, where the member doesn't hold an offset that they name, or after
+/// want of memory; after a store fault the table is as it was.
 pub fn settle_acks<D: Disk, W: Window>(
     conf: &PartConf,
     log: &PartLog<D>,

@@ -15,8 +15,8 @@ use part_log::{BatchPlace, PartLog};
 use share_model::{Grant, NoMemory};
 use std::alloc::Global;
 
-/// What a walk has taken: the grants that are closed and the one that may still grow, and the batches, of which the newest is known by
-/// its place.
+/// What a walk has taken: the grants that are closed and the one that may still grow, and the batches, of which the
+/// newest is known by its place.
 #[derive(Drop)]
 pub struct Collector {
     pub budget: Budget,
@@ -116,8 +116,8 @@ impl Collector {
         Ok(())
     }
 
-    // The last slot that can be taken with one whose batch is the newest of the answer: of that batch, up to `last`, within the records that
-    // are left, and among so many slots.
+    // The last slot that can be taken with one whose batch is the newest of the answer: of that batch, up to `last`,
+    // within the records that are left, and among so many slots.
     fn last_taken(&self, slot: u64, last: u64, most: u32) -> u64
         requires there { CoversSlot slot self.now.newest }
         requires order { slot ≤ last }
@@ -136,8 +136,9 @@ impl Collector {
         slot.saturating_add(more).min(last).min(place.last)
     }
 
-    /// Takes slots from one on up to `last`, which go out with this delivery count: as many of them as lie in its batch and within the limits,
-    /// and at most so many. Tells how many. `None` where the walk ends at the first, and then nothing is taken.
+    /// Takes slots from one on up to `last`, which go out with this delivery count: as many of them as lie in its
+    /// batch and within the limits, and at most so many. Tells how many. `None` where the walk ends at the first, and
+    /// then nothing is taken.
     pub fn take<D: Disk>(
         &mut self,
         log: &PartLog<D>,

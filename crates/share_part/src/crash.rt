@@ -5,8 +5,8 @@ ghost use Rattle.share_part.specs.Shards.{Carries, PartParts, PartShardState};
 use edge_io::Disk;
 use lock_index::Window;
 
-/// A crash leaves three contents that stand for the shard, with or without its pending writes. So a partition that is opened of them is
-/// never damaged, and has that log and those tables.
+/// A crash leaves three contents that stand for the shard, with or without its pending writes. So a partition that is
+/// opened of them is never damaged, and has that log and those tables.
 pub fn a_crash_leaves_the_shard<D: Disk, W: Window>()
     ensures { (parts : PartParts D W) (shard : PartShardState) (log first second : List ℕ) → Carries D.seen W.held parts shard →
         (D.seen parts.log.journal.disk).image log → (D.seen parts.states.journal.live.disk).image first → (D.seen parts.states.journal.idle).image second →

@@ -39,7 +39,8 @@ fn end_in_ledger<W: Window, L: Ledger>(window: &mut W, pieces: Pieces<'_>, blank
     end_pieces(window, pieces, &mut steps);
 }
 
-/// Ends the holds of the offsets of well-formed acknowledgements, for a group whose window is there. It takes no memory.
+/// Ends the holds of the offsets of well-formed acknowledgements, for a group whose window is there. It takes no
+/// memory.
 pub fn end_acknowledged<W: Window>(
     windows: &mut BTreeMap<Name, W>,
     group: &Name,

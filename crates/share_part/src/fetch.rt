@@ -55,7 +55,8 @@ fn first_start(reset: Reset, end: u64) -> u64
     }
 }
 
-/// What a fetch will take of the table that a group has, or that it would get. It costs the runs and the batches that it walks.
+/// What a fetch will take of the table that a group has, or that it would get. It costs the runs and the batches that
+/// it walks.
 pub fn planned<D: Disk, W: Window>(
     alloc: Global,
     conf: &PartConf,

@@ -142,7 +142,8 @@ fn is_hosted<D: Disk>(conf: &PartConf, log: &PartLog<D>, key: &Key, view: &State
     rows_may_stand(log, start_of(view), view.runs.list())
 }
 
-/// Whether all states are ones that the partition may have. It costs the rows, and for each key a walk over its first slots.
+/// Whether all states are ones that the partition may have. It costs the rows, and for each key a walk over its first
+/// slots.
 pub fn are_hosted<D: Disk>(conf: &PartConf, log: &PartLog<D>, states: &Coord<D>) -> bool
     requires sound { IsStoredLog log.now.batches }
     ensures { (result ≡ true) ↔ AreHosted conf.now log.now.batches (states_of states.now.entries) }

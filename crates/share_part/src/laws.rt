@@ -22,8 +22,8 @@ ghost use Rattle.share_part.specs.Storing.{IsStored};
 ghost use Rattle.share_part.specs.Tables.{Table, table_of};
 ghost use Rattle.share_part.specs.declared.settle.Change.{Change};
 
-/// A state that a hosted partition may have stays one once acts on its table are stored, where what is held lies among the first 2000
-/// slots and is delivered for the tenth time at most.
+/// A state that a hosted partition may have stays one once acts on its table are stored, where what is held lies
+/// among the first 2000 slots and is delivered for the tenth time at most.
 pub fn settled_tables_stay_hosted()
     ensures { (conf : PartConfParts) (log : List Batch) (group : List ℕ) (state next : ShareState) (held : Held) (acts : Acts) →
         IsLog log → conf.limit ≤ 10 → IsHosted conf log (key_of conf group) state → AreHeldWell log (size_of state.start) held →
@@ -53,8 +53,8 @@ pub fn stored_changes_settle_a_table()
         × (states_of new ≡ insert_entry key_cmp (states_of old) (key_of conf group) next) }
 {}
 
-/// A record that a release gives back keeps the count with which it was held. Below the delivery limit it is available with it; at the limit, and
-/// above, it is archived with it, or lies below the start.
+/// A record that a release gives back keeps the count with which it was held. Below the delivery limit it is
+/// available with it; at the limit, and above, it is archived with it, or lies below the start.
 pub fn releases_keep_counts()
     ensures below { (limit : ℕ) (chosen : Hold → Bool) (log : List Batch) (table : Table) (next : ShareState) →
         IsSettled limit (releasing chosen table.held) log table next → (offset : ℕ) (hold : Hold) → hold_at table.held offset ≡ Some hold →

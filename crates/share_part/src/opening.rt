@@ -9,8 +9,8 @@ use thiserror::Error;
 /// Why the shard of a partition was not opened. The log's disk is opened first, then the two of the states.
 #[derive(Clone, Copy, Debug, Error)]
 pub enum PartFault {
-    /// The content of a disk stands for no log, or for no states. States that break the rules on a hosted partition are told of the
-    /// first state disk and place 0.
+    /// The content of a disk stands for no log, or for no states. States that break the rules on a hosted partition
+    /// are told of the first state disk and place 0.
     #[error("a disk of the partition is damaged at byte {place}")]
     Damaged { disk: DiskPlace, place: u64 },
     /// A disk failed.

@@ -1,6 +1,7 @@
 use share_model::{Grant, Room};
 
-/// What a fetch will take: the runs of the offsets, the numbers of the batches, and how many offsets and bytes these are.
+/// What a fetch will take: the runs of the offsets, the numbers of the batches, and how many offsets and bytes these
+/// are.
 #[derive(Drop)]
 pub struct Plan {
     pub grants: Vec<Grant>,

@@ -169,8 +169,8 @@ fn judge_release<D: Disk, W: Window>(
     }
 }
 
-/// Releases records that a group holds: the releases are stored by one write, and then their holds end. Where there are none, nothing is
-/// written, and no memory is taken.
+/// Releases records that a group holds: the releases are stored by one write, and then their holds end. Where there
+/// are none, nothing is written, and no memory is taken.
 ///
 /// Nothing changes after want of memory; after a store fault the table is as it was.
 pub fn release_held<D: Disk, W: Window>(

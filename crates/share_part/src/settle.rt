@@ -238,8 +238,8 @@ pub fn acknowledge<D: Disk, W: Window>(
     }
 }
 
-/// What is to be stored once records of a table are released. `None` where none is, and then no memory is taken. It walks the runs of
-/// what is held once.
+/// What is to be stored once records of a table are released. `None` where none is, and then no memory is taken. It
+/// walks the runs of what is held once.
 pub fn release<D: Disk, W: Window>(
     alloc: Global,
     log: &PartLog<D>,

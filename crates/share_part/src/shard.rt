@@ -126,10 +126,11 @@ fn has_no_memory(done: &Result<u64, LogFault>) -> bool
 }
 
 impl<D: Disk, W: Window> PartShard<D, W> {
-    /// Opens a partition of the disk of its log and the two of its states, which come back at an `Err`. Nothing is held.
+    /// Opens a partition of the disk of its log and the two of its states, which come back at an `Err`. Nothing is
+    /// held.
     ///
-    /// The log is opened first, and then the states, as `PartLog` and `Coord` do; then the states are judged. States that break the
-    /// rules on a hosted partition are told of the first state disk and place 0.
+    /// The log is opened first, and then the states, as `PartLog` and `Coord` do; then the states are judged. States
+    /// that break the rules on a hosted partition are told of the first state disk and place 0.
     pub fn open(
         alloc: Global,
         disks: (D, D, D),
@@ -246,7 +247,8 @@ impl<D: Disk, W: Window> PartShard<D, W> {
         })
     }
 
-    // Releases what a group holds, and raises the clock to a moment that isn't before it. After want of memory the clock is as it was.
+    // Releases what a group holds, and raises the clock to a moment that isn't before it. After want of memory the
+    // clock is as it was.
     fn release(&mut self, clock: u64, group: &Name, whose: &Whose) -> Result<Released, NoMemory>
         requires clock { clock ≤ 2 ^ 62 }
         ensures once { ReleasesOnce D.seen W.held clock group.now whose.now self.old self.new result }
@@ -393,16 +395,18 @@ impl<D: Disk, W: Window> PartShard<D, W> {
         Ok(with_ack(ack, answer))
     }
 
-    /// Does what a member of a group asks of the partition, at the moment `now`. The shard's clock is raised to it first.
+    /// Does what a member of a group asks of the partition, at the moment `now`. The shard's clock is raised to it
+    /// first.
     ///
-    /// The acknowledgements come first: all are stored by one write and end the holds of the offsets that they name, or none is. What
-    /// the visit asks for follows them, whatever became of them.
+    /// The acknowledgements come first: all are stored by one write and end the holds of the offsets that they name,
+    /// or none is. What the visit asks for follows them, whatever became of them.
     ///
-    /// A fetch walks the first 2000 slots from the start of the group's table, in order, and acquires those that are available, until
-    /// the record limit is used up, or a batch doesn't fit. The first fetch of a group makes its table, which is stored first; where
-    /// that fails nothing is acquired. A fetch of a group that has a table takes all its memory before the acknowledgements are written.
-    /// After want of memory nothing has changed; but where a write of the acknowledgements came to the device before, and a release behind
-    /// them found none, what they left stands, and the clock is raised.
+    /// A fetch walks the first 2000 slots from the start of the group's table, in order, and acquires those that are
+    /// available, until the record limit is used up, or a batch doesn't fit. The first fetch of a group makes its
+    /// table, which is stored first; where that fails nothing is acquired. A fetch of a group that has a table takes
+    /// all its memory before the acknowledgements are written. After want of memory nothing has changed; but where a
+    /// write of the acknowledgements came to the device before, and a release behind them found none, what they left
+    /// stands, and the clock is raised.
     pub fn visit(&mut self, now: u64, visit: &Visit) -> Result<VisitAnswer, NoMemory>
         requires now { now ≤ 2 ^ 62 }
         ensures once { VisitsOnce D.seen W.held now visit.now self.old self.new result }
@@ -437,13 +441,14 @@ impl<D: Disk, W: Window> PartShard<D, W> {
         self.visit_table(now, visit, &acks, limits)
     }
 
-    /// Gives back the records whose acquisition lock has ended. The clock is raised to `now` first, and a lock has ended that ends at the clock
-    /// or before.
+    /// Gives back the records whose acquisition lock has ended. The clock is raised to `now` first, and a lock has
+    /// ended that ends at the clock or before.
     ///
-    /// It goes over the groups in byte order. All that has ended of a group is released by one write, and counted once that is stored. The
-    /// first write that fails ends it, and the groups from that one on are as they were. Where nothing is due no memory is taken, nothing
-    /// is written and no window is walked. Where it finds no memory, the groups before are done, with the clock raised, and no other has
-    /// changed; where there is none before, nothing has.
+    /// It goes over the groups in byte order. All that has ended of a group is released by one write, and counted
+    /// once that is stored. The first write that fails ends it, and the groups from that one on are as they were.
+    /// Where nothing is due no memory is taken, nothing is written and no window is walked. Where it finds no memory,
+    /// the groups before are done, with the clock raised, and no other has changed; where there is none before,
+    /// nothing has.
     pub fn expire(&mut self, now: u64) -> Result<ExpireAnswer, NoMemory>
         requires { now ≤ 2 ^ 62 }
         ensures once { ExpiresOnce D.seen W.held now self.old self.new result }
@@ -499,8 +504,8 @@ impl<D: Disk, W: Window> PartShard<D, W> {
         self.states.states()
     }
 
-    /// The group at a place among those that have a table, in byte order, from place 0 on. It goes past the groups before it;
-    /// [`PartShard::states`] is for a walk.
+    /// The group at a place among those that have a table, in byte order, from place 0 on. It goes past the groups
+    /// before it; [`PartShard::states`] is for a walk.
     pub fn group_at(&self, place: u64) -> Option<&Name>
         ensures { option_copied result ≡ option_map (λ key. key.group) (slice_get (keys_of self.now.states.entries) place) }
     {

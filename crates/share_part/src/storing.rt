@@ -37,7 +37,8 @@ fn told_fault(fault: CoordFault) -> Result<Option<StoreFault>, NoMemory>
     }
 }
 
-/// Stores a new start, where it moves, and rows of a group's table by one write. The fault, where they couldn't be stored.
+/// Stores a new start, where it moves, and rows of a group's table by one write. The fault, where they couldn't be
+/// stored.
 pub fn store_change<D: Disk>(
     states: &mut Coord<D>,
     key: &Key,

@@ -24,8 +24,8 @@ use std::alloc::Global;
 /// How many slots from the start of a table a walk goes over.
 pub const WINDOW_SLOTS: u32 = 2000;
 
-// How far offsets from one on go out alike, and with which delivery count. Without one they don't go out: they are held, acknowledged or
-// archived.
+// How far offsets from one on go out alike, and with which delivery count. Without one they don't go out: they are
+// held, acknowledged or archived.
 #[derive(Clone, Copy)]
 struct Stretch {
     last: u64,
@@ -111,7 +111,8 @@ fn stretch_laid<W: Window>(changed: &[Run], rows: &Runs, window: &W, slot: u64) 
     }
 }
 
-// The slots from one on, as many as go out alike, and at most so many. Tells how many. `None` where the walk ends at the first.
+// The slots from one on, as many as go out alike, and at most so many. Tells how many. `None` where the walk ends at
+// the first.
 fn step<D: Disk, W: Window>(
     collector: &mut Collector,
     log: &PartLog<D>,

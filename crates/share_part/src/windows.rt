@@ -112,8 +112,8 @@ fn is_due<W: Window>(window: &W, clock: u64) -> bool
     window.due(clock).is_some()
 }
 
-/// The groups that hold something by a lock that has ended, in byte order. Where there are none, no memory is taken, and no window is
-/// walked.
+/// The groups that hold something by a lock that has ended, in byte order. Where there are none, no memory is taken,
+/// and no window is walked.
 pub fn due_groups<W: Window>(
     alloc: Global,
     windows: &BTreeMap<Name, W>,

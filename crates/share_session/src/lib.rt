@@ -1,5 +1,5 @@
-//! The share sessions of one connection (KIP-932): which session a ShareFetch or ShareAcknowledge belongs to, whether its epoch
-//! is the next one, and the list of visits to partitions that it asks for.
+//! The share sessions of one connection (KIP-932): which session a ShareFetch or ShareAcknowledge belongs to, whether
+//! its epoch is the next one, and the list of visits to partitions that it asks for.
 #![tactic(auto)]
 
 mod change;

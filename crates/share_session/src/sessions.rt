@@ -19,7 +19,8 @@ use std::alloc::Global;
 use std::marker::Model;
 use topic_conf::Config;
 
-/// The share sessions of one connection, at most 100. A contract sees them as a list, in the order in which they were opened.
+/// The share sessions of one connection, at most 100. A contract sees them as a list, in the order in which they were
+/// opened.
 #[derive(Drop)]
 pub struct Sessions {
     list: Vec<Session>,
@@ -183,8 +184,8 @@ impl Sessions {
         Ok(plan)
     }
 
-    /// Makes a change behind which there are at most 100 sessions, as that of a plan is. Where there is no memory for it, the
-    /// sessions are as they were.
+    /// Makes a change behind which there are at most 100 sessions, as that of a plan is. Where there is no memory for
+    /// it, the sessions are as they were.
     pub fn apply(&mut self, change: SessionChange) -> Result<(), NoMemory>
         requires { length (applied change self.old) ≤ most_sessions }
         ensures done { OnOk result (self.new ≡ applied change self.old) }
@@ -227,22 +228,24 @@ impl Sessions {
         Ok(steps)
     }
 
-    /// The first of the releases on the partitions of all sessions, in the order in which they were opened. `None` where there is none.
-    /// It takes no memory.
+    /// The first of the releases on the partitions of all sessions, in the order in which they were opened. `None`
+    /// where there is none. It takes no memory.
     pub fn next_release(&self) -> Option<PlanStep>
         ensures { result ≡ slice_get (releases_of self.now) 0 }
     {
         first_release(*self.list.allocator(), &self.list)
     }
 
-    /// The first of these releases is done, where there is one: the sessions are such that the others are left. It takes no memory.
+    /// The first of these releases is done, where there is one: the sessions are such that the others are left. It
+    /// takes no memory.
     pub fn release_done(&mut self)
         ensures { releases_of self.new ≡ others_of (releases_of self.old) }
     {
         release_first(&mut self.list);
     }
 
-    /// Closes all sessions: the releases on the partitions of each. Where there is no memory, the sessions are as they were.
+    /// Closes all sessions: the releases on the partitions of each. Where there is no memory, the sessions are as
+    /// they were.
     pub fn close_all(&mut self) -> Result<VisitPlan, NoMemory>
         ensures closed { OnOk result (self.new ≡ []) }
         ensures steps { IfOk result (λ steps. steps.items ≡ releases_of self.old) }

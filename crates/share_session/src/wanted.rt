@@ -71,8 +71,8 @@ fn want_topic(
     Ok(())
 }
 
-// The shards of the hosted partitions of the topics, with the acknowledgements for them. A shard that stands twice has the
-// later ones, at the first place.
+// The shards of the hosted partitions of the topics, with the acknowledgements for them. A shard that stands twice
+// has the later ones, at the first place.
 fn wanted_in(
     alloc: Global,
     conf: &Config,
@@ -87,7 +87,8 @@ fn wanted_in(
     Ok(wanted)
 }
 
-/// The shards of the hosted partitions of the topics, in which no partition stands twice, with the acknowledgements for them.
+/// The shards of the hosted partitions of the topics, in which no partition stands twice, with the acknowledgements
+/// for them.
 pub fn wanted_once(
     alloc: Global,
     conf: &Config,

@@ -35,8 +35,9 @@ fn folder_place(words: &[String]) -> Option<usize>
     }
 }
 
-/// Tells which bay the words want: one over a folder where they begin with `load`, `dump-state` or `serve` and a word behind that, but
-/// not the last one, is `--dir`; the folder's word stands behind the first such one. Else they want a fresh one in memory.
+/// Tells which bay the words want: one over a folder where they begin with `load`, `dump-state` or `serve` and a word
+/// behind that, but not the last one, is `--dir`; the folder's word stands behind the first such one. Else they want
+/// a fresh one in memory.
 ///
 /// Whether the words are a command isn't looked at. It takes no memory.
 pub fn bay_choice(words: &[String]) -> BayChoice

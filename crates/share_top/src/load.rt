@@ -246,7 +246,8 @@ fn log_disk(topics: &[Topic], shard: u32) -> Option<DiskName>
     log_disk(others, shard - topic.parts)
 }
 
-/// Loads a segment from `input` into the log of the partition of this shard, whose disk alone is taken from the bay, and put back.
+/// Loads a segment from `input` into the log of the partition of this shard, whose disk alone is taken from the bay,
+/// and put back.
 pub fn load<I: Source, O: Sink, B: Bay>(
     alloc: Global,
     conf: &Config,

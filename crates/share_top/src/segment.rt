@@ -48,7 +48,8 @@ pub enum SegmentFault {
     NoMemory,
 }
 
-/// Reads the batches of a segment one after another. It keeps what the source gave and no batch has taken, in one buffer.
+/// Reads the batches of a segment one after another. It keeps what the source gave and no batch has taken, in one
+/// buffer.
 #[derive(Drop)]
 pub struct SegmentReader {
     buffer: Vec<u8>,
@@ -229,8 +230,8 @@ impl SegmentReader {
         }
     }
 
-    /// Finds the batch at the front of what is still to come, whose bytes are pending then, or the end of the segment. It reads as far
-    /// as it must to know, and never more for a batch than one may have.
+    /// Finds the batch at the front of what is still to come, whose bytes are pending then, or the end of the
+    /// segment. It reads as far as it must to know, and never more for a batch than one may have.
     pub fn front<S: Source>(&mut self, source: &mut S) -> Result<Front, SegmentFault>
         ensures taken { Takes self.old self.new (S.left source.old) (S.left source.new) [] }
         ensures answer { Answers self.new (S.left source.new) (S.ended source.new) result }

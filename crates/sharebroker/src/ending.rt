@@ -68,8 +68,8 @@ fn tell_stream(rt: &HostRuntime, stream: &str, fault: Option<SystemFault>) {
     };
 }
 
-// A line on a file of the folder, and what the operating system said of it. A disk in memory fails without a word of the system, and
-// a log that is full is no fault of a file.
+// A line on a file of the folder, and what the operating system said of it. A disk in memory fails without a word of
+// the system, and a log that is full is no fault of a file.
 fn tell_device(rt: &HostRuntime, fault: Option<FolderFault<'_>>) {
     let _ = match fault {
         Some(fault) => eprintln!(rt; "sharebroker: {fault}"),
@@ -85,8 +85,8 @@ fn tell_usage(rt: &HostRuntime) {
     }
 }
 
-/// Says in one line what a status means, and gives it; after bad words the usage text follows. `malformed` is what is said of an input
-/// that isn't what the command reads.
+/// Says in one line what a status means, and gives it; after bad words the usage text follows. `malformed` is what is
+/// said of an input that isn't what the command reads.
 pub fn tell_status(rt: &HostRuntime, status: u8, malformed: &str, faults: Faults<'_>) -> u8 {
     match status {
         USAGE => tell_usage(rt),

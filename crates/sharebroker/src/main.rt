@@ -25,7 +25,8 @@ fn words(rt: &HostRuntime) -> Result<Vec<String>> {
     Ok(words)
 }
 
-// The word that names the folder over which these words are run. They are run over a fresh bay in memory where there is none.
+// The word that names the folder over which these words are run. They are run over a fresh bay in memory where there
+// is none.
 fn folder_word(words: &[String]) -> Option<&String> {
     match bay_choice(words) {
         BayChoice::Memory => None,

@@ -1,5 +1,5 @@
-// The usage text, which is shown where the words are no command. `clap` renders it, and reads no words: the grammar that
-// `share_top` reads them by is the only one.
+// The usage text, which is shown where the words are no command. `clap` renders it, and reads no words: the grammar
+// that `share_top` reads them by is the only one.
 use clap::{Arg, Command};
 use std::alloc::{AllocError, Global};
 

@@ -1,5 +1,5 @@
-//! The calls on the states of share partitions (KIP-932): Initialize-, Read-, Write- and DeleteShareGroupState, each as a fold
-//! over the partitions of its request.
+//! The calls on the states of share partitions (KIP-932): Initialize-, Read-, Write- and DeleteShareGroupState, each
+//! as a fold over the partitions of its request.
 #![tactic(auto)]
 
 mod delete;

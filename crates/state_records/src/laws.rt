@@ -11,8 +11,8 @@ pub fn records_have_one_spelling()
     ensures one { (r s : StateRecord) → IsRecord r → IsRecord s → record_bytes r ≡ record_bytes s → r ≡ s }
 {}
 
-/// The place of a fault is that of the first field which no record has there: the bytes before it begin some record, and
-/// none has the field that stands at it.
+/// The place of a fault is that of the first field which no record has there: the bytes before it begin some record,
+/// and none has the field that stands at it.
 pub fn faults_are_at_the_first_wrong_field()
     ensures { (bytes : List ℕ) (place : ℕ) → AllByRecursion (λ b. b < 256) bytes → record_at bytes ≡ Err place → IsWrongAt bytes place }
 {}

@@ -13,8 +13,9 @@ pub fn each_shard_is_of_one_partition()
     ensures each { (topics : List Topic) (shard : ℕ) → IsTopicList topics → shard < partitions topics → IsShard topics shard }
 {}
 
-/// A shard is that of a partition, by its topic's id and by its topic's name, exactly where it has that partition. So a partition
-/// has one shard by either, and a shard has a partition where its number is below the number of partitions.
+/// A shard is that of a partition, by its topic's id and by its topic's name, exactly where it has that partition. So
+/// a partition has one shard by either, and a shard has a partition where its number is below the number of
+/// partitions.
 pub fn each_shard_has_its_partition()
     ensures by_id { (topics : List Topic) (id : List ℕ) (part shard : ℕ) → IsTopicList topics →
         (shard_at id (pos part) topics ≡ Some shard) ↔

@@ -1,4 +1,5 @@
-//! The records of a share partition that are acquired, kept as runs: offsets that follow one another and are held in one way cost one entry.
+//! The records of a share partition that are acquired, kept as runs: offsets that follow one another and are held in
+//! one way cost one entry.
 #![tactic(auto)]
 
 mod edit;

@@ -40,8 +40,8 @@ fn goes_on(runs: &[HoldRun], place: usize, run: &HoldRun) -> bool
     place > 0 && touches(&runs[place - 1], run)
 }
 
-// Puts a run where nothing is held, behind those that end before it, and tells its place. Where it goes on with the last of these, that
-// one is made longer.
+// Puts a run where nothing is held, behind those that end before it, and tells its place. Where it goes on with the
+// last of these, that one is made longer.
 fn put_behind<L: Ledger>(
     list: &mut HoldList,
     index: &mut LockIndex,

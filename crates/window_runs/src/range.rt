@@ -124,8 +124,8 @@ fn cut_at<L: Ledger>(
     gone
 }
 
-// Ends what is held from one offset to another, and tells how many offsets these were. It goes from behind, so that what lies behind the
-// range moves alone.
+// Ends what is held from one offset to another, and tells how many offsets these were. It goes from behind, so that
+// what lies behind the range moves alone.
 pub(crate) fn end_range<L: Ledger>(
     list: &mut HoldList,
     index: &mut LockIndex,

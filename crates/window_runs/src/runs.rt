@@ -16,8 +16,9 @@ use std::alloc::Global;
 use std::marker::{Brand, Model};
 use std::sync::ledger::{Blank, Ledger};
 
-/// A window as the runs of what is held: consecutive offsets that are held in one way are one entry, and the ends of locks are looked up by
-/// run. A look-up takes the logarithm of the number of runs; a change moves the runs behind it.
+/// A window as the runs of what is held: consecutive offsets that are held in one way are one entry, and the ends of
+/// locks are looked up by run. A look-up takes the logarithm of the number of runs; a change moves the runs behind
+/// it.
 ///
 /// Both lists have room for as many runs as offsets are held, so that a range which splits a run takes no memory.
 #[derive(Drop)]

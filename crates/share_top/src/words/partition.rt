@@ -44,7 +44,8 @@ pub fn target<'a>(words: &'a [String]) -> Option<(&'a str, u32, &'a [String])>
     }
 }
 
-/// The shard of the partition of this number of the topic of this name. `None` where there is no such topic, or it has no such partition.
+/// The shard of the partition of this number of the topic of this name. `None` where there is no such topic, or it
+/// has no such partition.
 pub fn shard_named(topics: &[Topic], name: &str, number: u32) -> Option<u32>
     requires few { partitions topics.now ≤ most_partitions }
     requires apart { AllPairs AreApart topics.now }
