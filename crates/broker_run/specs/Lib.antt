@@ -7,3 +7,4 @@ pub mod Telling
 pub mod Serving
 pub mod Expiring
 pub mod Homes
+pub mod Server

@@ -1,5 +1,6 @@
-//! The broker as several threads serve it: a lock around each shard, passes of all locks for each thread, and the connection of a link that a
-//! thread serves through them; the turns in which locks expire; and the jobs of a server, among which links are handed out.
+//! The broker as several threads serve it: a lock around each shard, passes of all locks for each thread, and the
+//! connection of a link that a thread serves through them; the turns in which locks expire; and the jobs of a server,
+//! among which links are handed out.
 #![tactic(auto)]
 
 mod close;
@@ -11,6 +12,7 @@ mod naming;
 mod open;
 mod parts;
 mod rows;
+mod server;
 mod shared;
 mod worker;
 
@@ -20,4 +22,5 @@ pub use expiry::{TurnAnswer, expiry_turn};
 pub use jobs::{LinksEnd, serve_links};
 pub use naming::{Handed, Named, Naming};
 pub use open::open_shared;
+pub use server::{Served, serve};
 pub use shared::{Passes, Shared};
