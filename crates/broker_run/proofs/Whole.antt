@@ -1,5 +1,5 @@
 -- A lock for each hosted partition.
-use Rattle.std.proofs.Common.{◌≡◌, [], sym, ◌∙◌, map, length, subst}
+use Rattle.std.proofs.Common.{◌≡◌, [], sym, ◌∙◌, map, subst}
 use Rattle.std.proofs.lemmas.List.{length-map}
 use Rattle.topic_conf.specs.Configs.{ConfigParts}
 use Rattle.broker_core.specs.Cores.{core_of}
