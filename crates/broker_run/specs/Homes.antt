@@ -20,10 +20,10 @@ module _ {D : Type 0} where
     pub is : named ≡ Some shared
     pub hosts : HostsAll shared.conf shared
 
--- Why serving ended: as many links were given as were asked for, or the listener told that no more come; the listener failed; a job was refused; or
--- no memory was found.
+-- Why serving ended: as many links were given as were asked for, or the listener told that no more come; the listener failed; a job was refused,
+-- and no link was taken; or no memory was found.
 abbrev pub HasLinksEnd : LinksEnd → (accept given now_given : ℕ) → (done : Bool) → (faults now_faults refusals now_refusals : ℕ) → Type 0
 HasLinksEnd Served accept given now_given done faults now_faults refusals now_refusals = Gave given accept now_given ⊎ (done ≡ true)
 HasLinksEnd Listener accept given now_given done faults now_faults refusals now_refusals = Rose faults now_faults
-HasLinksEnd Refused accept given now_given done faults now_faults refusals now_refusals = Rose refusals now_refusals
+HasLinksEnd Refused accept given now_given done faults now_faults refusals now_refusals = (now_given ≡ given) × Rose refusals now_refusals
 HasLinksEnd NoMemory accept given now_given done faults now_faults refusals now_refusals = Unit {0}

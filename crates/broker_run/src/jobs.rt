@@ -1,5 +1,5 @@
 // The jobs of a server: it hands links to workers through a desk, and takes the locks and all passes back.
-ghost use Rattle.std.specs.Prelude.{◌≡◌, ◌≢◌, ◌≤◌, ◌⊎◌, [], IfErr, IfOk, IfSome, false, true, length, vec_len, vec_capacity};
+ghost use Rattle.std.specs.Prelude.{◌≡◌, ◌≢◌, ◌≤◌, ◌⊎◌, [], IfErr, IfNone, IfOk, IfSome, false, true, length, vec_len, vec_capacity};
 ghost use Rattle.edge_io.specs.Serving.{Gave};
 ghost use Rattle.std.specs.List.{AllByRecursion};
 ghost use Rattle.edge_io.specs.Causes.{Rose};
@@ -22,11 +22,12 @@ use std::sync::{Arc, Wait};
 pub enum LinksEnd {
     /// As many links were given as were asked for, or the listener told that no more come.
     Served,
-    /// The listener failed.
+    /// The listener failed. Links that were taken before are left to the workers.
     Listener,
-    /// A job was refused.
+    /// A job was refused. No link was taken.
     Refused,
-    /// No memory was found.
+    /// No memory was found for a job or for a link, which is dropped. Links that were taken before are left to the
+    /// workers.
     NoMemory,
 }
 
@@ -386,6 +387,7 @@ where
     ensures all { IfSome result (λ r. AreAll shared (length passes.items) r.2.items) }
     ensures end { IfSome result (λ r. HasLinksEnd r.0 accept (L.given listener.old) (L.given listener.new) (L.done listener.new)
         (L.faults listener.old) (L.faults listener.new) (P.faults spawner.old) (P.faults spawner.new)) }
+    ensures none { IfNone result ((listener.new ≡ listener.old) × (spawner.new ≡ spawner.old)) }
 {
     let seats = passes.len();
     let room = Vec::with_capacity(alloc, seats).ok()?;
@@ -431,6 +433,7 @@ where
     ensures all { IfSome result (λ r. AreAll shared (length passes.items) r.2.items) }
     ensures end { IfSome result (λ r. HasLinksEnd r.0 accept (L.given listener.old) (L.given listener.new) (L.done listener.new)
         (L.faults listener.old) (L.faults listener.new) (P.faults spawner.old) (P.faults spawner.new)) }
+    ensures none { IfNone result ((listener.new ≡ listener.old) × (spawner.new ≡ spawner.old)) }
 {
     serve_named::<R, C, L, P, G, D, Brand>(
         rt, alloc, shared, passes, accept, clock, listener, spawner, gate,

@@ -1,5 +1,5 @@
 // A server, from the opening of its shards to their closing.
-ghost use Rattle.std.specs.Prelude.{◌<◌, ◌+◌, ◌^◌, [], List, ℕ};
+ghost use Rattle.std.specs.Prelude.{◌≡◌, ◌<◌, ◌+◌, ◌^◌, [], List, ℕ};
 ghost use Rattle.edge_io.specs.Bays.{SameSlot};
 ghost use Rattle.broker_model.specs.Hosted.{IsTaken};
 ghost use Rattle.broker_core.specs.Bays.{AreOut};
@@ -57,6 +57,10 @@ where
     ensures serves { EndsServing result (Refuses B.seen D.seen conf bay.old bay.new) (λ end. Serves B.seen D.seen conf bay.old bay.new
         × HasLinksEnd end accept (L.given listener.old) (L.given listener.new) (L.done listener.new)
         (L.faults listener.old) (L.faults listener.new) (P.faults spawner.old) (P.faults spawner.new)) }
+
+    // Where it was refused, no link was taken and no job was started.
+    ensures unserved { EndsServing result (λ fault. (listener.new ≡ listener.old) × (spawner.new ≡ spawner.old))
+        (λ end. Unit {0}) }
 
     // A disk that isn't the broker's is as it was.
     ensures others { (name : List ℕ) → (IsTaken conf name → ⊥) → SameSlot B.seen name bay.old bay.new }
