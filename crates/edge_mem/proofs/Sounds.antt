@@ -105,6 +105,21 @@ module _ (first era bytes : List ℕ) (log : List Step) (start kept : ℕ) (soun
       ∙ ap (λ (l : List Event). replay l s.first) (take-append-add s.kept s.changes choice)
       ∙ replay_join s.kept (take choice s.changes) s.first
 
+  -- a loss that undoes no change
+  pub whole_loss : (choice : ℕ) → length log - start - kept ≤ choice → loss_of s choice ≡ bytes
+  whole_loss choice le =
+      let all : length s.changes ≤ choice = omega (
+        arith,
+        le,
+        sound.kept_is,
+        sound.begins,
+        length-drop start log,
+        length_changes (drop start log),
+        ap length sound.steps_are,
+        length-append s.kept s.changes,
+      ) in
+      ap (λ (l : List Event). replay l (base s)) (take_all choice s.changes all) ∙ sym sound.bytes_are
+
   pub kept_fits : kept ≤ length log - start
   kept_fits = omega (
     arith,

@@ -22,7 +22,7 @@ use std::marker::Model;
 /// A disk in memory. It keeps all that happened to it, so that it tells what a crash might have left at any moment.
 ///
 /// A sync takes no memory. A write takes memory for its bytes twice, a cut for one entry, and a power loss for the
-/// content that it leaves three times.
+/// content that it leaves: once where that is what a read gives, and else twice.
 #[derive(Drop)]
 pub struct MemDisk {
     history: History,

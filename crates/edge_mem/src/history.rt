@@ -1,6 +1,6 @@
 // The content of a disk in memory, with all that happened to it.
-ghost use Rattle.std.specs.Prelude.{◌≡◌, ◌⊎◌, ◌≤◌, ◌+◌, ℕ, List, [], ◌∷◌, ◌++◌, length, take, drop, IfOk, OnOk, OnErr};
-ghost use Rattle.edge_mem.specs.Events.{Event, Wrote, CutTo, Kept, Lost, State, replay};
+ghost use Rattle.std.specs.Prelude.{◌≡◌, ◌⊎◌, ◌≤◌, ◌+◌, ℕ, List, [], ◌∷◌, ◌++◌, length, take, drop, IfOk, OnOk, OnErr, IsTrue};
+ghost use Rattle.edge_mem.specs.Events.{Event, Wrote, CutTo, Kept, Lost, State, loss_of, replay};
 ghost use Rattle.edge_mem.specs.Past.{Past, state, content, with_event};
 ghost use Rattle.edge_mem.specs.Steps.{EndsKept};
 
@@ -84,7 +84,30 @@ impl History {
         self.kept = self.log.len() - self.start;
     }
 
-    pub fn lose(&mut self, choice: u64) -> Result<(), AllocError>
+    // Whether a power loss by this choice leaves what a read gives, as it keeps each change since the last sync.
+    fn keeps_all(&self, choice: u64) -> bool
+        ensures { IsTrue result → loss_of (state self.now) choice ≡ content self.now }
+    {
+        let unsynced = self.log.len() - self.start - self.kept;
+        unsynced as u64 <= choice
+    }
+
+    // A power loss that leaves what a read gives. Memory is taken for that once more.
+    fn lose_nothing(&mut self, choice: u64) -> Result<(), AllocError>
+        requires { loss_of (state self.old) choice ≡ content self.old }
+        ensures ok { OnOk result (self.new ≡ with_event self.old (Lost choice)) }
+        ensures err { OnErr result (self.new ≡ self.old) }
+    {
+        let era = self.bytes.to_vec(self.alloc)?;
+        push_step(&mut self.log, Change::Loss { choice })?;
+        self.start = self.log.len();
+        self.era = era;
+        self.kept = 0;
+        Ok(())
+    }
+
+    // A power loss behind which the content is made anew.
+    fn lose_changes(&mut self, choice: u64) -> Result<(), AllocError>
         ensures ok { OnOk result (self.new ≡ with_event self.old (Lost choice)) }
         ensures err { OnErr result (self.new ≡ self.old) }
     {
@@ -98,5 +121,15 @@ impl History {
         self.kept = 0;
         self.bytes = bytes;
         Ok(())
+    }
+
+    pub fn lose(&mut self, choice: u64) -> Result<(), AllocError>
+        ensures ok { OnOk result (self.new ≡ with_event self.old (Lost choice)) }
+        ensures err { OnErr result (self.new ≡ self.old) }
+    {
+        if self.keeps_all(choice) {
+            return self.lose_nothing(choice);
+        }
+        self.lose_changes(choice)
     }
 }

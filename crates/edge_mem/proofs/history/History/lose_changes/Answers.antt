@@ -3,7 +3,7 @@ use Rattle.edge_mem.specs.Events.{loss_of, replay}
 use Rattle.edge_mem.specs.Sound.{state_of}
 use Rattle.edge_mem.specs.Steps.{changes}
 use Rattle.edge_mem.proofs.Sounds.{lost_sound, view_then, loss_is, kept_fits}
-use Rattle.edge_mem.proofs.history.History.lose.Goals as goal
+use Rattle.edge_mem.proofs.history.History.lose_changes.Goals as goal
 
 pub after_loss-requires-clause-kept : goal.after_loss-requires-clause-kept
 after_loss-requires-clause-kept c = let same : length c.deref-2.result.now ≡ length c.self.inside.log.items = ap length c.deref-2.ensures.value in
