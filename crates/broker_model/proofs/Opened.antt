@@ -16,7 +16,7 @@ use Rattle.share_model.specs.declared.row.RowState.TheVariants.{Available, Ackno
 use Rattle.share_model.specs.declared.run.Run.{Run}
 use Rattle.share_model.proofs.Lookups.{row_at-none}
 use Rattle.state_records.specs.declared.record.StateRecord.{StateRecord}
-use Rattle.state_records.specs.declared.record.StateRecord.TheVariants.{Snapshot, Update, Removal}
+use Rattle.state_records.specs.declared.record.StateRecord.TheVariants.{Snapshot, Update, Removal, Head, Seal}
 use Rattle.share_coord.specs.Stored.{Entries, AreAccepted, Follows as FollowsRecord, snapshot_of, update_of}
 use Rattle.share_coord.specs.declared.view.Kept.{Kept}
 use Rattle.share_coord.proofs.Keys.{all_with, all_without}
@@ -154,6 +154,8 @@ record_read old (Removal key) new f was = subst AreReadable (sym f.is) (record {
   rises = rises_removed key_cmp keys_total keys_exact (is_at (key_cmp key)) old was.rises;
   all = all_without KeptReadable old key was.all;
 })
+record_read old (Head generation) new f was = absurd f
+record_read old Seal new f was = absurd f
 
 all_read : (frames : List (List ℕ)) (old new : Entries) → AreAccepted old frames new → AreReadable old → AreReadable new
 all_read [] old new is was = subst AreReadable (sym is) was

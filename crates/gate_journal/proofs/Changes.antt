@@ -17,6 +17,10 @@ pub on_ok : {T E : Type 0} (r : Result T E) (P : Type 0) → P → OnOk r P
 on_ok (Ok x) P p = p
 on_ok (Err e) P p = tt
 
+pub on_ok_both : {T E : Type 0} (r : Result T E) (P Q R : Type 0) → OnOk r P → OnOk r Q → (P → Q → R) → OnOk r R
+on_ok_both (Ok x) P Q R p q f = f p q
+on_ok_both (Err e) P Q R p q f = tt
+
 pub on_err_both : {T E : Type 0} (r : Result T E) (P Q R : Type 0) → OnErr r P → OnErr r Q → (P → Q → R) → OnErr r R
 on_err_both (Ok x) P Q R p q f = tt
 on_err_both (Err e) P Q R p q f = f p q

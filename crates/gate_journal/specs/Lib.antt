@@ -1,4 +1,5 @@
 pub mod Frames
 pub mod Journals
+pub mod Clearing
 pub mod Reading
 pub mod Visits

@@ -1,6 +1,7 @@
-ghost use Rattle.std.specs.Prelude.{◌≡◌, ◌≢◌, ◌⊎◌, ◌+◌, ◌≤◌, List, ℕ, length, Some, Err, IfOk, OnOk, OnErr};
+ghost use Rattle.std.specs.Prelude.{◌≡◌, ◌≢◌, ◌⊎◌, ◌+◌, ◌≤◌, [], List, ℕ, length, Some, Err, IfOk, OnOk, OnErr};
 ghost use Rattle.std.specs.declared.option.Option.{Option};
-ghost use Rattle.edge_io.specs.Armed.{ArmsAlone};
+ghost use Rattle.edge_io.specs.Armed.{ArmsAlone, RunsOn, StarvesUnarmed};
+ghost use Rattle.edge_io.specs.Causes.{HasCause};
 ghost use Rattle.edge_io.specs.Counting.{MakesCalls, MakesUpTo};
 ghost use Rattle.edge_io.specs.Disk.{IsTold};
 ghost use Rattle.edge_io.specs.Moments.{Elapses, LeavesOnly};
@@ -10,7 +11,7 @@ ghost use Rattle.share_model.specs.Rooms.{Appends, Reserves};
 
 use crate::reading::append_frame;
 use crate::writer::{Mending, Writer};
-use edge_io::{Disk, FaultMode};
+use edge_io::{Disk, Failed, FaultMode};
 use share_model::{BatchRead, Room, StoreFault};
 use std::marker::Model;
 
@@ -51,7 +52,9 @@ impl<D: Disk> Model for Journal<D> {
 }
 
 impl<D: Disk> Journal<D> {
-    ghost use Rattle.gate_journal.specs.Journals.{HasRoom, Stands, Adds, RefusesFull, SetsBuffer, calls_to_mend};
+    ghost use Rattle.gate_journal.specs.Clearing.{IsAsBefore, IsBare, IsPartlyCleared, IsTouched, MayClear};
+    ghost use Rattle.gate_journal.specs.Frames.{IsShut, StandsFor};
+    ghost use Rattle.gate_journal.specs.Journals.{HasRoom, IsAtRest, IsShaped, Stands, Adds, RefusesFull, SetsBuffer, calls_to_mend};
 
     // A journal of frames that were read from the disk.
     pub(crate) fn opened(disk: D, end: u64, count: u64) -> Self
@@ -116,6 +119,46 @@ impl<D: Disk> Journal<D> {
             return Err(StoreFault::Device);
         }
         Ok(number)
+    }
+
+    /// The number of frames.
+    pub fn count(&self) -> u64
+        ensures count { result ≡ self.now.count }
+        ensures frames { (frames : List (List ℕ)) (pending : Option (List ℕ)) → Stands D.seen self.now frames pending → result ≡ length frames }
+    {
+        self.writer.count
+    }
+
+    /// Closes the first gate, so that the journal has no frames, and syncs: two device calls. Where the gate is
+    /// closed already and bytes may follow it, none are made.
+    ///
+    /// At an `Err` the journal and its frames are as before, but that a crash may leave the first gate closed; then
+    /// nothing is to be appended before `close_first` or `clear` has answered Ok.
+    pub fn close_first(&mut self) -> Result<(), Failed>
+        ensures ok { OnOk result (MayClear D.seen self.old → IsShaped D.seen self.new [] (IsShut [])) }
+        ensures bare { OnOk result (IsBare self.new) }
+        ensures kept { OnErr result (IsAsBefore self.old self.new) }
+        ensures images { OnErr result ((c : List ℕ) → (D.seen self.new.disk).image c → IsTouched self.old (D.seen self.old.disk).image c) }
+        ensures any_moment { LeavesOnly D.seen self.old.disk self.new.disk (IsTouched self.old (D.seen self.old.disk).image) }
+        ensures runs { RunsOn D.seen self.old.disk self.new.disk }
+        ensures memory { OnErr result (StarvesUnarmed D.seen self.old.disk self.new.disk) }
+        ensures cause { HasCause (D.seen self.old.disk).faults (D.seen self.new.disk).faults result }
+    {
+        self.writer.close_first()
+    }
+
+    /// Takes all frames away: closes the first gate as `close_first` does, and cuts off what follows it, with a sync
+    /// behind each. At Ok the journal has no frames and can be written anew.
+    pub fn clear(&mut self) -> Result<(), Failed>
+        ensures ok { OnOk result (MayClear D.seen self.old → IsAtRest D.seen self.new []) }
+        ensures failed { OnErr result (MayClear D.seen self.old → IsPartlyCleared D.seen self.old self.new) }
+        ensures any_moment { MayClear D.seen self.old →
+            LeavesOnly D.seen self.old.disk self.new.disk (λ c. IsTouched self.old (D.seen self.old.disk).image c ⊎ StandsFor c []) }
+        ensures runs { RunsOn D.seen self.old.disk self.new.disk }
+        ensures memory { OnErr result (StarvesUnarmed D.seen self.old.disk self.new.disk) }
+        ensures cause { HasCause (D.seen self.old.disk).faults (D.seen self.new.disk).faults result }
+    {
+        self.writer.clear()
     }
 
     /// The place of the last gate, which will be that of the next frame.

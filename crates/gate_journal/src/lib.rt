@@ -8,6 +8,7 @@
 #![tactic(auto)]
 
 mod buffer;
+mod clearing;
 mod device;
 mod each;
 mod journal;

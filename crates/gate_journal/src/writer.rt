@@ -58,7 +58,7 @@ impl<D: Disk> Writer<D> {
     }
 
     // Cuts off what stands behind the closed gate.
-    fn cut_behind(&mut self) -> Result<(), Failed>
+    pub fn cut_behind(&mut self) -> Result<(), Failed>
         requires behind { self.old.mending ≡ Mending.Behind }
         requires room { HasRoom D.seen self.old }
         ensures ok { OnOk result ((frames : List (List ℕ)) → IsShaped D.seen self.old frames (IsShut frames) →

@@ -21,6 +21,8 @@ fn record_text(alloc: Global, record: &StateRecord) -> io::Result<String> {
         StateRecord::Snapshot(state) => ("snapshot", plain(alloc, state)),
         StateRecord::Update(state) => ("update", plain(alloc, state)),
         StateRecord::Removal { key } => ("removal", plain(alloc, key)),
+        StateRecord::Head { generation } => ("head", plain(alloc, generation)),
+        StateRecord::Seal => return Ok(format!(in alloc; "seal")?),
     };
     let text = text?;
     Ok(format!(in alloc; "{kind} {text}")?)

@@ -10,7 +10,7 @@ use Rattle.std.specs.List.{AllByRecursion}
 use Rattle.std.specs.BTreeMap.{is_at}
 use Rattle.share_model.specs.Keys.{KeyParts, key_cmp}
 use Rattle.state_records.specs.declared.record.StateRecord.{StateRecord}
-use Rattle.state_records.specs.declared.record.StateRecord.TheVariants.{Snapshot, Update, Removal}
+use Rattle.state_records.specs.declared.record.StateRecord.TheVariants.{Snapshot, Update, Removal, Head, Seal}
 use Rattle.share_coord.specs.Stored.{Entries, Follows, AreAccepted, kept_at, with_kept, without_key, next_snapshot}
 use Rattle.share_coord.specs.Calls.{IsForgotten}
 use Rattle.share_coord.specs.declared.view.Kept.{Kept}
@@ -123,6 +123,8 @@ step_below old (Update state) new n f h =
 step_below old (Removal key) new n f h =
     subst (λ es. AllByRecursion (λ e. Below (n + 1) e.1) es) (sym f.is)
     (all_without (Below (n + 1)) old key (more n (n + 1) old (omega arith) h))
+step_below old (Head generation) new n f h = absurd f
+step_below old Seal new n f h = absurd f
 
 below : (frames : List (List ℕ)) (old new : Entries) (n : ℕ) → AreAccepted old frames new → AllByRecursion (λ e. Below n e.1) old
     → AllByRecursion (λ e. Below (n + length frames) e.1) new

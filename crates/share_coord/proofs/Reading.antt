@@ -8,7 +8,7 @@ use Rattle.coord_checkpoint.specs.declared.fault.CoordOpen.TheVariants.{Damaged,
 use Rattle.share_model.specs.ShareStates.{AreLaid, start_after}
 use Rattle.share_model.specs.declared.run.Run.{Run}
 use Rattle.state_records.specs.declared.record.StateRecord.{StateRecord}
-use Rattle.state_records.specs.declared.record.StateRecord.TheVariants.{Snapshot, Update, Removal}
+use Rattle.state_records.specs.declared.record.StateRecord.TheVariants.{Snapshot, Update, Removal, Head, Seal}
 use Rattle.state_records.proofs.Whole.{one_record}
 use Rattle.share_coord.specs.Stored.{Entries, Follows, Accepts, AreAccepted, IsRefused, AreDamaged, with_kept, snapshot_of, update_of}
 use Rattle.share_coord.specs.declared.view.Kept.{Kept}
@@ -26,6 +26,8 @@ follows_once old (Update state) m n p q =
     p.is ∙ (ap (λ (k : Kept). with_kept old state.key (update_of k state p.runs)) one
     ∙ (ap (λ (l : List Run). with_kept old state.key (update_of q.kept state l)) same ∙ sym q.is))
 follows_once old (Removal key) m n p q = p.is ∙ sym q.is
+follows_once old (Head generation) m n p q = absurd p
+follows_once old Seal m n p q = absurd p
 
 accepts_once : (old : Entries) (frame : List ℕ) (m n : Entries) → Accepts old frame m → Accepts old frame n → m ≡ n
 accepts_once old frame m n p q =

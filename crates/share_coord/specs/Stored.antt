@@ -18,7 +18,7 @@ use Rattle.share_model.specs.declared.run.Run.{Run}
 use Rattle.state_records.specs.States.{StateParts}
 use Rattle.state_records.specs.Spelling.{IsRecord, record_bytes}
 use Rattle.state_records.specs.declared.record.StateRecord.{StateRecord}
-use Rattle.state_records.specs.declared.record.StateRecord.TheVariants.{Snapshot, Update, Removal}
+use Rattle.state_records.specs.declared.record.StateRecord.TheVariants.{Snapshot, Update, Removal, Head, Seal}
 use Rattle.coord_checkpoint.specs.Lists.{IsListed, IsUnlisted}
 use Rattle.share_coord.specs.declared.view.Kept.{Kept}
 
@@ -77,11 +77,13 @@ pub record IsRemoved (old : Entries) (key : KeyParts) (new : Entries) : Type 0 w
   pub known : kept_at old key ≡ Some kept
   pub is : new ≡ without_key old key
 
--- one record more
+-- One record more. A head and a seal belong to no key, and follow no states as long as one journal has the frames of a store.
 abbrev pub Follows : Entries → StateRecord → Entries → Type 0
 Follows old (Snapshot state) new = IsSnapshotted old state new
 Follows old (Update state) new = IsUpdated old state new
 Follows old (Removal key) new = IsRemoved old key new
+Follows old (Head generation) new = ⊥
+Follows old Seal new = ⊥
 
 -- one frame more, which is the bytes of a record
 pub record Accepts (old : Entries) (frame : List ℕ) (new : Entries) : Type 0 where

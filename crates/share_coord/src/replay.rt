@@ -132,6 +132,7 @@ fn take_record(
         StateRecord::Snapshot(state) => take_snapshot(map, state),
         StateRecord::Update(state) => take_update(alloc, map, state),
         StateRecord::Removal { key } => Ok(map.remove(&key).is_some()),
+        StateRecord::Head { .. } | StateRecord::Seal => Ok(false),
     }
 }
 

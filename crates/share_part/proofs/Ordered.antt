@@ -30,7 +30,7 @@ use Rattle.share_part.proofs.Holding.{AreKept}
 use Rattle.share_part.proofs.Letting.{none_counted}
 use Rattle.share_part.proofs.Mapping.{at_is, at_self, equal_is, keys_exact, keys_total}
 use Rattle.state_records.specs.declared.record.StateRecord.{StateRecord}
-use Rattle.state_records.specs.declared.record.StateRecord.TheVariants.{Snapshot, Update, Removal}
+use Rattle.state_records.specs.declared.record.StateRecord.TheVariants.{Snapshot, Update, Removal, Head, Seal}
 use Rattle.lock_index.specs.Windows.{IsRising}
 
 -- ---- entries in the order of their keys
@@ -161,6 +161,8 @@ sorted_by : (old : Entries) (written : StateRecord) (new : Entries) → Follows 
 sorted_by old (Snapshot state) new is sorted = subst (λ (es : Entries). Sorted key_cmp keys_total es) (sym is.is) (sorted_insert key_cmp keys_total state.key _ old sorted)
 sorted_by old (Update state) new is sorted = subst (λ (es : Entries). Sorted key_cmp keys_total es) (sym is.is) (sorted_insert key_cmp keys_total state.key _ old sorted)
 sorted_by old (Removal key) new is sorted = subst (λ (es : Entries). Sorted key_cmp keys_total es) (sym is.is) (sorted_remove key_cmp keys_total (is_at (key_cmp key)) old sorted)
+sorted_by old (Head generation) new is sorted = absurd is
+sorted_by old Seal new is sorted = absurd is
 
 sorted_from : (old : Entries) (frames : List (List ℕ)) (new : Entries) → AreAccepted old frames new → Sorted key_cmp keys_total old → Sorted key_cmp keys_total new
 sorted_from old [] new is sorted = subst (λ (es : Entries). Sorted key_cmp keys_total es) (sym is) sorted

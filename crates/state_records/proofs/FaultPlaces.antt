@@ -2,20 +2,22 @@
 use Rattle.std.proofs.Common.{◌≡◌, ℕ, zero, suc, ◌+◌, ◌-◌, ◌^◌, ◌<◌, ◌≤◌, ◌⊎◌, inl, inr, Bool, true, false, cond, List, [], ◌∷◌, ◌++◌}
 use Rattle.std.proofs.Common.{length, take, Result, Ok, Err, refl, sym, ap, subst, ◌∙◌, append_assoc, append-nil, arith}
 use Rattle.std.specs.Prelude.{nat_lt, ◌==◌}
+use Rattle.std.specs.Int.{w64, to_be_bytes}
 use Rattle.std.specs.List.{AllByRecursion}
 use Rattle.std.proofs.lemmas.List.{length-append}
 use Rattle.state_records.specs.declared.record.StateRecord.{StateRecord}
-use Rattle.state_records.specs.declared.record.StateRecord.TheVariants.{Snapshot, Update, Removal}
+use Rattle.state_records.specs.declared.record.StateRecord.TheVariants.{Snapshot, Update, Removal, Head, Seal}
 use Rattle.state_records.specs.States.{IsKey}
 use Rattle.state_records.specs.Spelling.{key_bytes, counted_state, state_bytes, record_bytes, IsRecord}
 use Rattle.state_records.specs.Faults.{runs_of, counted_bytes, IsFieldIn, body_sizes, IsField, Begins, IsWrongAt}
 use Rattle.flex_fields.specs.Reading.{At}
-use Rattle.state_records.specs.Reading.{◌>>=◌, only_at, byte_at, key_at, state_at, fields_at, record_at}
+use Rattle.state_records.specs.Reading.{◌>>=◌, only_at, byte_at, number_at, key_at, state_at, fields_at, record_at}
 use Rattle.state_records.proofs.Spells.{IsBytes, ok_is}
 use Rattle.state_records.proofs.Whole.{kind_of, body_of, spelled, fields_take, fields_again, byte_below, kind_low}
 use Rattle.state_records.proofs.Begins.{bind_err, not_both, agrees, take-behind, Front}
 use Rattle.state_records.proofs.FieldFaults.{Moving, only_here, only_moves, as_moves, byte_here, byte_moves}
 use Rattle.state_records.proofs.RecordFaults.{IsCounted, key_fails, key_inside, state_fails, state_inside, of_state_field, of_key_field}
+use Rattle.state_records.proofs.RecordFaults.{snapshot_fails, snapshot_inside, of_number_field}
 
 all_bytes : (bytes : List ℕ) → AllByRecursion (λ b. b < 256) bytes → IsBytes bytes
 all_bytes [] h i = omega arith
@@ -28,17 +30,23 @@ counted_body : ℕ → StateRecord → List ℕ
 counted_body count (Snapshot s) = counted_state count s
 counted_body count (Update s) = counted_state count s
 counted_body count (Removal k) = key_bytes k
+counted_body count (Head g) = to_be_bytes w64 g
+counted_body count Seal = []
 
 counted_is : (count : ℕ) (r : StateRecord) → counted_bytes count r ≡ kind_of r ∷ 0 ∷ counted_body count r
 unfolding counted_body kind_of
 counted_is count (Snapshot s) = refl
 counted_is count (Update s) = refl
 counted_is count (Removal k) = refl
+counted_is count (Head g) = refl
+counted_is count Seal = refl
 
 own_count : (r : StateRecord) → counted_bytes (length (runs_of r)) r ≡ record_bytes r
 own_count (Snapshot s) = refl
 own_count (Update s) = refl
 own_count (Removal k) = refl
+own_count (Head g) = refl
+own_count Seal = refl
 
 abbrev Shown : Type 0
 Shown = StateRecord × ℕ
@@ -71,7 +79,7 @@ removal_front at place f = record {
   bytes = f.bytes;
 }
 
-body_front : (kind : ℕ) (at : At) (place : ℕ) → kind < 3 → IsBytes at.left → fields_at kind at ≡ Err place → Front shown (Good kind) at place
+body_front : (kind : ℕ) (at : At) (place : ℕ) → kind < 5 → IsBytes at.left → fields_at kind at ≡ Err place → Front shown (Good kind) at place
 unfolding fields_at counted_body kind_of seen_by
 body_front zero at place low bytes e =
     let f = state_fails.front at place bytes (as_err Snapshot (state_at at) place e) in
@@ -79,54 +87,74 @@ body_front zero at place low bytes e =
 body_front (suc zero) at place low bytes e =
     let f = state_fails.front at place bytes (as_err Update (state_at at) place e) in
     record { taken = f.taken; place_is = f.place_is; within = f.within; whole = (Update f.whole.0, f.whole.1); is = (f.is.0, (f.is.1, refl)); rest = f.rest; bytes = f.bytes }
-body_front (suc (suc n)) at place low bytes e =
-    subst (λ (k : ℕ). Front shown (Good k) at place) (let two : 2 ≡ suc (suc n) = omega (arith, low) in two)
-    (removal_front at place (key_fails.front at place bytes (as_err (λ k. Removal k) (key_at at) place e)))
+body_front (suc (suc zero)) at place low bytes e = removal_front at place (key_fails.front at place bytes (as_err (λ k. Removal k) (key_at at) place e))
+body_front (suc (suc (suc zero))) at place low bytes e =
+    let f = snapshot_fails.front at place bytes (as_err (λ g. Head g) (number_at w64 at) place e) in
+    record { taken = f.taken; place_is = f.place_is; within = f.within; whole = (Head f.whole, 0); is = (f.is, ((omega arith, inl refl), refl)); rest = f.rest; bytes = f.bytes }
+body_front (suc (suc (suc (suc n)))) at place low bytes e = absurd cc
 
 abbrev IsBodyField : StateRecord → ℕ → ℕ → Type 0
 IsBodyField r p e = IsFieldIn (body_sizes r) (length (runs_of r)) p e
 
-body_none : (kind : ℕ) (at : At) (place : ℕ) → kind < 3 → IsBytes at.left → fields_at kind at ≡ Err place → (r : StateRecord) (e : ℕ) (rest : List ℕ) → IsRecord r → kind_of r ≡ kind
+-- the fields of a record's own kind
+body_err : (r : StateRecord) (at : At) (place : ℕ) → IsBytes at.left → fields_at (kind_of r) at ≡ Err place → (e : ℕ) (rest : List ℕ) → IsRecord r
     → IsBodyField r (place - at.place) e → e ≤ length at.left → body_of r ≡ take e at.left ++ rest → ⊥
 unfolding fields_at body_of kind_of seen_by
-body_none zero at place low bytes err (Snapshot s) e rest good kind field within same =
+body_err (Snapshot s) at place bytes err e rest good field within same =
     state_fails.none at place bytes (as_err Snapshot (state_at at) place err) s e [] rest good (of_state_field s _ e field) within (append-nil (state_bytes s) ∙ same)
-body_none zero at place low bytes err (Update s) e rest good kind field within same = absurd (omega (arith, kind))
-body_none zero at place low bytes err (Removal k) e rest good kind field within same = absurd (omega (arith, kind))
-body_none (suc zero) at place low bytes err (Snapshot s) e rest good kind field within same = absurd (omega (arith, kind))
-body_none (suc zero) at place low bytes err (Update s) e rest good kind field within same =
+body_err (Update s) at place bytes err e rest good field within same =
     state_fails.none at place bytes (as_err Update (state_at at) place err) s e [] rest good (of_state_field s _ e field) within (append-nil (state_bytes s) ∙ same)
-body_none (suc zero) at place low bytes err (Removal k) e rest good kind field within same = absurd (omega (arith, kind))
-body_none (suc (suc n)) at place low bytes err (Snapshot s) e rest good kind field within same = absurd (omega (arith, kind))
-body_none (suc (suc n)) at place low bytes err (Update s) e rest good kind field within same = absurd (omega (arith, kind))
-body_none (suc (suc n)) at place low bytes err (Removal k) e rest good kind field within same =
+body_err (Removal k) at place bytes err e rest good field within same =
     key_fails.none at place bytes (as_err (λ key. Removal key) (key_at at) place err) k e [] rest good (of_key_field k _ e field) within (append-nil (key_bytes k) ∙ same)
+body_err (Head g) at place bytes err e rest good field within same =
+    snapshot_fails.none at place bytes (as_err (λ n. Head n) (number_at w64 at) place err) g e [] rest good (of_number_field g _ e field) within
+    (append-nil (to_be_bytes w64 g) ∙ same)
+body_err Seal at place bytes err e rest good field within same = absurd field
+
+body_none : (kind : ℕ) (at : At) (place : ℕ) → kind < 5 → IsBytes at.left → fields_at kind at ≡ Err place → (r : StateRecord) (e : ℕ) (rest : List ℕ) → IsRecord r → kind_of r ≡ kind
+    → IsBodyField r (place - at.place) e → e ≤ length at.left → body_of r ≡ take e at.left ++ rest → ⊥
+body_none kind at place low bytes err r e rest good is field within same =
+    body_err r at place bytes (ap (λ (k : ℕ). fields_at k at) is ∙ err) e rest good field within same
+
+seal_moves : Moving (λ at. Ok (Seal, at))
+seal_moves at found after e = let same : at ≡ after = ap behind e in ap (λ (a : At). a.place + length a.left) (sym same) where
+  behind : Result (StateRecord × At) ℕ → At
+  behind (Ok x) = x.1
+  behind (Err place) = at
 
 fields_moves : (kind : ℕ) → Moving (fields_at kind)
 unfolding fields_at
 fields_moves zero = as_moves Snapshot state_at state_fails.moves
 fields_moves (suc zero) = as_moves Update state_at state_fails.moves
-fields_moves (suc (suc n)) = as_moves (λ k. Removal k) key_at key_fails.moves
+fields_moves (suc (suc zero)) = as_moves (λ k. Removal k) key_at key_fails.moves
+fields_moves (suc (suc (suc zero))) = as_moves (λ g. Head g) (number_at w64) snapshot_fails.moves
+fields_moves (suc (suc (suc (suc n)))) = seal_moves
 
 body_inside : (r : StateRecord) (p e : ℕ) → IsRecord r → IsBodyField r p e → (p < length (body_of r)) × (p ≤ e)
 unfolding body_of
 body_inside (Snapshot s) p e good f = let h = of_state_field s p e f in (state_inside s p e good h, state_fails.ahead s p e h)
 body_inside (Update s) p e good f = let h = of_state_field s p e f in (state_inside s p e good h, state_fails.ahead s p e h)
 body_inside (Removal k) p e good f = let h = of_key_field k p e f in (key_inside k p e good h, key_fails.ahead k p e h)
+body_inside (Head g) p e good f = let h = of_number_field g p e f in (snapshot_inside g p e good h, snapshot_fails.ahead g p e h)
+body_inside Seal p e good f = absurd f
 
 -- ---- the record
 
-sample : (kind : ℕ) → kind < 3 → (r : StateRecord) × IsRecord r × (kind_of r ≡ kind)
+sample : (kind : ℕ) → kind < 5 → (r : StateRecord) × IsRecord r × (kind_of r ≡ kind)
 unfolding kind_of
 sample zero low = let x = state_fails.some in (Snapshot x.0, state_fails.some_good.0, refl)
 sample (suc zero) low = let x = state_fails.some in (Update x.0, state_fails.some_good.0, refl)
-sample (suc (suc n)) low = (Removal key_fails.some, key_fails.some_good, (let two : 2 ≡ suc (suc n) = omega (arith, low) in two))
+sample (suc (suc zero)) low = (Removal key_fails.some, key_fails.some_good, refl)
+sample (suc (suc (suc zero))) low = (Head snapshot_fails.some, snapshot_fails.some_good, refl)
+sample (suc (suc (suc (suc n)))) low = (Seal, tt, (let four : 4 ≡ suc (suc (suc (suc n))) = omega (arith, low) in four))
 
 -- the bytes of a record begin so
 few_runs : (r : StateRecord) → IsRecord r → length (runs_of r) < 2 ^ 32
 few_runs (Snapshot s) good = good.few
 few_runs (Update s) good = good.few
 few_runs (Removal k) good = omega arith
+few_runs (Head g) good = omega arith
+few_runs Seal good = omega arith
 
 begins_record : (r : StateRecord) (front rest : List ℕ) → IsRecord r → record_bytes r ≡ front ++ rest → Begins front
 begins_record r front rest good same = record { found = r; count = length (runs_of r); rest = rest; is = good; few = few_runs r good; counted = inl refl; bytes = own_count r ∙ same }
@@ -136,9 +164,9 @@ module _ (bytes : List ℕ) (place : ℕ) (fits : IsBytes bytes) where
   start = record { place = 0; left = bytes }
 
   -- what stands there is wrong as a kind
-  wrong_kind : only_at (λ n. nat_lt n 3) byte_at start ≡ Err place → IsWrongAt bytes place
+  wrong_kind : only_at (λ n. nat_lt n 5) byte_at start ≡ Err place → IsWrongAt bytes place
   wrong_kind err =
-      let here : place ≡ 0 = only_here (λ n. nat_lt n 3) byte_at byte_here start place err in
+      let here : place ≡ 0 = only_here (λ n. nat_lt n 5) byte_at byte_here start place err in
       let r = sample 0 (omega arith) in
       record {
         within = omega (arith, here);
@@ -146,13 +174,13 @@ module _ (bytes : List ℕ) (place : ℕ) (fits : IsBytes bytes) where
         none = λ found to rest good field within same. elim field [
           | inl f ↦
               let a = agrees (kind_of found ∷ []) (0 ∷ body_of found) bytes rest to (omega (arith, f.1)) within (sym (spelled found) ∙ same) in
-              let g = (byte_below 3).again start (kind_of found) a.behind (kind_low found) a.whole in
-              not_both (only_at (λ n. nat_lt n 3) byte_at start) place (kind_of found, g.after) err g.is
+              let g = (byte_below 5).again start (kind_of found) a.behind (kind_low found) a.whole in
+              not_both (only_at (λ n. nat_lt n 5) byte_at start) place (kind_of found, g.after) err g.is
           | inr f ↦ omega (arith, f.0, here)
         ];
       }
 
-  module _ (kind : ℕ) (mid : At) (low : kind < 3) (split : bytes ≡ kind ∷ mid.left) (at_one : mid.place ≡ 1) where
+  module _ (kind : ℕ) (mid : At) (low : kind < 5) (split : bytes ≡ kind ∷ mid.left) (at_one : mid.place ≡ 1) where
     same_kind : (found : StateRecord) (to : ℕ) (rest : List ℕ) → 2 ≤ to → to ≤ length bytes → record_bytes found ≡ take to bytes ++ rest
         → (behind : List ℕ) × (mid.left ≡ 0 ∷ behind) × (kind_of found ≡ kind) × (body_of found ≡ take (to - 2) behind ++ rest)
     same_kind found to rest le within same =
@@ -260,7 +288,7 @@ module _ (bytes : List ℕ) (place : ℕ) (fits : IsBytes bytes) where
 
 pub wrong_at : (bytes : List ℕ) (place : ℕ) → AllByRecursion (λ b. b < 256) bytes → record_at bytes ≡ Err place → IsWrongAt bytes place
 unfolding record_at
-wrong_at bytes place each err = go (bind_err (only_at (λ n. nat_lt n 3) byte_at at) with_kind place err) where
+wrong_at bytes place each err = go (bind_err (only_at (λ n. nat_lt n 5) byte_at at) with_kind place err) where
   fits : IsBytes bytes
   fits = all_bytes bytes each
 
@@ -285,11 +313,11 @@ wrong_at bytes place each err = go (bind_err (only_at (λ n. nat_lt n 3) byte_at
   byte_place : (limit : ℕ) (from : At) (n : ℕ) (to : At) → only_at (λ k. nat_lt k limit) byte_at from ≡ Ok (n, to) → from.left ≡ n ∷ to.left → to.place ≡ from.place + 1
   byte_place limit from n to e split = omega (arith, only_moves (λ k. nat_lt k limit) byte_at byte_moves from n to e, ap length split)
 
-  go : (only_at (λ n. nat_lt n 3) byte_at at ≡ Err place) ⊎ ((kind : ℕ × At) × (only_at (λ n. nat_lt n 3) byte_at at ≡ Ok kind) × (with_kind kind ≡ Err place)) → IsWrongAt bytes place
+  go : (only_at (λ n. nat_lt n 5) byte_at at ≡ Err place) ⊎ ((kind : ℕ × At) × (only_at (λ n. nat_lt n 5) byte_at at ≡ Ok kind) × (with_kind kind ≡ Err place)) → IsWrongAt bytes place
   go (inl h) = wrong_kind bytes place fits h
   go (inr k) =
-      let t1 = (byte_below 3).takes at k.0.0 k.0.1 fits k.1 in
-      let one : k.0.1.place ≡ 1 = byte_place 3 at k.0.0 k.0.1 k.1 t1.0.parts in
+      let t1 = (byte_below 5).takes at k.0.0 k.0.1 fits k.1 in
+      let one : k.0.1.place ≡ 1 = byte_place 5 at k.0.0 k.0.1 k.1 t1.0.parts in
       elim (bind_err (only_at (λ n. nat_lt n 1) byte_at k.0.1) (with_version k.0.0) place k.2) [
         | inl h ↦ wrong_version bytes place fits k.0.0 k.0.1 t1.1 t1.0.parts one h
         | inr v ↦

@@ -152,7 +152,7 @@ unfolding start_at
 start_fails = field_fails start_at start_bytes IsStart start_spells (pos 0) (omega arith)
     (found_here start_of (number_at w64) (number_here w64)) (found_moves start_of (number_at w64) (number_moves w64))
 
-snapshot_fails : Fails (number_at w64) (to_be_bytes w64) (λ n. n < 2 ^ 64) (whole_field (to_be_bytes w64)) (to_be_bytes w64) (λ n. n < 2 ^ 64)
+pub snapshot_fails : Fails (number_at w64) (to_be_bytes w64) (λ n. n < 2 ^ 64) (whole_field (to_be_bytes w64)) (to_be_bytes w64) (λ n. n < 2 ^ 64)
 snapshot_fails = field_fails (number_at w64) (to_be_bytes w64) (λ n. n < 2 ^ 64) (number_spells w64 (2 ^ 64) wide64) 0 (omega arith) (number_here w64) (number_moves w64)
 
 abbrev raw_bytes : List ℕ → List ℕ
@@ -190,7 +190,7 @@ epoch_inside z p e fits f = let size : length (epoch_bytes z) ≡ 4 = refl in om
 start_inside : Inside start_bytes IsStart (whole_field start_bytes)
 start_inside z p e fits f = let size : length (start_bytes z) ≡ 8 = refl in omega (arith, f.0, size)
 
-snapshot_inside : Inside (to_be_bytes w64) (λ n. n < 2 ^ 64) (whole_field (to_be_bytes w64))
+pub snapshot_inside : Inside (to_be_bytes w64) (λ n. n < 2 ^ 64) (whole_field (to_be_bytes w64))
 snapshot_inside n p e fits f = let size : length (to_be_bytes w64 n) ≡ 8 = refl in omega (arith, f.0, size)
 
 name_inside : Inside name_bytes IsName (whole_field name_bytes)
@@ -564,3 +564,7 @@ of_key_field key p e field = elim (key_split key [] 0 p e field) [
   | inl f ↦ f
   | inr f ↦ absurd f.1.1
 ]
+
+pub of_number_field : (n p e : ℕ) → IsFieldIn (8 ∷ []) 0 p e → whole_field (to_be_bytes w64) n p e
+of_number_field n p e (inl f) = (f.0, (let size : length (to_be_bytes w64 n) ≡ 8 = refl in omega (arith, f.1, size)))
+of_number_field n p e (inr f) = absurd f.2

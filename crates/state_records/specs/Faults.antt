@@ -1,24 +1,29 @@
 -- Where bytes that are no record are wrong, told by the spelling of records (this project's own): what stands before the
 -- fault begins some record, and no record has what stands at it.
 -- For example 53 bytes of a snapshot of 54 are wrong at byte 50: the bytes before begin that snapshot, and the number of runs
--- there, which is a field of four bytes, is cut. Where 03 stands in front there is a fault at 0, since no record begins with it.
+-- there, which is a field of four bytes, is cut. Where 05 stands in front there is a fault at 0, since no record begins with it.
 use Rattle.std.specs.Prelude.{◌≡◌, ◌⊎◌, ◌+◌, ◌-◌, ◌^◌, ◌<◌, ◌≤◌, ℕ, zero, suc, List, [], ◌∷◌, ◌++◌, length, take}
+use Rattle.std.specs.Int.{w64, to_be_bytes}
 use Rattle.share_model.specs.Keys.{KeyParts}
 use Rattle.share_model.specs.declared.run.Run.{Run}
 use Rattle.state_records.specs.Spelling.{key_bytes, counted_state, record_bytes, IsRecord}
 use Rattle.state_records.specs.declared.record.StateRecord.{StateRecord}
-use Rattle.state_records.specs.declared.record.StateRecord.TheVariants.{Snapshot, Update, Removal}
+use Rattle.state_records.specs.declared.record.StateRecord.TheVariants.{Snapshot, Update, Removal, Head, Seal}
 
 abbrev pub runs_of : StateRecord → List Run
 runs_of (Snapshot state) = state.runs
 runs_of (Update state) = state.runs
 runs_of (Removal key) = []
+runs_of (Head generation) = []
+runs_of Seal = []
 
 -- the bytes of a record, but with this number of runs before its runs
 abbrev pub counted_bytes : ℕ → StateRecord → List ℕ
 counted_bytes count (Snapshot state) = 0 ∷ 0 ∷ counted_state count state
 counted_bytes count (Update state) = 1 ∷ 0 ∷ counted_state count state
 counted_bytes count (Removal key) = 2 ∷ 0 ∷ key_bytes key
+counted_bytes count (Head generation) = 3 ∷ 0 ∷ to_be_bytes w64 generation
+counted_bytes count Seal = 4 ∷ 0 ∷ []
 
 -- the last run leaves fewer offsets than so many runs need; offsets are below 2 ^ 63
 abbrev pub LeavesTooFew : List Run → ℕ → Type 0
@@ -55,11 +60,13 @@ IsFieldIn (size ∷ sizes) n from to = ((from ≡ 0) × (to ≡ size)) ⊎ ((siz
 abbrev pub key_sizes : KeyParts → List ℕ → List ℕ
 key_sizes key sizes = (2 + length key.group) ∷ length key.topic ∷ 4 ∷ sizes
 
--- the key, the snapshot epoch, both other epochs, the start and the number of runs
+-- the key, the snapshot epoch, both other epochs, the start and the number of runs; or the generation; or nothing
 abbrev pub body_sizes : StateRecord → List ℕ
 body_sizes (Snapshot state) = key_sizes state.key (8 ∷ 4 ∷ 4 ∷ 8 ∷ 4 ∷ [])
 body_sizes (Update state) = key_sizes state.key (8 ∷ 4 ∷ 4 ∷ 8 ∷ 4 ∷ [])
 body_sizes (Removal key) = key_sizes key []
+body_sizes (Head generation) = 8 ∷ []
+body_sizes Seal = []
 
 -- the kind and the version before them
 abbrev pub field_sizes : StateRecord → List ℕ

@@ -17,7 +17,7 @@ use Rattle.state_records.specs.States.{StateParts}
 use Rattle.state_records.specs.declared.fault.RecordFault.{RecordFault}
 use Rattle.state_records.specs.declared.fault.RecordFault.TheVariants as faults
 use Rattle.state_records.specs.declared.record.StateRecord.{StateRecord}
-use Rattle.state_records.specs.declared.record.StateRecord.TheVariants.{Snapshot, Update, Removal}
+use Rattle.state_records.specs.declared.record.StateRecord.TheVariants.{Snapshot, Update, Removal, Head, Seal}
 
 -- the first fault is the answer; a fault is a place
 infixl 10 ◌>>=◌
@@ -164,12 +164,14 @@ state_at at = as_at state_of_parts (then_at key_at (then_at (number_at w64) (the
 unfoldable pub fields_at : ℕ → At → Result (StateRecord × At) ℕ
 fields_at zero at = as_at Snapshot state_at at
 fields_at (suc zero) at = as_at Update state_at at
-fields_at (suc (suc n)) at = as_at (λ k. Removal k) key_at at
+fields_at (suc (suc zero)) at = as_at (λ k. Removal k) key_at at
+fields_at (suc (suc (suc zero))) at = as_at (λ g. Head g) (number_at w64) at
+fields_at (suc (suc (suc (suc n)))) at = Ok (Seal, at)
 
--- a kind of 0, 1 or 2, version 0, the fields, and nothing behind them
+-- a kind of 0 to 4, version 0, the fields, and nothing behind them
 unfoldable pub record_at : List ℕ → Result StateRecord ℕ
 record_at bytes = do
-  kind ← only_at (λ n. nat_lt n 3) byte_at (record { place = 0; left = bytes })
+  kind ← only_at (λ n. nat_lt n 5) byte_at (record { place = 0; left = bytes })
   version ← only_at (λ n. nat_lt n 1) byte_at kind.1
   fields ← fields_at kind.0 version.1
   if length fields.1.left == 0 then Ok fields.0 else Err fields.1.place

@@ -1,6 +1,7 @@
 -- The bytes of a state record, of which each record has just these (this project's own). Numbers have their high byte first.
--- For example the snapshot of the state in `States.antt` has 54 bytes, of which 00 00 0002 67 31 are the first.
-use Rattle.std.specs.Prelude.{◌-◌, ◌^◌, ℕ, ℤ, pos, negsuc, List, [], ◌∷◌, ◌++◌, length}
+-- For example the snapshot of the state in `States.antt` has 54 bytes, of which 00 00 0002 67 31 are the first, and the head of
+-- generation 1 is 03 00 0000000000000001.
+use Rattle.std.specs.Prelude.{◌-◌, ◌^◌, ◌<◌, ℕ, ℤ, pos, negsuc, List, [], ◌∷◌, ◌++◌, length}
 use Rattle.std.specs.Int.{w16, w32, w64, to_be_bytes}
 use Rattle.std.specs.List.{flat_map}
 use Rattle.share_model.specs.Keys.{KeyParts}
@@ -8,7 +9,7 @@ use Rattle.share_model.specs.Rows.{state_number}
 use Rattle.share_model.specs.declared.run.Run.{Run}
 use Rattle.state_records.specs.States.{StateParts, IsKey, IsState}
 use Rattle.state_records.specs.declared.record.StateRecord.{StateRecord}
-use Rattle.state_records.specs.declared.record.StateRecord.TheVariants.{Snapshot, Update, Removal}
+use Rattle.state_records.specs.declared.record.StateRecord.TheVariants.{Snapshot, Update, Removal, Head, Seal}
 
 -- two bytes of length, and the name
 abbrev pub name_bytes : List ℕ → List ℕ
@@ -53,9 +54,13 @@ abbrev pub record_bytes : StateRecord → List ℕ
 record_bytes (Snapshot state) = 0 ∷ 0 ∷ state_bytes state
 record_bytes (Update state) = 1 ∷ 0 ∷ state_bytes state
 record_bytes (Removal key) = 2 ∷ 0 ∷ key_bytes key
+record_bytes (Head generation) = 3 ∷ 0 ∷ to_be_bytes w64 generation
+record_bytes Seal = 4 ∷ 0 ∷ []
 
 -- the records that there are
 abbrev pub IsRecord : StateRecord → Type 0
 IsRecord (Snapshot state) = IsState state
 IsRecord (Update state) = IsState state
 IsRecord (Removal key) = IsKey key
+IsRecord (Head generation) = generation < 2 ^ 64
+IsRecord Seal = Unit {0}

@@ -1,4 +1,5 @@
-//! The records of the state journal: snapshots, updates and removals of share-partition states, as bytes.
+//! The records of the state journal, as bytes: snapshots, updates and removals of share-partition states, and the head
+//! and the seal of a generation.
 #![tactic(auto)]
 
 mod fault;

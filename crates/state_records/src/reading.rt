@@ -71,9 +71,13 @@ fn read_fields(alloc: Global, reader: &mut Reader<'_>, kind: u8) -> Result<State
     match kind {
         0 => Ok(StateRecord::Snapshot(read_state(alloc, reader)?)),
         1 => Ok(StateRecord::Update(read_state(alloc, reader)?)),
-        _ => Ok(StateRecord::Removal {
+        2 => Ok(StateRecord::Removal {
             key: read_key(reader)?,
         }),
+        3 => Ok(StateRecord::Head {
+            generation: reader.take_u64()?,
+        }),
+        _ => Ok(StateRecord::Seal),
     }
 }
 
@@ -82,7 +86,7 @@ fn read_whole(alloc: Global, bytes: &[u8]) -> Result<StateRecord, RecordFault>
     ensures { Gives (λ r. r) result (record_at bytes.now) }
 {
     let mut reader = Reader::new(bytes);
-    let kind = read_u8_below(&mut reader, 3)?;
+    let kind = read_u8_below(&mut reader, 5)?;
     read_u8_below(&mut reader, 1)?;
     let record = read_fields(alloc, &mut reader, kind)?;
     if reader.len() > 0 {

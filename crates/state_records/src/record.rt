@@ -43,4 +43,8 @@ pub enum StateRecord {
     Update(KeyState),
     /// The key is gone.
     Removal { key: Key },
+    /// The journal that begins with this is of this generation.
+    Head { generation: u64 },
+    /// The snapshots behind the head are all that there are.
+    Seal,
 }

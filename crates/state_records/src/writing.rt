@@ -133,6 +133,8 @@ pub fn write_record(alloc: Global, record: &StateRecord) -> Result<Blob, NoMemor
             room(&state.runs),
         )?,
         StateRecord::Removal { .. } => Vec::with_capacity(alloc, 279)?,
+        StateRecord::Head { .. } => Vec::with_capacity(alloc, 10)?,
+        StateRecord::Seal => Vec::with_capacity(alloc, 2)?,
     };
     match record {
         StateRecord::Snapshot(state) => {
@@ -147,6 +149,11 @@ pub fn write_record(alloc: Global, record: &StateRecord) -> Result<Blob, NoMemor
             out.extend_from_slice(&[2, 0])?;
             put_key(&mut out, key)?;
         }
+        StateRecord::Head { generation } => {
+            out.extend_from_slice(&[3, 0])?;
+            put_u64(&mut out, *generation)?;
+        }
+        StateRecord::Seal => out.extend_from_slice(&[4, 0])?,
     }
     Ok(Blob::new(out))
 }

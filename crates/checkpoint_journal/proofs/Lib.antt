@@ -1,0 +1,5 @@
+-- Marks: generations and seals of lists of marks, and which journal is live. OneWay: two contents are read in one way. Spares: a journal that
+-- isn't live, while it is cleared and written.
+pub mod Marks
+pub mod OneWay
+pub mod Spares
