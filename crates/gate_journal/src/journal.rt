@@ -206,6 +206,7 @@ impl<D: Disk> Journal<D> {
         ensures ok { OnOk result (IsTold (D.seen self.old.disk).content → (frame : List ℕ) → HasFrameAt D.seen self.old place frame →
             length frame ≤ most → Appends out.old out.new frame) }
         ensures extends { OnOk result (ExtendsWithin most out.old.bytes out.new.bytes) }
+        ensures less { OnOk result (out.old.spare ≤ out.new.spare + most) }
         ensures err { OnErr result (Reserves out.old out.new 0) }
         ensures spared { IsTold (D.seen self.old.disk).content → (frame : List ℕ) → HasFrameAt D.seen self.old place frame →
             length frame ≤ out.old.spare → result ≢ Err BatchRead.NoMemory }

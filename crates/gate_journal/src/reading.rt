@@ -72,6 +72,7 @@ pub fn append_frame<D: Disk>(
         (out.new.items ≡ out.old.items ++ frame)
         × (vec_capacity out.old - vec_len out.old ≤ vec_capacity out.new - vec_len out.new + length frame)) }
     ensures extends { OnOk result (ExtendsWithin most out.old.items out.new.items) }
+    ensures less { OnOk result (vec_capacity out.old - vec_len out.old ≤ vec_capacity out.new - vec_len out.new + most) }
     ensures err { OnErr result ((out.new.items ≡ out.old.items) × (vec_capacity out.old - vec_len out.old ≤ vec_capacity out.new - vec_len out.new)) }
     ensures spared { (c frame : List ℕ) → (D.seen disk.old).content ≡ Some c → IsFrameIn c place frame →
         length frame ≤ vec_capacity out.old - vec_len out.old → result ≢ Err BatchRead.NoMemory }

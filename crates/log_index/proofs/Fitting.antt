@@ -2,7 +2,7 @@
 use Rattle.std.proofs.Common.{◌+◌, ◌⊎◌, ◌≡◌, ◌≢◌, inl, inr, ℕ, ◌≤◌, ◌<◌, List, [], ◌∷◌, ◌++◌, length, take, drop, take-append-drop, length-append, length-drop, ◌-◌, get_or, Contains, zero, suc}
 use Rattle.std.proofs.Common.{refl, sym, ap, ◌∙◌, subst, arith, rules, Some, Result, Ok, Err, OnOk, IsOk, is_some}
 use Rattle.std.proofs.Math.Seq.{get_or-append_seam}
-use Rattle.std.proofs.lemmas.List.{drop_at, get_or_append_left, take_all}
+use Rattle.std.proofs.lemmas.List.{drop_at, get_or_append_left, take_all, take_at}
 use Rattle.edge_io.specs.Disk.{IsTold}
 use Rattle.edge_io.specs.Views.{DiskView}
 use Rattle.gate_journal.specs.Reading.{ExtendsWithin, HasFrameAt, ReadsOnly}
@@ -11,7 +11,7 @@ use Rattle.gate_journal.proofs.FrameReads.{frame_in_image, frame_once, some_of}
 use Rattle.share_model.specs.Rooms.{Appends, Filled}
 use Rattle.share_model.specs.declared.fault.BatchRead.{BatchRead}
 use Rattle.share_model.specs.declared.fault.BatchRead.TheVariants.{NoMemory}
-use Rattle.log_index.specs.Indexes.{CachesAlso, IndexParts, Indexes, IsEntryAt}
+use Rattle.log_index.specs.Indexes.{CachesAlso, FillsWithin, IndexParts, Indexes, IsEntryAt}
 use Rattle.log_index.specs.Searches.{IsAppended}
 use Rattle.log_index.specs.declared.entry.Entry.{Entry}
 
@@ -70,6 +70,23 @@ module _ {D : Type 0} (seen : D → DiskView)
   cached_spared index w fits number bytes has (Ok x) old new done e at room = λ is. absurd (search (rules, is))
   cached_spared index w fits number bytes has (Err x) old new done e at room = λ is. absurd (done.2 (omega (arith, fits.short number bytes e has at, room)))
 
+  -- it is no longer than the entry says
+  pub cached_extends : (index : IndexParts) (w : Writer D) → Indexes seen index w → (number : ℕ) (bytes : List ℕ) → Contains index.cached (number, bytes)
+      → (r : Result (Unit {0}) BatchRead) (old new : Filled) → IsAppended r old new bytes
+      → OnOk r ((e : Entry) → IsEntryAt index.entries number e → FillsWithin e.size old new)
+  cached_extends index w fits number bytes has (Ok x) old new done = λ e at.
+      let short = fits.short number bytes e has at in
+      let len : length new.bytes ≡ length old.bytes + length bytes = ap length done.bytes ∙ length-append old.bytes bytes in
+      record {
+        bytes = record {
+          front = ap (λ (l : List ℕ). take (length old.bytes) l) done.bytes ∙ take_at old.bytes bytes (length old.bytes) refl;
+          longer = omega (arith, len);
+          within = omega (arith, len, short);
+        };
+        spare = omega (arith, done.spare, short);
+      }
+  cached_extends index w fits number bytes has (Err x) old new done = tt
+
   -- and what was read is the frame
   pub read_ok : (index : IndexParts) (w : Writer D) → Indexes seen index w → (number : ℕ) (entry : Entry) → IsEntryAt index.entries number entry
       → (r : Result (Unit {0}) BatchRead) (old mid new : Filled) → mid ≡ old
@@ -82,6 +99,16 @@ module _ {D : Type 0} (seen : D → DiskView)
       subst (λ (m : Filled). Appends m new frame) same (ok told frame (subst (λ (f : Entry). HasFrameAt seen w f.place frame) entry_same is)
       (subst (λ (f : Entry). length frame ≤ f.size) entry_same (omega (arith, len, stands.2))))
   read_ok index w fits number entry here (Err x) old mid new same ok = tt
+
+-- what was read is no longer than the entry says
+pub read_extends : (entries : List Entry) (number : ℕ) (entry : Entry) → IsEntryAt entries number entry
+    → (r : Result (Unit {0}) BatchRead) (old mid new : Filled) → mid ≡ old
+    → OnOk r (ExtendsWithin entry.size mid.bytes new.bytes) → OnOk r (mid.spare ≤ new.spare + entry.size)
+    → OnOk r ((e : Entry) → IsEntryAt entries number e → FillsWithin e.size old new)
+read_extends entries number entry here (Ok x) old mid new same extends less = λ e at.
+    subst (λ (m : Filled). FillsWithin e.size m new) same
+    (subst (λ (f : Entry). FillsWithin f.size mid new) (entry_once entries number entry e here at) (record { bytes = extends; spare = less }))
+read_extends entries number entry here (Err x) old mid new same extends less = tt
 
 -- what was cached before, seen from earlier
 pub also_from : (old mid new : List (ℕ × List ℕ)) (number : ℕ) (P Q : List ℕ → Type 0) → CachesAlso mid number P new
@@ -192,21 +219,50 @@ last_or_before entries e x n at =
     split n m = grind arith
 
 -- what holds of an index still does when a frame was appended to its journal and pushed
-pub pushed_fits : {D : Type 0} (seen : D → DiskView) (old : IndexParts) (a b : Writer D) (e : Entry) (frame : List ℕ) → Indexes seen old a
+pub pushed_fits : {D : Type 0} (seen : D → DiskView) (old new : IndexParts) (a b : Writer D) (e : Entry) (frame : List ℕ) → Indexes seen old a
+    → new.entries ≡ old.entries ++ e ∷ [] → new.cached ≡ old.cached
     → ((place : ℕ) (frame : List ℕ) → HasFrameAt seen a place frame → HasFrameAt seen b place frame) → (IsTold (seen b.disk).content → IsTold (seen a.disk).content)
-    → HasFrameAt seen b e.place frame → length frame ≡ e.size → Indexes seen (record { entries = old.entries ++ e ∷ []; cached = old.cached }) b
-pushed_fits seen old a b e frame fits keeps back here size = record {
-  frames = λ n x at. elim (last_or_before old.entries e x n at) [
-    | inl was ↦ let f = fits.frames n x was in (f.0, keeps x.place f.0 f.1, f.2)
-    | inr is ↦ (frame, subst (λ (f : Entry). HasFrameAt seen b f.place frame) is.1 here, size ∙ ap (λ (f : Entry). f.size) is.1)
-  ];
-  cached = λ told n bytes x has at. elim (last_or_before old.entries e x n at) [
-    | inl was ↦ keeps x.place bytes (fits.cached (back told) n bytes x has was)
-    | inr is ↦ absurd (omega (arith, is.0, fits.known n bytes has))
-  ];
-  known = λ n bytes has. omega (arith, fits.known n bytes has, length-append old.entries (e ∷ []));
-  short = λ n bytes x has at. elim (last_or_before old.entries e x n at) [
-    | inl was ↦ fits.short n bytes x has was
-    | inr is ↦ absurd (omega (arith, is.0, fits.known n bytes has))
-  ];
+    → HasFrameAt seen b e.place frame → length frame ≡ e.size → Indexes seen new b
+pushed_fits seen old new a b e frame fits pushed same keeps back here size =
+    let at_old : (n : ℕ) (x : Entry) → IsEntryAt new.entries n x → IsEntryAt (old.entries ++ e ∷ []) n x = λ n x at. subst (λ (l : List Entry). IsEntryAt l n x) pushed at in
+    let had : (n : ℕ) (bytes : List ℕ) → Contains new.cached (n, bytes) → Contains old.cached (n, bytes) = λ n bytes has. subst (λ (l : List (ℕ × List ℕ)). Contains l (n, bytes)) same has in
+    record {
+      frames = λ n x at. elim (last_or_before old.entries e x n (at_old n x at)) [
+        | inl was ↦ let f = fits.frames n x was in (f.0, keeps x.place f.0 f.1, f.2)
+        | inr is ↦ (frame, subst (λ (f : Entry). HasFrameAt seen b f.place frame) is.1 here, size ∙ ap (λ (f : Entry). f.size) is.1)
+      ];
+      cached = λ told n bytes x has at. elim (last_or_before old.entries e x n (at_old n x at)) [
+        | inl was ↦ keeps x.place bytes (fits.cached (back told) n bytes x (had n bytes has) was)
+        | inr is ↦ absurd (omega (arith, is.0, fits.known n bytes (had n bytes has)))
+      ];
+      known = λ n bytes has. omega (arith, fits.known n bytes (had n bytes has), ap length pushed, length-append old.entries (e ∷ []));
+      short = λ n bytes x has at. elim (last_or_before old.entries e x n (at_old n x at)) [
+        | inl was ↦ fits.short n bytes x (had n bytes has) was
+        | inr is ↦ absurd (omega (arith, is.0, fits.known n bytes (had n bytes has)))
+      ];
+    }
+
+-- and when nothing was, in a journal with these frames still
+pub fits_still : {D : Type 0} (seen : D → DiskView) (old new : IndexParts) (a b : Writer D) → Indexes seen old a
+    → new.entries ≡ old.entries → new.cached ≡ old.cached
+    → ((place : ℕ) (frame : List ℕ) → HasFrameAt seen a place frame → HasFrameAt seen b place frame) → (IsTold (seen b.disk).content → IsTold (seen a.disk).content)
+    → Indexes seen new b
+fits_still seen old new a b fits entries cached keeps back = still_fits seen old new a b fits keeps back entries
+    (fits_less seen old a new.cached fits (λ k bytes has. subst (λ (l : List (ℕ × List ℕ)). Contains l (k, bytes)) cached has))
+
+-- an index of nothing fits any journal
+pub fits_none : {D : Type 0} (seen : D → DiskView) (index : IndexParts) (w : Writer D) → index.cached ≡ []
+    → ((number : ℕ) (e : Entry) → IsEntryAt index.entries number e → (frame : List ℕ) × HasFrameAt seen w e.place frame × (length frame ≡ e.size))
+    → Indexes seen index w
+fits_none seen index w none frames = record {
+  frames = frames;
+  cached = λ told k bytes e has at. absurd (not_there k bytes has);
+  known = λ k bytes has. absurd (not_there k bytes has);
+  short = λ k bytes e has at. absurd (not_there k bytes has);
 }
+  where
+    nowhere : (x : ℕ × List ℕ) → Contains [] x → ⊥
+    nowhere x has = search (rules, has)
+
+    not_there : (k : ℕ) (bytes : List ℕ) → Contains index.cached (k, bytes) → ⊥
+    not_there k bytes has = nowhere (k, bytes) (subst (λ (l : List (ℕ × List ℕ)). Contains l (k, bytes)) none has)

@@ -1,5 +1,5 @@
 // The bytes of batches that are kept.
-ghost use Rattle.std.specs.Prelude.{◌≡◌, ◌≢◌, ◌≤◌, ◌++◌, ℕ, List, length, None, Err, IfOk, IfSome, IsOk, OnOk, OnErr, Contains};
+ghost use Rattle.std.specs.Prelude.{◌≡◌, ◌≢◌, ◌+◌, ◌≤◌, ◌++◌, ℕ, List, length, None, Err, IfOk, IfSome, IsOk, OnOk, OnErr, Contains};
 ghost use Rattle.edge_io.specs.Counting.{MakesUpTo};
 ghost use Rattle.edge_io.specs.Disk.{IsTold};
 ghost use Rattle.gate_journal.specs.Reading.{ExtendsWithin, HasFrameAt, ReadsOnly};
@@ -66,6 +66,7 @@ pub fn append_frame<D: Disk>(
         length frame ≤ entry.now.size → Appends out.old out.new frame) }
     ensures err { OnErr result (Reserves out.old out.new 0) }
     ensures extends { OnOk result (ExtendsWithin entry.now.size out.old.bytes out.new.bytes) }
+    ensures less { OnOk result (out.old.spare ≤ out.new.spare + entry.now.size) }
     ensures spared { entry.now.size ≤ out.old.spare → result ≢ Err BatchRead.NoMemory }
     ensures cached { CachesAlso cache.old.entries number (λ bytes. IsOk result × (out.new.bytes ≡ out.old.bytes ++ bytes)) cache.new.entries }
     ensures only { ReadsOnly D.seen journal.old journal.new }

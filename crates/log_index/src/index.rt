@@ -4,7 +4,7 @@ ghost use Rattle.edge_io.specs.Disk.{IsTold};
 ghost use Rattle.gate_journal.specs.Reading.{HasFrameAt, ReadsOnly};
 ghost use Rattle.share_model.specs.Logs.{IsNextSlot, IsSlot, end_of};
 ghost use Rattle.share_model.specs.Rooms.{Appends, Reserves};
-ghost use Rattle.log_index.specs.Indexes.{CachesAlso, IndexParts, Indexes, IsEntryAt, IsPlaceOf, log_of};
+ghost use Rattle.log_index.specs.Indexes.{CachesAlso, FillsWithin, IndexParts, Indexes, IsEntryAt, IsPlaceOf, log_of};
 ghost use Rattle.log_index.specs.declared.entry.Entry.{Entry};
 
 use crate::cache::{append_frame, append_kept};
@@ -22,7 +22,8 @@ const CACHED: usize = 64;
 
 /// The batches of a log, without their bytes, and the bytes of those that were read last.
 ///
-/// A contract sees the entries that were pushed, and for each cached number the bytes that are cached for it.
+/// A contract sees the entries that were pushed, for each cached number the bytes that are cached for it, and how many
+/// entries may be pushed with no memory.
 #[derive(Drop)]
 pub struct LogIndex {
     entries: Vec<Entry>,
@@ -30,12 +31,13 @@ pub struct LogIndex {
 }
 
 impl Model for LogIndex {
+    ghost use Rattle.std.specs.Prelude.{◌-◌, vec_len, vec_capacity};
     ghost use Rattle.share_model.specs.Logs.{IsLog};
     ghost use Rattle.log_index.specs.Indexes.{IndexParts, log_of};
 
     ghost Value = { IndexParts };
 
-    ghost view = { λ i. record { entries = i.entries.items; cached = i.cache.entries } };
+    ghost view = { λ i. record { entries = i.entries.items; cached = i.cache.entries; spare = vec_capacity i.entries - vec_len i.entries } };
 
     ghost invariant = { λ i. IsLog (log_of i.entries.items) };
 }
@@ -43,7 +45,7 @@ impl Model for LogIndex {
 impl LogIndex {
     /// An index of no batches, which caches nothing.
     pub fn new(alloc: Global) -> Result<LogIndex, NoMemory>
-        ensures { IfOk result (λ i. i ≡ record { entries = []; cached = [] }) }
+        ensures { IfOk result (λ i. (i.entries ≡ []) × (i.cached ≡ [])) }
     {
         let Some(most) = NonZeroUsize::new(CACHED) else {
             unreachable!()
@@ -55,16 +57,26 @@ impl LogIndex {
         })
     }
 
+    /// Sets memory aside for one more batch, so that the next push finds it.
+    pub fn reserve(&mut self) -> Result<(), NoMemory>
+        ensures ok { OnOk result (1 ≤ self.new.spare) }
+        ensures same { (self.new.entries ≡ self.old.entries) × (self.new.cached ≡ self.old.cached) }
+    {
+        self.entries.reserve(1)?;
+        Ok(())
+    }
+
     /// Adds a batch behind the others: its first and last offset, the number of its bytes, and the place of its
-    /// frame's gate. Nothing is cached by it. After a refusal the index is as it was.
+    /// frame's gate. Nothing is cached by it. After a refusal, which doesn't come where memory was set aside, there are
+    /// the entries that there were.
     pub fn push(&mut self, base: u64, last: u64, size: u32, place: u64) -> Result<(), NoMemory>
         requires order { base ≤ last }
         requires behind { end_of (log_of self.old.entries) ≤ base }
-        ensures ok { OnOk result (self.new ≡ record {
-          entries = self.old.entries ++ record { base = base; last = last; size = size; place = place } ∷ [];
-          cached = self.old.cached;
-        }) }
-        ensures err { OnErr result (self.new ≡ self.old) }
+        ensures ok { OnOk result (self.new.entries ≡
+            self.old.entries ++ record { base = base; last = last; size = size; place = place } ∷ []) }
+        ensures cached { self.new.cached ≡ self.old.cached }
+        ensures err { OnErr result (self.new.entries ≡ self.old.entries) }
+        ensures spared { 1 ≤ self.old.spare → IsOk result }
     {
         self.entries.push(Entry {
             base,
@@ -73,6 +85,13 @@ impl LogIndex {
             place,
         })?;
         Ok(())
+    }
+
+    /// The number of batches.
+    pub fn len(&self) -> u64
+        ensures { result ≡ length self.now.entries }
+    {
+        self.entries.len() as u64
     }
 
     /// The least slot from an offset on, found in the logarithm of the number of batches.
@@ -105,9 +124,10 @@ impl LogIndex {
         requires fits { Indexes D.seen self.old journal.old }
 
         // At Ok the frame at the place of that entry stands behind the bytes of the room, where the disk tells its
-        // content.
+        // content. In any case no more bytes than the frame has do.
         ensures ok { OnOk result (IsTold (D.seen journal.old.disk).content → (e : Entry) (frame : List ℕ) → IsEntryAt self.old.entries number e →
             HasFrameAt D.seen journal.old e.place frame → Appends out.old out.new frame) }
+        ensures extends { OnOk result ((e : Entry) → IsEntryAt self.old.entries number e → FillsWithin e.size out.old out.new) }
         ensures err { OnErr result (Reserves out.old out.new 0) }
         ensures spared { (e : Entry) → IsEntryAt self.old.entries number e → e.size ≤ out.old.spare → result ≢ Err BatchRead.NoMemory }
 

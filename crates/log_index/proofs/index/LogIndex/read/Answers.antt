@@ -2,7 +2,7 @@ use Rattle.std.proofs.Common.{◌<◌, ◌≡◌, inl, ◌++◌, length, sym, ap
 use Rattle.share_model.specs.Rooms.{Filled}
 use Rattle.log_index.specs.Indexes.{IndexParts, IsEntryAt}
 use Rattle.log_index.specs.declared.entry.Entry.{Entry}
-use Rattle.log_index.proofs.Fitting.{also_from, read_ok, cached_ok, cached_spared, entry_at, fits_less, fits_more, still, still_fits, told_before}
+use Rattle.log_index.proofs.Fitting.{also_from, read_extends, read_ok, cached_extends, cached_ok, cached_spared, entry_at, fits_less, fits_more, still, still_fits, told_before}
 use Rattle.log_index.proofs.index.LogIndex.read.Goals as goal
 
 pub returns-in-Some-clause-ok : goal.returns-in-Some-clause-ok
@@ -10,6 +10,13 @@ returns-in-Some-clause-ok g c =
     let kept = c.in-Some.ensures.some in
     let has = subst (λ (p : IndexParts). Contains p.cached (c.args.number, kept.0)) c.self.view_is kept.1 in
     cached_ok g.D.Disk.seen g.met.D.Disk.read_is_image c.args.self.now c.args.journal.now c.requires.fits c.args.number kept.0 has
+    c.in-Some.read c.args.out.now c.append_kept.new.out kept.2
+
+pub returns-in-Some-clause-extends : goal.returns-in-Some-clause-extends
+returns-in-Some-clause-extends g c =
+    let kept = c.in-Some.ensures.some in
+    let has = subst (λ (p : IndexParts). Contains p.cached (c.args.number, kept.0)) c.self.view_is kept.1 in
+    cached_extends g.D.Disk.seen g.met.D.Disk.read_is_image c.args.self.now c.args.journal.now c.requires.fits c.args.number kept.0 has
     c.in-Some.read c.args.out.now c.append_kept.new.out kept.2
 
 pub returns-in-Some-clause-spared : goal.returns-in-Some-clause-spared
@@ -47,6 +54,17 @@ returns-clause-ok g c =
     let at = subst (λ (p : IndexParts). IsEntryAt p.entries c.args.number c.index-entry.result.now) c.self.view_is inside in
     read_ok g.D.Disk.seen g.met.D.Disk.read_is_image c.args.self.now c.args.journal.now c.requires.fits c.args.number c.index-entry.result.now at
     c.append_frame.result c.args.out.now c.append_kept.new.out c.append_frame.new.out (c.append_kept.ensures.none c.in_default.is) c.append_frame.ensures.ok
+
+pub returns-clause-extends : goal.returns-clause-extends
+returns-clause-extends g c =
+    let lt : c.args.number < length c.self.inside.entries.items = subst (λ (p : IndexParts). c.args.number < length p.entries) (sym c.self.view_is) c.requires.number in
+    let inside : IsEntryAt c.self.inside.entries.items c.args.number c.index-entry.result.now =
+    subst (λ (e : Entry). IsEntryAt c.self.inside.entries.items c.args.number e) (sym c.index-entry.ensures)
+    (entry_at c.self.inside.entries.items c.args.number c.index-entry.result.now lt) in
+    let at = subst (λ (p : IndexParts). IsEntryAt p.entries c.args.number c.index-entry.result.now) c.self.view_is inside in
+    read_extends c.args.self.now.entries c.args.number c.index-entry.result.now at
+    c.append_frame.result c.args.out.now c.append_kept.new.out c.append_frame.new.out (c.append_kept.ensures.none c.in_default.is)
+    c.append_frame.ensures.extends c.append_frame.ensures.less
 
 pub returns-clause-fits : goal.returns-clause-fits
 returns-clause-fits g c =

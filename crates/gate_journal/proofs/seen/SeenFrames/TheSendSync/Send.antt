@@ -1,0 +1,7 @@
+-- Seen frames own nothing, so they may go to another thread.
+use denote.RattleType.{RattleType}
+use denote.Param.Send.{IsSend, owning_send}
+use Rattle.gate_journal.specs.contracts.seen.SeenFrames.{the_row, the_type}
+
+pub send : IsSend the_row
+send = owning_send the_type tt (λ d. tt) (λ k x w. tt)
