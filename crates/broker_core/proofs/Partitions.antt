@@ -19,8 +19,8 @@ use Rattle.broker_core.specs.declared.slot.PartState.{PartState}
 use Rattle.broker_core.specs.declared.slot.PartState.TheVariants as part
 use Rattle.broker_core.specs.declared.slot.PartSlot.{PartSlot}
 use Rattle.broker_core.specs.Bays.{AreFed, HoldsIf, IsOfDevice, IsTakenFrom, StaysAs, TakenIf, TellsStill}
-use Rattle.broker_core.specs.Carried.{OpenPart}
-use Rattle.broker_core.specs.Hosts.{AreDistinct, AreHeldParts, AreNamed, AreOpenParts, IsHeldState, IsNamed, IsOpenState, NotIn, hosted_slot, hosted_slots, open_disk, part_disk, slot_disks, slots_disks}
+use Rattle.broker_core.specs.Carried.{IsFresh, OpenPart}
+use Rattle.broker_core.specs.Hosts.{AreDistinct, AreFresh, AreHeldParts, AreNamed, AreOpenParts, IsFreshState, IsHeldState, IsNamed, IsOpenState, NotIn, hosted_slot, hosted_slots, open_disk, part_disk, slot_disks, slots_disks}
 use Rattle.broker_core.specs.Restarts.{IsDamagedPart, IsOpenedPart, PartImagesStandAs, PartRunsOn}
 use Rattle.broker_core.specs.Taking.{GetsAll, GetsNone, Moves, PutsAll, RefusesPart, TakesPart, TakesParts}
 use Rattle.broker_core.proofs.Places.{apart_from, distinct_front, not_in_front, not_in_rest, one_in_either, one_in_rest}
@@ -127,8 +127,8 @@ module _ {B D : Type 0} (bay_seen : B → BayView D) (seen : D → DiskView) whe
         → (seen first).faults ≤ (seen shard.states.journal.live.disk).faults → (seen second).faults ≤ (seen shard.states.journal.idle).faults → Opened h log first second shard
         → Stand shard.log.journal.disk shard.states.journal.live.disk shard.states.journal.idle
         → Run shard.log.journal.disk shard.states.journal.live.disk shard.states.journal.idle
-        → AreFed seen shard.log.journal.disk shard.states.journal.live.disk shard.states.journal.idle → Takes h old slot new
-    taken_part old new shard slot hosted_is is_open gets on_log on_first on_second opens images runs fed =
+        → AreFed seen shard.log.journal.disk shard.states.journal.live.disk shard.states.journal.idle → IsFresh seen shard → Takes h old slot new
+    taken_part old new shard slot hosted_is is_open gets on_log on_first on_second opens images runs fed fresh =
         let each = gets_each bay_seen seen three old new apart gets in
         record {
           hosted_is = hosted_is;
@@ -138,6 +138,7 @@ module _ {B D : Type 0} (bay_seen : B → BayView D) (seen : D → DiskView) whe
           on_first = record { given = first; as_told = each.1.0.as_told; noted = each.1.0.noted; later = on_first };
           on_second = record { given = second; as_told = each.1.1.0.as_told; noted = each.1.1.0.noted; later = on_second };
           opens = opens;
+          fresh = fresh;
           images = images;
           runs = runs;
           fed = fed;
@@ -419,6 +420,13 @@ module _ {B D : Type 0} (bay_seen : B → BayView D) (seen : D → DiskView) whe
   takes_held (h ∷ hosted) old [] new t = absurd t
   takes_held (h ∷ hosted) old (s ∷ slots) new (mid, one, more) =
       (subst (λ (st : PartState D). IsHeldState st) (sym one.is_open) tt, takes_held hosted mid slots new more)
+
+  pub takes_fresh : (hosted : List Hosted) (old : B) (slots : List (PartSlot D)) (new : B) → TakesList hosted old slots new → AreFresh seen slots
+  takes_fresh [] old [] new t = tt
+  takes_fresh [] old (s ∷ slots) new t = absurd t
+  takes_fresh (h ∷ hosted) old [] new t = absurd t
+  takes_fresh (h ∷ hosted) old (s ∷ slots) new (mid, one, more) =
+      (subst (λ (st : PartState D). IsFreshState seen st) (sym one.is_open) one.fresh, takes_fresh hosted mid slots new more)
 
   -- what is told of their disks once they are put back
   pub slots_stay : (Fed : Type 0) (old mid behind new : B) (slots : List (PartSlot D)) → Slots old mid slots → AllByRecursion (HoldsIf bay_seen behind new) (slots_disks slots)

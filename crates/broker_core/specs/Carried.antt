@@ -12,11 +12,12 @@ use Rattle.share_model.specs.declared.foreign.ForeignAnswer.{ForeignAnswer}
 use Rattle.share_model.specs.declared.foreign.ForeignOp.{ForeignOp}
 use Rattle.share_model.specs.declared.visit.Visit.{Visit}
 use Rattle.share_coord.specs.Parts.{StoreParts}
+use Rattle.share_coord.specs.States.{states_of}
 use Rattle.foreign_coord.specs.Shards.{ForeignShardState, Carries as CarriesForeign, StepsForeign}
 use Rattle.lock_index.specs.Windows.{WindowParts}
 use Rattle.share_part.specs.Expiring.{ExpiresPart, StepsExpire}
 use Rattle.share_part.specs.Hosting.{PartConfParts, key_of}
-use Rattle.share_part.specs.Shards.{PartParts, PartShardState, Carries, StepsProduce}
+use Rattle.share_part.specs.Shards.{PartParts, PartShardState, Carries, StepsProduce, shard_with}
 use Rattle.share_part.specs.Visits.{StepsVisit, VisitsPart}
 use Rattle.broker_model.specs.Acting.{Begun, EndsGoOn, HalvesOn, StepsOn}
 use Rattle.broker_model.specs.Hosted.{state_a, same_name}
@@ -99,6 +100,11 @@ pub record IsPartCarried {D : Type 0} (seen : D → DiskView)
   pub log : IsFed seen part.log.journal.disk
   pub first : IsFed seen part.states.journal.live.disk
   pub second : IsFed seen part.states.journal.idle
+
+-- It stands for the log and the tables that it has in memory, whether its disks tell their contents or not: nothing is pending or held, and its
+-- clock is 0.
+abbrev pub IsFresh : {D : Type 0} → (D → DiskView) → OpenPart D → Type 0
+IsFresh seen part = Carries seen holding part (shard_with part.log.batches (states_of part.states.entries))
 
 -- its three disks go on
 pub record PartGoesOn {D : Type 0} (seen : D → DiskView) (old new : OpenPart D) : Type 0 where

@@ -47,7 +47,7 @@ use Rattle.broker_core.specs.declared.slot.PartState.TheVariants as part
 use Rattle.broker_core.specs.declared.slot.PartSlot.{PartSlot}
 use Rattle.broker_core.specs.declared.hosts.Hosts.{Hosts}
 use Rattle.broker_model.specs.Acting.{Begun}
-use Rattle.broker_core.specs.Carried.{GoesOn, HaltsPart, IsCarried, IsPartCarried, LeadsPart, OpenPart, PartGoesOn, facts_by, by_name, holding}
+use Rattle.broker_core.specs.Carried.{GoesOn, HaltsPart, IsCarried, IsFresh, IsPartCarried, LeadsPart, OpenPart, PartGoesOn, facts_by, by_name, holding}
 use Rattle.edge_io.specs.Views.{DiskView}
 
 -- the shards of the hosted partitions, in the order of their numbers; the members of all groups; foreign state
@@ -93,6 +93,15 @@ AreOpenParts slots = AllByRecursion (λ s. IsOpenState s.state) slots
 
 abbrev pub AreHeldParts : {D : Type 0} → List (PartSlot D) → Type 0
 AreHeldParts slots = AllByRecursion (λ s. IsHeldState s.state) slots
+
+-- each shard is open, and as it was opened
+abbrev pub IsFreshState : {D : Type 0} → (D → DiskView) → PartState D → Type 0
+IsFreshState seen (part.Open shard) = IsFresh seen shard
+IsFreshState seen (part.Shut log first second) = ⊥
+IsFreshState seen part.Gone = ⊥
+
+abbrev pub AreFresh : {D : Type 0} → (D → DiskView) → List (PartSlot D) → Type 0
+AreFresh seen slots = AllByRecursion (λ s. IsFreshState seen s.state) slots
 
 -- ---- what is stored
 

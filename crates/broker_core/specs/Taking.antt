@@ -17,7 +17,7 @@ use Rattle.broker_core.specs.declared.slot.ForeignSlot.TheVariants as foreign
 use Rattle.broker_core.specs.declared.slot.PartSlot.{PartSlot}
 use Rattle.broker_core.specs.declared.slot.PartState.TheVariants as part
 use Rattle.broker_core.specs.Bays.{AreFed, IsOfDevice, IsTakenFrom, StaysAs, TellsStill}
-use Rattle.broker_core.specs.Carried.{OpenPart}
+use Rattle.broker_core.specs.Carried.{IsFresh, OpenPart}
 use Rattle.broker_core.specs.Hosts.{HostsParts, NotIn, foreign_disks, hosted_slot, slots_disks}
 use Rattle.broker_core.specs.Restarts.{IsOpened, IsOpenedPart, IsDamagedPart, IsDamagedState, PartImagesStandAs, PartRunsOn, StandsForTables}
 use Rattle.edge_io.specs.Views.{DiskView, BayView}
@@ -88,6 +88,7 @@ pub record TakesPart {B D : Type 0} (bay_seen : B → BayView D) (seen : D → D
   pub on_second : IsTakenFrom bay_seen seen (second_of h) old new parts.states.journal.idle
   pub opens : (l x y : List ℕ) → (seen on_log.given).content ≡ Some l → (seen on_first.given).content ≡ Some x → (seen on_second.given).content ≡ Some y
       → IsOpenedPart seen h.conf on_log.given on_first.given on_second.given l x y parts
+  pub fresh : IsFresh seen parts
   pub images : PartImagesStandAs seen on_log.given on_first.given on_second.given parts.log.journal.disk parts.states.journal.live.disk
       parts.states.journal.idle
   pub runs : PartRunsOn seen on_log.given on_first.given on_second.given parts.log.journal.disk parts.states.journal.live.disk

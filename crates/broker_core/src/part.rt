@@ -17,7 +17,7 @@ ghost use Rattle.share_part.specs.Shards.{PartShardState};
 ghost use Rattle.broker_model.specs.Shards.{look_at, result_of};
 ghost use Rattle.broker_model.specs.Shards.PartCall.{Visits, Produces, Expires};
 ghost use Rattle.broker_core.specs.Bays.{AreFed, IsOfDevice};
-ghost use Rattle.broker_core.specs.Carried.{GoesOn, HaltsPart, IsPartCarried, LeadsPart, PartGoesOn};
+ghost use Rattle.broker_core.specs.Carried.{GoesOn, HaltsPart, IsFresh, IsPartCarried, LeadsPart, PartGoesOn};
 ghost use Rattle.broker_model.specs.Acting.Begun.{BeginsVisit, BeginsExpiry};
 ghost use Rattle.broker_core.specs.Hosts.{PartStandsAlone};
 ghost use Rattle.broker_core.specs.Restarts.{IsOpenedPart, IsDamagedPart, IsRestartedPart, PartImagesStandAs, PartRunsOn};
@@ -178,6 +178,7 @@ pub fn open_part<D: Disk>(
     requires { IsTopicName topic.now }
     ensures opens { IfOk result (λ part. (l a b : List ℕ) → (D.seen disks.0).content ≡ Some l → (D.seen disks.1).content ≡ Some a → (D.seen disks.2).content ≡ Some b →
         IsOpenedPart D.seen conf disks.0 disks.1 disks.2 l a b part) }
+    ensures fresh { IfOk result (IsFresh D.seen) }
     // Contents that stand for a log and tables are opened, where memory is found and nothing is armed; and these come.
     ensures recovers { (l a b : List ℕ) (batches : List Batch) (states : ShareStates) → (D.seen disks.0).content ≡ Some l → (D.seen disks.1).content ≡ Some a →
         (D.seen disks.2).content ≡ Some b → ArePartText conf l a b batches states →

@@ -57,7 +57,7 @@ use Rattle.broker_model.specs.Locks.{Record}
 use Rattle.broker_model.specs.Starts.{Closes, Does, IsBelow, IsClosedRow, IsMadeBehind, IsWell, OpeningsAreWell, StartsPassClosedRecords, table_in}
 use Rattle.broker_model.specs.Runs.{Step, IsRun}
 use Rattle.broker_model.specs.States.{State, counts_of, ends_of}
-use Rattle.broker_model.proofs.Exclusive.{chosen_held}
+use Rattle.broker_model.proofs.PartLocks.{chosen_held}
 use Rattle.broker_model.proofs.Goes.{Goes, IsLostIn, came, parts_of, went}
 use Rattle.broker_model.proofs.Histories.{keys_exact, keys_total}
 use Rattle.broker_model.proofs.Holding.{group_is, group_self, hold_in, stores_hold}

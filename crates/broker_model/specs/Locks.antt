@@ -1,31 +1,31 @@
--- Exclusive locks over whole runs (KIP-932: a record that is acquired is delivered to nobody else until it is acknowledged, released, or
--- its lock has ended). Between two grants of one record of one group stands a stored act of the first holder on it, a stored release of
--- all that the holder held, an expiry behind the end of the lock, or a power loss.
+-- Exclusive locks over what is done to one partition, and over whole runs (KIP-932: a record that is acquired is delivered to nobody else
+-- until it is acknowledged, released, or its lock has ended). Between two grants of one record of one group stands a stored act of the first
+-- holder on it, a stored release of all that the holder held, an expiry behind the end of the lock, or, in a run, a power loss.
 -- Worked example: `a` is granted the offset 0 at 1000, its lock ends at 31000. `b` is granted 0 only behind an accept, a release or a
--- reject of `a` that was answered with code 0, behind the close of `a`'s session, behind an expiry at 31000 or later, or behind `power`.
-use Rattle.std.specs.Prelude.{◌≡◌, ◌⊎◌, ◌+◌, ◌≤◌, ℕ, List, [], ◌∷◌, ◌++◌, Some, None, IsSome, Contains}
+-- reject of `a` that was answered with code 0, behind the close of `a`'s session, behind an expiry at 31000 or later, or behind `power`. An
+-- accept counts that was stored although memory ran out behind it, and so does an expiry in which it ran out behind the write that freed 0.
+use Rattle.std.specs.Prelude.{◌≡◌, ◌⊎◌, ◌+◌, ◌≤◌, ℕ, List, [], ◌∷◌, ◌++◌, Bool, true, false, Option, Some, None, IsSome, Contains}
 use Rattle.ack_ranges.specs.Batches.{kind_at}
 use Rattle.share_model.specs.Held.{hold_at}
 use Rattle.share_model.specs.declared.hold.Grant.{Grant}
+use Rattle.share_model.specs.declared.visit.AckOutcome.{AckOutcome}
 use Rattle.share_model.specs.declared.visit.AckOutcome.TheVariants.{Done as acknowledged}
-use Rattle.share_model.specs.declared.visit.ExpireAnswer.{ExpireAnswer}
 use Rattle.share_model.specs.declared.visit.Then.TheVariants.{Release}
 use Rattle.share_model.specs.declared.visit.ThenOutcome.TheVariants.{Done as followed}
 use Rattle.share_model.specs.declared.visit.Visit.{Visit}
 use Rattle.share_model.specs.declared.visit.VisitAnswer.{VisitAnswer}
+use Rattle.share_part.specs.Hosting.{PartConfParts}
 use Rattle.share_part.specs.Settling.{IsHeldBy}
 use Rattle.session_script.specs.declared.event.Event.TheVariants.{Power}
 use Rattle.broker_model.specs.Hosted.{Hosted, HoldsAt}
-use Rattle.broker_model.specs.Shards.{HostedPart}
+use Rattle.broker_model.specs.Shards.{HostedPart, PartCall}
 use Rattle.broker_model.specs.Shards.ShardCall.{CallPart}
-use Rattle.broker_model.specs.Shards.PartCall.{Visits, Expires}
+use Rattle.broker_model.specs.Shards.PartCall.{Visits, Produces, Looks, Expires}
+use Rattle.broker_model.specs.PartHistory.{PartAct, PartStep}
+use Rattle.broker_model.specs.PartHistory.PartAct.{Called, AcksAlone, GroupsAlone, NothingDone}
 use Rattle.broker_model.specs.Runs.{Step}
 
--- a record of a group on a partition, by the number of its shard
-pub record Record : Type 0 where
-  pub shard : ℕ
-  pub group : List ℕ
-  pub offset : ℕ
+-- ---- grants, and what ends a lock
 
 -- one of the grants has the offset
 pub record IsGranted (offset : ℕ) (grants : List Grant) : Type 0 where
@@ -34,56 +34,102 @@ pub record IsGranted (offset : ℕ) (grants : List Grant) : Type 0 where
   pub from : grant.first ≤ offset
   pub to : offset ≤ grant.last
 
--- the step grants the record to this member, with a lock that ends at this moment
-pub record GrantsTo (r : Record) (member : List ℕ) (end : ℕ) (s : Step) : Type 0 where
-  pub hosted : Hosted
+-- the step grants the group's record to this member, with a lock that ends at this moment; want of memory grants nothing
+pub record Grants (conf : PartConfParts) (group : List ℕ) (offset : ℕ) (member : List ℕ) (end : ℕ) (s : PartStep) : Type 0 where
   pub visit : Visit
   pub answer : VisitAnswer
-  pub call : s.call ≡ Some (CallPart r.shard hosted (Visits visit answer))
-  pub group : visit.group ≡ r.group
+  pub act : s.act ≡ Called (Visits visit answer)
+  pub of_group : visit.group ≡ group
   pub to_member : visit.member ≡ member
-  pub granted : IsGranted r.offset answer.grants
-  pub until : HoldsAt r.shard (λ (p : HostedPart). end ≡ p.shard.clock + p.hosted.conf.lock_ms) s.after.machine.shards.parts
+  pub granted : IsGranted offset answer.grants
+  pub until : end ≡ s.after.clock + conf.lock_ms
+
+-- the visit whose acknowledgements were done, and what became of them
+abbrev pub acks_in : PartAct → Option (Visit × AckOutcome)
+acks_in (Called (Visits visit answer)) = Some (visit, answer.ack)
+acks_in (Called (Produces batch produced)) = None
+acks_in (Called (Looks group looked)) = None
+acks_in (Called (Expires answer)) = None
+acks_in (AcksAlone visit ack) = Some (visit, ack)
+acks_in GroupsAlone = None
+acks_in NothingDone = None
 
 -- an acknowledgement of the member on the record was stored
-pub record IsActedOnBy (r : Record) (member : List ℕ) (s : Step) : Type 0 where
-  pub hosted : Hosted
+pub record IsActedOnBy (group : List ℕ) (offset : ℕ) (member : List ℕ) (s : PartStep) : Type 0 where
   pub visit : Visit
-  pub answer : VisitAnswer
-  pub call : s.call ≡ Some (CallPart r.shard hosted (Visits visit answer))
-  pub group : visit.group ≡ r.group
+  pub stored : acks_in s.act ≡ Some (visit, acknowledged)
+  pub of_group : visit.group ≡ group
   pub by_member : visit.member ≡ member
-  pub named : IsSome (kind_at visit.acks r.offset)
-  pub stored : answer.ack ≡ acknowledged
+  pub named : IsSome (kind_at visit.acks offset)
 
 -- a release of all that the member held was stored, the record among it, and freed it
-pub record IsReleasedBy (r : Record) (member : List ℕ) (s : Step) : Type 0 where
-  pub hosted : Hosted
+pub record IsReleasedBy (group : List ℕ) (offset : ℕ) (member : List ℕ) (s : PartStep) : Type 0 where
   pub visit : Visit
   pub answer : VisitAnswer
-  pub call : s.call ≡ Some (CallPart r.shard hosted (Visits visit answer))
-  pub group : visit.group ≡ r.group
+  pub act : s.act ≡ Called (Visits visit answer)
+  pub of_group : visit.group ≡ group
   pub by_member : visit.member ≡ member
   pub releases : visit.then ≡ Release
   pub stored : answer.then ≡ followed
-  pub held : HoldsAt r.shard (λ (p : HostedPart). IsHeldBy member (hold_at (p.shard.held r.group) r.offset)) s.before.machine.shards.parts
-  pub free : HoldsAt r.shard (λ (p : HostedPart). hold_at (p.shard.held r.group) r.offset ≡ None) s.after.machine.shards.parts
+  pub held : IsHeldBy member (hold_at (s.before.held group) offset)
+  pub free : hold_at (s.after.held group) offset ≡ None
+
+-- groups of an expiry were freed
+abbrev pub frees_due : PartAct → Bool
+frees_due (Called (Visits visit answer)) = false
+frees_due (Called (Produces batch produced)) = false
+frees_due (Called (Looks group looked)) = false
+frees_due (Called (Expires answer)) = true
+frees_due (AcksAlone visit ack) = false
+frees_due GroupsAlone = true
+frees_due NothingDone = false
 
 -- an expiry freed the record, at a clock that isn't below the end of the lock
-pub record IsExpiredIn (r : Record) (end : ℕ) (s : Step) : Type 0 where
-  pub hosted : Hosted
-  pub answer : ExpireAnswer
-  pub call : s.call ≡ Some (CallPart r.shard hosted (Expires answer))
-  pub held : HoldsAt r.shard (λ (p : HostedPart). IsSome (hold_at (p.shard.held r.group) r.offset)) s.before.machine.shards.parts
-  pub free : HoldsAt r.shard (λ (p : HostedPart). hold_at (p.shard.held r.group) r.offset ≡ None) s.after.machine.shards.parts
-  pub late : HoldsAt r.shard (λ (p : HostedPart). end ≤ p.shard.clock) s.after.machine.shards.parts
+pub record IsExpiredIn (group : List ℕ) (offset : ℕ) (end : ℕ) (s : PartStep) : Type 0 where
+  pub expiry : frees_due s.act ≡ true
+  pub held : IsSome (hold_at (s.before.held group) offset)
+  pub free : hold_at (s.after.held group) offset ≡ None
+  pub late : end ≤ s.after.clock
 
 -- the lock of the member on the record doesn't stand behind the step
-abbrev pub EndsLock : Record → List ℕ → ℕ → Step → Type 0
-EndsLock r member end s = IsActedOnBy r member s ⊎ (IsReleasedBy r member s ⊎ (IsExpiredIn r end s ⊎ ((choice : ℕ) × (s.event ≡ Power choice))))
+abbrev pub LetsGo : List ℕ → ℕ → List ℕ → ℕ → PartStep → Type 0
+LetsGo group offset member end s = IsActedOnBy group offset member s ⊎ (IsReleasedBy group offset member s ⊎ IsExpiredIn group offset end s)
+
+-- ---- of one partition
 
 -- Of two grants of one record, the first lock ends in a step between them, or in the second step itself, whose acknowledgements come
 -- before its grants.
+abbrev pub KeepsLocksExclusive : PartConfParts → List PartStep → Type 0
+KeepsLocksExclusive conf steps = (before between after : List PartStep) (s t : PartStep) → steps ≡ before ++ (s ∷ (between ++ (t ∷ after))) →
+    (group : List ℕ) (offset : ℕ) (member other : List ℕ) (end late : ℕ) → Grants conf group offset member end s → Grants conf group offset other late t →
+    (u : PartStep) × Contains (between ++ t ∷ []) u × LetsGo group offset member end u
+
+-- ---- of whole runs
+
+-- a record of a group on a partition, by the number of its shard
+pub record Record : Type 0 where
+  pub shard : ℕ
+  pub group : List ℕ
+  pub offset : ℕ
+
+-- the step of a run calls the partition of this number, and to that partition it is this step
+pub record IsSeenBy (shard : ℕ) (hosted : Hosted) (p : PartStep) (s : Step) : Type 0 where
+  pub did : PartCall
+  pub act : p.act ≡ Called did
+  pub call : s.call ≡ Some (CallPart shard hosted did)
+  pub before : HoldsAt shard (λ (q : HostedPart). q.shard ≡ p.before) s.before.machine.shards.parts
+  pub after : HoldsAt shard (λ (q : HostedPart). q.shard ≡ p.after) s.after.machine.shards.parts
+
+-- the step grants the record to this member, with a lock that ends at this moment
+abbrev pub GrantsTo : Record → List ℕ → ℕ → Step → Type 0
+GrantsTo r member end s = (hosted : Hosted) × (p : PartStep) × IsSeenBy r.shard hosted p s × Grants hosted.conf r.group r.offset member end p
+
+-- the lock of the member on the record doesn't stand behind the step
+abbrev pub EndsLock : Record → List ℕ → ℕ → Step → Type 0
+EndsLock r member end s = ((hosted : Hosted) × (p : PartStep) × IsSeenBy r.shard hosted p s × LetsGo r.group r.offset member end p)
+    ⊎ ((choice : ℕ) × (s.event ≡ Power choice))
+
+-- the same of a run, in which a power loss ends each lock
 abbrev pub HasExclusiveLocks : List Step → Type 0
 HasExclusiveLocks steps = (before between after : List Step) (s t : Step) → steps ≡ before ++ (s ∷ (between ++ (t ∷ after))) →
     (r : Record) (member other : List ℕ) (end late : ℕ) → GrantsTo r member end s → GrantsTo r other late t →

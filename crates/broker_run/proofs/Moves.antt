@@ -15,7 +15,9 @@ use Rattle.broker_shards.specs.Hosts.{Host, holding}
 use Rattle.broker_shards.specs.declared.foreign.ForeignEvent.{ForeignEvent}
 use Rattle.broker_shards.specs.declared.foreign.ForeignHost.{ForeignHost}
 use Rattle.broker_shards.specs.declared.part.PartEvent.{PartEvent}
-use Rattle.broker_run.specs.Closing.{LeavesForeign, LeavesPart, MovesForeign, MovesPart, StepsPart, StepsStates}
+use Rattle.broker_run.specs.Closing.{LeavesForeign, LeavesPart}
+use Rattle.broker_run.specs.Histories.{FindsPart, FindsStates, IsHistory, MovesForeign, MovesPart, StepsPart, StepsStates}
+use Rattle.broker_run.proofs.Exclusives.{is_history}
 use Rattle.broker_run.specs.Opening.{slot_of}
 use Rattle.broker_run.specs.Rows.{Ends}
 use Rattle.broker_run.specs.Shared.{PartAnswer, StateAnswer}
@@ -38,13 +40,16 @@ module _ {D : Type 0} (seen : D → DiskView) where
     go (inl same) = (s, inl refl, same)
     go (inr (begun, is, after, carries, halves)) = (after, inr (begun, is, halves), carries)
 
+  part_found : (h : Host D) (s : PartShardState) → Carried h s → FindsPart seen h s
+  part_found h s k = images_left seen h.part.conf h.part s refl k
+
   part_leads : (h : Host D) (es : List (Entry PartEvent PartAnswer)) (g : Host D) (s : PartShardState) → Leads (ActsPart seen) h es g → Carried h s
       → (t : PartShardState) × Leads (StepsPart seen) (h, s) es (g, t) × Carried g t
   part_leads h [] g s l k = (s, (λ i. (l i, s)), subst (λ (x : Host D). Carried x s) l k)
   part_leads h (e ∷ es) g s (m, a, more) k =
       let n = part_moves h m e.event e.answer s a k in
       let r = part_leads m es g n.0 more n.2 in
-      (r.0, ((m, n.0), record { acts = a; moves = n.1 }, r.1), r.2)
+      (r.0, ((m, n.0), record { acts = a; moves = n.1; found = part_found m n.0 n.2 }, r.1), r.2)
 
   abbrev told : D → Bool
   told d = is_some (seen d).content
@@ -84,10 +89,13 @@ module _ {D : Type 0} (seen : D → DiskView) where
       record {
         ends = e;
         same = (k.topic, k.conf);
+        leads = λ s c.
+            let r = part_leads lock.first e.pass.seen last s e.leads c in
+            (r.0, is_history seen (lock.first, s) (last, r.0) e.pass.seen r.1, r.2);
         stands = λ s c.
             let r = part_leads lock.first e.pass.seen last s e.leads c.carries in (
               r.0,
-              r.1,
+              is_history seen (lock.first, s) (last, r.0) e.pass.seen r.1,
               record {
                 stand = images_left seen lock.first.conf last.part r.0 (k.own ∙ c.conf_is) r.2;
                 log_told = k.log ∙ c.log.told;
@@ -109,13 +117,16 @@ module _ {D : Type 0} (seen : D → DiskView) where
   states_move old new event (Err fault) s a k =
       (s, refl, subst (λ x. CarriesForeign seen x s) (sym a.acts) k)
 
+  states_found : (h : ForeignHost D) (s : ForeignShardState) → CarriedStates h s → FindsStates seen h s
+  states_found h s k = carried_stands seen h.foreign s k
+
   states_lead : (h : ForeignHost D) (es : List (Entry ForeignEvent StateAnswer)) (g : ForeignHost D) (s : ForeignShardState) → Leads (ActsForeign seen) h es g
       → CarriedStates h s → (t : ForeignShardState) × Leads (StepsStates seen) (h, s) es (g, t) × CarriedStates g t
   states_lead h [] g s l k = (s, (λ i. (l i, s)), subst (λ (x : ForeignHost D). CarriedStates x s) l k)
   states_lead h (e ∷ es) g s (m, a, more) k =
       let n = states_move h m e.event e.answer s a k in
       let r = states_lead m es g n.0 more n.2 in
-      (r.0, ((m, n.0), record { acts = a; moves = n.1 }, r.1), r.2)
+      (r.0, ((m, n.0), record { acts = a; moves = n.1; found = states_found m n.0 n.2 }, r.1), r.2)
 
   states_told : (h : ForeignHost D) (es : List (Entry ForeignEvent StateAnswer)) (g : ForeignHost D) → Leads (ActsForeign seen) h es g
       → (told g.foreign.journal.live.disk ≡ told h.foreign.journal.live.disk) × (told g.foreign.journal.idle ≡ told h.foreign.journal.idle)

@@ -1,14 +1,17 @@
 -- What an opening of the locks around a broker's shards makes of one of the shards.
-use Rattle.std.proofs.Common.{◌≡◌, refl, sym, subst, ℕ, List, [], Result, Ok, Err, IfErr, IfOk}
+use Rattle.std.proofs.Common.{◌≡◌, refl, sym, subst, ℕ, List, [], ◌∷◌, map, Result, Ok, Err, IfErr, IfOk}
+use Rattle.std.specs.List.{AllByRecursion}
 use Rattle.edge_io.specs.Views.{BayView, DiskView}
 use Rattle.topic_conf.specs.Configs.{ConfigParts}
 use Rattle.broker_model.specs.Disks.{Disks}
 use Rattle.broker_model.specs.Machine.{Machine}
 use Rattle.broker_core.specs.Bays.{AreOut, AreTakenFrom, IsFirst, TellsDisks}
+use Rattle.broker_core.specs.Carried.{IsFresh}
 use Rattle.broker_core.specs.Cores.{CoreParts, IsCore, core_of, state_of}
-use Rattle.broker_core.specs.Hosts.{HostsParts, all_names, disks_in, hosted_slots}
+use Rattle.broker_core.specs.Hosts.{AreFresh, HostsParts, all_names, disks_in, hosted_slots}
 use Rattle.broker_core.specs.declared.fault.CoreOpen.TheVariants as open_fault
-use Rattle.broker_run.specs.Opening.{AreWhole, IsOpening, IsRefused, hosts_of}
+use Rattle.broker_shards.specs.Hosts.{Host}
+use Rattle.broker_run.specs.Opening.{AreWhole, IsOpening, IsRefused, hosts_of, slot_of}
 use Rattle.broker_run.specs.Shared.{ShardParts}
 
 pub both_ok : {A E : Type 0} (result : Result A E) (P Q R : A → Type 0) → ((a : A) → P a → Q a → R a) → IfOk result P → IfOk result Q → IfOk result R
@@ -19,17 +22,22 @@ pub err_is : {A E : Type 0} (result : Result A E) (e : E) (R : E → Type 0) →
 err_is (Ok a) e R is r = tt
 err_is (Err x) e R is r = subst R (sym is) r
 
+fresh_hosts : {D : Type 0} (seen : D → DiskView) (hosts : List (Host D)) → AreFresh seen (map slot_of hosts) → AllByRecursion (λ (h : Host D). IsFresh seen h.part) hosts
+fresh_hosts seen [] a = tt
+fresh_hosts seen (h ∷ hosts) a = (a.0, fresh_hosts seen hosts a.1)
+
 module _ {B D : Type 0} (bay_seen : B → BayView D) (seen : D → DiskView) (conf : ConfigParts) (old new : B) where
   pub opening_of : (core : CoreParts D) (shards : ShardParts D) → core.conf ≡ conf → hosts_of shards ≡ core.hosts
       → ((contents : List ℕ → List ℕ) (was : Disks) → TellsDisks bay_seen seen conf old contents was → (m : Machine) × IsCore seen core m
       × IsFirst conf contents was (state_of seen m core))
       → AreOut bay_seen (all_names (hosted_slots core.hosts.parts)) new → AreTakenFrom bay_seen seen conf old new (disks_in core.hosts)
-      → AreWhole core.conf shards → IsOpening bay_seen seen conf old new shards
-  opening_of core shards conf_is is opens taken counts whole = record {
+      → AreWhole core.conf shards → AreFresh seen core.hosts.parts → IsOpening bay_seen seen conf old new shards
+  opening_of core shards conf_is is opens taken counts whole fresh = record {
     opens = λ contents was tells.
         let o = opens contents was tells in
         subst (λ (h : HostsParts D). (m : Machine) × IsCore seen (core_of conf [] h) m × IsFirst conf contents was (state_of seen m (core_of conf [] h)))
         (sym is) (o.0, record { connections = o.2.opens.nobody; shards = o.1.shards }, o.2);
+    fresh = fresh_hosts seen shards.parts (subst (λ (h : HostsParts D). AreFresh seen h.parts) (sym is) fresh);
     whole = subst (λ (c : ConfigParts). AreWhole c shards) conf_is whole;
     taken = subst (λ (h : HostsParts D). AreOut bay_seen (all_names (hosted_slots h.parts)) new) (sym is) taken;
     counts = subst (λ (h : HostsParts D). AreTakenFrom bay_seen seen conf old new (disks_in h)) (sym is) counts;

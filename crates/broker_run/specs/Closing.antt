@@ -1,72 +1,41 @@
 -- What is left of a broker's shards when their locks are closed, and how their disks are put back. This project's own.
 -- For example two threads produced a batch each to partition 0 of `orders`, the one of them with a fault of the log's disk. The contents
 -- that are put back stand for a log of the other's batch, with or without that one.
-use Rattle.std.specs.Prelude.{◌≡◌, ◌⊎◌, ◌≤◌, ℕ, List, [], ◌∷◌, false, Some, Ok, Err}
+use Rattle.std.specs.Prelude.{◌≡◌, ◌≤◌, ℕ, List, [], ◌∷◌, false}
 use Rattle.std.specs.List.{AllZip}
-use Rattle.std.specs.declared.option.Option.{Option}
 use Rattle.edge_io.specs.Bays.{SameSlot}
 use Rattle.edge_io.specs.Causes.{Rose}
 use Rattle.edge_io.specs.Views.{BayView, DiskView}
-use Rattle.foreign_coord.specs.Shards.{ForeignShardState, StepsForeign}
-use Rattle.share_model.specs.declared.fault.StoreFault.{StoreFault}
-use Rattle.share_part.specs.Shards.{PartShardState}
+use Rattle.foreign_coord.specs.Shards.{ForeignShardState}
+use Rattle.share_part.specs.Shards.{Carries, PartShardState}
 use Rattle.shard_lock.specs.History.{Leads}
 use Rattle.shard_lock.specs.Passes.{LockParts}
 use Rattle.topic_conf.specs.Configs.{ConfigParts}
-use Rattle.broker_model.specs.Acting.{Begun, HalvesOn, StepsOn}
 use Rattle.broker_model.specs.Hosted.{IsOneOf, IsTaken}
-use Rattle.broker_model.specs.Shards.{HostedPart, PartCall, Shards}
+use Rattle.broker_model.specs.Shards.{HostedPart, Shards}
 use Rattle.broker_core.specs.Bays.{AreOut, ArePutBack, HasRisen, TellsStill}
 use Rattle.broker_core.specs.Carried.{IsCarried, IsPartCarried}
 use Rattle.broker_core.specs.Hosts.{AreCarried, PartStandsAlone, StandAlone, StandStill, disks_in}
-use Rattle.broker_shards.specs.Acts.{ActsForeign, ActsMembers, ActsPart, asked_by, begun_by, told_by}
-use Rattle.broker_shards.specs.Hosts.{Host}
-use Rattle.broker_shards.specs.declared.foreign.ForeignEvent.{ForeignEvent}
+use Rattle.broker_shards.specs.Acts.{ActsForeign, ActsMembers, ActsPart}
+use Rattle.broker_shards.specs.Hosts.{Host, holding}
 use Rattle.broker_shards.specs.declared.foreign.ForeignHost.{ForeignHost}
-use Rattle.broker_shards.specs.declared.part.PartEvent.{PartEvent}
+use Rattle.broker_run.specs.Histories.{IsHistory, StepsStates}
 use Rattle.broker_run.specs.Opening.{hosts_of, names_in}
 use Rattle.broker_run.specs.Rows.{Ends}
-use Rattle.broker_run.specs.Shared.{PartAnswer, ShardParts, SharedParts, StateAnswer, first_shards}
-
--- ---- histories of states
-
--- A call of the machine leads from the one state of a partition to the other; where no memory was found, nothing was done, or a visit's
--- acknowledgements or the first groups of an expiry were.
-abbrev pub MovesPart : {D : Type 0} → (D → DiskView) → (old new : Host D) → PartEvent → PartAnswer → PartShardState → PartShardState → Type 0
-MovesPart seen old new event (Ok told) s t = (did : PartCall) × (event.ask ≡ asked_by did) × (told ≡ told_by did)
-    × StepsOn seen old.part.conf old.part new.part event.now s did t
-MovesPart seen old new event (Err fault) s t = (t ≡ s)
-    ⊎ ((begun : Begun) × (begun_by event.ask ≡ Some begun) × HalvesOn seen old.part.conf old.part new.part event.now s begun t)
-
--- an act on a partition in memory, and on the state for which it stands
-pub record StepsPart {D : Type 0} (seen : D → DiskView) (old : Host D × PartShardState) (event : PartEvent) (answer : PartAnswer)
-    (new : Host D × PartShardState) : Type 0 where
-  pub acts : ActsPart seen old.0 event answer new.0
-  pub moves : MovesPart seen old.0 new.0 event answer old.1 new.1
-
-abbrev pub MovesForeign : {D : Type 0} → (D → DiskView) → (old new : ForeignHost D) → ForeignEvent → StateAnswer → ForeignShardState → ForeignShardState
-    → Type 0
-MovesForeign seen old new event (Ok answer) s t = (fault : Option StoreFault)
-    × StepsForeign (Rose (seen old.foreign.journal.live.disk).faults (seen new.foreign.journal.live.disk).faults) old.foreign.journal.live.end s event.op
-    answer fault t
-MovesForeign seen old new event (Err fault) s t = t ≡ s
-
--- an act on foreign state in memory, and on the state for which it stands
-pub record StepsStates {D : Type 0} (seen : D → DiskView) (old : ForeignHost D × ForeignShardState) (event : ForeignEvent) (answer : StateAnswer)
-    (new : ForeignHost D × ForeignShardState) : Type 0 where
-  pub acts : ActsForeign seen old.0 event answer new.0
-  pub moves : MovesForeign seen old.0 new.0 event answer old.1 new.1
+use Rattle.broker_run.specs.Shared.{ShardParts, SharedParts, first_shards}
 
 -- ---- what is left
 
 -- A legal history leads from the partition as its lock was made to this one, and has exactly the entries of all passes of the lock. From
--- each state for which the first one stood it leads to one for which each image of the disks stands now, its log and its tables each with
--- or without the pending write.
+-- each state for which the first one stood it leads to one for which this one stands, whether the disks tell their contents or not. Where they
+-- do, each image of them stands for that state now, its log and its tables each with or without the pending write.
 pub record LeavesPart {D : Type 0} (seen : D → DiskView) (lock : LockParts (Host D)) (last : Host D) : Type 0 where
   pub ends : Ends (ActsPart seen) lock last
   pub same : (last.topic ≡ lock.first.topic) × (last.conf ≡ lock.first.conf)
+  pub leads : (s : PartShardState) → Carries seen holding lock.first.part s → (t : PartShardState)
+      × IsHistory seen (lock.first, s) ends.pass.seen (last, t) × Carries seen holding last.part t
   pub stands : (s : PartShardState) → IsPartCarried seen lock.first.conf lock.first.part s → (t : PartShardState)
-      × Leads (StepsPart seen) (lock.first, s) ends.pass.seen (last, t)
+      × IsHistory seen (lock.first, s) ends.pass.seen (last, t)
       × PartStandsAlone seen lock.first.conf t last.part.log.journal.disk last.part.states.journal.live.disk last.part.states.journal.idle
 
 -- the same of foreign state
@@ -92,7 +61,7 @@ PartsLead seen (l ∷ locks) [] left old new = ⊥
 PartsLead seen (l ∷ locks) (h ∷ last) left [] new = ⊥
 PartsLead seen (l ∷ locks) (h ∷ last) left (p ∷ old) [] = ⊥
 PartsLead seen (l ∷ locks) (h ∷ last) left (p ∷ old) (q ∷ new) = (q.hosted ≡ p.hosted)
-    × Leads (StepsPart seen) (l.first, p.shard) left.0.ends.pass.seen (h, q.shard) × PartsLead seen locks last left.1 old new
+    × IsHistory seen (l.first, p.shard) left.0.ends.pass.seen (h, q.shard) × PartsLead seen locks last left.1 old new
 
 -- From these states of all shards the histories lead to states for which the disks stand now, each shard with or without its pending writes.
 pub record StandBehind {D : Type 0} (seen : D → DiskView) (shared : SharedParts D) (last : ShardParts D) (left : AreLeft seen shared last)

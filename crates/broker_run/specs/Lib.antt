@@ -1,6 +1,7 @@
 pub mod Shared
 pub mod Rows
 pub mod Opening
+pub mod Histories
 pub mod Closing
 pub mod Acting
 pub mod Telling

@@ -13,7 +13,8 @@ use Rattle.share_model.specs.declared.foreign.ForeignAnswer.{ForeignAnswer}
 use Rattle.share_model.specs.declared.foreign.ForeignOp.{ForeignOp}
 use Rattle.call_fold.specs.Parts.{HasTellableBase, IsTellable, IsTellableLook, IsTellableVisit}
 use Rattle.share_coord.specs.Parts.{StoreParts}
-use Rattle.foreign_coord.specs.Shards.{ForeignShardState, StepsForeign, Carries as CarriesForeign}
+use Rattle.edge_io.specs.Moments.{LeavesPairs}
+use Rattle.foreign_coord.specs.Shards.{ForeignShardState, IsFound, StepsForeign, Carries as CarriesForeign}
 use Rattle.share_members.specs.Groups.{Memberships}
 use Rattle.share_members.specs.Expiry.{removed}
 use Rattle.share_part.specs.Shards.{PartParts, PartShardState, Carries}
@@ -35,6 +36,7 @@ use Rattle.broker_shards.specs.declared.part.PartAsk.TheVariants as asks
 use Rattle.broker_shards.specs.declared.part.PartEvent.{PartEvent}
 use Rattle.broker_shards.specs.declared.part.PartTold.{PartTold}
 use Rattle.broker_shards.specs.declared.part.PartTold.TheVariants as tells
+use Rattle.broker_shards.specs.Crashes.{FoundWithin}
 use Rattle.broker_shards.specs.Hosts.{Host, holding}
 
 -- ---- hosted partitions
@@ -102,6 +104,7 @@ pub record ActsPart {D : Type 0} (seen : D → DiskView) (old : Host D) (event :
   pub conf : new.conf ≡ old.conf
   pub acts : ActsOnPart seen holding event.now event.ask old.part result new.part
   pub goes_on : GoesOnPart seen holding old.part new.part
+  pub within : FoundWithin seen holding event.now event.ask old.part new.part
 
 -- ---- members
 
@@ -136,10 +139,13 @@ ActsOnForeign seen op old (Ok answer) new = AnswersForeign seen op answer old ne
 ActsOnForeign seen op old (Err fault) new = new ≡ old
 
 -- No power is lost and no fault armed on its first disk, whose count of faults doesn't fall, and the second one isn't used. Its journal never ends
--- before where it did.
+-- before where it did. At each moment since the act began a crash finds the states that were carried, with or without the pending write, or what
+-- the call leaves where it is granted.
 pub record ActsForeign {D : Type 0} (seen : D → DiskView) (old : ForeignHost D) (event : ForeignEvent) (result : Result ForeignAnswer NoMemory)
     (new : ForeignHost D) : Type 0 where
   pub acts : ActsOnForeign seen event.op old.foreign result new.foreign
   pub first : RunsOn seen old.foreign.journal.live.disk new.foreign.journal.live.disk
   pub second : new.foreign.journal.idle ≡ old.foreign.journal.idle
   pub ends : (s : ForeignShardState) → CarriesForeign seen old.foreign s → old.foreign.journal.live.end ≤ new.foreign.journal.live.end
+  pub within : (s : ForeignShardState) → CarriesForeign seen old.foreign s → LeavesPairs seen old.foreign.journal.live.disk new.foreign.journal.live.disk
+      old.foreign.journal.idle new.foreign.journal.idle (IsFound s event.op)

@@ -1,3 +1,4 @@
 pub mod Hosts
+pub mod Crashes
 pub mod Acts
 pub mod Histories

@@ -1,6 +1,7 @@
 // The shard of a hosted partition behind a lock.
 ghost use Rattle.std.specs.Prelude.{◌≤◌, ◌^◌};
 ghost use Rattle.broker_shards.specs.Acts.{ActsOnPart, GoesOnPart};
+ghost use Rattle.broker_shards.specs.Crashes.{FoundWithin};
 ghost use Rattle.broker_shards.specs.Hosts.{holding};
 
 use crate::moment::Moment;
@@ -71,6 +72,7 @@ fn visit<D: Disk>(
     requires { now ≤ 2 ^ 62 }
     ensures acts { ActsOnPart D.seen holding now (PartAsk.Visit visit.now) part.old result part.new }
     ensures goes_on { GoesOnPart D.seen holding part.old part.new }
+    ensures within { FoundWithin D.seen holding now (PartAsk.Visit visit.now) part.old part.new }
 {
     match part.visit(now, visit) {
         Ok(answer) => return Ok(PartTold::Visit(answer)),
@@ -86,6 +88,7 @@ fn produce<D: Disk>(
     requires { now ≤ 2 ^ 62 }
     ensures acts { ActsOnPart D.seen holding now (PartAsk.Produce batch.now) part.old result part.new }
     ensures goes_on { GoesOnPart D.seen holding part.old part.new }
+    ensures within { FoundWithin D.seen holding now (PartAsk.Produce batch.now) part.old part.new }
 {
     let added = part.produce(now, batch);
     match produced(added) {
@@ -99,7 +102,8 @@ fn look<D: Disk>(
     group: &Name,
     part: &PartShard<D, PartWindow>,
 ) -> Result<PartTold, NoMemory>
-    ensures { (now : _) → ActsOnPart D.seen holding now (PartAsk.Look group.now) part.now result part.now }
+    ensures acts { (now : _) → ActsOnPart D.seen holding now (PartAsk.Look group.now) part.now result part.now }
+    ensures within { (now : _) → FoundWithin D.seen holding now (PartAsk.Look group.now) part.now part.now }
 {
     match looked(alloc, group, part) {
         Ok(told) => return Ok(PartTold::Look(told)),
@@ -111,6 +115,7 @@ fn expire<D: Disk>(now: u64, part: &mut PartShard<D, PartWindow>) -> Result<Part
     requires { now ≤ 2 ^ 62 }
     ensures acts { ActsOnPart D.seen holding now PartAsk.Expire part.old result part.new }
     ensures goes_on { GoesOnPart D.seen holding part.old part.new }
+    ensures within { FoundWithin D.seen holding now PartAsk.Expire part.old part.new }
 {
     match part.expire(now) {
         Ok(answer) => return Ok(PartTold::Expire(answer)),

@@ -33,7 +33,7 @@ returns-in-Ok-clause-ok g c =
     c.in_ok-disks.disks.0 c.in_ok-disks.disks.1 c.in_ok-disks.disks.2 c.names_of-names.result.log c.names_of-names.result.first c.names_of-names.result.second
     c.args.bay.now c.take_three.new.bay c.names_of-names.ensures.log c.names_of-names.ensures.first c.names_of-names.ensures.second c.in_ok-disks.ensures.ok)
     c.in-Ok.ensures.log.later c.in-Ok.ensures.first.later c.in-Ok.ensures.second.later c.in-Ok.ensures.opens c.in-Ok.ensures.images c.in-Ok.ensures.runs
-    c.in-Ok.ensures.fed)
+    c.in-Ok.ensures.fed c.in-Ok.ensures.fresh)
 
 pub returns-in-Err-clause-err : goal.returns-in-Err-clause-err
 returns-in-Err-clause-err g c =

@@ -10,6 +10,9 @@ returns-else-starved-clause-opens g c = λ l a b is is_first is_second.
     c.args.conf c.args.disks.0 c.args.disks.1 c.args.disks.2 l a b c.in-Ok.part is is_first is_second c.in-Ok.ensures.opened
     c.in-Ok.ensures.runs c.in-Ok.ensures.both.runs c.in-Ok.ensures.both.second_runs fed.0 fed.1 fed.2)
 
+pub returns-else-starved-clause-fresh : goal.returns-else-starved-clause-fresh
+returns-else-starved-clause-fresh g c = c.in-Ok.ensures.opened.carries
+
 pub returns-else-starved-clause-fed : goal.returns-else-starved-clause-fed
 returns-else-starved-clause-fed g c = fed_three c.starved.result _ _ _ c.if-starved.false c.starved.ensures
 

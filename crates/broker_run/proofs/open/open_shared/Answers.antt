@@ -9,7 +9,7 @@ returns-in-Ok-clause-opens g c =
     let e = c.in-Ok.ensures in
     both_ok c.lock_core.result _ _ _ (λ r is whole. (
       whole.0 ∙ e.open.1,
-      opening_of g.B.Bay.seen g.D.Disk.seen c.args.conf c.args.bay.now c.start.new.bay c.in-Ok.core (first_shards r.0) e.open.1 is e.opens e.taken e.counts whole.1,
+      opening_of g.B.Bay.seen g.D.Disk.seen c.args.conf c.args.bay.now c.start.new.bay c.in-Ok.core (first_shards r.0) e.open.1 is e.opens e.taken e.counts whole.1 e.fresh,
     )) c.lock_core.ensures.locks c.lock_core.ensures.whole
 
 pub returns-in-Ok-clause-refused : goal.returns-in-Ok-clause-refused

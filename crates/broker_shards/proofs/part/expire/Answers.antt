@@ -1,4 +1,5 @@
 use Rattle.broker_shards.specs.Hosts.{holding}
+use Rattle.broker_shards.proofs.Finding.{expiry_found}
 use Rattle.broker_shards.proofs.Parting.{expired, expiry_refused, states_go}
 use Rattle.broker_shards.proofs.part.expire.Goals as goal
 
@@ -15,3 +16,9 @@ returns-in-Err-clause-acts g c = expiry_refused g.D.Disk.seen holding c.args.par
 pub returns-in-Err-clause-goes_on : goal.returns-in-Err-clause-goes_on
 returns-in-Err-clause-goes_on g c = let once = c.in-Err.ensures.once in
     states_go g.D.Disk.seen holding c.args.part.now c.expire.new.self once.conf once.log c.in-Err.ensures.runs once.idle once.ends
+
+pub returns-in-Ok-clause-within : goal.returns-in-Ok-clause-within
+returns-in-Ok-clause-within g c = expiry_found g.D.Disk.seen holding g.met.D.Disk.only_now c.args.part.now c.expire.new.self c.args.now _ c.in-Ok.ensures.once
+
+pub returns-in-Err-clause-within : goal.returns-in-Err-clause-within
+returns-in-Err-clause-within g c = expiry_found g.D.Disk.seen holding g.met.D.Disk.only_now c.args.part.now c.expire.new.self c.args.now _ c.in-Err.ensures.once

@@ -1,4 +1,5 @@
 use Rattle.broker_shards.specs.Hosts.{holding}
+use Rattle.broker_shards.proofs.Finding.{batch_found}
 use Rattle.broker_shards.proofs.Parting.{added, batch_refused, log_goes}
 use Rattle.broker_shards.proofs.part.produce.Goals as goal
 
@@ -17,3 +18,11 @@ returns-in-Err-clause-acts g c = batch_refused g.D.Disk.seen holding c.args.part
 pub returns-in-Err-clause-goes_on : goal.returns-in-Err-clause-goes_on
 returns-in-Err-clause-goes_on g c = let once = c.produce-added.ensures.once in
     log_goes g.D.Disk.seen holding c.args.part.now c.produce-added.new.self once.conf c.produce-added.ensures.runs once.states once.ends
+
+pub returns-in-Ok-clause-within : goal.returns-in-Ok-clause-within
+returns-in-Ok-clause-within g c = batch_found g.D.Disk.seen holding g.met.D.Disk.only_now c.args.part.now c.produce-added.new.self c.args.now
+    c.args.batch.now c.produce-added.result c.produce-added.ensures.once
+
+pub returns-in-Err-clause-within : goal.returns-in-Err-clause-within
+returns-in-Err-clause-within g c = batch_found g.D.Disk.seen holding g.met.D.Disk.only_now c.args.part.now c.produce-added.new.self c.args.now
+    c.args.batch.now c.produce-added.result c.produce-added.ensures.once

@@ -1,4 +1,5 @@
 use Rattle.broker_shards.specs.Hosts.{holding}
+use Rattle.broker_shards.proofs.Finding.{visit_found}
 use Rattle.broker_shards.proofs.Parting.{states_go, visit_refused, visited}
 use Rattle.broker_shards.proofs.part.visit.Goals as goal
 
@@ -16,3 +17,11 @@ returns-in-Err-clause-acts g c = visit_refused g.D.Disk.seen holding c.args.part
 pub returns-in-Err-clause-goes_on : goal.returns-in-Err-clause-goes_on
 returns-in-Err-clause-goes_on g c = let once = c.in-Err.ensures.once in
     states_go g.D.Disk.seen holding c.args.part.now c.visit.new.self once.conf once.log c.in-Err.ensures.runs once.idle once.ends
+
+pub returns-in-Ok-clause-within : goal.returns-in-Ok-clause-within
+returns-in-Ok-clause-within g c = visit_found g.D.Disk.seen holding g.met.D.Disk.only_now c.args.part.now c.visit.new.self c.args.now c.args.visit.now
+    _ c.in-Ok.ensures.once
+
+pub returns-in-Err-clause-within : goal.returns-in-Err-clause-within
+returns-in-Err-clause-within g c = visit_found g.D.Disk.seen holding g.met.D.Disk.only_now c.args.part.now c.visit.new.self c.args.now c.args.visit.now
+    _ c.in-Err.ensures.once

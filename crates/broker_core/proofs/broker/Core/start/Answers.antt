@@ -6,6 +6,8 @@ use Rattle.broker_core.specs.declared.fault.CoreOpen.TheVariants.{Damaged, Devic
 use Rattle.broker_core.specs.Bays.{IsFirst}
 use Rattle.broker_core.specs.Cores.{IsCore, core_of, state_of}
 use Rattle.broker_core.specs.Hosts.{parts_of}
+use Rattle.broker_model.specs.Hosted.{hosted_of}
+use Rattle.broker_core.proofs.Partitions.{takes_fresh}
 use Rattle.broker_core.proofs.Stepping.{err_same, on_err}
 use Rattle.broker_core.proofs.Starting.{all_counted, all_moves, all_others, all_out, hosts_apart, hosts_are, hosts_held, hosts_named, hosts_open, refused, retold, started}
 use Rattle.broker_core.proofs.broker.Core.start.Goals as goal
@@ -110,6 +112,10 @@ returns-in-Ok-clause-open g c = (
       c.args.conf c.in-Ok.ensures.list c.args.bay.now (parts_of c.in-Ok.hosts) c.take_hosts.new.bay c.in-Ok.ensures.ok,
   refl,
 )
+
+pub returns-in-Ok-clause-fresh : goal.returns-in-Ok-clause-fresh
+returns-in-Ok-clause-fresh g c = let t = c.in-Ok.ensures.ok in
+    takes_fresh g.B.Bay.seen g.D.Disk.seen (hosted_of c.args.conf) c.args.bay.now (parts_of c.in-Ok.hosts).parts t.mid t.parts
 
 pub returns-in-Ok-clause-taken : goal.returns-in-Ok-clause-taken
 returns-in-Ok-clause-taken g c = all_out g.B.Bay.seen g.D.Disk.seen

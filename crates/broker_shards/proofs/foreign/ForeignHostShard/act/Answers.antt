@@ -7,4 +7,5 @@ returns-in-Ok g c = record {
   first = c.in-Ok.ensures.runs;
   second = c.in-Ok.ensures.idle;
   ends = c.in-Ok.ensures.ends;
+  within = c.in-Ok.ensures.any_moment;
 }

@@ -1,0 +1,60 @@
+-- What a crash at a moment of an act finds.
+use Rattle.std.proofs.Common.{◌≡◌, inl, sym, ap, subst, arith, ℕ, List, Result}
+use Rattle.edge_io.specs.Moments.{LeavesOnly}
+use Rattle.edge_io.specs.Views.{DiskView}
+use Rattle.flex_fields.specs.declared.fault.NoMemory.{NoMemory}
+use Rattle.share_model.specs.Held.{Held}
+use Rattle.share_model.specs.declared.fault.LogFault.{LogFault}
+use Rattle.share_model.specs.declared.visit.ExpireAnswer.{ExpireAnswer}
+use Rattle.share_model.specs.declared.visit.Visit.{Visit}
+use Rattle.share_model.specs.declared.visit.VisitAnswer.{VisitAnswer}
+use Rattle.part_log.specs.Logs.{LogParts}
+use Rattle.share_coord.specs.Parts.{StoreParts}
+use Rattle.share_part.specs.Once.{ExpiresOnce, ProducesOnce, VisitsOnce}
+use Rattle.share_part.specs.Shards.{PartParts}
+use Rattle.broker_shards.specs.Crashes.{FindsNothingNew, FoundWithin}
+use Rattle.broker_shards.specs.declared.part.PartAsk.TheVariants as asks
+
+module _ {D W : Type 0} (seen : D → DiskView) (holding : W → Held)
+    (only_now : (d : D) (c : List ℕ) → (seen d).since (seen d).moment c → (seen d).image c) where
+  nothing_new : (old new : D) → new ≡ old → FindsNothingNew seen old new
+  nothing_new old new same = subst (λ (d : D). LeavesOnly seen old d (seen old).image) (sym same)
+      (record { later = omega arith; each = λ c k. only_now old c k; before = λ t c early k. inl k })
+
+  new_log : (old new : LogParts D) → new ≡ old → FindsNothingNew seen old.journal.disk new.journal.disk
+  new_log old new same = nothing_new old.journal.disk new.journal.disk (ap (λ (l : LogParts D). l.journal.disk) same)
+
+  new_first : (old new : StoreParts D) → new ≡ old → FindsNothingNew seen old.journal.live.disk new.journal.live.disk
+  new_first old new same = nothing_new old.journal.live.disk new.journal.live.disk (ap (λ (t : StoreParts D). t.journal.live.disk) same)
+
+  module _ (old new : PartParts D W) (now : ℕ) where
+    pub visit_found : (visit : Visit) (result : Result VisitAnswer NoMemory) → VisitsOnce seen holding now visit old new result
+        → FoundWithin seen holding now (asks.Visit visit) old new
+    visit_found visit result once = record {
+      log = new_log old.log new.log once.log;
+      first = λ s k acks then. new_first old.states new.states (once.unwritten s k acks then);
+      second = nothing_new old.states.journal.idle new.states.journal.idle once.idle;
+    }
+
+    pub batch_found : (batch : List ℕ) (result : Result ℕ LogFault) → ProducesOnce seen holding now batch old new result
+        → FoundWithin seen holding now (asks.Produce batch) old new
+    batch_found batch result once = record {
+      log = once.any_moment;
+      first = new_first old.states new.states once.states;
+      second = nothing_new old.states.journal.idle new.states.journal.idle (ap (λ (t : StoreParts D). t.journal.idle) once.states);
+    }
+
+    pub expiry_found : (result : Result ExpireAnswer NoMemory) → ExpiresOnce seen holding now old new result
+        → FoundWithin seen holding now asks.Expire old new
+    expiry_found result once = record {
+      log = new_log old.log new.log once.log;
+      first = λ due. new_first old.states new.states (ap (λ (p : PartParts D W). p.states) (once.nothing_due due).1);
+      second = nothing_new old.states.journal.idle new.states.journal.idle once.idle;
+    }
+
+    pub look_found : (group : List ℕ) → new ≡ old → FoundWithin seen holding now (asks.Look group) old new
+    look_found group same = record {
+      log = new_log old.log new.log (ap (λ (p : PartParts D W). p.log) same);
+      first = new_first old.states new.states (ap (λ (p : PartParts D W). p.states) same);
+      second = nothing_new old.states.journal.idle new.states.journal.idle (ap (λ (p : PartParts D W). p.states.journal.idle) same);
+    }
