@@ -15,8 +15,8 @@ returns-clause-serves g c = (
     configured = c.in-Ok.ensures.opens.0;
     opened = c.open_shared.new.bay;
     opens = c.in-Ok.ensures.opens.1;
-    closes = subst (λ (s : SharedParts g.row.D.Denot). Closes g.B.Bay.seen g.D.Disk.seen s c.open_shared.new.bay c.close_shared.new.bay)
-        c.in-Some.ensures.shared c.close_shared.ensures;
+    closes = closed g c;
+    back = back_in g.B.Bay.seen g.D.Disk.seen c.in-Ok.opened.0 c.open_shared.new.bay c.close_shared.new.bay (closed g c) c.in-Ok.ensures.opens.1.taken;
   },
   c.in-Some.ensures.end,
 )
