@@ -232,9 +232,11 @@ one_serve words a b s z p q =
     (p.reset ∙ ap reset_of all ∙ sym q.reset) (p.lock_ms ∙ ap lock_ms_of all ∙ sym q.lock_ms) (p.limit ∙ ap limit_of all ∙ sym q.limit)
     (ap (λ (x : Address). x.host) told) (ap (λ (x : Address). x.port) told) in
     let workers : s.workers ≡ z.workers = p.workers ∙ ap workers_of all ∙ sym q.workers in
-    let accept : s.accept ≡ z.accept = p.accept ∙ ap accept_of all ∙ sym q.accept in
-    (listens, ap (λ (c : ConfigParts). words_of c s.workers s.accept) conf ∙ ap (λ (n : ℕ). words_of z.conf n s.accept) workers
-        ∙ ap (λ (n : ℕ). words_of z.conf z.workers n) accept)
+    let accept : s.accept ≡ z.accept = p.accept ∙ ap accept_of all ∙ sym q.accept in (
+      listens,
+      ap (λ (c : ConfigParts). words_of c s.workers s.accept) conf ∙ ap (λ (n : ℕ). words_of z.conf n s.accept) workers
+          ∙ ap (λ (n : ℕ). words_of z.conf z.workers n) accept,
+    )
 
 -- how many workers a server has
 pub workers_are : (words : List (List ℕ)) (listen : Address) (serve : ServeWords) → AreServeWords words listen serve → (1 ≤ serve.workers) × (serve.workers ≤ 256)

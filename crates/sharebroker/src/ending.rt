@@ -39,8 +39,8 @@ pub const NO_SCRIPT: &str =
 pub const NO_SEGMENT: &str =
     "a batch of the input is refused; the last line of the output names its place, and those before it are stored";
 
-/// The last faults of the standard streams, of the folder of disks, and of the socket that listens at an address, as the
-/// operating system told them.
+/// The last faults of the standard streams, of the folder of disks, and of the socket that listens at an address, as
+/// the operating system told them.
 #[derive(Drop)]
 pub struct Faults<'a> {
     input: Option<SystemFault>,

@@ -103,7 +103,14 @@ fn main(rt: HostRuntime) -> ExitCode {
                 None => "",
             };
             serve_over_tcp(
-                &rt, &rt, &words, &listen, &served, folder, &mut input, &mut output,
+                &rt,
+                &rt,
+                &words,
+                &listen,
+                &served,
+                folder,
+                &mut input,
+                &mut output,
             )
         }
         Err(_) => tell_status(&rt, NO_MEMORY, NO_SCRIPT, Faults::of(&input, &output, None)),

@@ -48,6 +48,11 @@ pub struct Teller {
     workers: u32,
 }
 
+// The ending of a word for so many.
+fn plural(count: u32) -> &'static str {
+    if count == 1 { "" } else { "s" }
+}
+
 // The seconds since 1970.
 fn seconds(rt: &HostRuntime) -> u64 {
     let Ok(now) = SystemTime::now(rt) else {
@@ -113,14 +118,17 @@ impl Teller {
 impl SocketNotices for Teller {
     fn listening(&self, at: SocketAddr) {
         let (rt, partitions, workers) = (&self.rt, self.partitions, self.workers);
-        let _ = eprintln!(
-            rt;
-            "sharebroker: listening on {at}, {partitions} partitions, {workers} workers"
+        let (many, more) = (plural(partitions), plural(workers));
+        let _ = eprintln!(rt;
+            "sharebroker: listening on {at}, {partitions} partition{many}, {workers} worker{more}"
         );
     }
 
     fn waiting(&self, fault: SystemFault) {
-        self.tell_fault("a client couldn't be accepted, and it is tried again", fault);
+        self.tell_fault(
+            "a client couldn't be accepted, and it is tried again",
+            fault,
+        );
     }
 
     fn failed(&self, peer: SocketAddr, fault: SystemFault) {

@@ -28,12 +28,7 @@ fn partitions(words: &ServeWords) -> u32 {
 // Tells of a server's connections and files.
 fn teller(rt: &HostRuntime, words: &ServeWords) -> Result<Teller, AllocError> {
     let pace = Arc::new(rt.alloc(), Pace::new())?;
-    Ok(Teller::new(
-        *rt,
-        Some(pace),
-        partitions(words),
-        words.workers,
-    ))
+    Ok(Teller::new(*rt, Some(pace), partitions(words), words.workers))
 }
 
 // What takes memory: who tells, and the texts of the folder and of the host.
@@ -50,11 +45,7 @@ fn prepared(
 }
 
 // The disks of a folder. None is out.
-fn folder_bay<'a>(
-    rt: &'a HostRuntime,
-    folder: String,
-    teller: Teller,
-) -> FolderBay<ToldFolders<'a>>
+fn folder_bay<'a>(rt: &'a HostRuntime, folder: String, teller: Teller) -> FolderBay<ToldFolders<'a>>
     ensures { (name : List ℕ) → out_at result name ≡ false }
 {
     let system = SystemFolders { rt };
@@ -105,6 +96,9 @@ pub fn serve_over_tcp<
         &mut spawner,
     );
     teller.tell_left_out();
-    let faults = Faults::of(input, output, bay.last_fault()).with_listener(listen, listener.last_fault());
+    let faults = Faults::of(input, output, bay.last_fault()).with_listener(
+        listen,
+        listener.last_fault(),
+    );
     tell_status(rt, status, NO_SEGMENT, faults)
 }

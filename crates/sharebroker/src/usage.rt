@@ -135,7 +135,9 @@ fn serve<'a>(alloc: Global) -> Result<Command<'a>, AllocError> {
     let advertise = Arg::new(alloc, "advertise")
         .long("advertise")
         .value_name("HOST:PORT")
-        .help("The address that clients are told, which is else that of --listen; the port 0 needs it");
+        .help(
+            "The address that clients are told, which is else that of --listen; the port 0 needs it",
+        );
     let workers = Arg::new(alloc, "workers")
         .long("workers")
         .value_name("N")
