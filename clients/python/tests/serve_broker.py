@@ -13,6 +13,8 @@ from context import PROGRAM
 TRIES = 5
 #: How long the broker may take to listen, in seconds.
 PATIENCE = 20
+#: Where its folders are: in memory, where that is to be had, as nothing here is about the speed of a disk.
+PLACE = "/dev/shm" if os.access("/dev/shm", os.W_OK) else None
 
 
 class ServeBroker:
@@ -20,7 +22,7 @@ class ServeBroker:
 
     def __init__(self, *topics, lock_ms=30000, limit=5, reset="earliest", workers=16):
         self.topics = topics
-        self.folder = tempfile.mkdtemp()
+        self.folder = tempfile.mkdtemp(dir=PLACE)
         self._words = ["--reset", reset, "--lock-ms", str(lock_ms), "--limit", str(limit), "--workers", str(workers)]
         self._program = None
         self._errors = None
