@@ -78,7 +78,7 @@ class Killing(BrokerCase):
         records = consumer.poll(5000)
         consumer.acknowledge(records[0], AcknowledgeType.RELEASE)
         consumer.acknowledge(records[1])
-        consumer.commit()
+        consumer.close()
         broker.kill()
         dump = subprocess.run([context.PROGRAM, "dump-state", "--dir", os.path.join(broker.folder, "data"),
                                f"orders:1:{ORDERS}"], capture_output=True, check=True, text=True).stdout
