@@ -29,6 +29,7 @@ class Killing(BrokerCase):
     def test_what_was_answered_is_there_after_a_kill(self):
         broker = self.broker()
         producer = self.producer(linger_ms=0, retry_unknown=True)
+        producer.partitions_for("orders")
         killing = threading.Timer(0.2, broker.kill)
         killing.start()
         stored = []
