@@ -5,12 +5,10 @@ import unittest
 
 from context import needs_program
 from replay_broker import ReplayBroker
+from serve_broker import ServeBroker
 from sharebroker import Producer, ShareConsumer, share_group_state
 
 ORDERS = "22222222-2222-2222-2222-222222222222"
-
-#: The broker of tests that leave its locks, disks and connections alone. One that listens by itself may stand here.
-Broker = ReplayBroker
 
 
 @needs_program
@@ -18,11 +16,12 @@ class BrokerCase(unittest.TestCase):
     """Tests with a broker. What they open is closed behind them."""
 
     def broker(self, *topics, **settings):
-        """A broker with these topics, or with one of one partition. Settings: lock_ms, limit, reset."""
-        return self._began(Broker(*(topics or [f"orders:1:{ORDERS}"]), **settings))
+        """The broker by its command `serve`, with these topics, or with one of one partition. Settings: lock_ms, limit,
+        reset, workers."""
+        return self._began(ServeBroker(*(topics or [f"orders:1:{ORDERS}"]), **settings))
 
     def scripted_broker(self, **settings):
-        """A broker that does what the test says: locks end, disks fail, connections break."""
+        """A broker that does what the test says, by the command `replay`: locks end, disks fail, connections break."""
         return self._began(ReplayBroker(f"orders:1:{ORDERS}", **settings))
 
     def _began(self, broker):

@@ -2,10 +2,7 @@
 
 Bytes that a client sends become `bytes` lines, and each whole request is done by `step` lines, as docs/SCRIPT.md
 tells. What the program answers to these goes back to the client. Moments are the test's: `now` stands still until
-`advance`.
-
-A program that listens by itself can stand in its place where a test uses `servers` and `close` alone (`Broker` in
-`broker_case.py`).
+`advance`. So a test says when a lock ends, a disk fails or power is lost, which the command `serve` can't be told.
 """
 
 import socket

@@ -129,8 +129,8 @@ class Messages(unittest.TestCase):
         self.assertEqual(bytes_of(written) if written else data, to.done())
 
     def test_a_request_has_its_size_and_header(self):
-        # docs/PROTOCOL.md, the first worked exchange; the client id is empty there and null, which no client of
-        # ours sends.
+        # docs/PROTOCOL.md, the Read of its last worked exchange; the client id is null there, which this client never
+        # sends.
         request = messages.ReadShareGroupStateRequest("g1", [
             messages.ReadTopic(uuid.UUID(bytes=b"\x11" * 16), [messages.ReadPartition(0, 0)])])
         wanted = bytes_of("0000002c 0054 0000 00000002 0001 63 00 03 6731 02 {16*11} 02 00000000 00000000 00 00 00")

@@ -165,7 +165,7 @@ class Failing(BrokerCase):
 
     def test_no_room(self):
         broker = self.scripted_broker()
-        producer = self.producer(buffer_memory=1048588, batch_size=1048588, max_block_ms=100)
+        producer = self.producer(buffer_memory=1048588, batch_size=1048588, max_block_ms=1000)
         producer.partitions_for("orders")
         with broker.steps_held():
             first = producer.send("orders", bytes(600000))

@@ -1,0 +1,90 @@
+"""The job queue of README.md with locks of a second, on the built broker over loopback; and the broker is killed."""
+
+import os
+import signal
+import subprocess
+import sys
+import tempfile
+import time
+import unittest
+
+HERE = os.path.dirname(os.path.abspath(__file__))
+TESTS = os.path.join(HERE, "..", "..", "clients", "python", "tests")
+sys.path.insert(0, TESTS)
+
+from context import PROGRAM, needs_program  # noqa: E402
+from serve_broker import ServeBroker  # noqa: E402
+from sharebroker import DeliveryState, StoredRun, share_group_state  # noqa: E402
+
+TOPIC = "jobs:1:6ba7b810-9dad-11d1-80b4-00c04fd430c8"
+
+
+@needs_program
+class Jobs(unittest.TestCase):
+    def setUp(self):
+        self.broker = ServeBroker(TOPIC, lock_ms=1000, limit=3)
+        self.addCleanup(self.broker.close)
+        self.folder = tempfile.TemporaryDirectory()
+        self.addCleanup(self.folder.cleanup)
+
+    def begin(self, script, *words):
+        process = subprocess.Popen([sys.executable, "-B", os.path.join(HERE, script), self.broker.servers, *words],
+                                   cwd=self.folder.name, stdout=subprocess.PIPE, stderr=subprocess.DEVNULL, text=True)
+        self.addCleanup(process.stdout.close)
+        self.addCleanup(process.wait)
+        self.addCleanup(process.kill)
+        return process
+
+    def lines(self, script, *words, status=0):
+        """Runs a script to its end, and gives what it printed, without the worker's name."""
+        process = self.begin(script, *words)
+        printed, _ = process.communicate(timeout=20)
+        self.assertEqual(status, process.returncode)
+        return [line.split(": ", 1)[-1] for line in printed.splitlines()]
+
+    def dump(self):
+        return subprocess.run([PROGRAM, "dump-state", "--dir", os.path.join(self.broker.folder, "data"), TOPIC],
+                              capture_output=True, check=True, text=True).stdout.splitlines()
+
+    def wait_for_run(self, run):
+        """Waits until this run of records is stored of the group."""
+        end = time.monotonic() + 20
+        while run not in share_group_state(self.broker.servers, "workers")[0].runs:
+            self.assertLess(time.monotonic(), end, "it took too long")
+            time.sleep(0.02)
+
+    def test_each_job_is_done_or_given_up(self):
+        self.assertEqual(["5 jobs are stored"], self.lines("produce.py", "1", "2", "0", "3", "4"))
+        self.assertEqual(["job 0, delivery 1: 60 / 1 = 60"], self.lines("worker.py", "anna"))
+        # One hangs. Its job goes to another when its lock ends, and it is told that it came too late.
+        hanging = self.begin("worker.py", "dora", "--hangs-at", "1")
+        self.assertEqual("dora: job 1 takes so long ..\n", hanging.stdout.readline())
+        self.wait_for_run(StoredRun(1, 1, DeliveryState.AVAILABLE, 1))
+        self.assertEqual(["job 1, delivery 2: 60 / 2 = 30"], self.lines("worker.py", "emil"))
+        hanging.send_signal(signal.SIGCONT)
+        self.assertEqual("dora: job 1, delivery 1: 60 / 2 = 30\ndora: too late, the lock on job 1 had ended\n",
+                         hanging.communicate(timeout=20)[0])
+        # The job that nobody can do is archived at its third delivery, and the next one is done.
+        self.assertEqual([f"job 2, delivery {count}: 60 / 0 failed: integer division or modulo by zero"
+                          for count in (1, 2, 3)] + ["job 3, delivery 1: 60 / 3 = 20"],
+                         self.lines("worker.py", "fritz"))
+        # One is killed at work, and the next one gets the job at once.
+        self.assertEqual(["job 4 kills me"], self.lines("worker.py", "bert", "--dies-at", "4", status=-9))
+        self.assertEqual(["job 4, delivery 2: 60 / 4 = 15"], self.lines("worker.py", "carl"))
+        self.broker.kill()
+        self.assertEqual(["table 776f726b657273 jobs/0 start 5", "end"], self.dump())
+
+    def test_jobs_outlive_the_broker(self):
+        self.assertEqual(["3 jobs are stored"], self.lines("produce.py", "1", "2", "3"))
+        self.assertEqual(["job 0, delivery 1: 60 / 1 = 60"], self.lines("worker.py", "anna"))
+        self.assertEqual(["job 1, delivery 1: 60 / 2 failed: not for me"],
+                         self.lines("worker.py", "gina", "--gives-back", "1"))
+        self.broker.kill()
+        self.assertEqual(["table 776f726b657273 jobs/0 start 1", "run 1 1 available 1", "end"], self.dump())
+        self.broker.start()
+        self.assertEqual(["job 1, delivery 2: 60 / 2 = 30", "job 2, delivery 1: 60 / 3 = 20"],
+                         self.lines("worker.py", "emil", "--jobs", "2"))
+
+
+if __name__ == "__main__":
+    unittest.main()
