@@ -207,6 +207,7 @@ module _ {B D : Type 0} (bay_seen : B → BayView D) (seen : D → DiskView) whe
         } in
         record {
           last = all;
+          hosts = hosted_last;
           left = left;
           stand = λ s k. all_stand seen shared all left s k;
           put = put_all shared.conf all old new apart_last (hosted_last ∙ whole.hosts) (mid, puts, back);

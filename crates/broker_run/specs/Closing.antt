@@ -24,7 +24,7 @@ use Rattle.broker_shards.specs.Hosts.{Host}
 use Rattle.broker_shards.specs.declared.foreign.ForeignEvent.{ForeignEvent}
 use Rattle.broker_shards.specs.declared.foreign.ForeignHost.{ForeignHost}
 use Rattle.broker_shards.specs.declared.part.PartEvent.{PartEvent}
-use Rattle.broker_run.specs.Opening.{hosts_of, names_in}
+use Rattle.broker_run.specs.Opening.{hosted_in, hosts_of, names_in}
 use Rattle.broker_run.specs.Rows.{Ends}
 use Rattle.broker_run.specs.Shared.{PartAnswer, ShardParts, SharedParts, StateAnswer, first_shards}
 
@@ -121,6 +121,7 @@ pub record ArePut {B D : Type 0} (bay_seen : B → BayView D) (seen : D → Disk
 -- what closing the locks leaves
 pub record Closes {B D : Type 0} (bay_seen : B → BayView D) (seen : D → DiskView) (shared : SharedParts D) (old new : B) : Type 0 where
   pub last : ShardParts D
+  pub hosts : hosted_in last ≡ hosted_in (first_shards shared)
   pub left : AreLeft seen shared last
   pub stand : (s : Shards) → AreCarried seen (hosts_of (first_shards shared)) s → StandBehind seen shared last left s
   pub put : ArePut bay_seen seen shared.conf old last new

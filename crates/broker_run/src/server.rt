@@ -2,9 +2,10 @@
 ghost use Rattle.std.specs.Prelude.{◌≡◌, ◌<◌, ◌+◌, ◌^◌, [], List, ℕ};
 ghost use Rattle.edge_io.specs.Bays.{SameSlot};
 ghost use Rattle.broker_model.specs.Hosted.{IsTaken};
-ghost use Rattle.broker_core.specs.Bays.{AreOut};
+ghost use Rattle.broker_core.specs.Bays.{AreOut, TellsStill};
 ghost use Rattle.broker_run.specs.Homes.{HasLinksEnd};
-ghost use Rattle.broker_run.specs.Server.{EndsServing, Refuses, Serves};
+ghost use Rattle.broker_run.specs.Opening.{IsRefused};
+ghost use Rattle.broker_run.specs.Server.{EndsServing, Serves};
 
 use crate::close::close_shared;
 use crate::jobs::{LinksEnd, serve_links};
@@ -53,14 +54,18 @@ where
     requires out { AreOut B.seen [] bay.old }
     requires few { workers + 1 < 2 ^ 32 }
 
-    // The disks stand for what legal histories leave of the opening; or the opening was refused.
-    ensures serves { EndsServing result (Refuses B.seen D.seen conf bay.old bay.new) (λ end. Serves B.seen D.seen conf bay.old bay.new
+    // The disks stand for what legal histories leave of the opening; or the opening was refused. Behind want of memory
+    // nothing is said of its disks then.
+    ensures serves { EndsServing result (λ fault. IsRefused B.seen D.seen conf bay.old fault bay.new) (λ end. Serves B.seen D.seen conf bay.old bay.new
         × HasLinksEnd end accept (L.given listener.old) (L.given listener.new) (L.done listener.new)
         (L.faults listener.old) (L.faults listener.new) (P.faults spawner.old) (P.faults spawner.new)) }
 
     // Where it was refused, no link was taken and no job was started.
     ensures unserved { EndsServing result (λ fault. (listener.new ≡ listener.old) × (spawner.new ≡ spawner.old))
         (λ end. Unit {0}) }
+
+    // A disk that the bay told it tells still.
+    ensures told { TellsStill B.seen bay.old bay.new }
 
     // A disk that isn't the broker's is as it was.
     ensures others { (name : List ℕ) → (IsTaken conf name → ⊥) → SameSlot B.seen name bay.old bay.new }

@@ -9,9 +9,10 @@ use edge_mem::{MemBay, MemSink, MemSource};
 use row_text::compared;
 use session_script::{ScriptReader, Taken, write_event};
 use share_model::Reset;
-use share_top::{BayChoice, Words, bay_choice, run};
+use share_top::{Address, BayChoice, ServeWords, Words, bay_choice, run_alone, serve_words};
 use std::alloc::Global;
 use std::io;
+use std::io::ErrorKind;
 use topic_conf::Config;
 
 // What the commands of a case end with, what they write, and the disks that they leave.
@@ -22,9 +23,29 @@ struct Ran {
     bay: MemBay,
 }
 
+// Runs a command that is none of a server, and tells its status.
+fn run_command(
+    alloc: Global,
+    words: &[String],
+    input: &mut MemSource,
+    output: &mut MemSink,
+    bay: &mut MemBay,
+) -> io::Result<u8>
+    requires { NoneIsOut bay_view bay.old }
+    ensures { NoneIsOut bay_view bay.new }
+{
+    let Ok(served) = serve_words(alloc, words) else {
+        return Err(io::Error::from(ErrorKind::OutOfMemory));
+    };
+    if served.is_some() {
+        return Err(io::Error::from(ErrorKind::Unsupported));
+    }
+    Ok(run_alone(alloc, words, input, output, bay))
+}
+
 // Runs the command of a case, and the one that it has behind it, and tells their statuses.
 fn run_commands(
-    rt: &HostRuntime,
+    alloc: Global,
     case: &Case,
     input: &mut MemSource,
     output: &mut MemSink,
@@ -33,12 +54,11 @@ fn run_commands(
     requires { NoneIsOut bay_view bay.old }
     ensures { NoneIsOut bay_view bay.new }
 {
-    let alloc = rt.alloc();
-    let ended = run(rt, alloc, &case.words, input, output, bay);
+    let ended = run_command(alloc, &case.words, input, output, bay)?;
     if case.behind.is_empty() {
         return Ok(format!(in alloc; "{ended}")?);
     }
-    let next = run(rt, alloc, &case.behind, input, output, bay);
+    let next = run_command(alloc, &case.behind, input, output, bay)?;
     Ok(format!(in alloc; "{ended} {next}")?)
 }
 
@@ -52,7 +72,7 @@ fn run_case(rt: &HostRuntime, case: &Case) -> io::Result<Ran>
     let mut input = MemSource::new(given, case.read_faults.as_slice().to_vec(alloc)?);
     let mut output = MemSink::new(alloc, case.write_faults.as_slice().to_vec(alloc)?);
     let mut bay = bay_of(alloc, case)?;
-    let status = run_commands(rt, case, &mut input, &mut output, &mut bay)?;
+    let status = run_commands(alloc, case, &mut input, &mut output, &mut bay)?;
     Ok(Ran {
         status,
         output,
@@ -108,7 +128,7 @@ pub fn script_of(rt: &HostRuntime, number: &str) -> io::Result<String> {
     let mut input = MemSource::new(Vec::new(alloc), Vec::new(alloc));
     let mut output = MemSink::new(alloc, Vec::new(alloc));
     let mut bay = MemBay::new(alloc, Vec::new(alloc));
-    run(rt, alloc, &words, &mut input, &mut output, &mut bay);
+    run_command(alloc, &words, &mut input, &mut output, &mut bay)?;
     Ok(String::from_str(alloc, str::from_utf8(output.bytes()).unwrap_or(""))?)
 }
 
@@ -148,6 +168,14 @@ fn settings(alloc: Global, conf: &Config) -> io::Result<String> {
     Ok(text)
 }
 
+// What a server is told, in the order and the notation of the command line.
+fn server(alloc: Global, listen: &Address, words: &ServeWords) -> io::Result<String> {
+    let (host, port) = (listen.host.as_str(), listen.port);
+    let settings = settings(alloc, &words.conf)?;
+    let (workers, accept) = (words.workers, words.accept);
+    Ok(format!(in alloc; "listen {host}:{port} workers {workers} accept {accept} {settings}")?)
+}
+
 /// Tells which bay the words of a case want: the place of the folder's word, or `memory`.
 pub fn judge_bay(alloc: Global, case: &Case, wanted: &str) -> io::Result<Option<String>> {
     match bay_choice(&case.words) {
@@ -177,6 +205,9 @@ pub fn judge_settings(alloc: Global, case: &Case, wanted: &str) -> io::Result<Op
         Ok(Words::Gen { n }) => {
             let text = format!(in alloc; "rounds {n}")?;
             compared(alloc, text.as_str(), wanted)
+        }
+        Ok(Words::Serve { listen, words }) => {
+            compared(alloc, server(alloc, &listen, &words)?.as_str(), wanted)
         }
         Err(fault) => Ok(Some(format!(in alloc; "{fault:?}")?)),
     }

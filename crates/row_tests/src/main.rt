@@ -24,7 +24,7 @@
 //! | `status N M` | the same, where a command is run behind it, which has to end with M |
 //! | `lines N` | the session is run, and has to write so many lines, with status 0 |
 //! | `again` | the events of the script are read, and written; that has to give the script without its `end` |
-//! | `settings TEXT` | the words are read, and have to give these settings: those of a load behind `shard N`, of a replay that tells numbers behind `summary`, and of `gen` as `rounds N` |
+//! | `settings TEXT` | the words are read, and have to give these settings: those of a load behind `shard N`, of a replay that tells numbers behind `summary`, of `gen` as `rounds N`, and those of a server behind `listen H:P workers N accept N` |
 //! | `bay TEXT` | the words have to want this bay: `memory`, or `folder N`, where the word N, counted from 0, names the folder |
 #![tactic(auto)]
 

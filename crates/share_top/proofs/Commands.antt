@@ -12,9 +12,11 @@ use Rattle.topic_conf.specs.Configs.{ConfigParts}
 use Rattle.broker_model.specs.Hosted.{IsTaken}
 use Rattle.gen_load.specs.Scripts.{script_of}
 use Rattle.share_top.specs.declared.status.Status.{Status}
-use Rattle.share_top.specs.declared.status.Status.TheVariants.{Done, Usage, Malformed, ReadFault, WriteFault, Damaged, Device, NoMemory}
+use Rattle.share_top.specs.declared.status.Status.TheVariants.{Done, Usage, Malformed, ReadFault, WriteFault, Damaged, Device, NoMemory, Listener, Spawner}
 use Rattle.share_top.specs.declared.words.Words.{Words}
-use Rattle.share_top.specs.declared.words.Words.TheVariants.{Replay, Load, DumpState, Gen}
+use Rattle.share_top.specs.declared.words.Words.TheVariants.{Replay, Load, DumpState, Gen, Serve}
+use Rattle.share_top.specs.declared.words.address.Address.{Address}
+use Rattle.share_top.specs.declared.words.server.ServeWords.{ServeWords}
 use Rattle.share_top.specs.Apart.{RunsDisk}
 use Rattle.share_top.specs.Changes.{InputChange, OutputChange}
 use Rattle.share_top.specs.Commands.{DoesCommand}
@@ -23,11 +25,12 @@ use Rattle.share_top.specs.Generating.{Generates, IsGenerated}
 use Rattle.share_top.specs.Loading.{IsLoad, IsLogDisk}
 use Rattle.share_top.specs.Sessions.{CountRose, HoldsStates}
 use Rattle.share_top.specs.Statuses.{HasNoCommand, IsReplay, status_number}
-use Rattle.share_top.specs.Words.{AreWords, AreDumpStateWords, AreGenWords, AreLoadWords, AreReplayWords, texts}
+use Rattle.share_top.specs.Words.{AreWords, AreDumpStateWords, AreGenWords, AreLoadWords, AreReplayWords, AreServeWords, texts}
 use Rattle.share_top.proofs.Completes.{completes_on, not_device_on, not_seven}
 use Rattle.session_script.proofs.Texts.{front_nothing}
 use Rattle.share_top.proofs.LoadWords.{hungry_completes, hungry_loads, is_complete, loads as loads_of}
-use Rattle.share_top.proofs.OneCommand.{name_of, one_dump, one_gen, one_load, one_replay, same_size}
+use Rattle.share_top.proofs.OneCommand.{one_dump, one_gen, one_load, one_replay}
+use Rattle.share_top.proofs.Alone.{name_of, same_size}
 
 -- a status that isn't that of an output's fault isn't 5
 not_five : (number : ℕ) (status : Status) → number ≡ status_number status → number ≢ 5 → status ≢ WriteFault
@@ -50,6 +53,10 @@ dump_done bay_seen seen old new conf output WriteFault (inl d) whole fed quiet =
 dump_done bay_seen seen old new conf output WriteFault (inr d) whole fed quiet = absurd (quiet d.1.0)
 dump_done bay_seen seen old new conf output Usage (inl d) whole fed quiet = absurd d
 dump_done bay_seen seen old new conf output Usage (inr d) whole fed quiet = absurd d.1
+dump_done bay_seen seen old new conf output Listener (inl d) whole fed quiet = absurd d
+dump_done bay_seen seen old new conf output Listener (inr d) whole fed quiet = absurd d.1
+dump_done bay_seen seen old new conf output Spawner (inl d) whole fed quiet = absurd d
+dump_done bay_seen seen old new conf output Spawner (inr d) whole fed quiet = absurd d.1
 dump_done bay_seen seen old new conf output Malformed (inl d) whole fed quiet = absurd d
 dump_done bay_seen seen old new conf output Malformed (inr d) whole fed quiet = absurd d.1
 dump_done bay_seen seen old new conf output ReadFault (inl d) whole fed quiet = absurd d
@@ -70,6 +77,8 @@ gen_done n output Done g quiet = inl refl
 gen_done n output NoMemory g quiet = inr refl
 gen_done n output WriteFault g quiet = absurd (quiet g.0)
 gen_done n output Usage g quiet = absurd g
+gen_done n output Listener g quiet = absurd g
+gen_done n output Spawner g quiet = absurd g
 gen_done n output Malformed g quiet = absurd g
 gen_done n output ReadFault g quiet = absurd g
 gen_done n output Damaged g quiet = absurd g
@@ -242,7 +251,7 @@ module _ {B D : Type 0} (bay_seen : B → BayView D) (seen : D → DiskView) (ol
 
     pub gen_does : Does
     gen_does = record {
-      ends = (status, is, inr (inr (inr (inr (n, found)))));
+      ends = (status, is, inr (inr (inr (inr (inl (n, found))))));
       loads = λ c s p. differ (Gen n) (Load c s) found p (λ e. omega (arith, e));
       usage = λ none. absurd (none (Gen n) found);
       counted = λ five. counted (not_five number status is five);
@@ -253,4 +262,24 @@ module _ {B D : Type 0} (bay_seen : B → BayView D) (seen : D → DiskView) (ol
       load_completes = λ c s name p. differ (Gen n) (Load c s) found p (λ e. omega (arith, e));
       dumps = λ c p. differ (Gen n) (DumpState c) found p (λ e. omega (arith, e));
       generates = λ m p. subst (λ (k : ℕ). Generates k (input.Same × (new ≡ old)) output number) (one_gen (texts words) n m found p) generated;
+    }
+
+  -- ---- serve
+
+  module _ (listen : Address) (serve : ServeWords) (found : AreServeWords (texts words) listen serve) (status : Status) (is : number ≡ status_number status)
+      (counted : status ≢ WriteFault → output.faults_after ≡ output.faults)
+      (others : (name : List ℕ) → (IsTaken serve.conf name → ⊥) → SameSlot bay_seen name old new) where
+    pub serve_does : Does
+    serve_does = record {
+      ends = (status, is, inr (inr (inr (inr (inr (listen, serve, found))))));
+      loads = λ c s p. differ (Serve listen serve) (Load c s) found p (λ e. omega (arith, e));
+      usage = λ none. absurd (none (Serve listen serve) found);
+      counted = λ n. counted (not_five number status is n);
+      sound = λ p. differ (Replay p.0 p.1) (Serve listen serve) p.2 found (λ e. omega (arith, e));
+      others = λ name none. others name (none (Serve listen serve) found);
+      load_runs = λ c s name p. differ (Serve listen serve) (Load c s) found p (λ e. omega (arith, e));
+      complete = λ c b p. differ (Replay c b) (Serve listen serve) p found (λ e. omega (arith, e));
+      load_completes = λ c s name p. differ (Serve listen serve) (Load c s) found p (λ e. omega (arith, e));
+      dumps = λ c p. differ (Serve listen serve) (DumpState c) found p (λ e. omega (arith, e));
+      generates = λ n p. differ (Serve listen serve) (Gen n) found p (λ e. omega (arith, e));
     }

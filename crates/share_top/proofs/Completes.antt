@@ -7,7 +7,7 @@ use Rattle.session_script.specs.Script.{IsScript}
 use Rattle.topic_conf.specs.Configs.{ConfigParts}
 use Rattle.broker_model.specs.Disks.{Disks}
 use Rattle.share_top.specs.declared.status.Status.{Status}
-use Rattle.share_top.specs.declared.status.Status.TheVariants.{Done, Usage, Malformed, ReadFault, WriteFault, Damaged, Device, NoMemory}
+use Rattle.share_top.specs.declared.status.Status.TheVariants.{Done, Usage, Malformed, ReadFault, WriteFault, Damaged, Device, NoMemory, Listener, Spawner}
 use Rattle.share_top.specs.Changes.{InputChange, OutputChange}
 use Rattle.share_top.specs.Sessions.{Ending, IsSession, OfBay, OverBay, HoldsStates, CountRose}
 use Rattle.share_top.specs.Statuses.{DisksStay, IsPlayed, IsNotOpened, IsRefusedScript, IsReplay, status_number}
@@ -39,6 +39,10 @@ module _ (conf : ConfigParts) (summary : Bool) (input : InputChange) (output : O
   completes number Done is e whole fed read write = always input.left _ (λ text events s. inl is)
   completes number Usage is (inl e) whole fed read write = absurd e
   completes number Usage is (inr e) whole fed read write = absurd e.2
+  completes number Listener is (inl e) whole fed read write = absurd e
+  completes number Listener is (inr e) whole fed read write = absurd e.2
+  completes number Spawner is (inl e) whole fed read write = absurd e
+  completes number Spawner is (inr e) whole fed read write = absurd e.2
   completes number Malformed is (inl e) whole fed read write = none_refused _ number e
   completes number Malformed is (inr e) whole fed read write = absurd e.2
   completes number ReadFault is (inl e) whole fed read write = absurd (read e.0)
@@ -60,6 +64,8 @@ module _ (conf : ConfigParts) (summary : Bool) (input : InputChange) (output : O
 pub not_seven : (status : Status) → status ≢ Device → status_number status ≢ 7
 not_seven Done not is = absurd cc
 not_seven Usage not is = absurd cc
+not_seven Listener not is = absurd cc
+not_seven Spawner not is = absurd cc
 not_seven Malformed not is = absurd cc
 not_seven ReadFault not is = absurd cc
 not_seven WriteFault not is = absurd cc

@@ -17,7 +17,7 @@ use Rattle.topic_conf.specs.declared.topic.Topic.{Topic}
 use Rattle.topic_conf.specs.Topics.{IsTopic, partitions}
 use Rattle.topic_conf.proofs.Lists.{partitions_cons, all_front, all_others}
 use Rattle.share_top.specs.declared.status.Status.{Status}
-use Rattle.share_top.specs.declared.status.Status.TheVariants.{Done, Usage, Malformed, ReadFault, WriteFault, Damaged, Device, NoMemory}
+use Rattle.share_top.specs.declared.status.Status.TheVariants.{Done, Usage, Malformed, ReadFault, WriteFault, Damaged, Device, NoMemory, Listener, Spawner}
 use Rattle.share_top.specs.Changes.{InputChange, OutputChange}
 use Rattle.share_top.specs.Sessions.{WritesFrontOf}
 use Rattle.share_top.specs.Loading.{LoadEnding, IsWhole, IsRefusedSegment, IsBegunSegment, WithLine, WithPlace, IsLoaded, IsNotLoaded, IsLogDisk, OverDisk, IsStored, StoresIn, StaysIn, DamagesIn, DiskCountRose, FailsWithMemory}
@@ -84,6 +84,8 @@ module _ (input : InputChange) (output : OutputChange) (E F : LoadEnding) (R S :
   pub weakens : (status : Status) → IsLoaded input output E R status → IsLoaded input output F S status
   weakens Done w = whole (Appends output.held output.held_after) w
   weakens Usage w = w
+  weakens Listener w = w
+  weakens Spawner w = w
   weakens Malformed w = refused (Appends output.held output.held_after) w
   weakens ReadFault w = (
     w.0,
@@ -198,6 +200,8 @@ module _ (output : OutputChange) (name : List ℕ) (fault : OpenFault) (Damages 
   pub not_loaded : (status : Status) → told ≡ status → IsLogRefusal name fault output status → IsNotLoaded output name Damages Rises status
   not_loaded Done is r = r
   not_loaded Usage is r = r
+  not_loaded Listener is r = r
+  not_loaded Spawner is r = r
   not_loaded Malformed is r = r
   not_loaded ReadFault is r = r
   not_loaded WriteFault is r = (r.0, (r.1.0, damaged r.1.0 r.1.1, r.1.2))

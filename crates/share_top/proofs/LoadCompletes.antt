@@ -12,7 +12,7 @@ use Rattle.part_log.proofs.Frames.{bounds, only_by}
 use Rattle.part_log.proofs.FrameReads.{text_sound}
 use Rattle.part_log.proofs.Keeping.{logs_once}
 use Rattle.share_top.specs.declared.status.Status.{Status}
-use Rattle.share_top.specs.declared.status.Status.TheVariants.{Done, Usage, Malformed, ReadFault, WriteFault, Damaged, Device, NoMemory}
+use Rattle.share_top.specs.declared.status.Status.TheVariants.{Done, Usage, Malformed, ReadFault, WriteFault, Damaged, Device, NoMemory, Listener, Spawner}
 use Rattle.share_top.specs.Changes.{InputChange, OutputChange}
 use Rattle.share_top.specs.Segments.{IsSegment, IsRefused, HasNoBatch, HasOneReading, segment_of}
 use Rattle.share_top.specs.Loading.{IsLoad}
@@ -118,6 +118,10 @@ module _ {B D : Type 0} (bay_seen : B → BayView D) (seen : D → DiskView)
   completes number NoMemory is e read write = always input.left number (inr (inr is))
   completes number Usage is (inl e) read write = absurd e
   completes number Usage is (inr e) read write = absurd e.2
+  completes number Listener is (inl e) read write = absurd e
+  completes number Listener is (inr e) read write = absurd e.2
+  completes number Spawner is (inl e) read write = absurd e
+  completes number Spawner is (inr e) read write = absurd e.2
   completes number Malformed is (inl e) read write =
       let over = e.ends.0 d c told has in
       let same : e.log ≡ log = logs_once c e.log log over.4.before text in

@@ -8,18 +8,19 @@ use Rattle.edge_io.specs.Bays.{SameSlot}
 use Rattle.topic_conf.specs.Configs.{ConfigParts}
 use Rattle.broker_model.specs.Hosted.{IsTaken}
 use Rattle.share_top.specs.declared.words.Words.{Words}
-use Rattle.share_top.specs.declared.words.Words.TheVariants.{Replay, Load, DumpState, Gen}
+use Rattle.share_top.specs.declared.words.Words.TheVariants.{Replay, Load, DumpState, Gen, Serve}
 use Rattle.share_top.specs.Loading.{IsLogDisk}
 use Rattle.share_top.specs.Words.{AreWords, AreLoadWords, texts}
 use Rattle.edge_io.specs.Views.{DiskView, BayView}
 
--- the disk of this name is one of the command's: a replay and a dump have those of their broker, a load has that of one log, and a script
+-- the disk of this name is one of the command's: a replay, a dump and a server have those of their broker, a load has that of one log, and a script
 -- from a number needs none
 abbrev pub IsOfCommand : Words → List ℕ → Type 0
 IsOfCommand (Replay conf summary) name = IsTaken conf name
 IsOfCommand (Load conf shard) name = IsLogDisk conf.topics shard name
 IsOfCommand (DumpState conf) name = IsTaken conf name
 IsOfCommand (Gen n) name = ⊥
+IsOfCommand (Serve listen serve) name = IsTaken serve.conf name
 
 -- The disks that aren't those of the words' command are as they were.
 abbrev pub LeavesOthers : {B D : Type 0} → (B → BayView D) → List (String Global) → B → B → Type 0

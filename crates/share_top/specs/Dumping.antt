@@ -16,7 +16,7 @@ use Rattle.broker_model.specs.Machine.{Machine, Opening, StandsFor}
 use Rattle.broker_model.specs.Disks.{Disks}
 use Rattle.broker_core.specs.Restarts.{IsOpenedDisk}
 use Rattle.share_top.specs.declared.status.Status.{Status}
-use Rattle.share_top.specs.declared.status.Status.TheVariants.{Done, Usage, Malformed, ReadFault, WriteFault, Damaged, Device, NoMemory}
+use Rattle.share_top.specs.declared.status.Status.TheVariants.{Done, Usage, Malformed, ReadFault, WriteFault, Damaged, Device, NoMemory, Listener, Spawner}
 use Rattle.share_top.specs.Changes.{InputChange, OutputChange}
 use Rattle.share_top.specs.Sessions.{CountRose, HoldsStates, OfBay, OverBay, WritesFrontOf}
 use Rattle.share_top.specs.Statuses.{DisksStay, IsNotOpened, status_number}
@@ -60,6 +60,8 @@ IsWritten output Dumped WriteFault = Rose output.faults output.faults_after × D
 IsWritten output Dumped NoMemory = Dumped (λ text. WritesFrontOf text output)
 -- the others don't come
 IsWritten output Dumped Usage = ⊥
+IsWritten output Dumped Listener = ⊥
+IsWritten output Dumped Spawner = ⊥
 IsWritten output Dumped Malformed = ⊥
 IsWritten output Dumped ReadFault = ⊥
 IsWritten output Dumped Damaged = ⊥

@@ -5,7 +5,7 @@ use Rattle.std.specs.Io.KnownBytes.{Appends}
 use Rattle.edge_io.specs.Causes.{Rose}
 use Rattle.gen_load.specs.Scripts.{script_of}
 use Rattle.share_top.specs.declared.status.Status.{Status}
-use Rattle.share_top.specs.declared.status.Status.TheVariants.{Done, Usage, Malformed, ReadFault, WriteFault, Damaged, Device, NoMemory}
+use Rattle.share_top.specs.declared.status.Status.TheVariants.{Done, Usage, Malformed, ReadFault, WriteFault, Damaged, Device, NoMemory, Listener, Spawner}
 use Rattle.share_top.specs.Changes.{OutputChange}
 use Rattle.share_top.specs.Sessions.{WritesFrontOf}
 use Rattle.share_top.specs.Statuses.{status_number}
@@ -18,6 +18,8 @@ IsGenerated n output WriteFault = Rose output.faults output.faults_after × Writ
 IsGenerated n output NoMemory = WritesFrontOf (script_of n) output
 -- the others don't come
 IsGenerated n output Usage = ⊥
+IsGenerated n output Listener = ⊥
+IsGenerated n output Spawner = ⊥
 IsGenerated n output Malformed = ⊥
 IsGenerated n output ReadFault = ⊥
 IsGenerated n output Damaged = ⊥

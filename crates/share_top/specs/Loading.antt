@@ -18,7 +18,7 @@ use Rattle.session_script.specs.Output.{malformed_line, damaged_line}
 use Rattle.topic_conf.specs.declared.topic.Topic.{Topic}
 use Rattle.topic_conf.specs.Configs.{ConfigParts}
 use Rattle.share_top.specs.declared.status.Status.{Status}
-use Rattle.share_top.specs.declared.status.Status.TheVariants.{Done, Usage, Malformed, ReadFault, WriteFault, Damaged, Device, NoMemory}
+use Rattle.share_top.specs.declared.status.Status.TheVariants.{Done, Usage, Malformed, ReadFault, WriteFault, Damaged, Device, NoMemory, Listener, Spawner}
 use Rattle.share_top.specs.Changes.{InputChange, OutputChange}
 use Rattle.share_top.specs.Segments.{Begins, IsSegment, IsRefused, StandWhole, segment_of}
 use Rattle.share_top.specs.Sessions.{WritesFrontOf}
@@ -109,6 +109,8 @@ IsLoaded input output Ends Rises NoMemory = Keeps output.held output.held_after 
 -- the others don't come
 IsLoaded input output Ends Rises Damaged = ⊥
 IsLoaded input output Ends Rises Usage = ⊥
+IsLoaded input output Ends Rises Listener = ⊥
+IsLoaded input output Ends Rises Spawner = ⊥
 
 -- The log was not opened. `Damages` says of a place that the content of the disk isn't a log's, by this place.
 abbrev pub IsNotLoaded : OutputChange → List ℕ → (ℕ → Type 0) → Type 0 → Status → Type 0
@@ -122,6 +124,8 @@ IsNotLoaded output disk Damages Rises NoMemory = Keeps output.held output.held_a
 -- the others don't come
 IsNotLoaded output disk Damages Rises Done = ⊥
 IsNotLoaded output disk Damages Rises Usage = ⊥
+IsNotLoaded output disk Damages Rises Listener = ⊥
+IsNotLoaded output disk Damages Rises Spawner = ⊥
 IsNotLoaded output disk Damages Rises Malformed = ⊥
 IsNotLoaded output disk Damages Rises ReadFault = ⊥
 

@@ -109,5 +109,7 @@ IsLogRefusal disk fault output status.Device = (fault ≡ open_fault.Device) × 
 IsLogRefusal disk fault output status.NoMemory = KeepsText output.held output.held_after
 IsLogRefusal disk fault output status.Done = ⊥
 IsLogRefusal disk fault output status.Usage = ⊥
+IsLogRefusal disk fault output status.Listener = ⊥
+IsLogRefusal disk fault output status.Spawner = ⊥
 IsLogRefusal disk fault output status.Malformed = ⊥
 IsLogRefusal disk fault output status.ReadFault = ⊥

@@ -20,6 +20,10 @@ pub enum Status {
     Device = 7,
     /// No memory was found.
     NoMemory = 8,
+    /// The listener failed.
+    Listener = 9,
+    /// A job was refused: no thread could be started for it.
+    Spawner = 10,
 }
 
 impl Status {

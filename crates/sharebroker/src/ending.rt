@@ -1,6 +1,7 @@
 // What the program says on standard error, where it doesn't end with status 0.
 use crate::usage::usage_text;
 use edge_real::{FolderFault, ReaderSource, SystemFault, WriterSink};
+use share_top::Address;
 use std::io::{Read, Write};
 
 /// The status where the words are no command, and where one of them isn't UTF-8.
@@ -24,6 +25,12 @@ const DEVICE: u8 = 7;
 /// The status where no memory is found.
 pub const NO_MEMORY: u8 = 8;
 
+/// The status where the socket that listens failed.
+const LISTENER: u8 = 9;
+
+/// The status where no thread could be started.
+const SPAWNER: u8 = 10;
+
 /// What that status means of a script.
 pub const NO_SCRIPT: &str =
     "the input is no script; the last line of the output names its first fault";
@@ -32,12 +39,14 @@ pub const NO_SCRIPT: &str =
 pub const NO_SEGMENT: &str =
     "a batch of the input is refused; the last line of the output names its place, and those before it are stored";
 
-/// The last faults of the standard streams, and of the folder of disks, as the operating system told them.
+/// The last faults of the standard streams, of the folder of disks, and of the socket that listens at an address, as
+/// the operating system told them.
 #[derive(Drop)]
 pub struct Faults<'a> {
     input: Option<SystemFault>,
     output: Option<SystemFault>,
     folder: Option<FolderFault<'a>>,
+    listener: Option<(&'a Address, SystemFault)>,
 }
 
 impl<'a> Faults<'a> {
@@ -51,7 +60,17 @@ impl<'a> Faults<'a> {
             input: input.last_fault(),
             output: output.last_fault(),
             folder,
+            listener: None,
         }
+    }
+
+    /// The same with the last fault of the socket that listens at this address.
+    pub fn with_listener(self, listen: &'a Address, fault: Option<SystemFault>) -> Faults<'a> {
+        let listener = match fault {
+            Some(fault) => Some((listen, fault)),
+            None => None,
+        };
+        Faults { listener, ..self }
     }
 }
 
@@ -77,6 +96,17 @@ fn tell_device(rt: &HostRuntime, fault: Option<FolderFault<'_>>) {
     };
 }
 
+// A line on the socket that listens, and what the operating system said.
+fn tell_listener(rt: &HostRuntime, fault: Option<(&Address, SystemFault)>) {
+    let _ = match fault {
+        Some((listen, fault)) => {
+            let (host, port) = (listen.host.as_str(), listen.port);
+            eprintln!(rt; "sharebroker: {host}:{port}: {fault}")
+        }
+        None => eprintln!(rt; "sharebroker: no client can be accepted any more"),
+    };
+}
+
 // The usage text, behind a line.
 fn tell_usage(rt: &HostRuntime) {
     tell(rt, "bad words");
@@ -99,6 +129,8 @@ pub fn tell_status(rt: &HostRuntime, status: u8, malformed: &str, faults: Faults
         ),
         DEVICE => tell_device(rt, faults.folder),
         NO_MEMORY => tell(rt, "out of memory"),
+        LISTENER => tell_listener(rt, faults.listener),
+        SPAWNER => tell(rt, "the system started no further thread"),
         _ => {}
     }
     status

@@ -4,14 +4,19 @@
 ghost use Rattle.std.specs.Prelude.{◌≡◌, List, ℕ, false};
 ghost use Rattle.edge_mem.specs.Bays.{out_at};
 ghost use Rattle.edge_real.specs.Folders.{out_at as out_of_folder};
+ghost use Rattle.share_top.specs.Words.{AreOfServe};
 
 mod ending;
+mod files;
+mod notices;
+mod server;
 mod usage;
 
 use edge_mem::MemBay;
 use edge_real::{FolderBay, ReaderSource, SystemFolders, WriterSink};
 use ending::{Faults, NO_MEMORY, NO_SCRIPT, NO_SEGMENT, USAGE, tell_status};
-use share_top::{BayChoice, bay_choice, run};
+use server::serve_over_tcp;
+use share_top::{BayChoice, bay_choice, run_alone, serve_words};
 use std::env;
 use std::io::{ErrorKind, Read, Result, Write};
 use std::process::ExitCode;
@@ -48,23 +53,25 @@ fn folder_bay(rt: &HostRuntime, folder: String) -> FolderBay<SystemFolders<'_, H
     FolderBay::over(rt.alloc(), SystemFolders { rt }, folder)
 }
 
-// Does what the words say, tells what is to be told of the status, and gives it.
+// Does what the words say, which are none of a server, tells what is to be told of the status, and gives it.
 fn perform<R: Read, W: Write>(
     rt: &HostRuntime,
     words: &[String],
     input: &mut ReaderSource<R>,
     output: &mut WriterSink<W>,
-) -> u8 {
+) -> u8
+    requires { AreOfServe words.now → ⊥ }
+{
     let Some(folder) = folder_word(words) else {
         let mut bay = memory_bay(rt);
-        let status = run(rt, rt.alloc(), words, input, output, &mut bay);
+        let status = run_alone(rt.alloc(), words, input, output, &mut bay);
         return tell_status(rt, status, NO_SCRIPT, Faults::of(input, output, None));
     };
     let Ok(folder) = folder.clone() else {
         return tell_status(rt, NO_MEMORY, NO_SEGMENT, Faults::of(input, output, None));
     };
     let mut bay = folder_bay(rt, folder);
-    let status = run(rt, rt.alloc(), words, input, output, &mut bay);
+    let status = run_alone(rt.alloc(), words, input, output, &mut bay);
     tell_status(
         rt,
         status,
@@ -76,12 +83,37 @@ fn perform<R: Read, W: Write>(
 fn main(rt: HostRuntime) -> ExitCode {
     let mut input = ReaderSource::new(rt.stdin());
     let mut output = WriterSink::new(rt.stdout());
-    let status = match words(&rt) {
-        Ok(words) => perform(&rt, &words, &mut input, &mut output),
-        Err(error) if error.kind() == ErrorKind::OutOfMemory => {
-            tell_status(&rt, NO_MEMORY, NO_SCRIPT, Faults::of(&input, &output, None))
+    let words = match words(&rt) {
+        Ok(words) => words,
+        Err(error) => {
+            let status = if error.kind() == ErrorKind::OutOfMemory {
+                NO_MEMORY
+            } else {
+                USAGE
+            };
+            let faults = Faults::of(&input, &output, None);
+            return ExitCode::from(tell_status(&rt, status, NO_SCRIPT, faults));
         }
-        Err(_) => tell_status(&rt, USAGE, NO_SCRIPT, Faults::of(&input, &output, None)),
+    };
+    let status = match serve_words(rt.alloc(), &words) {
+        Ok(None) => perform(&rt, &words, &mut input, &mut output),
+        Ok(Some((listen, served))) => {
+            let folder = match folder_word(&words) {
+                Some(folder) => folder.as_str(),
+                None => "",
+            };
+            serve_over_tcp(
+                &rt,
+                &rt,
+                &words,
+                &listen,
+                &served,
+                folder,
+                &mut input,
+                &mut output,
+            )
+        }
+        Err(_) => tell_status(&rt, NO_MEMORY, NO_SCRIPT, Faults::of(&input, &output, None)),
     };
     ExitCode::from(status)
 }

@@ -8,6 +8,11 @@ const ABOUT_TOPICS: &str = "\
 A name has 1 to 249 ASCII letters, digits, '.', '_' and '-', and is neither '.' nor '..'. Names differ, and so do ids.
 There are at most 64 partitions in all. For example: orders:3:6ba7b810-9dad-11d1-80b4-00c04fd430c8";
 
+// What `serve` does.
+const ABOUT_SERVE: &str = "\
+Serves producers and share consumers over TCP until it is stopped, and keeps all that it answered in the folder. For example:
+sharebroker serve --dir data --listen localhost:9092 orders:3:6ba7b810-9dad-11d1-80b4-00c04fd430c8";
+
 // The topics, which stand last.
 fn topics<'a>(alloc: Global) -> Arg<'a> {
     Arg::new(alloc, "topics")
@@ -17,23 +22,35 @@ fn topics<'a>(alloc: Global) -> Arg<'a> {
         .help("A topic, as NAME:N:ID: its name, its number of partitions, and its id, a UUID")
 }
 
-// What `replay` takes.
-fn replay<'a>(alloc: Global) -> Result<Command<'a>, AllocError> {
-    let reset = Arg::new(alloc, "reset")
+// Where groups begin.
+fn reset<'a>(alloc: Global) -> Arg<'a> {
+    Arg::new(alloc, "reset")
         .long("reset")
         .value_name("latest|earliest")
         .default_value("latest")
-        .help("Where a group begins on a partition that it has not read before");
-    let lock_ms = Arg::new(alloc, "lock-ms")
+        .help("Where a group begins on a partition that it has not read before")
+}
+
+// How long locks stand.
+fn lock_ms<'a>(alloc: Global) -> Arg<'a> {
+    Arg::new(alloc, "lock-ms")
         .long("lock-ms")
         .value_name("N")
         .default_value("30000")
-        .help("How long a record stays locked, 1 to 3600000 milliseconds");
-    let limit = Arg::new(alloc, "limit")
+        .help("How long a record stays locked, 1 to 3600000 milliseconds")
+}
+
+// How often a record is delivered.
+fn limit<'a>(alloc: Global) -> Arg<'a> {
+    Arg::new(alloc, "limit")
         .long("limit")
         .value_name("N")
         .default_value("5")
-        .help("How often a record is delivered at most, 2 to 10");
+        .help("How often a record is delivered at most, 2 to 10")
+}
+
+// What `replay` takes.
+fn replay<'a>(alloc: Global) -> Result<Command<'a>, AllocError> {
     let output = Arg::new(alloc, "output")
         .long("output")
         .value_name("lines|summary")
@@ -45,9 +62,9 @@ fn replay<'a>(alloc: Global) -> Result<Command<'a>, AllocError> {
             "Replays a recorded session from standard input, and writes its outcomes to standard output",
         )
         .disable_help_flag(true)
-        .arg(reset)?
-        .arg(lock_ms)?
-        .arg(limit)?
+        .arg(reset(alloc))?
+        .arg(lock_ms(alloc))?
+        .arg(limit(alloc))?
         .arg(output)?
         .arg(topics(alloc))
 }
@@ -90,7 +107,6 @@ fn dump_state<'a>(alloc: Global) -> Result<Command<'a>, AllocError> {
         .about(
             "Writes the stored tables of share groups, and the states of partitions that aren't hosted",
         )
-        .after_help(ABOUT_TOPICS)
         .disable_help_flag(true)
         .arg(folder(alloc))?
         .arg(topics(alloc))
@@ -109,11 +125,51 @@ fn generate<'a>(alloc: Global) -> Result<Command<'a>, AllocError> {
         .arg(rounds)
 }
 
+// What `serve` takes.
+fn serve<'a>(alloc: Global) -> Result<Command<'a>, AllocError> {
+    let listen = Arg::new(alloc, "listen")
+        .long("listen")
+        .value_name("HOST:PORT")
+        .required(true)
+        .help("The address to listen at; with the port 0 the system chooses one");
+    let advertise = Arg::new(alloc, "advertise")
+        .long("advertise")
+        .value_name("HOST:PORT")
+        .help(
+            "The address that clients are told, which is else that of --listen; the port 0 needs it",
+        );
+    let workers = Arg::new(alloc, "workers")
+        .long("workers")
+        .value_name("N")
+        .default_value("16")
+        .help("How many connections are served at a time, 1 to 256; others wait");
+    let accept = Arg::new(alloc, "accept")
+        .long("accept")
+        .value_name("N")
+        .default_value("4294967295")
+        .help("After how many connections it ends, 1 to 4294967295");
+    Command::new(alloc, "serve")
+        .bin_name("sharebroker serve")?
+        .about(ABOUT_SERVE)
+        .after_help(ABOUT_TOPICS)
+        .disable_help_flag(true)
+        .arg(folder(alloc))?
+        .arg(listen)?
+        .arg(advertise)?
+        .arg(reset(alloc))?
+        .arg(lock_ms(alloc))?
+        .arg(limit(alloc))?
+        .arg(workers)?
+        .arg(accept)?
+        .arg(topics(alloc))
+}
+
 /// The usage text: each command with its options and the words behind them.
 pub fn usage_text(alloc: Global) -> Result<String, AllocError> {
     let replay = replay(alloc)?.render_help()?;
     let load = load(alloc)?.render_help()?;
     let generate = generate(alloc)?.render_help()?;
     let dump_state = dump_state(alloc)?.render_help()?;
-    Ok(format!(in alloc; "{replay}\n{load}\n{generate}\n{dump_state}")?)
+    let serve = serve(alloc)?.render_help()?;
+    Ok(format!(in alloc; "{replay}\n{load}\n{generate}\n{dump_state}\n{serve}")?)
 }

@@ -1,6 +1,8 @@
 use Rattle.std.proofs.Common.{subst}
 use Rattle.broker_run.specs.Closing.{Closes}
 use Rattle.broker_run.specs.Shared.{SharedParts}
+use Rattle.broker_run.proofs.Openings.{no_memory_found}
+use Rattle.broker_run.proofs.Servers.{serves, told_on}
 use Rattle.broker_run.proofs.Whole.{hosts_all, whole_of}
 use Rattle.broker_run.proofs.server.serve.Goals as goal
 
@@ -10,13 +12,12 @@ serve_links-requires-clause-hosts g c κs within =
 
 pub returns-clause-serves : goal.returns-clause-serves
 returns-clause-serves g c = (
-  record {
-    shared = c.in-Ok.opened.0;
-    configured = c.in-Ok.ensures.opens.0;
-    opened = c.open_shared.new.bay;
-    opens = c.in-Ok.ensures.opens.1;
-    closes = subst (λ (s : SharedParts g.row.D.Denot). Closes g.B.Bay.seen g.D.Disk.seen s c.open_shared.new.bay c.close_shared.new.bay)
-        c.in-Some.ensures.shared c.close_shared.ensures;
-  },
+  serves g.B.Bay.seen g.D.Disk.seen c.args.conf c.args.bay.now c.open_shared.new.bay c.close_shared.new.bay c.in-Ok.opened.0 c.in-Ok.ensures.opens.0
+      c.in-Ok.ensures.opens.1 (subst (λ (s : SharedParts g.row.D.Denot). Closes g.B.Bay.seen g.D.Disk.seen s c.open_shared.new.bay c.close_shared.new.bay)
+      c.in-Some.ensures.shared c.close_shared.ensures),
   c.in-Some.ensures.end,
 )
+
+pub returns-clause-told : goal.returns-clause-told
+returns-clause-told g c = told_on g.B.Bay.seen c.args.bay.now c.open_shared.new.bay c.close_shared.new.bay c.open_shared.ensures.told
+    c.close_shared.ensures.put.told
