@@ -1,0 +1,447 @@
+#!/usr/bin/env python3
+"""Runs the built program as a server, over real sockets of the loopback and a folder of its own, and kills it.
+
+    .ci/serve.py [TEST..]
+
+The clients are connections of the Python client, one request at a time. SHAREBROKER names another program than the one
+in crates/sharebroker/out. Each test is bounded in count, and each wait in time.
+"""
+
+import os
+import re
+import resource
+import shutil
+import signal
+import socket
+import struct
+import subprocess
+import sys
+import tempfile
+import threading
+import time
+import unittest
+from uuid import UUID
+
+TOP = os.path.dirname(os.path.dirname(os.path.abspath(__file__)))
+sys.path.insert(0, os.path.join(TOP, "clients", "python"))
+
+from sharebroker.batches import MAX_BATCH_BYTES, BatchBuilder, read_batches  # noqa: E402
+from sharebroker.connection import Connection, check_versions  # noqa: E402
+from sharebroker.errors import ConnectionLost, NotSent, Unreachable  # noqa: E402
+from sharebroker.messages import PRODUCE, ProducePartition, ProduceRequest, ProduceTopic  # noqa: E402
+from sharebroker.share_messages import SHARE_ACKNOWLEDGE, SHARE_FETCH, AcknowledgementBatch  # noqa: E402
+from sharebroker.share_messages import AskedPartition, AskedTopic  # noqa: E402
+from sharebroker.share_messages import ShareAcknowledgeRequest, ShareFetchRequest  # noqa: E402
+
+PROGRAM = os.environ.get("SHAREBROKER", os.path.join(TOP, "crates", "sharebroker", "out", "sharebroker"))
+ORDERS = UUID("22222222-2222-2222-2222-222222222222")
+
+#: How long anything is waited for, in seconds.
+PATIENCE = 15
+
+LISTENING = re.compile(r"sharebroker: listening on 127\.0\.0\.1:(\d+), (\d+) partitions?, (\d+) workers?$")
+
+
+def within(holds, what):
+    """Waits until something holds."""
+    end = time.monotonic() + PATIENCE
+    while not holds():
+        if time.monotonic() > end:
+            raise AssertionError(f"{what}: not within {PATIENCE} s")
+        time.sleep(0.002)
+
+
+class Server:
+    """The program as a server over a folder. Its lines on standard error are kept as they come."""
+
+    def __init__(self, folder, *words, partitions=1, port=0):
+        self.lines = []
+        self.words = [PROGRAM, "serve", "--dir", folder, "--listen", f"127.0.0.1:{port}", "--advertise",
+                      "localhost:9092", "--reset", "earliest", *words, f"orders:{partitions}:{ORDERS}"]
+        self.process = subprocess.Popen(self.words, stdin=subprocess.DEVNULL, stdout=subprocess.PIPE,
+                                        stderr=subprocess.PIPE, text=True)
+        self._reader = threading.Thread(target=self._read, daemon=True)
+        self._reader.start()
+
+    def _read(self):
+        for line in self.process.stderr:
+            self.lines.append(line.rstrip("\n"))
+
+    def _found(self):
+        for line in self.lines:
+            found = LISTENING.match(line)
+            if found:
+                return found
+        if self.process.poll() is not None:
+            self._reader.join(PATIENCE)
+            raise AssertionError(f"{' '.join(self.words)}: status {self.process.returncode}: {self.lines}")
+        return None
+
+    def listening(self):
+        """Waits for the line that tells the port, and gives its numbers: port, partitions, workers."""
+        within(self._found, "the line 'listening'")
+        self.port, partitions, workers = map(int, self._found().groups())
+        return self.port, partitions, workers
+
+    def ended(self):
+        """Waits for the end, and gives the status and the lines."""
+        status = self.process.wait(PATIENCE)
+        self._reader.join(PATIENCE)
+        return status, self.lines
+
+    def kill(self):
+        """Ends it as a crash of the process does."""
+        self.process.kill()
+        self.process.wait(PATIENCE)
+
+    def close(self):
+        self.kill()
+        self._reader.join(PATIENCE)
+        self.process.stdout.close()
+        self.process.stderr.close()
+
+
+class Member:
+    """A connection by which a producer stores records, and a member of the group `g` fetches and acknowledges."""
+
+    def __init__(self, port, name="a"):
+        self.name = name
+        self.epoch = 0
+        self.connection = Connection(("127.0.0.1", port), "ci", PATIENCE * 1000)
+
+    def produce(self, *values, partition=0):
+        """Stores the values as one batch: its code and its first offset."""
+        batch = BatchBuilder()
+        for value in values:
+            batch.add(0, None, value, (), MAX_BATCH_BYTES)
+        data = [ProduceTopic("orders", [ProducePartition(partition, batch.build())])]
+        reply = self.connection.call(PRODUCE, ProduceRequest(None, -1, 30000, data))
+        told = reply.responses[0].partition_responses[0]
+        return told.error_code, told.base_offset
+
+    def fetch(self, most=500, partition=0):
+        """Acquires at most so many records: a list of offset, value and delivery count."""
+        asked = [AskedTopic(ORDERS, [AskedPartition(partition, [])])] if self.epoch == 0 else []
+        request = ShareFetchRequest("g", self.name, self.epoch, 0, 1, 1 << 20, most, most, asked, [])
+        reply = self.connection.call(SHARE_FETCH, request)
+        assert reply.error_code == 0, reply
+        self.epoch += 1
+        records = []
+        for topic in reply.responses:
+            for part in topic.partitions:
+                assert part.error_code == 0, part
+                counts = {}
+                for run in part.acquired_records:
+                    for offset in range(run.first_offset, run.last_offset + 1):
+                        counts[offset] = run.delivery_count
+                records += [(record.offset, record.value, counts[record.offset])
+                            for record in read_batches(part.records or b"") if record.offset in counts]
+        return records
+
+    def acknowledge(self, first, last, kind=1, partition=0):
+        """Acknowledges the offsets, 1 to accept: the code."""
+        batches = [AcknowledgementBatch(first, last, [kind])]
+        asked = [AskedTopic(ORDERS, [AskedPartition(partition, batches)])]
+        reply = self.connection.call(SHARE_ACKNOWLEDGE, ShareAcknowledgeRequest("g", self.name, self.epoch, asked))
+        assert reply.error_code == 0, reply
+        self.epoch += 1
+        return reply.responses[0].partitions[0].error_code
+
+    def vanish(self):
+        """Breaks the connection off, without the end of the stream, and gives its address."""
+        raw = self.connection._socket
+        host, port = raw.getsockname()
+        raw.setsockopt(socket.SOL_SOCKET, socket.SO_LINGER, struct.pack("ii", 1, 0))
+        raw.close()
+        return f"{host}:{port}"
+
+    def close(self):
+        self.connection.close()
+
+
+class ServeCase(unittest.TestCase):
+    """Tests over a folder of their own. Whatever they start is ended behind them."""
+
+    def setUp(self):
+        self.folder = tempfile.mkdtemp()
+        self.addCleanup(shutil.rmtree, self.folder)
+
+    def server(self, *words, **settings):
+        server = self.unheard(*words, **settings)
+        server.listening()
+        return server
+
+    def unheard(self, *words, folder=None, **settings):
+        server = Server(folder or os.path.join(self.folder, "data"), *words, **settings)
+        self.addCleanup(server.close)
+        return server
+
+    def member(self, server, name="a"):
+        member = Member(server.port, name)
+        self.addCleanup(member.close)
+        return member
+
+    def raw(self, server):
+        """A bare socket."""
+        stream = socket.create_connection(("127.0.0.1", server.port), PATIENCE)
+        self.addCleanup(stream.close)
+        return stream
+
+    def dumped(self, partitions=1):
+        """What `dump-state` tells of the folder."""
+        words = [PROGRAM, "dump-state", "--dir", os.path.join(self.folder, "data"), f"orders:{partitions}:{ORDERS}"]
+        done = subprocess.run(words, stdin=subprocess.DEVNULL, capture_output=True, text=True, timeout=PATIENCE)
+        self.assertEqual((done.returncode, done.stderr), (0, ""))
+        return done.stdout.splitlines()
+
+    def test_the_line_that_tells_the_port(self):
+        server = self.server("--workers", "3", partitions=2)
+        self.assertEqual(server.listening()[1:], (2, 3))
+
+    def test_produce_fetch_and_acknowledge(self):
+        server = self.server()
+        member = self.member(server)
+        check_versions(member.connection)
+        self.assertEqual(member.produce(b"a", b"b", b"c"), (0, 0))
+        self.assertEqual(member.produce(b"d"), (0, 3))
+        self.assertEqual(member.fetch(), [(0, b"a", 1), (1, b"b", 1), (2, b"c", 1), (3, b"d", 1)])
+        self.assertEqual(member.acknowledge(0, 1), 0)
+        self.assertEqual(member.acknowledge(2, 2, kind=2), 0)
+        self.assertEqual(member.acknowledge(0, 0), 121)
+        self.assertEqual(member.fetch(), [(2, b"c", 2)])
+
+    def test_two_clients_beside_each_other(self):
+        server = self.server()
+        members = [self.member(server, name) for name in ("a", "b")]
+        stored, taken = [], []
+
+        def work(member):
+            for number in range(20):
+                value = b"%s%d" % (member.name.encode(), number)
+                code, offset = member.produce(value)
+                stored.append((code, offset, value))
+            for _ in range(200):
+                for offset, value, count in member.fetch(3):
+                    taken.append((member.acknowledge(offset, offset), offset, value, count))
+                if len(taken) == 40:
+                    return
+
+        threads = [threading.Thread(target=work, args=(member,)) for member in members]
+        for thread in threads:
+            thread.start()
+        for thread in threads:
+            thread.join(PATIENCE)
+        self.assertEqual(sorted(offset for _, offset, _ in stored), list(range(40)))
+        self.assertEqual(sorted(taken), sorted((code, offset, value, 1) for code, offset, value in stored))
+
+    def test_a_client_that_vanishes_gives_its_records_back(self):
+        server = self.server()
+        gone, other = self.member(server, "a"), self.member(server, "b")
+        gone.produce(b"a", b"b", b"c")
+        self.assertEqual(len(gone.fetch()), 3)
+        self.assertEqual(other.fetch(), [])
+        address = gone.vanish()
+        got = []
+        within(lambda: got.extend(other.fetch()) or got, "the records of the client that vanished")
+        self.assertEqual(got, [(0, b"a", 2), (1, b"b", 2), (2, b"c", 2)])
+        within(lambda: len(server.lines) > 1, "the line of the client that vanished")
+        self.assertEqual(server.lines[1:], [f"sharebroker: {address}: read: Connection reset by peer (os error 104)"])
+
+    def stream(self, server, name, answered):
+        """Produces values and accepts what it fetches, until the server is gone. What was answered is noted."""
+        member = self.member(server, name)
+        try:
+            for number in range(100000):
+                value = b"%s%d" % (name.encode(), number)
+                code, offset = member.produce(value)
+                answered["stored"].append((code, offset, value))
+                for offset, value, _ in member.fetch(2):
+                    answered["asked"].append((offset, value))
+                    code = member.acknowledge(offset, offset)
+                    answered["accepted"].append((code, offset, value))
+        except (ConnectionLost, NotSent, Unreachable):
+            answered["lost"].append(name)
+
+    def killed_within_a_stream(self, seconds):
+        """Runs two such streams, kills the server, starts it again, and gives what was answered and what is left."""
+        server = self.server()
+        answered = {"stored": [], "asked": [], "accepted": [], "lost": []}
+        names = ["a", "b"]
+        threads = [threading.Thread(target=self.stream, args=(server, name, answered)) for name in names]
+        for thread in threads:
+            thread.start()
+        within(lambda: len(answered["accepted"]) > 5, "five acknowledgements")
+        time.sleep(seconds)
+        server.kill()
+        for thread in threads:
+            thread.join(PATIENCE)
+        self.assertEqual(sorted(answered["lost"]), names)
+        left, member = [], self.member(self.server(), "c")
+        for _ in range(1000):
+            got = member.fetch()
+            left += got
+            if not got:
+                return answered, left
+        self.fail("it fetches for ever")
+
+    def test_what_was_answered_is_there_after_kill_9(self):
+        for seconds in (0.0, 0.05, 0.11):
+            with self.subTest(seconds=seconds):
+                self.folder = tempfile.mkdtemp(dir=self.folder)
+                answered, left = self.killed_within_a_stream(seconds)
+                self.assertEqual({code for code, _, _ in answered["stored"] + answered["accepted"]}, {0})
+                there = {offset: value for offset, value, _ in left}
+                accepted = {offset for _, offset, _ in answered["accepted"]}
+                asked = {offset for offset, _ in answered["asked"]}
+                for _, offset, value in answered["stored"]:
+                    if offset in accepted:
+                        self.assertNotIn(offset, there)
+                    elif offset not in asked:
+                        self.assertEqual(there.get(offset), value)
+                    else:
+                        # It was asked and not answered: it is accepted, or it is there.
+                        self.assertIn(there.get(offset), (None, value))
+                # Each of the two may have stored one batch that wasn't answered.
+                unanswered = set(there) - {offset for _, offset, _ in answered["stored"]}
+                self.assertLessEqual(len(unanswered), 2)
+
+    def test_a_second_program_on_the_folder(self):
+        self.server()
+        status, lines = self.unheard().ended()
+        self.assertEqual(status, 7)
+        lock = os.path.join(self.folder, "data", "lock~")
+        self.assertEqual(lines, [f"sharebroker: {lock}: lock: operation would block "
+                                 "(another program has this folder open)"])
+
+    def test_a_port_in_use(self):
+        port = self.server().port
+        status, lines = self.unheard(folder=os.path.join(self.folder, "other"), port=port).ended()
+        self.assertEqual(status, 9)
+        self.assertEqual(len(lines), 1)
+        self.assertIn("Address already in use (os error 98)", lines[0])
+
+    def test_garbage_ends_its_connection_alone(self):
+        server = self.server()
+        good, bad = self.member(server), self.raw(server)
+        self.assertEqual(good.produce(b"a"), (0, 0))
+        for byte in bytes.fromhex("0000000b0001000400000001ffff00"):
+            bad.sendall(bytes([byte]))
+            time.sleep(0.001)
+        self.assertEqual(bad.recv(1), b"")
+        self.assertEqual(good.produce(b"b"), (0, 1))
+        endless = self.raw(server)
+        endless.sendall(bytes.fromhex("7fffffff"))
+        self.assertEqual(endless.recv(1), b"")
+        self.assertEqual(len(good.fetch()), 2)
+
+    def test_two_hundred_connections(self):
+        server = self.server("--workers", "64")
+        asked = bytes.fromhex("0000000e" "0012" "0003" "00000002" "ffff" "00" "01" "01" "00")
+        failures = []
+
+        def one():
+            try:
+                with socket.create_connection(("127.0.0.1", server.port), PATIENCE) as stream:
+                    stream.sendall(asked)
+                    reply = b""
+                    while len(reply) < 93:
+                        piece = stream.recv(4096)
+                        if not piece:
+                            break
+                        reply += piece
+                    if reply[:10].hex() != "00000059000000020000":
+                        failures.append(reply.hex())
+            except OSError as fault:
+                failures.append(str(fault))
+
+        threads = [threading.Thread(target=one) for _ in range(200)]
+        for thread in threads:
+            thread.start()
+        for thread in threads:
+            thread.join(PATIENCE)
+        self.assertEqual(failures, [])
+
+    def test_a_server_that_accepts_three_links(self):
+        server = self.server("--accept", "3", "--workers", "2")
+        first = self.member(server)
+        self.assertEqual(first.produce(b"a", b"b", b"c"), (0, 0))
+        self.assertEqual(len(first.fetch()), 3)
+        self.assertEqual(first.acknowledge(0, 1), 0)
+        first.close()
+        for name in ("b", "c"):
+            member = self.member(server, name)
+            check_versions(member.connection)
+            member.close()
+        status, lines = server.ended()
+        self.assertEqual((status, len(lines)), (0, 1), lines)
+        self.assertEqual(self.dumped(), ["table 67 orders/0 start 2", "run 2 2 available 1", "end"])
+        again = self.member(self.server())
+        self.assertEqual(again.fetch(), [(2, b"c", 2)])
+        self.assertEqual(again.produce(b"d"), (0, 3))
+
+    def test_a_frame_that_wants_more_memory_than_there_is(self):
+        server = self.server("--workers", "4")
+        good = self.member(server)
+        self.assertEqual(good.produce(b"0"), (0, 0))
+        most = size_of(server.process.pid) + (160 << 20)
+        resource.prlimit(server.process.pid, resource.RLIMIT_AS, (most, most))
+        answers, over = [], threading.Event()
+
+        def ask():
+            while not over.is_set():
+                answers.append(good.produce(b"%d" % (len(answers) + 1)))
+
+        asks = threading.Thread(target=ask)
+        asks.start()
+        try:
+            for frame in (sixteen_million_groups(), two_million_partitions()):
+                bad = self.raw(server)
+                bad.sendall(frame)
+                self.assertEqual(bad.recv(1), b"")
+        finally:
+            over.set()
+            asks.join(PATIENCE)
+        self.assertFalse(asks.is_alive())
+        answers.append(good.produce(b"last"))
+        self.assertEqual(answers, [(0, number + 1) for number in range(len(answers))])
+        self.assertEqual(self.member(server, "b").fetch(1), [(0, b"0", 1)])
+
+
+def size_of(process):
+    """How many bytes of addresses a process has."""
+    with open(f"/proc/{process}/statm", encoding="ascii") as told:
+        return int(told.read().split()[0]) * resource.getpagesize()
+
+
+def uvarint(value):
+    """A number in groups of seven bits, the low ones first."""
+    groups = []
+    while value > 127:
+        groups.append(value & 127 | 128)
+        value >>= 7
+    return bytes(groups + [value])
+
+
+def framed(*pieces):
+    body = b"".join(pieces)
+    return struct.pack(">I", len(body)) + body
+
+
+def sixteen_million_groups():
+    """FindCoordinator of 16 million groups whose names are empty."""
+    count = 16_000_000
+    return framed(bytes.fromhex("000a000400000001ffff00" "00"), uvarint(count + 1), b"\1" * count, b"\0")
+
+
+def two_million_partitions():
+    """ShareFetch, epoch 0, of 2 million partitions of a topic that isn't hosted."""
+    count = 2_000_000
+    head = bytes.fromhex("004e000100000001ffff00" "0267" "0261" "00000000"
+                         "00000000" "00000001" "00100000" "000001f4" "000001f4" "02")
+    parts = b"".join(struct.pack(">iBB", number, 1, 0) for number in range(count))
+    return framed(head, bytes([0x99] * 16), uvarint(count + 1), parts, b"\0", b"\1", b"\0")
+
+
+if __name__ == "__main__":
+    signal.signal(signal.SIGTERM, lambda *_: sys.exit("it takes too long"))
+    unittest.main()
