@@ -37,7 +37,7 @@ PROGRAM = os.environ.get("SHAREBROKER", os.path.join(TOP, "crates", "sharebroker
 ORDERS = UUID("22222222-2222-2222-2222-222222222222")
 
 #: How long anything is waited for, in seconds.
-PATIENCE = 15
+PATIENCE = 60
 
 LISTENING = re.compile(r"sharebroker: listening on 127\.0\.0\.1:(\d+), (\d+) partitions?, (\d+) workers?$")
 

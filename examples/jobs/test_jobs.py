@@ -38,7 +38,7 @@ class Jobs(unittest.TestCase):
     def lines(self, script, *words, status=0):
         """Runs a script to its end, and gives what it printed, without the worker's name."""
         process = self.begin(script, *words)
-        printed, _ = process.communicate(timeout=20)
+        printed, _ = process.communicate(timeout=60)
         self.assertEqual(status, process.returncode)
         return [line.split(": ", 1)[-1] for line in printed.splitlines()]
 
@@ -63,7 +63,7 @@ class Jobs(unittest.TestCase):
         self.assertEqual(["job 1, delivery 2: 60 / 2 = 30"], self.lines("worker.py", "emil"))
         hanging.send_signal(signal.SIGCONT)
         self.assertEqual("dora: job 1, delivery 1: 60 / 2 = 30\ndora: too late, the lock on job 1 had ended\n",
-                         hanging.communicate(timeout=20)[0])
+                         hanging.communicate(timeout=60)[0])
         # The job that nobody can do is archived at its third delivery, and the next one is done.
         self.assertEqual([f"job 2, delivery {count}: 60 / 0 failed: integer division or modulo by zero"
                           for count in (1, 2, 3)] + ["job 3, delivery 1: 60 / 3 = 20"],

@@ -12,7 +12,7 @@ from context import PROGRAM
 #: How often another port is tried where the one that was free is taken meanwhile.
 TRIES = 5
 #: How long the broker may take to listen, in seconds.
-PATIENCE = 20
+PATIENCE = 60
 #: Where its folders are: in memory, where that is to be had, as nothing here is about the speed of a disk.
 PLACE = "/dev/shm" if os.access("/dev/shm", os.W_OK) else None
 

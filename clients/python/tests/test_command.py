@@ -16,7 +16,7 @@ class Commands(BrokerCase):
         paths = {**os.environ, "PYTHONPATH": os.path.dirname(context.HERE)}
         name, *others = words
         done = subprocess.run([sys.executable, "-m", "sharebroker", name, "--bootstrap-server", self.servers, *others],
-                              input=given, capture_output=True, env=paths, timeout=30, check=False)
+                              input=given, capture_output=True, env=paths, timeout=60, check=False)
         return done.returncode, done.stdout.decode(), done.stderr.decode()
 
     def test_produce_consume_and_state(self):
