@@ -5,7 +5,7 @@ use Rattle.share_top.proofs.Servers.{is_none_out, none_is_out, not_damaged, not_
 use Rattle.share_top.proofs.serve.serve.Goals as goal
 
 pub serve-requires-clause-out : goal.serve-requires-clause-out
-serve-requires-clause-out g c = is_none_out g.B.Bay.seen c.args.bay.now c.requires.home
+serve-requires-clause-out g c κs within = is_none_out g.B.Bay.seen c.args.bay.now c.requires.home
 
 pub returns-in-Refused-clause-serve : goal.returns-in-Refused-clause-serve
 returns-in-Refused-clause-serve g c =
