@@ -9,10 +9,12 @@ use std::collections::VecDeque;
 use std::mem;
 use std::sync::{Condvar, Mutex, Wait};
 
-/// What lies under the lock: links that wait for a worker, whether the end was told, and the passes that came back.
+/// What lies under the lock: links that wait for a worker, whether no more come, whether the end was told, and the
+/// passes that came back.
 #[derive(Drop)]
 struct Papers<K, D: Disk, B: Naming<D>> {
     links: VecDeque<(u32, K)>,
+    served: bool,
     ended: bool,
     home: Vec<Handed<D, B>>,
 }
@@ -35,6 +37,7 @@ impl<K, D: Disk, B: Naming<D>> Desk<K, D, B> {
         let home = Vec::with_capacity(alloc, seats)?;
         let papers = Papers {
             links: VecDeque::new(alloc),
+            served: false,
             ended: false,
             home,
         };
@@ -44,10 +47,10 @@ impl<K, D: Disk, B: Naming<D>> Desk<K, D, B> {
         })
     }
 
-    /// The next link, for which it waits. None: the end was told, and no link is left.
+    /// The next link, for which it waits. None: no more come, and no link is left.
     pub fn next<R: Wait>(&self, rt: &R) -> Option<(u32, K)> {
         let mut papers = self.moved.wait_while(rt, self.papers.lock(rt), |papers| {
-            papers.links.is_empty() && !papers.ended
+            papers.links.is_empty() && !papers.served
         });
         papers.links.pop_front()
     }
@@ -63,9 +66,17 @@ impl<K, D: Disk, B: Naming<D>> Desk<K, D, B> {
         Ok(())
     }
 
+    /// Tells the workers that no more links come.
+    pub fn finish<R: Wait>(&self, rt: &R) {
+        let mut papers = self.papers.lock(rt);
+        papers.served = true;
+        self.moved.notify_all();
+    }
+
     /// Tells all jobs the end.
     pub fn end<R: Wait>(&self, rt: &R) {
         let mut papers = self.papers.lock(rt);
+        papers.served = true;
         papers.ended = true;
         self.moved.notify_all();
     }
@@ -88,6 +99,13 @@ impl<K, D: Disk, B: Naming<D>> Desk<K, D, B> {
             papers.home.push_reserved(handed);
         }
         self.moved.notify_all();
+    }
+
+    /// Waits until the passes of all of so many seats but one came back: those of the workers.
+    pub fn all_served<R: Wait>(&self, rt: &R, seats: usize) {
+        let _papers = self.moved.wait_while(rt, self.papers.lock(rt), |papers| {
+            papers.home.len().saturating_add(1) < seats
+        });
     }
 
     /// Waits until the passes of so many seats came back, and takes them.

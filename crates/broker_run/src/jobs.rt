@@ -393,6 +393,8 @@ where
     let room = Vec::with_capacity(alloc, seats).ok()?;
     let crew: Crew<L::L, G, D, B> = make_crew(alloc, shared, gate, seats).ok()?;
     let end = hand_out(rt, alloc, &crew, passes, accept, clock, listener, spawner);
+    crew.desk.finish(rt);
+    crew.desk.all_served(rt, seats);
     crew.desk.end(rt);
     let home = crew.desk.all_home(rt, alloc, seats);
     let Crew { shared, .. } = crew;
