@@ -255,6 +255,16 @@ class ServeCase(unittest.TestCase):
         within(lambda: len(server.lines) > 1, "the line of the client that vanished")
         self.assertEqual(server.lines[1:], [f"sharebroker: {address}: read: Connection reset by peer (os error 104)"])
 
+    def test_locks_expire_while_the_last_connections_are_served(self):
+        server = self.server("--accept", "2", "--workers", "2", "--lock-ms", "500")
+        holder, other = self.member(server, "a"), self.member(server, "b")
+        holder.produce(b"a", b"b", b"c")
+        self.assertEqual(len(holder.fetch()), 3)
+        got = []
+        within(lambda: got.extend(other.fetch()) or got, "the records whose locks have ended")
+        self.assertEqual(got, [(0, b"a", 2), (1, b"b", 2), (2, b"c", 2)])
+        self.assertEqual(holder.acknowledge(0, 2), 121)
+
     def stream(self, server, name, answered):
         """Produces values and accepts what it fetches, until the server is gone. What was answered is noted."""
         member = self.member(server, name)
