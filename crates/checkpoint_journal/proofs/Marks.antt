@@ -1,17 +1,16 @@
 -- Generations and seals of lists of marks.
-use Rattle.std.proofs.Common.{◌≡◌, ◌⊎◌, inl, inr, refl, sym, ap, ◌∙◌, subst, arith, ℕ, ◌<◌, ◌≤◌, ◌+◌, ◌^◌, Bool, true, false, not, cond, List, [], ◌∷◌, ◌++◌, map, Option, Some, None}
+use Rattle.std.proofs.Common.{◌≡◌, ◌⊎◌, inl, inr, refl, sym, ap, ◌∙◌, arith, ℕ, ◌<◌, ◌≤◌, ◌+◌, ◌^◌, Bool, true, false, not, List, [], ◌∷◌, ◌++◌, Option, Some, None}
 use Rattle.std.specs.Prelude.{◌&&◌, ◌||◌, nat_lt, if◌then◌else◌}
-use Rattle.std.specs.List.{AllByRecursion}
 use Rattle.std.proofs.lemmas.Bool.Decides.{nat_tests}
 use Rattle.gate_journal.specs.Frames.{StandsFor}
 use Rattle.state_records.specs.declared.record.StateRecord.TheVariants as records
 use Rattle.state_records.proofs.Whole.{record_again}
 use Rattle.checkpoint_journal.specs.declared.mark.Mark.{Mark}
 use Rattle.checkpoint_journal.specs.declared.mark.Mark.TheVariants.{Head, Snapshot, Seal, Other}
-use Rattle.checkpoint_journal.specs.Generations.{mark_read, mark_of, marks_of, generation, has_seal, is_sealed, second_is_live, live_of, IsListed, IsPlain}
+use Rattle.checkpoint_journal.specs.Generations.{mark_read, mark_of, marks_of, generation, has_seal, is_sealed, IsPlain}
 use Rattle.checkpoint_journal.specs.Generations.{head_frame, seal_frame, checkpoint_of}
-use Rattle.checkpoint_journal.specs.Checkpoints.{AreSnapshots, IsUnfinished}
-use Rattle.checkpoint_journal.specs.Generations.{IsBeaten, IsWhole, KeepBoth, LosesTo}
+use Rattle.checkpoint_journal.specs.Checkpoints.{AreSnapshots}
+use Rattle.checkpoint_journal.specs.Generations.{IsBeaten, IsWhole, KeepBoth}
 
 pub clash : false ≡ true → ⊥
 clash e = absurd cc

@@ -1,5 +1,5 @@
 -- Two contents are read in one way.
-use Rattle.std.proofs.Common.{◌≡◌, ◌⊎◌, inl, inr, refl, sym, ap, ◌∙◌, subst, ℕ, Bool, true, false, List, [], Option, Some, None}
+use Rattle.std.proofs.Common.{◌≡◌, ◌⊎◌, inl, inr, refl, sym, ap, ◌∙◌, ℕ, Bool, true, false, List, [], Option, Some, None}
 use Rattle.gate_journal.specs.Frames.{StandsFor, IsDamaged}
 use Rattle.checkpoint_journal.specs.Generations.{IsListed, IsUnlisted, IsUnsealed, live_of}
 

@@ -1,11 +1,10 @@
 -- A journal that isn't live: what a crash leaves of it while it is written and cleared.
-use Rattle.std.proofs.Common.{◌≡◌, ◌≢◌, ◌⊎◌, inl, inr, ⊎_elim, refl, sym, ap, ◌∙◌, subst, arith, ℕ, ◌<◌, ◌≤◌, ◌+◌, Bool, true, false, List, [], ◌∷◌, ◌++◌, length, drop, Option, Some, None}
+use Rattle.std.proofs.Common.{◌≡◌, ◌⊎◌, inl, inr, ⊎_elim, refl, sym, ap, ◌∙◌, subst, arith, ℕ, ◌≤◌, ◌+◌, List, [], ◌∷◌, ◌++◌, length, drop, Option, Some, None}
 use Rattle.std.proofs.lemmas.Bool.{cases_eq}
-use Rattle.std.specs.List.{AllByRecursion}
 use Rattle.edge_io.specs.Views.{DiskView}
-use Rattle.gate_journal.specs.Frames.{IsFrame, IsRest, IsShut, IsAjar, IsWithPending, IsBeforeOrAfter, StandsFor, blocks, behind_gate, framed}
-use Rattle.gate_journal.specs.Journals.{Stands, Mends, IsShaped, IsAtRest}
-use Rattle.gate_journal.specs.Clearing.{IsAsBefore, IsBare, IsClosed, IsPartlyCleared, IsTouched, MayClear}
+use Rattle.gate_journal.specs.Frames.{IsShut, IsWithPending, IsBeforeOrAfter, StandsFor, blocks, behind_gate, framed}
+use Rattle.gate_journal.specs.Journals.{Stands, Mends}
+use Rattle.gate_journal.specs.Clearing.{IsAsBefore, IsBare, IsClosed, IsPartlyCleared, IsTouched}
 use Rattle.gate_journal.specs.declared.writer.Writer.{Writer}
 use Rattle.gate_journal.specs.declared.writer.Mending.{Mending}
 use Rattle.gate_journal.specs.declared.writer.Mending.TheVariants.{Nothing, Behind, Gate}

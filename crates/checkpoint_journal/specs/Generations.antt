@@ -67,6 +67,15 @@ pub record IsListed (first second : List ℕ) (frames : List (List ℕ)) : Type 
   pub second_is : StandsFor second twos
   pub live : live_of ones twos ≡ Some frames
 
+-- and the live one is that of this disk
+pub record IsLiveOn (first second : List ℕ) (on_second : Bool) (frames : List (List ℕ)) : Type 0 where
+  pub ones : List (List ℕ)
+  pub twos : List (List ℕ)
+  pub first_is : StandsFor first ones
+  pub second_is : StandsFor second twos
+  pub live : live_of ones twos ≡ Some frames
+  pub disk : on_second ≡ second_is_live (marks_of ones) (marks_of twos)
+
 -- Both are journal text, and neither is sealed.
 pub record IsUnsealed (first second : List ℕ) : Type 0 where
   pub ones : List (List ℕ)

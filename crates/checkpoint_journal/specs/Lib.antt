@@ -1,3 +1,4 @@
 pub mod Generations
 pub mod Checkpoints
 pub mod Spares
+pub mod Making

@@ -35,3 +35,10 @@ pub record IsBeside {D : Type 0} (seen : D → DiskView) (journal : Writer D) (o
     (sealing : Option (List (List ℕ))) : Type 0 where
   pub none : IsBeaten on_second live []
   pub spare : IsSpare seen journal (IsIdle on_second live sealing)
+
+-- The disk that isn't live, from the opening of its store on. Only where a journal of no frames would lose to the live one it can be
+-- cleared: a journal of generation 0 on the second disk is live only as long as the first one has frames that are not sealed.
+pub record IsAside {D : Type 0} (seen : D → DiskView) (journal : Writer D) (on_second : Bool) (live : ℕ)
+    (sealing : Option (List (List ℕ))) : Type 0 where
+  pub each : (c : List ℕ) → (seen journal.disk).image c → HasFrames (IsIdle on_second live sealing) c
+  pub spare : IsBeaten on_second live [] → IsBeside seen journal on_second live sealing
