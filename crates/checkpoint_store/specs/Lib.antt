@@ -1,0 +1,4 @@
+pub mod Disks
+pub mod Stores
+pub mod Writes
+pub mod Steps
