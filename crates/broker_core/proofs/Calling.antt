@@ -1,5 +1,5 @@
 -- Calls on the shard of a hosted partition, seen by all shards.
-use Rattle.std.proofs.Common.{◌≡◌, ◌≤◌, ◌⊎◌, arith, inl, inr, refl, sym, ap, ◌∙◌, subst, ℕ, zero, suc, List, [], ◌∷◌, false, Some}
+use Rattle.std.proofs.Common.{◌≡◌, ◌≤◌, ◌⊎◌, arith, inl, inr, refl, sym, ap, ◌∙◌, subst, ℕ, zero, suc, List, [], ◌∷◌, Bool, false, Some}
 use Rattle.std.specs.List.{AllZip}
 use Rattle.std.specs.declared.option.Option.{Option}
 use Rattle.edge_io.specs.declared.name.DiskPlace.{DiskPlace}
@@ -23,10 +23,10 @@ use Rattle.broker_model.specs.Shards.PartCall.{Visits, Produces, Looks, Expires}
 use Rattle.broker_model.specs.Disks.{Facts, OnCalled}
 use Rattle.broker_model.proofs.Lists.{change_of, changes_so}
 use Rattle.broker_core.specs.declared.slot.PartState.{PartState}
-use Rattle.broker_core.specs.declared.slot.PartState.TheVariants as part
 use Rattle.broker_core.specs.declared.slot.PartSlot.{PartSlot}
 use Rattle.broker_model.specs.Acting.{Begun, EndsGoOn, HalvesOn, StepsOn}
-use Rattle.broker_core.specs.Carried.{GoesOn, OpenPart, PartGoesOn, Uses}
+use Rattle.edge_io.specs.Disk.{IsTold}
+use Rattle.broker_core.specs.Carried.{GoesOn, IsPartCarried, OpenPart, PartGoesOn, Uses}
 use Rattle.broker_model.specs.Acting.Begun.{BeginsVisit, BeginsExpiry}
 use Rattle.broker_core.specs.Hosts.{AreApart, AreCarried, AreDistinct, AreOpen, Did, DiskGoesOn, ExpiresShard, GoesOnIf, GoOn, Halts, HaltsSlot, HalvesExpiry, HostsParts, IsHalfDone, IsLeftIn, IsOpenState, IsPartSlot, IsPartState, Leads, LeadsSlot, StaysHosted, among, counts_in, disks_in, ends_in, ends_over, facts_at, facts_in, foreign_disks, foreign_end, foreign_facts, hosted_slot, hosted_slots, open_disk, part_disk, slot_disks, slot_ends}
 use Rattle.broker_core.proofs.Flats.{among_changed, zip_flat}
@@ -130,6 +130,7 @@ module _ {D : Type 0} (seen : D → DiskView) where
     turns : T x y was is
     e_is : e.hosted ≡ hosted_slot x
     f_is : f.hosted ≡ hosted_slot x
+    told : IsTold (seen was.log.journal.disk).content
     step : StepsOn seen x.conf was is now e.shard did f.shard
     ends : EndsGoOn was is
     used : Uses seen was is did
@@ -138,7 +139,8 @@ module _ {D : Type 0} (seen : D → DiskView) where
       → (f : HostedPart) × IsPartSlot seen y f × GoesPart now did x y e f
   unfolding turned_leads
   slot_leads now did x y e p k =
-      let l = p.leads e.shard (subst (λ (s : PartState D). IsPartState seen x.conf s e.shard) p.old_is k.state) in (
+      let its : IsPartCarried seen x.conf p.was e.shard = subst (λ (s : PartState D). IsPartState seen x.conf s e.shard) p.old_is k.state in
+      let l = p.leads e.shard its in (
         record { hosted = hosted_slot x; shard = l.after },
         record {
           hosted = λ i. record { topic = sym p.topic i; conf = sym p.conf i };
@@ -152,6 +154,7 @@ module _ {D : Type 0} (seen : D → DiskView) where
           turns = (turned_leads now did x y p).turns;
           e_is = k.hosted;
           f_is = refl;
+          told = its.log.told;
           step = l.step;
           ends = l.ends;
           used = l.used;
@@ -178,12 +181,12 @@ module _ {D : Type 0} (seen : D → DiskView) where
         (subst (λ (hs : List Hosted). AreDistinct (part_disks hs)) (sym hosted_then) (parts_apart (hosted_slots old.parts) apart))
 
     pub named_step : (now : ℕ) (did : PartCall) (e f : HostedPart) (was is : OpenPart D) → T x y was is → e.hosted ≡ hosted_slot x → f.hosted ≡ hosted_slot x
-        → StepsOn seen x.conf was is now e.shard did f.shard → StepsHosted (N old (with_parts old ys)) (ends_over old (with_parts old ys)) now (hosted_slot x) did e f
-    named_step now did e f was is t e_is f_is step = record {
+        → IsTold (seen was.log.journal.disk).content → StepsOn seen x.conf was is now e.shard did f.shard → StepsHosted (N old (with_parts old ys)) (ends_over old (with_parts old ys)) now (hosted_slot x) did e f
+    named_step now did e f was is t e_is f_is told step = record {
       was = e_is;
       is = f_is;
       step = step_named seen (hosted_slot x) was is (N old (with_parts old ys)) (ends_over old (with_parts old ys)) (of_slot was is t)
-          now e.shard did f.shard step;
+          told now e.shard did f.shard step;
     }
 
     pub on_disks : (did : PartCall) (was is : OpenPart D) → T x y was is → Uses seen was is did → (name : List ℕ)
@@ -242,7 +245,7 @@ module _ {D : Type 0} (seen : D → DiskView) where
           refl,
           (
             changes_so n (GoesPart now did c.x c.y) (StepsHosted (N old (with_parts old ys)) (ends_over old (with_parts old ys)) now (hosted_slot c.x) did)
-                (λ e f g. named_step old ys n c.x c.y c.there c.here c.exact t.turns.hosted apart now did e f g.was g.is g.turns g.e_is g.f_is g.step)
+                (λ e f g. named_step old ys n c.x c.y c.there c.here c.exact t.turns.hosted apart now did e f g.was g.is g.turns g.e_is g.f_is g.told g.step)
                 s.parts c.after c.goes,
             refl,
             refl,
@@ -264,6 +267,7 @@ module _ {D : Type 0} (seen : D → DiskView) where
     turns : T x y was is
     e_is : e.hosted ≡ hosted_slot x
     f_is : f.hosted ≡ hosted_slot x
+    told : IsTold (seen was.log.journal.disk).content
     does : (f.shard ≡ e.shard) ⊎ (((did : PartCall) × Whole did × StepsOn seen x.conf was is now e.shard did f.shard)
         ⊎ ((begun : Begun) × Half begun × HalvesOn seen x.conf was is now e.shard begun f.shard))
     ends : EndsGoOn was is
@@ -281,7 +285,8 @@ module _ {D : Type 0} (seen : D → DiskView) where
       → (f : HostedPart) × HaltedSlot y f × HaltedPart now Whole Half x y e f
   unfolding turned_halts
   slot_halts now Whole Half x y e p k =
-      let h = p.halts e.shard (subst (λ (s : PartState D). IsPartState seen x.conf s e.shard) p.old_is k.state) in (
+      let its : IsPartCarried seen x.conf p.was e.shard = subst (λ (s : PartState D). IsPartState seen x.conf s e.shard) p.old_is k.state in
+      let h = p.halts e.shard its in (
         record { hosted = hosted_slot x; shard = h.after },
         record {
           still = open_still seen y (record { hosted = hosted_slot x; shard = h.after }) p.is p.new_is
@@ -294,6 +299,7 @@ module _ {D : Type 0} (seen : D → DiskView) where
           turns = (turned_halts now Whole Half x y p).turns;
           e_is = k.hosted;
           f_is = refl;
+          told = its.log.told;
           does = h.does;
           ends = h.ends;
         },
@@ -332,7 +338,7 @@ module _ {D : Type 0} (seen : D → DiskView) where
         inl d.0,
         (
           d.1,
-          named_step old ys n c.x c.y c.there c.here c.exact hosted_is apart now d.0 e f g.was g.is g.turns g.e_is g.f_is d.2,
+          named_step old ys n c.x c.y c.there c.here c.exact hosted_is apart now d.0 e f g.was g.is g.turns g.e_is g.f_is g.told d.2,
         ),
       )
       go (inr (inr b)) = inr (
@@ -465,11 +471,11 @@ module _ {D : Type 0} (seen : D → DiskView) where
       let e = subst (λ (q : PartCall). DidPart counts ends now shard q a call b) is d in (e.0, answer, e.1, e.2, refl)
 
   pub visit_halts : (counts : Counts) (ends : Ends) (now shard : ℕ) (part : Part) (visit : Visit) → part ≡ PartVisit shard visit → (did : PartCall)
-      (answer : VisitAnswer) → did ≡ Visits visit answer → (a : Shards) (call : Option ShardCall) (b : Shards) → DidPart counts ends now shard did a call b
+      (answer : VisitAnswer) (unread : Bool) → did ≡ Visits visit answer unread → (a : Shards) (call : Option ShardCall) (b : Shards) → DidPart counts ends now shard did a call b
       → Did counts ends now part (AnswerVisit answer) a call b
-  visit_halts counts ends now shard part visit is did answer did_is a call b d =
+  visit_halts counts ends now shard part visit is did answer unread did_is a call b d =
       let e = subst (λ (q : PartCall). DidPart counts ends now shard q a call b) did_is d in (
-        CallPart shard e.0 (Visits visit answer),
+        CallPart shard e.0 (Visits visit answer unread),
         e.1,
         ap (λ (p : Part). Some (record { part = p; answer = AnswerVisit answer })) (sym is),
         e.2,

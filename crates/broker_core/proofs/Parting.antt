@@ -1,34 +1,41 @@
 -- Calls on the shard of a hosted partition.
-use Rattle.std.proofs.Common.{◌≡◌, ◌≢◌, ◌≤◌, ◌⊎◌, arith, inl, inr, refl, sym, ap, ◌∙◌, subst, ℕ, List, [], ◌∷◌, false, is_some, Result, Ok, Err}
+use Rattle.std.proofs.Common.{◌≡◌, ◌≢◌, ◌≤◌, ◌⊎◌, arith, inl, inr, refl, sym, ap, ◌∙◌, subst, ℕ, List, [], ◌∷◌, Bool, true, false, is_some, Result, Ok, Err}
 use Rattle.std.specs.List.{AllByRecursion}
 use Rattle.std.specs.Prelude.{All}
 use Rattle.std.proofs.lemmas.List.Elements.{All-from_recursion}
 use Rattle.edge_io.specs.Armed.{RunsOn}
+use Rattle.edge_io.proofs.Runs.{runs_none}
+use Rattle.flex_fields.specs.declared.fault.NoMemory.{NoMemory as Want}
+use Rattle.gate_journal.specs.declared.writer.Writer.{Writer}
 use Rattle.edge_io.specs.Disk.{IsTold}
 use Rattle.share_model.specs.ForeignRules.{share_state_at}
 use Rattle.share_model.specs.declared.fault.LogFault.{LogFault}
 use Rattle.share_model.specs.declared.fault.LogFault.TheVariants.{Batch as BadBatch, Behind, Store as Unstored, NoMemory}
 use Rattle.share_model.specs.declared.hold.Grant.{Grant}
 use Rattle.share_model.specs.declared.visit.ExpireAnswer.{ExpireAnswer}
+use Rattle.share_model.specs.declared.visit.Then.{Then}
+use Rattle.share_model.specs.declared.visit.Then.TheVariants.{Nothing, Release, Fetch}
 use Rattle.share_model.specs.declared.visit.Visit.{Visit}
 use Rattle.share_model.specs.declared.visit.VisitAnswer.{VisitAnswer}
 use Rattle.part_log.specs.Logs.{LogParts}
 use Rattle.share_coord.specs.Parts.{StoreParts}
 use Rattle.share_coord.specs.Holding.{Holds}
 use Rattle.share_coord.specs.States.{states_of}
-use Rattle.part_log.specs.Shards.{CarriesLog}
+use Rattle.part_log.proofs.Looking.{carries_on}
 use Rattle.share_part.specs.Hosting.{PartConfParts, AreHosted, key_of}
-use Rattle.share_part.specs.Once.{AcksStand, Expired, PartStands, Produced as ProducedSo, Visited}
+use Rattle.share_part.specs.Following.{IsFetch}
+use Rattle.share_part.specs.Once.{AcksStand, Expired, ExpiresOnce, PartStands, Produced as ProducedSo, Visited, VisitsOnce}
 use Rattle.share_part.specs.Shards.{Carries, IsPendingHosted, IsUntouched, PartShardState}
 use Rattle.share_part.specs.Walks.{IsSmallGrant}
 use Rattle.call_fold.specs.Parts.{IsTellableGrant}
 use Rattle.call_fold.specs.declared.part.Looked.{Looked}
 use Rattle.call_fold.specs.declared.part.Produced.{Produced}
 use Rattle.call_fold.specs.declared.part.Produced.TheVariants.{Base, Batch, Store}
-use Rattle.broker_model.specs.Shards.{PartCall, look_at, result_of}
+use Rattle.broker_model.specs.Shards.{PartCall, look_at, reads_log, result_of}
 use Rattle.broker_model.specs.Shards.PartCall.{Visits, Produces, Looks, Expires}
 use Rattle.broker_model.specs.Acting.{Begun, EndsGoOn, StepsOn}
-use Rattle.broker_core.specs.Carried.{GoesOn, HaltsPart, IsPartCarried, LeadsPart, OpenPart, PartGoesOn, Uses, UsesStates, holding}
+use Rattle.broker_model.specs.Disks.{IsUsed, facts_of}
+use Rattle.broker_core.specs.Carried.{GoesOn, HaltsPart, IsPartCarried, LeadsPart, OpenPart, PartGoesOn, Uses, holding}
 use Rattle.broker_model.specs.Acting.Begun.{BeginsVisit, BeginsExpiry}
 use Rattle.edge_io.specs.Views.{DiskView}
 
@@ -80,29 +87,54 @@ module _ {D : Type 0} (seen : D → DiskView) where
 
   -- ---- calls on the tables
 
-  -- the log and the second disk stay
+  -- the log goes on where it was, and the second disk stays
   pub record OnStates (old new : OpenPart D) : Type 0 where
     pub runs : Runs old.states.journal.live.disk new.states.journal.live.disk
     pub ends : (t : PartShardState) → Carries seen holding old t → old.states.journal.live.end ≤ new.states.journal.live.end
-    pub log : new.log ≡ old.log
+    pub log_runs : Runs old.log.journal.disk new.log.journal.disk
+    pub log_end : new.log.journal.end ≡ old.log.journal.end
     pub idle : new.states.journal.idle ≡ old.states.journal.idle
     pub conf : new.conf ≡ old.conf
 
+  -- a visit
+  pub visit_on : (old new : OpenPart D) (now : ℕ) (visit : Visit) (result : Result VisitAnswer Want) → VisitsOnce seen holding now visit old new result
+      → Runs old.states.journal.live.disk new.states.journal.live.disk → OnStates old new
+  visit_on old new now visit result once runs = record {
+    runs = runs;
+    ends = once.ends;
+    log_runs = once.log.calls.runs;
+    log_end = ap (λ (w : Writer D). w.end) once.log.reads.journal.rest;
+    idle = once.idle;
+    conf = once.conf;
+  }
+
+  -- an expiry
+  pub expiry_on : (old new : OpenPart D) (now : ℕ) (result : Result ExpireAnswer Want) → ExpiresOnce seen holding now old new result
+      → Runs old.states.journal.live.disk new.states.journal.live.disk → OnStates old new
+  expiry_on old new now result once runs = record {
+    runs = runs;
+    ends = once.ends;
+    log_runs = subst (λ (l : LogParts D). Runs old.log.journal.disk l.journal.disk) (sym once.log) (runs_none seen old.log.journal.disk);
+    log_end = ap (λ (l : LogParts D). l.journal.end) once.log;
+    idle = once.idle;
+    conf = once.conf;
+  }
+
   pub states_go : (old new : OpenPart D) → OnStates old new → PartGoesOn seen old new
   states_go old new o = record {
-    log = subst (λ (l : LogParts D). GoesOn seen old.log.journal.disk l.journal.disk) (sym o.log) (least_on old.log.journal.disk);
+    log = record { later = o.log_runs.later; told = o.log_runs.told };
     first = record { later = o.runs.later; told = o.runs.told };
     second = subst (λ (d : D). GoesOn seen old.states.journal.idle d) (sym o.idle) (least_on old.states.journal.idle);
   }
 
   states_end : (old new : OpenPart D) → OnStates old new → (s : PartShardState) → Carries seen holding old s → EndsGoOn old new
   states_end old new o s k = record {
-    log = (let e : new.log.journal.end ≡ old.log.journal.end = ap (λ (l : LogParts D). l.journal.end) o.log in omega (arith, e));
+    log = (let e = o.log_end in omega (arith, e));
     first = o.ends s k;
   }
 
   log_told : (old new : OpenPart D) → OnStates old new → IsTold (seen old.log.journal.disk).content → IsTold (seen new.log.journal.disk).content
-  log_told old new o told = ap (λ (l : LogParts D). is_some (seen l.journal.disk).content) o.log ∙ told
+  log_told old new o told = o.log_runs.told ∙ told
 
   second_told : (old new : OpenPart D) → OnStates old new → IsTold (seen old.states.journal.idle).content → IsTold (seen new.states.journal.idle).content
   second_told old new o told = ap (λ (d : D). is_some (seen d).content) o.idle ∙ told
@@ -115,7 +147,8 @@ module _ {D : Type 0} (seen : D → DiskView) where
   Fed new = ((seen new.log.journal.disk).starved ≡ false) × ((seen new.states.journal.live.disk).starved ≡ false) × ((seen new.states.journal.idle).starved ≡ false)
 
   states_lead : (old new : OpenPart D) (now : ℕ) (did : PartCall) → OnStates old new → Steps old new now did → Fed new
-      → (UsesStates seen old new → Uses seen old new did)
+      → (IsUsed (facts_of seen old.states.journal.live.disk) (facts_of seen new.states.journal.live.disk)
+      → IsUsed (facts_of seen old.log.journal.disk) (facts_of seen new.log.journal.disk) → Uses seen old new did)
       → (s : PartShardState) → Carried old.conf old s
       → LeadsPart seen old.conf now did old s new
   states_lead old new now did o steps fed uses s k =
@@ -131,11 +164,8 @@ module _ {D : Type 0} (seen : D → DiskView) where
         };
         step = r.2;
         ends = states_end old new o s k.carries;
-        used = uses (record {
-          used = record { losses = o.runs.same_losses; arms = o.runs.same_arms; spends = o.runs.spends k.first.told fed.1 };
-          log = o.log;
-          second = o.idle;
-        });
+        used = uses (record { losses = o.runs.same_losses; arms = o.runs.same_arms; spends = o.runs.spends k.first.told fed.1 })
+            (record { losses = o.log_runs.same_losses; arms = o.log_runs.same_arms; spends = o.log_runs.spends k.log.told fed.0 });
       }
 
   states_whole : (old new : OpenPart D) (now : ℕ) (did : PartCall) (Whole : PartCall → Type 0) (Half : Begun → Type 0) → Whole did → OnStates old new
@@ -167,23 +197,30 @@ module _ {D : Type 0} (seen : D → DiskView) where
     second_told = second_told old new o k.second.told;
   }
 
-  pub visit_leads : (old new : OpenPart D) (now : ℕ) (visit : Visit) (answer : VisitAnswer) → OnStates old new
-      → Visited seen holding now visit old new answer → Fed new → (s : PartShardState) → Carried old.conf old s
-      → LeadsPart seen old.conf now (Visits visit answer) old s new
-  visit_leads old new now visit answer o steps fed = states_lead old new now (Visits visit answer) o steps fed (λ u. u)
+  not_fetch : (asked : Then) → reads_log asked ≡ false → IsFetch asked → ⊥
+  not_fetch Nothing reads fetch = fetch
+  not_fetch Release reads fetch = fetch
+  not_fetch (Fetch records bytes first) reads fetch = let bad : true ≡ false = reads in cc
+
+  pub visit_leads : (old new : OpenPart D) (now : ℕ) (visit : Visit) (answer : VisitAnswer) (unread : Bool) → OnStates old new
+      → ((IsFetch visit.then → ⊥) → new.log ≡ old.log) → Visited seen holding now visit old new unread answer → Fed new
+      → (s : PartShardState) → Carried old.conf old s → LeadsPart seen old.conf now (Visits visit answer unread) old s new
+  visit_leads old new now visit answer unread o others steps fed = states_lead old new now (Visits visit answer unread) o steps fed (λ used log_used.
+      record { used = used; log_used = log_used; log = λ no. others (not_fetch visit.then no); log_end = o.log_end; second = o.idle })
 
   abbrev pub IsVisit : Visit → PartCall → Type 0
-  IsVisit visit did = (answer : VisitAnswer) × (did ≡ Visits visit answer)
+  IsVisit visit did = (answer : VisitAnswer) × (unread : Bool) × (did ≡ Visits visit answer unread)
 
-  pub visit_whole : (old new : OpenPart D) (now : ℕ) (visit : Visit) (answer : VisitAnswer) (Half : Begun → Type 0) → OnStates old new
-      → Visited seen holding now visit old new answer → (s : PartShardState) → Carried old.conf old s
+  pub visit_whole : (old new : OpenPart D) (now : ℕ) (visit : Visit) (answer : VisitAnswer) (unread : Bool) (Half : Begun → Type 0) → OnStates old new
+      → Visited seen holding now visit old new unread answer → (s : PartShardState) → Carried old.conf old s
       → HaltsPart seen old.conf now (IsVisit visit) Half old s new
-  visit_whole old new now visit answer Half o steps = states_whole old new now (Visits visit answer) (IsVisit visit) Half (answer, refl) o steps
+  visit_whole old new now visit answer unread Half o steps =
+      states_whole old new now (Visits visit answer unread) (IsVisit visit) Half (answer, unread, refl) o steps
 
   -- where nothing of it has changed, it stands for what it stood for
-  untouched : (old new : OpenPart D) → IsUntouched holding old new → (s : PartShardState) → Carries seen holding old s → Carries seen holding new s
+  untouched : (old new : OpenPart D) → IsUntouched seen holding old new → (s : PartShardState) → Carries seen holding old s → Carries seen holding new s
   untouched old new same s k = record {
-    log = subst (λ (l : LogParts D). CarriesLog seen l s.log) (sym same.log) k.log;
+    log = carries_on seen old.log new.log same.log s.log k.log;
     pending = k.pending;
     holds = subst (λ (t : StoreParts D). Holds seen t k.pending) (sym same.states) k.holds;
     states = k.states ∙ ap (λ (t : StoreParts D). states_of t.entries) (sym same.states);
@@ -195,7 +232,7 @@ module _ {D : Type 0} (seen : D → DiskView) where
   }
 
   pub visit_refused : (old new : OpenPart D) (now : ℕ) (visit : Visit) → OnStates old new
-      → (IsUntouched holding old new ⊎ ((t : PartShardState) → Carries seen holding old t → AcksStand seen holding now visit old new t))
+      → (IsUntouched seen holding old new ⊎ ((t : PartShardState) → Carries seen holding old t → AcksStand seen holding now visit old new t))
       → (s : PartShardState) → Carried old.conf old s
       → HaltsPart seen old.conf now (IsVisit visit) (λ begun. begun ≡ BeginsVisit visit) old s new
   visit_refused old new now visit o (inl same) s k =
@@ -213,10 +250,11 @@ module _ {D : Type 0} (seen : D → DiskView) where
         second_told = second_told old new o k.second.told;
       }
 
-  pub expire_leads : (old new : OpenPart D) (now : ℕ) (answer : ExpireAnswer) → OnStates old new
+  pub expire_leads : (old new : OpenPart D) (now : ℕ) (answer : ExpireAnswer) → OnStates old new → new.log ≡ old.log
       → Expired seen holding now old new answer → Fed new → (s : PartShardState) → Carried old.conf old s
       → LeadsPart seen old.conf now (Expires answer) old s new
-  expire_leads old new now answer o steps fed = states_lead old new now (Expires answer) o steps fed (λ u. u)
+  expire_leads old new now answer o log steps fed =
+      states_lead old new now (Expires answer) o steps fed (λ used log_used. record { used = used; log = log; second = o.idle })
 
   abbrev pub IsExpiry : PartCall → Type 0
   IsExpiry did = (answer : ExpireAnswer) × (did ≡ Expires answer)

@@ -1,5 +1,5 @@
 -- How far the images of disks reach, and that no journal's end fell.
-use Rattle.std.proofs.Common.{◌≡◌, ◌≤◌, ◌+◌, ◌-◌, arith, inl, inr, refl, ap, sym, subst, ℕ, List, [], ◌∷◌, ◌++◌, length, length-append, Bool, true, false, cond, Some, None}
+use Rattle.std.proofs.Common.{◌≡◌, ◌≤◌, ◌-◌, arith, inl, inr, refl, ap, sym, subst, ℕ, List, [], ◌∷◌, ◌++◌, length, length-append, Bool, true, false, cond, Some, None}
 use Rattle.std.specs.List.{AllZip, flat_map}
 use Rattle.std.specs.declared.option.Option.{Option}
 use Rattle.edge_io.specs.declared.name.DiskPlace.{DiskPlace}

@@ -1,24 +1,27 @@
 -- One slot of a hosted partition that a call changes: what is known of its disks by name, and the machine's step.
 use Rattle.std.proofs.Common.{◌≡◌, inl, refl, sym, ap, ◌∙◌, subst, ℕ, List, [], ◌∷◌, map, Bool, true, false, cond}
+use Rattle.std.specs.Prelude.{◌&&◌, ◌||◌}
 use Rattle.std.specs.List.{flat_map}
 use Rattle.std.specs.declared.option.Option.{Option}
 use Rattle.edge_io.specs.declared.name.DiskPlace.{DiskPlace}
 use Rattle.edge_io.specs.declared.name.DiskPlace.TheVariants.{Log, StateA, StateB}
 use Rattle.edge_io.specs.Causes.{Rose}
+use Rattle.edge_io.specs.Disk.{IsTold}
+use Rattle.share_model.specs.declared.visit.Then.{Then}
 use Rattle.part_log.specs.Logs.{LogParts}
 use Rattle.share_coord.specs.Parts.{StoreParts}
 use Rattle.share_part.specs.Expiring.{ExpiresPart, StepsExpire}
 use Rattle.share_part.specs.Shards.{PartShardState, StepsProduce}
 use Rattle.share_part.specs.Visits.{StepsVisit, VisitsPart}
 use Rattle.broker_model.specs.Hosted.{Hosted, HoldsAt, first_of, log_of, part_disks, same_name, second_of}
-use Rattle.broker_model.specs.Shards.{Counts, Ends, PartCall, StepsPart, part_calls, result_of}
+use Rattle.broker_model.specs.Shards.{Counts, Ends, PartCall, StepsPart, part_calls, reads_log, result_of}
 use Rattle.broker_model.specs.Shards.PartCall.{Visits, Produces, Looks, Expires}
 use Rattle.broker_model.specs.Disks.{Facts, IsUsed, OnCalled, facts_of}
 use Rattle.broker_core.specs.declared.slot.PartSlot.{PartSlot}
 use Rattle.broker_core.specs.declared.slot.PartState.{PartState}
 use Rattle.broker_core.specs.declared.slot.PartState.TheVariants as part
 use Rattle.broker_model.specs.Acting.{Begun, HalvesOn, StepsOn}
-use Rattle.broker_core.specs.Carried.{OpenPart, Uses, UsesLog, UsesStates}
+use Rattle.broker_core.specs.Carried.{OpenPart, Uses, UsesLog, UsesStates, UsesVisit}
 use Rattle.broker_model.specs.Acting.Begun.{BeginsVisit, BeginsExpiry}
 use Rattle.broker_core.specs.Hosts.{AreDistinct, HostsParts, among, counts_in, disks_in, ends_in, ends_over, facts_at, facts_in, foreign_disks, foreign_end, foreign_facts, hosted_slot, hosted_slots, open_disk, open_end, part_disk, part_end, slot_disks, slot_ends, slots_disks}
 use Rattle.broker_core.proofs.Flats.{pieces_at}
@@ -71,6 +74,22 @@ on_first h l a c b o name used = go (same_name name (log_of h)) (same_name name 
   go true q = called_same q l
   go false true = used
   go false false = refl
+
+on_both : (h : Hosted) (reads : Bool) (l m a c b o : Facts) (name : List ℕ) → IsUsed a c → IsUsed l m → (reads ≡ false → m ≡ l)
+    → OnCalled ((reads && same_name name (log_of h)) || same_name name (first_of h)) (three h l a b o name) (three h m c b o name)
+on_both h reads l m a c b o name used log_used stays = go reads (same_name name (log_of h)) (same_name name (first_of h)) stays where
+  go : (r p q : Bool) → (r ≡ false → m ≡ l) → OnCalled ((r && p) || q) (cond p l (cond q a (cond (same_name name (second_of h)) b o)))
+      (cond p m (cond q c (cond (same_name name (second_of h)) b o)))
+  go true true q same = log_used
+  go true false true same = used
+  go true false false same = refl
+  go false true q same = subst (λ (f : Facts). OnCalled q l f) (sym (same refl)) (called_same q l)
+  go false false true same = used
+  go false false false same = refl
+
+not_either : (x q : Bool) → (x || q) ≡ false → q ≡ false
+not_either true q is = absurd (let bad : true ≡ false = is in cc)
+not_either false q is = is
 
 past_log : (h : Hosted) (l m a b o : ℕ) (name : List ℕ) → same_name name (log_of h) ≡ false → three h m a b o name ≡ three h l a b o name
 past_log h l m a b o name away = go (same_name name (log_of h)) away where
@@ -147,10 +166,21 @@ module _ {D : Type 0} (seen : D → DiskView) where
       (three h (open_facts is Log) (facts s.journal.live.disk) (facts s.journal.idle) o name)) (sym u.states)
       (on_log h (open_facts was Log) (open_facts is Log) (open_facts was StateA) (open_facts was StateB) o name u.used)
 
+  uses_visit : (h : Hosted) (asked : Then) (was is : OpenPart D) → UsesVisit seen asked was is → (name : List ℕ) (o : Facts)
+      → OnCalled ((reads_log asked && same_name name (log_of h)) || same_name name (first_of h))
+      (three h (open_facts was Log) (open_facts was StateA) (open_facts was StateB) o name)
+      (three h (open_facts is Log) (open_facts is StateA) (open_facts is StateB) o name)
+  uses_visit h asked was is u name o =
+      subst (λ (b : D). OnCalled ((reads_log asked && same_name name (log_of h)) || same_name name (first_of h))
+      (three h (open_facts was Log) (open_facts was StateA) (open_facts was StateB) o name)
+      (three h (open_facts is Log) (open_facts is StateA) (facts b) o name)) (sym u.second)
+      (on_both h (reads_log asked) (open_facts was Log) (open_facts is Log) (open_facts was StateA) (open_facts is StateA) (open_facts was StateB) o name
+      u.used u.log_used (λ no. ap (λ (l : LogParts D). facts l.journal.disk) (u.log no)))
+
   open_used : (h : Hosted) (was is : OpenPart D) (did : PartCall) → Uses seen was is did → (name : List ℕ) (o : Facts)
       → OnCalled (part_calls h did name) (three h (open_facts was Log) (open_facts was StateA) (open_facts was StateB) o name)
       (three h (open_facts is Log) (open_facts is StateA) (open_facts is StateB) o name)
-  open_used h was is (Visits visit answer) u name o = uses_states h was is u name o
+  open_used h was is (Visits visit answer unread) u name o = uses_visit h visit.then was is u name o
   open_used h was is (Produces batch produced) u name o = uses_log h was is u name o
   open_used h was is (Looks group looked) u name o =
       ap (λ (p : OpenPart D). three h (open_facts p Log) (open_facts p StateA) (open_facts p StateB) o name) u
@@ -162,10 +192,18 @@ module _ {D : Type 0} (seen : D → DiskView) where
       ap (λ (l : LogParts D). three h l.journal.end (open_end is StateA) 0 o name) u.log
       ∙ past_first h (open_end was Log) (open_end was StateA) (open_end is StateA) 0 o name away
 
+  ends_visit : (h : Hosted) (asked : Then) (was is : OpenPart D) → UsesVisit seen asked was is → (name : List ℕ) (o : ℕ)
+      → same_name name (first_of h) ≡ false
+      → three h (open_end is Log) (open_end is StateA) (open_end is StateB) o name ≡ three h (open_end was Log) (open_end was StateA) (open_end was StateB) o name
+  ends_visit h asked was is u name o away =
+      ap (λ (e : ℕ). three h e (open_end is StateA) 0 o name) u.log_end
+      ∙ past_first h (open_end was Log) (open_end was StateA) (open_end is StateA) 0 o name away
+
   open_ends : (h : Hosted) (was is : OpenPart D) (did : PartCall) → Uses seen was is did → (name : List ℕ) (o : ℕ)
       → part_calls h did name ≡ false
       → three h (open_end is Log) (open_end is StateA) (open_end is StateB) o name ≡ three h (open_end was Log) (open_end was StateA) (open_end was StateB) o name
-  open_ends h was is (Visits visit answer) u name o away = ends_states h was is u name o away
+  open_ends h was is (Visits visit answer unread) u name o away = ends_visit h visit.then was is u name o
+      (not_either (reads_log visit.then && same_name name (log_of h)) (same_name name (first_of h)) away)
   open_ends h was is (Produces batch produced) u name o away =
       ap (λ (s : StoreParts D). three h (open_end is Log) s.journal.live.end 0 o name) u.states
       ∙ past_log h (open_end was Log) (open_end is Log) (open_end was StateA) 0 o name away
@@ -220,18 +258,28 @@ module _ {D : Type 0} (seen : D → DiskView) where
     pub log_end : ends (log_of h) ≡ (was.log.journal.end, is.log.journal.end)
     pub first_end : ends (first_of h) ≡ (was.states.journal.live.end, is.states.journal.live.end)
 
-  pub step_named : (h : Hosted) (was is : OpenPart D) (counts : Counts) (ends : Ends) → AreOf h was is counts ends → (now : ℕ) (old : PartShardState)
-      (did : PartCall) (new : PartShardState) → StepsOn seen h.conf was is now old did new → StepsPart counts ends now h old did new
-  step_named h was is counts ends a now old (Visits visit answer) new step =
-      subst (λ (c : ℕ × ℕ). StepsVisit h.conf c.0 c.1 (ends (first_of h)).0 (ends (first_of h)).1 old now visit answer new) (sym a.first)
-      (subst (λ (e : ℕ × ℕ). StepsVisit h.conf (seen was.states.journal.live.disk).faults (seen is.states.journal.live.disk).faults e.0 e.1 old now visit answer new)
-      (sym a.first_end) step)
-  step_named h was is counts ends a now old (Produces batch produced) new step =
+  pub step_named : (h : Hosted) (was is : OpenPart D) (counts : Counts) (ends : Ends) → AreOf h was is counts ends
+      → IsTold (seen was.log.journal.disk).content → (now : ℕ) (old : PartShardState)
+      (did : PartCall) (new : PartShardState) → StepsOn seen h.conf was is now old did new → StepsPart true counts ends now h old did new
+  step_named h was is counts ends a told now old (Visits visit answer unread) new step =
+      subst (λ (c : ℕ × ℕ). StepsVisit h.conf (record { told = true; rose = Rose (counts (log_of h)).0 (counts (log_of h)).1; failed = unread })
+      c.0 c.1 (ends (first_of h)).0 (ends (first_of h)).1 old now visit answer new) (sym a.first)
+      (subst (λ (c : ℕ × ℕ). StepsVisit h.conf (record { told = true; rose = Rose c.0 c.1; failed = unread })
+      (seen was.states.journal.live.disk).faults (seen is.states.journal.live.disk).faults (ends (first_of h)).0 (ends (first_of h)).1 old now visit answer new)
+      (sym a.log)
+      (subst (λ (e : ℕ × ℕ). StepsVisit h.conf
+      (record { told = true; rose = Rose (seen was.log.journal.disk).faults (seen is.log.journal.disk).faults; failed = unread })
+      (seen was.states.journal.live.disk).faults (seen is.states.journal.live.disk).faults e.0 e.1 old now visit answer new) (sym a.first_end)
+      (subst (λ (t : Bool). StepsVisit h.conf
+      (record { told = t; rose = Rose (seen was.log.journal.disk).faults (seen is.log.journal.disk).faults; failed = unread })
+      (seen was.states.journal.live.disk).faults (seen is.states.journal.live.disk).faults was.states.journal.live.end is.states.journal.live.end
+      old now visit answer new) told step)))
+  step_named h was is counts ends a told now old (Produces batch produced) new step =
       subst (λ (c : ℕ × ℕ). StepsProduce (Rose c.0 c.1) (ends (log_of h)).0 old now batch (result_of produced) new) (sym a.log)
       (subst (λ (e : ℕ × ℕ). StepsProduce (Rose (seen was.log.journal.disk).faults (seen is.log.journal.disk).faults) e.0 old now batch (result_of produced) new)
       (sym a.log_end) step)
-  step_named h was is counts ends a now old (Looks group looked) new step = step
-  step_named h was is counts ends a now old (Expires answer) new step =
+  step_named h was is counts ends a told now old (Looks group looked) new step = step
+  step_named h was is counts ends a told now old (Expires answer) new step =
       subst (λ (c : ℕ × ℕ). StepsExpire h.conf c.0 c.1 (ends (first_of h)).0 (ends (first_of h)).1 old now answer new) (sym a.first)
       (subst (λ (e : ℕ × ℕ). StepsExpire h.conf (seen was.states.journal.live.disk).faults (seen is.states.journal.live.disk).faults e.0 e.1 old now answer new)
       (sym a.first_end) step)

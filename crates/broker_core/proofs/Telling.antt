@@ -37,7 +37,7 @@ pub faults_are : (did : ShardCall) (part : Part) (answer : PartAnswer) → answe
     → faults_told did ≡ faults_in part answer
 faults_are (CallForeign op told fault) part answer e =
     ap faults_by (some_same (record { part = Foreign op; answer = AnswerForeign told }) (record { part = part; answer = answer }) e)
-faults_are (CallPart shard h (Visits visit told)) part answer e =
+faults_are (CallPart shard h (Visits visit told unread)) part answer e =
     ap faults_by (some_same (record { part = PartVisit shard visit; answer = AnswerVisit told }) (record { part = part; answer = answer }) e)
 faults_are (CallPart shard h (Produces batch produced)) part answer e =
     ap faults_by (some_same (record { part = Produce shard batch; answer = AnswerProduce produced }) (record { part = part; answer = answer }) e)

@@ -5,23 +5,20 @@ use Rattle.std.specs.Prelude.{◌≡◌, ◌≤◌, ◌⊎◌, ℕ, List, false,
 use Rattle.std.specs.declared.option.Option.{Option}
 use Rattle.edge_io.specs.Causes.{Rose}
 use Rattle.edge_io.specs.Disk.{IsTold}
-use Rattle.share_model.specs.ForeignRules.{share_state_at}
 use Rattle.share_model.specs.Held.{Held}
 use Rattle.share_model.specs.declared.fault.StoreFault.{StoreFault}
 use Rattle.share_model.specs.declared.foreign.ForeignAnswer.{ForeignAnswer}
 use Rattle.share_model.specs.declared.foreign.ForeignOp.{ForeignOp}
-use Rattle.share_model.specs.declared.visit.Visit.{Visit}
+use Rattle.share_model.specs.declared.visit.Then.{Then}
 use Rattle.share_coord.specs.Parts.{StoreParts}
 use Rattle.share_coord.specs.States.{states_of}
 use Rattle.foreign_coord.specs.Shards.{ForeignShardState, Carries as CarriesForeign, StepsForeign}
 use Rattle.lock_index.specs.Windows.{WindowParts}
-use Rattle.share_part.specs.Expiring.{ExpiresPart, StepsExpire}
-use Rattle.share_part.specs.Hosting.{PartConfParts, key_of}
-use Rattle.share_part.specs.Shards.{PartParts, PartShardState, Carries, StepsProduce, shard_with}
-use Rattle.share_part.specs.Visits.{StepsVisit, VisitsPart}
+use Rattle.share_part.specs.Hosting.{PartConfParts}
+use Rattle.share_part.specs.Shards.{PartParts, PartShardState, Carries, shard_with}
 use Rattle.broker_model.specs.Acting.{Begun, EndsGoOn, HalvesOn, StepsOn}
 use Rattle.broker_model.specs.Hosted.{state_a, same_name}
-use Rattle.broker_model.specs.Shards.{PartCall, look_at, result_of}
+use Rattle.broker_model.specs.Shards.{PartCall, reads_log}
 use Rattle.broker_model.specs.Shards.PartCall.{Visits, Produces, Looks, Expires}
 use Rattle.broker_model.specs.Disks.{Disks, IsUsed, facts_of}
 use Rattle.edge_io.specs.Views.{DiskView}
@@ -112,7 +109,7 @@ pub record PartGoesOn {D : Type 0} (seen : D → DiskView) (old new : OpenPart D
   pub first : GoesOn seen old.states.journal.live.disk new.states.journal.live.disk
   pub second : GoesOn seen old.states.journal.idle new.states.journal.idle
 
--- a visit and an expiry use the first disk of the states alone, a batch that of the log, and a look none
+-- an expiry uses the first disk of the states alone, a batch that of the log, and a look none
 pub record UsesStates {D : Type 0} (seen : D → DiskView) (old new : OpenPart D) : Type 0 where
   pub used : IsUsed (facts_of seen old.states.journal.live.disk) (facts_of seen new.states.journal.live.disk)
   pub log : new.log ≡ old.log
@@ -122,8 +119,16 @@ pub record UsesLog {D : Type 0} (seen : D → DiskView) (old new : OpenPart D) :
   pub used : IsUsed (facts_of seen old.log.journal.disk) (facts_of seen new.log.journal.disk)
   pub states : new.states ≡ old.states
 
+-- a visit uses the first disk of the states, and a fetch that of the log besides
+pub record UsesVisit {D : Type 0} (seen : D → DiskView) (asked : Then) (old new : OpenPart D) : Type 0 where
+  pub used : IsUsed (facts_of seen old.states.journal.live.disk) (facts_of seen new.states.journal.live.disk)
+  pub log_used : IsUsed (facts_of seen old.log.journal.disk) (facts_of seen new.log.journal.disk)
+  pub log : reads_log asked ≡ false → new.log ≡ old.log
+  pub log_end : new.log.journal.end ≡ old.log.journal.end
+  pub second : new.states.journal.idle ≡ old.states.journal.idle
+
 abbrev pub Uses : {D : Type 0} → (D → DiskView) → OpenPart D → OpenPart D → PartCall → Type 0
-Uses seen old new (Visits visit answer) = UsesStates seen old new
+Uses seen old new (Visits visit answer unread) = UsesVisit seen visit.then old new
 Uses seen old new (Produces batch produced) = UsesLog seen old new
 Uses seen old new (Looks group looked) = new ≡ old
 Uses seen old new (Expires answer) = UsesStates seen old new

@@ -1,5 +1,5 @@
 // Calls on the shard in one of the slots of hosted partitions, by its number.
-ghost use Rattle.std.specs.Prelude.{◌≡◌, ◌⊎◌, ◌≤◌, ◌^◌, ℕ, IfOk, OnErr};
+ghost use Rattle.std.specs.Prelude.{Bool, ◌≡◌, ◌⊎◌, ◌≤◌, ◌^◌, ℕ, IfOk, OnErr};
 ghost use Rattle.call_fold.specs.Parts.{HasTellableBase, IsTellableLook, IsTellableVisit};
 ghost use Rattle.call_fold.specs.declared.part.Produced.{Produced};
 ghost use Rattle.share_model.specs.declared.visit.ExpireAnswer.{ExpireAnswer};
@@ -64,10 +64,10 @@ fn visit_in<D: Disk>(
 ) -> Result<VisitAnswer, NoMemory>
     requires now { now ≤ 2 ^ 62 }
     requires open { IsOpenState slot.old.state }
-    ensures ok { IfOk result (λ answer.
-        LeadsSlot D.seen now (Visits asked.now answer) slot.old slot.new) }
+    ensures ok { IfOk result (λ answer. (unread : Bool) ×
+        LeadsSlot D.seen now (Visits asked.now answer unread) slot.old slot.new) }
     ensures stopped { OnErr result (HaltsSlot D.seen now
-        (λ did. (answer : VisitAnswer) × (did ≡ Visits asked.now answer)) (λ begun. begun ≡ BeginsVisit asked.now) slot.old slot.new) }
+        (λ did. (answer : VisitAnswer) × (unread : Bool) × (did ≡ Visits asked.now answer unread)) (λ begun. begun ≡ BeginsVisit asked.now) slot.old slot.new) }
     ensures fair { IfOk result IsTellableVisit }
 {
     match &mut slot.state {
@@ -85,10 +85,10 @@ pub fn visit_at<D: Disk>(
 ) -> Result<VisitAnswer, NoMemory>
     requires now { now ≤ 2 ^ 62 }
     requires open { AreOpenParts parts.old.items }
-    ensures ok { IfOk result (λ answer. ChangesAt shard
-        (LeadsSlot D.seen now (Visits asked.now answer)) parts.old.items parts.new.items) }
+    ensures ok { IfOk result (λ answer. (unread : Bool) × ChangesAt shard
+        (LeadsSlot D.seen now (Visits asked.now answer unread)) parts.old.items parts.new.items) }
     ensures stopped { OnErr result ((parts.new.items ≡ parts.old.items) ⊎ ChangesAt shard (HaltsSlot D.seen now
-        (λ did. (answer : VisitAnswer) × (did ≡ Visits asked.now answer)) (λ begun. begun ≡ BeginsVisit asked.now)) parts.old.items parts.new.items) }
+        (λ did. (answer : VisitAnswer) × (unread : Bool) × (did ≡ Visits asked.now answer unread)) (λ begun. begun ≡ BeginsVisit asked.now)) parts.old.items parts.new.items) }
     ensures fair { IfOk result IsTellableVisit }
 {
     let Some(slot) = parts.get_mut(shard as usize) else {

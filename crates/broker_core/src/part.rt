@@ -1,5 +1,5 @@
 // Calls, openings and restarts of the shard of a hosted partition on its three disks.
-ghost use Rattle.std.specs.Prelude.{◌≡◌, ◌≢◌, ◌⊎◌, ◌≤◌, ◌<◌, ◌+◌, ◌^◌, List, ℕ, true, false, Some, Err, IfOk, IfErr, OnErr, MatchResult};
+ghost use Rattle.std.specs.Prelude.{Bool, ◌≡◌, ◌≢◌, ◌⊎◌, ◌≤◌, ◌<◌, ◌+◌, ◌^◌, List, ℕ, true, false, Some, Err, IfOk, IfErr, OnErr, MatchResult};
 ghost use Rattle.edge_io.specs.declared.fault.Armed.TheVariants.{Nothing};
 ghost use Rattle.edge_io.specs.declared.name.DiskPlace.{DiskPlace};
 ghost use Rattle.edge_io.specs.Causes.{Rose};
@@ -81,10 +81,10 @@ pub fn visit<D: Disk>(
     part: &mut PartShard<D, WindowRuns>,
 ) -> Result<VisitAnswer, NoMemory>
     requires { now ≤ 2 ^ 62 }
-    ensures ok { IfOk result (λ answer. (s : PartShardState) → IsPartCarried D.seen part.old.conf part.old s →
-        LeadsPart D.seen part.old.conf now (Visits visit.now answer) part.old s part.new) }
+    ensures ok { IfOk result (λ answer. (unread : Bool) × ((s : PartShardState) → IsPartCarried D.seen part.old.conf part.old s →
+        LeadsPart D.seen part.old.conf now (Visits visit.now answer unread) part.old s part.new)) }
     ensures stopped { OnErr result ((s : PartShardState) → IsPartCarried D.seen part.old.conf part.old s →
-        HaltsPart D.seen part.old.conf now (λ did. (answer : VisitAnswer) × (did ≡ Visits visit.now answer))
+        HaltsPart D.seen part.old.conf now (λ did. (answer : VisitAnswer) × (unread : Bool) × (did ≡ Visits visit.now answer unread))
         (λ begun. begun ≡ BeginsVisit visit.now) part.old s part.new) }
     ensures fair { IfOk result IsTellableVisit }
     ensures disks { PartGoesOn D.seen part.old part.new }

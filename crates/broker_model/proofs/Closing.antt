@@ -37,7 +37,7 @@ use Rattle.part_log.specs.Shards.{LogShardState}
 use Rattle.part_log.proofs.Rising.{end_more}
 use Rattle.share_part.specs.Acknowledging.{Acknowledges, AreSettled, IsActedOn, StoresActs}
 use Rattle.share_part.specs.Expiring.{StepsGroups, ending}
-use Rattle.share_part.specs.Following.{Acquires, Does as Follows, Fetches, MakesTable, fault_of, releases_of}
+use Rattle.share_part.specs.Following.{Acquires, Does as DoesThen, Follows, Fetches, MakesTable, fault_of, releases_of}
 use Rattle.share_part.specs.Hosting.{PartConfParts, key_of}
 use Rattle.share_part.specs.Settling.{Acts, IsHeldBy, IsSettled, act_row, held_after, is_closed_state, settled, stored_after}
 use Rattle.share_part.specs.Shards.{PartShardState, new_state, raised_to}
@@ -224,8 +224,8 @@ module _ (o : ℕ) (row : Row) (closed : is_closed_state row.state ≡ true) whe
           none_not t.1 (sym none ∙ ap (delivery_of (table_of state held)) e ∙ all.0.0))
           k.0
 
-    module _ (rose : Type 0) (end : ℕ) (a : PartShardState) (visit : Visit) (answer : VisitAnswer) (b : PartShardState) (same : a.log.batches ≡ log) where
-      acquired_free : (limits : Limits) (state : ShareState) → table_at conf a.states visit.group ≡ Some state → Acquires conf a state visit limits answer b
+    module _ (told : Bool) (rose : Type 0) (end : ℕ) (a : PartShardState) (visit : Visit) (answer : VisitAnswer) (b : PartShardState) (same : a.log.batches ≡ log) where
+      acquired_free : (limits : Limits) (state : ShareState) → table_at conf a.states visit.group ≡ Some state → Acquires conf told a state visit limits answer b
           → IsStill a → hold_in b group o ≡ None
       acquired_free limits state known p k = ⊎_elim
           (λ one. ap (λ (h : List ℕ → Held). hold_at (h group) o) p.held ∙ ap (λ (h : Held). hold_at h o) one.1
@@ -248,7 +248,7 @@ module _ (o : ℕ) (row : Row) (closed : is_closed_state row.state ≡ true) whe
           (λ other. subst (KeptIn o row log) (sym (ap (λ (x : ShareStates). table_at conf x group) is ∙ other)) k.now)
           (table_set conf a.states visit.group group (new_state conf (end_of a.log.batches)))
 
-      made_keeps : (limits : Limits) (t : ThenOutcome) → table_at conf a.states visit.group ≡ None → MakesTable conf rose end a visit limits answer b t
+      made_keeps : (limits : Limits) (t : ThenOutcome) → table_at conf a.states visit.group ≡ None → MakesTable conf told rose end a visit limits answer b t
           → IsStill a → IsStill b
       made_keeps limits followed none p k = record {
         free = ⊎_elim
@@ -268,7 +268,7 @@ module _ (o : ℕ) (row : Row) (closed : is_closed_state row.state ≡ true) whe
             p.2.pending;
       }
 
-      fetches_keep : (limits : Limits) (t : Option ShareState) → table_at conf a.states visit.group ≡ t → Fetches conf rose end a visit limits answer b t
+      fetches_keep : (limits : Limits) (t : Option ShareState) → table_at conf a.states visit.group ≡ t → Fetches conf told rose end a visit limits answer b t
           → IsStill a → IsStill b
       fetches_keep limits None none p k = made_keeps limits answer.then none p k
       fetches_keep limits (Some state) known p k = record {
@@ -277,11 +277,15 @@ module _ (o : ℕ) (row : Row) (closed : is_closed_state row.state ≡ true) whe
         lost = λ found at. k.lost found (sym p.pending ∙ at);
       }
 
-      does_keep : (t : Then) → Follows conf rose end a visit answer b t → IsStill a → IsStill b
+      does_keep : (t : Then) → DoesThen conf told rose end a visit answer b t → IsStill a → IsStill b
       does_keep Nothing p k = still a b p.1.states p.1.pending p.1.held k
       does_keep Release p k = stores_keep rose end a visit.group (releases_of visit.member (a.held visit.group)) b (fault_of answer.then) same p.1 k
       does_keep (Fetch records bytes first) p k =
           fetches_keep (record { records = records; bytes = bytes; first = first }) (table_at conf a.states visit.group) refl p k
+
+      follows_keep : (unread : Type 0) (failed : Bool) → Follows conf told unread rose end a visit answer b failed → IsStill a → IsStill b
+      follows_keep unread true p k = still a b p.still.states p.still.pending p.still.held k
+      follows_keep unread false p k = does_keep visit.then p k
 
       acks_keep : (ack : AckOutcome) → Acknowledges conf rose end a visit b ack → IsStill a → IsStill b
       acks_keep acknowledged p k = stores_keep rose end a visit.group (kind_at visit.acks) b None same p.1 k
@@ -357,14 +361,14 @@ module _ (o : ℕ) (row : Row) (closed : is_closed_state row.state ≡ true) (gr
   KeepsPart p = Keeps o row p.hosted.conf group p.shard.log.batches p.shard
 
   part_keeps : (s : Step) (now : ℕ) (h : Hosted) (x y : PartShardState) (did : PartCall) → IsLog x.log.batches
-      → StepsPart (counts_of s.before s.after) (ends_of s.before s.after) now h x did y → Keeps o row h.conf group x.log.batches x
+      → StepsPart true (counts_of s.before s.after) (ends_of s.before s.after) now h x did y → Keeps o row h.conf group x.log.batches x
       → Keeps o row h.conf group x.log.batches y
-  part_keeps s now h x y (Visits visit answer) is_log p k =
+  part_keeps s now h x y (Visits visit answer unread) is_log p k =
       let c = (counts_of s.before s.after (first_of h)).0 in
       let l = (counts_of s.before s.after (first_of h)).1 in
-      does_keep o row closed h.conf group x.log.batches is_log (Rose p.counted l) p.at p.between visit answer y (ap (λ (z : LogShardState). z.batches) p.acks.log)
-      visit.then p.does
-      (acks_keep o row closed h.conf group x.log.batches is_log (Rose c p.counted) (s.before.ends (first_of h)) x visit answer p.between refl answer.ack p.acks.does k)
+      follows_keep o row closed h.conf group x.log.batches is_log true (Rose p.counted l) p.at p.between visit answer y
+      (ap (λ (z : LogShardState). z.batches) p.acks.log) _ unread p.does
+      (acks_keep o row closed h.conf group x.log.batches is_log true (Rose c p.counted) (s.before.ends (first_of h)) x visit answer p.between refl answer.ack p.acks.does k)
   part_keeps s now h x y (Produces batch produced) is_log p k =
       still o row closed h.conf group x.log.batches is_log x y p.still.states p.still.pending p.still.held k
   part_keeps s now h x y (Looks asked looked) is_log p k = subst (λ (z : PartShardState). Keeps o row h.conf group x.log.batches z) (sym p.1) k
@@ -414,8 +418,8 @@ logs_on conf n first last (s ∷ steps) run x y at there is_log =
     logs_on conf n s.after last steps run.2 w.0 y w.1 there ((goes_log n s x w.0 w.2).still is_log)
 
 module _ (conf : ConfigParts) (r : Record) (s : Step) (c : IsActedOnIn r s) (step : IsStepOf conf s) where
-  abbrev call_of : Called r.shard s c.hosted (Visits c.visit c.answer)
-  call_of = called conf s step r.shard c.hosted (Visits c.visit c.answer) c.call
+  abbrev call_of : Called r.shard s c.hosted (Visits c.visit c.answer c.unread)
+  call_of = called conf s step r.shard c.hosted (Visits c.visit c.answer c.unread) c.call
 
   record Begun : Type 0 where
     hold : Hold
@@ -425,7 +429,7 @@ module _ (conf : ConfigParts) (r : Record) (s : Step) (c : IsActedOnIn r s) (ste
 
   acted : IsLog call_of.old.shard.log.batches → Begun
   acted is_log = by_stored does.1 where
-    p : StepsPart (counts_of s.before s.after) (ends_of s.before s.after) call_of.now c.hosted call_of.old.shard (Visits c.visit c.answer) call_of.new.shard
+    p : StepsPart true (counts_of s.before s.after) (ends_of s.before s.after) call_of.now c.hosted call_of.old.shard (Visits c.visit c.answer c.unread) call_of.new.shard
     p = call_of.step.step
 
     does : Acknowledges c.hosted.conf (Rose (counts_of s.before s.after (first_of c.hosted)).0 p.counted) (s.before.ends (first_of c.hosted))
@@ -444,8 +448,9 @@ module _ (conf : ConfigParts) (r : Record) (s : Step) (c : IsActedOnIn r s) (ste
         begins c.hosted.conf c.visit.group r.offset (kind_at c.visit.acks) c.kind c.named call_of.old.shard p.between h.0 h.1 is_log some.1 in
         let after : is_closed_state (settled c.hosted.conf.limit c.kind h.0.count).state ≡ true
         → Keeps r.offset (settled c.hosted.conf.limit c.kind h.0.count) c.hosted.conf c.visit.group call_of.old.shard.log.batches call_of.new.shard = λ closed.
-        does_keep r.offset (settled c.hosted.conf.limit c.kind h.0.count) closed c.hosted.conf c.visit.group call_of.old.shard.log.batches is_log _ p.at p.between c.visit c.answer call_of.new.shard
-        (ap (λ (z : LogShardState). z.batches) p.acks.log) c.visit.then p.does between in
+        follows_keep r.offset (settled c.hosted.conf.limit c.kind h.0.count) closed c.hosted.conf c.visit.group call_of.old.shard.log.batches is_log
+        true _ p.at p.between c.visit c.answer call_of.new.shard
+        (ap (λ (z : LogShardState). z.batches) p.acks.log) _ c.unread p.does between in
         record {
           hold = h.0;
           at = ap (λ (g : List ℕ). hold_in call_of.old.shard g r.offset) (sym c.group) ∙ h.1;
@@ -459,7 +464,7 @@ pub acknowledgements_kept : (conf : ConfigParts) (first last : State) (steps : L
 acknowledgements_kept conf first last steps run well before after s split r c =
     let p = run_parts conf first last before (s ∷ after) (subst (λ (l : List Step). IsRun conf first l last) split run) in
     let step = p.2.1 in
-    let call = called conf s step r.shard c.hosted (Visits c.visit c.answer) c.call in
+    let call = called conf s step r.shard c.hosted (Visits c.visit c.answer c.unread) c.call in
     let there : entry_at r.shard (parts_of p.0) ≡ Some call.old = ap (λ (z : State). entry_at r.shard (parts_of z)) (sym p.2.0) ∙ call.was in
     let x = first_entry conf r.shard first p.0 before p.1 call.old there in
     let is_log = logs_on conf r.shard first p.0 before p.1 x.0 call.old x.1 there (all_entry r.shard IsWell (parts_of first) x.0 x.1 well).0 in

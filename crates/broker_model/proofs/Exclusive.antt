@@ -1,5 +1,5 @@
 -- No record is held by two members whose locks both stand, over whole runs.
-use Rattle.std.proofs.Common.{◌≡◌, ◌⊎◌, inl, inr, ⊎_elim, refl, sym, ap, ◌∙◌, subst, ℕ, List, [], ◌∷◌, ◌++◌, Some}
+use Rattle.std.proofs.Common.{true, ◌≡◌, ◌⊎◌, inl, inr, ⊎_elim, refl, sym, ap, ◌∙◌, subst, ℕ, List, [], ◌∷◌, ◌++◌, Some}
 use Rattle.std.specs.List.{Contains}
 use Rattle.share_part.specs.Shards.{PartShardState}
 use Rattle.topic_conf.specs.Configs.{ConfigParts}
@@ -50,7 +50,7 @@ module _ (r : Record) (member : List ℕ) (until : ℕ) where
       go y is (inr (inl c)) = ⊎_elim
           (λ locked. inl (record { part = y; there = is; locked = locked }))
           (λ e. inr (inl (c.hosted, alone l.part c.did y, seen_by c.hosted c.did l.part y c.call l.there is, e)))
-          (step_lock r.group r.offset member until c.hosted (alone l.part c.did y) (counts_of s.before s.after, ends_of s.before s.after, c.now, c.step.step)
+          (step_lock r.group r.offset member until c.hosted (alone l.part c.did y) (true, counts_of s.before s.after, ends_of s.before s.after, c.now, c.step.step)
           l.locked)
       go y is (inr (inr lost)) = inr (inr (lost.choice, lost.event))
 
@@ -79,7 +79,7 @@ module _ (r : Record) (member : List ℕ) (until : ℕ) where
           steps = subst (λ (a : PartAct). StepsAlone hosted p.before a p.after) (sym k.act)
               (subst (λ (x : PartShardState). StepsAlone hosted x (Called k.did) p.after) before
               (subst (λ (y : PartShardState). StepsAlone hosted c.old.shard (Called k.did) y) after
-              (counts_of s.before s.after, ends_of s.before s.after, c.now, c.step.step)));
+              (true, counts_of s.before s.after, ends_of s.before s.after, c.now, c.step.step)));
         }
 
     -- a record that is granted is locked

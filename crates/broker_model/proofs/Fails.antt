@@ -1,5 +1,5 @@
--- No more writes fail on a disk in a step than its count rises by.
-use Rattle.std.proofs.Common.{◌≡◌, ◌≤◌, ◌+◌, inl, inr, ⊎_elim, refl, sym, subst, arith, ℕ, List, [], ◌∷◌, Bool, true, false, cond, Option, Some, None}
+-- No more writes and readings fail on a disk in a step than its count rises by.
+use Rattle.std.proofs.Common.{◌≡◌, ◌≤◌, ◌+◌, inl, inr, ⊎_elim, refl, sym, subst, arith, ℕ, List, [], ◌∷◌, Bool, true, false, cond, Option, Some, None, if◌then◌else◌}
 use Rattle.std.specs.Cmp.Lexicographic.{same_text}
 use Rattle.edge_io.specs.Causes.{Rose}
 use Rattle.session_script.specs.declared.event.Event.{Event}
@@ -24,7 +24,7 @@ use Rattle.foreign_coord.specs.Shards.{ForeignShardState, StepsForeign}
 use Rattle.part_log.specs.Shards.{LogShardState, StepsLog}
 use Rattle.share_part.specs.Acknowledging.{Acknowledges, StoresActs}
 use Rattle.share_part.specs.Expiring.{StepsGroups}
-use Rattle.share_part.specs.Following.{Does, Fetches, MakesTable, fault_of, releases_of}
+use Rattle.share_part.specs.Following.{Does, Fetches, Follows, MakesTable, Reading, fault_of, releases_of}
 use Rattle.share_part.specs.Hosting.{PartConfParts, key_of}
 use Rattle.share_part.specs.Settling.{Acts as ShareActs}
 use Rattle.share_part.specs.Shards.{PartShardState}
@@ -33,7 +33,7 @@ use Rattle.share_part.specs.declared.limits.Limits.{Limits}
 use Rattle.call_fold.specs.declared.part.Produced.{Produced}
 use Rattle.call_fold.specs.declared.part.Produced.TheVariants.{Base, Batch, Store}
 use Rattle.broker_model.specs.Hosted.{Hosted, first_of, log_of, same_name, state_a}
-use Rattle.broker_model.specs.Shards.{Counts, PartCall, Shards, ShardCall, StepsHosted, StepsPart, StepsShards, faults_met, failures_in, part_faults_met, result_of, store_fault_of_ack, store_fault_of_expiry, store_fault_of_log, store_fault_of_then, Ends}
+use Rattle.broker_model.specs.Shards.{Counts, PartCall, Shards, ShardCall, StepsHosted, StepsPart, StepsShards, faults_met, failures_in, log_faults_met, result_of, state_faults_met, store_fault_of_ack, store_fault_of_expiry, store_fault_of_log, store_fault_of_then, Ends}
 use Rattle.broker_model.specs.Shards.ShardCall.{CallForeign, CallPart, CallMembers}
 use Rattle.broker_model.specs.Shards.PartCall.{Visits, Produces, Looks, Expires}
 use Rattle.broker_model.specs.Machine.{Machine}
@@ -92,28 +92,43 @@ module _ (a b : ℕ) (le : a ≤ b) where
     release_met group acts (then_store Device) stores = covers_one a b stores.1
     release_met group acts (then_store (Full at)) stores = covers_none a b le
 
-    made_met : (visit : Visit) (limits : Limits) (answer : VisitAnswer) (o : ThenOutcome) → MakesTable conf (Rose a b) end old visit limits answer new o → Met o
-    made_met visit limits answer followed p = covers_none a b le
-    made_met visit limits answer (then_store Device) p = covers_one a b p.0
-    made_met visit limits answer (then_store (Full at)) p = covers_none a b le
+    made_met : (told : Bool) (visit : Visit) (limits : Limits) (answer : VisitAnswer) (o : ThenOutcome) → MakesTable conf told (Rose a b) end old visit limits answer new o → Met o
+    made_met told visit limits answer followed p = covers_none a b le
+    made_met told visit limits answer (then_store Device) p = covers_one a b p.0
+    made_met told visit limits answer (then_store (Full at)) p = covers_none a b le
 
-    fetch_met : (visit : Visit) (limits : Limits) (answer : VisitAnswer) (o : Option ShareState) → Fetches conf (Rose a b) end old visit limits answer new o → Met answer.then
-    fetch_met visit limits answer None p = made_met visit limits answer answer.then p
-    fetch_met visit limits answer (Some state) p = told_met answer.then followed p.acquires.outcome_is (covers_none a b le)
+    fetch_met : (told : Bool) (visit : Visit) (limits : Limits) (answer : VisitAnswer) (o : Option ShareState) → Fetches conf told (Rose a b) end old visit limits answer new o → Met answer.then
+    fetch_met told visit limits answer None p = made_met told visit limits answer answer.then p
+    fetch_met told visit limits answer (Some state) p = told_met answer.then followed p.acquires.outcome_is (covers_none a b le)
 
-    then_met : (visit : Visit) (answer : VisitAnswer) (t : Then) → Does conf (Rose a b) end old visit answer new t → Met answer.then
-    then_met visit answer Nothing p = told_met answer.then followed p.0.outcome_is (covers_none a b le)
-    then_met visit answer Release p = release_met visit.group (releases_of visit.member (old.held visit.group)) answer.then p.1
-    then_met visit answer (Fetch records bytes first) p =
-        fetch_met visit (record { records = records; bytes = bytes; first = first }) answer (share_state_at old.states (key_of conf visit.group)) p
+    then_met : (told : Bool) (visit : Visit) (answer : VisitAnswer) (t : Then) → Does conf told (Rose a b) end old visit answer new t → Met answer.then
+    then_met told visit answer Nothing p = told_met answer.then followed p.0.outcome_is (covers_none a b le)
+    then_met told visit answer Release p = release_met visit.group (releases_of visit.member (old.held visit.group)) answer.then p.1
+    then_met told visit answer (Fetch records bytes first) p =
+        fetch_met told visit (record { records = records; bytes = bytes; first = first }) answer (share_state_at old.states (key_of conf visit.group)) p
 
-visit_met : (conf : PartConfParts) (a b end last : ℕ) (old new : PartShardState) (now : ℕ) (visit : Visit) (answer : VisitAnswer)
-    → StepsVisit conf a b end last old now visit answer new
-    → Covers a b (faults_met (store_fault_of_ack answer.ack) + faults_met (store_fault_of_then answer.then))
-visit_met conf a b end last old new now visit answer p =
-    covers_both a p.counted b (faults_met (store_fault_of_ack answer.ack)) (faults_met (store_fault_of_then answer.then))
+    -- on the first state disk, where a batch could be read
+    follows_met : (told : Bool) (unread : Type 0) (visit : Visit) (answer : VisitAnswer) (failed : Bool)
+        → Follows conf told unread (Rose a b) end old visit answer new failed
+        → Covers a b (if failed then 0 else faults_met (store_fault_of_then answer.then))
+    follows_met told unread visit answer true p = covers_none a b le
+    follows_met told unread visit answer false p = then_met told visit answer visit.then p
+
+    -- and else on the log's disk
+    unread_met : (told : Bool) (rose : Type 0) (visit : Visit) (answer : VisitAnswer) (failed : Bool)
+        → Follows conf told (Rose a b) rose end old visit answer new failed
+        → Covers a b (if failed then faults_met (store_fault_of_then answer.then) else 0)
+    unread_met told rose visit answer true p = told_met answer.then (then_store Device) p.empty.outcome_is (covers_one a b p.risen)
+    unread_met told rose visit answer false p = covers_none a b le
+
+visit_met : (conf : PartConfParts) (reading : Reading) (a b end last : ℕ) (old new : PartShardState) (now : ℕ) (visit : Visit) (answer : VisitAnswer)
+    → StepsVisit conf reading a b end last old now visit answer new
+    → Covers a b (faults_met (store_fault_of_ack answer.ack) + (if reading.failed then 0 else faults_met (store_fault_of_then answer.then)))
+visit_met conf reading a b end last old new now visit answer p =
+    covers_both a p.counted b (faults_met (store_fault_of_ack answer.ack))
+    (if reading.failed then 0 else faults_met (store_fault_of_then answer.then))
     (acks_met a p.counted p.counts.0 conf end old p.between visit answer.ack p.acks.does)
-    (then_met p.counted b p.counts.1 conf p.at p.between new visit answer visit.then p.does)
+    (follows_met p.counted b p.counts.1 conf p.at p.between new reading.told reading.rose visit answer reading.failed p.does)
 
 groups_met : (conf : PartConfParts) (a b end last : ℕ) (groups : List (List ℕ)) (freed : ℕ) (old : PartShardState) (answer : ExpireAnswer) (new : PartShardState)
     → StepsGroups conf a b end last groups freed old answer new → Covers a b (faults_met (store_fault_of_expiry answer))
@@ -138,18 +153,32 @@ module _ (counts : Counts) (ends : Ends) (name : List ℕ) (later : (counts name
         subst (λ (d : List ℕ). CoversAt d n) (sym one) (met (subst (λ (d : List ℕ). (counts d).0 ≤ (counts d).1) one later))
     go false is = covers_none (counts name).0 (counts name).1 later
 
-  part_met : (now : ℕ) (h : Hosted) (old new : PartShardState) (shard : ℕ) (did : PartCall) → StepsPart counts ends now h old did new
+  -- those of the first state disk and of the log's, where this is one of the two
+  met_on : (first log : List ℕ) (n m : ℕ) → ((counts first).0 ≤ (counts first).1 → CoversAt first n)
+      → ((counts log).0 ≤ (counts log).1 → CoversAt log m) → CoversAt name (cond (same_name name first) n (cond (same_name name log) m 0))
+  met_on first log n m met also = go (same_name name first) refl where
+    go : (b : Bool) → same_name name first ≡ b → CoversAt name (cond b n (cond (same_name name log) m 0))
+    go true is =
+        let one : name ≡ first = same_text name first (sym is) in
+        subst (λ (d : List ℕ). CoversAt d n) (sym one) (met (subst (λ (d : List ℕ). (counts d).0 ≤ (counts d).1) one later))
+    go false is = met_at log m also
+
+  part_met : (now : ℕ) (h : Hosted) (old new : PartShardState) (shard : ℕ) (did : PartCall) → StepsPart true counts ends now h old did new
       → CoversAt name (failures_in name (Some (CallPart shard h did)))
-  part_met now h old new shard (Visits visit answer) step =
-      met_at (first_of h) (part_faults_met (Visits visit answer))
-      (λ le. visit_met h.conf (counts (first_of h)).0 (counts (first_of h)).1 (ends (first_of h)).0 (ends (first_of h)).1 old new now visit answer step)
+  part_met now h old new shard (Visits visit answer unread) step =
+      met_on (first_of h) (log_of h) (state_faults_met (Visits visit answer unread)) (log_faults_met (Visits visit answer unread))
+      (λ le. visit_met h.conf _ (counts (first_of h)).0 (counts (first_of h)).1 (ends (first_of h)).0 (ends (first_of h)).1 old new now visit answer step)
+      (λ le. unread_met (counts (log_of h)).0 (counts (log_of h)).1 le h.conf step.at step.between new true _ visit answer unread step.does)
   part_met now h old new shard (Produces batch produced) step =
-      met_at (log_of h) (part_faults_met (Produces batch produced))
+      met_on (first_of h) (log_of h) 0 (log_faults_met (Produces batch produced)) (λ le. covers_none (counts (first_of h)).0 (counts (first_of h)).1 le)
       (λ le. log_met (counts (log_of h)).0 (counts (log_of h)).1 le (ends (log_of h)).0 old.log new.log batch produced step.log)
-  part_met now h old new shard (Looks group looked) step = covers_none (counts name).0 (counts name).1 later
+  part_met now h old new shard (Looks group looked) step =
+      met_on (first_of h) (log_of h) 0 0 (λ le. covers_none (counts (first_of h)).0 (counts (first_of h)).1 le)
+      (λ le. covers_none (counts (log_of h)).0 (counts (log_of h)).1 le)
   part_met now h old new shard (Expires answer) step =
-      met_at (first_of h) (part_faults_met (Expires answer))
+      met_on (first_of h) (log_of h) (state_faults_met (Expires answer)) 0
       (λ le. groups_met h.conf (counts (first_of h)).0 (counts (first_of h)).1 (ends (first_of h)).0 (ends (first_of h)).1 _ 0 _ answer new step.groups)
+      (λ le. covers_none (counts (log_of h)).0 (counts (log_of h)).1 le)
 
   did_counts : (now : ℕ) (old new : Shards) (did : ShardCall) → StepsShards counts ends now old did new → CoversAt name (failures_in name (Some did))
   did_counts now old new (CallForeign op answer fault) step =

@@ -1,5 +1,5 @@
 -- No log loses a batch.
-use Rattle.std.proofs.Common.{◌≡◌, inl, inr, ⊎_elim, refl, sym, ap, ◌∙◌, subst, ℕ, zero, suc, List, [], ◌∷◌, ◌++◌, append_assoc, append-nil, Option, Some, None}
+use Rattle.std.proofs.Common.{true, ◌≡◌, inl, inr, ⊎_elim, refl, sym, ap, ◌∙◌, subst, ℕ, zero, suc, List, [], ◌∷◌, ◌++◌, append_assoc, append-nil, Option, Some, None}
 use Rattle.std.specs.List.{AllZip}
 use Rattle.session_script.specs.declared.event.Event.{Event}
 use Rattle.share_model.specs.Logs.{Batch as LogBatch}
@@ -73,8 +73,8 @@ log_same : (old new : PartShardState) → new.log ≡ old.log → Longer old new
 log_same old new is = ([], ap (λ (l : LogShardState). l.batches) is ∙ sym (append-nil old.log.batches))
 
 module _ (counts : Counts) (ends : Ends) where
-  part_grows : (now : ℕ) (h : Hosted) (old new : PartShardState) (did : PartCall) → StepsPart counts ends now h old did new → Longer old new
-  part_grows now h old new (Visits visit answer) p = log_same old new p.log
+  part_grows : (now : ℕ) (h : Hosted) (old new : PartShardState) (did : PartCall) → StepsPart true counts ends now h old did new → Longer old new
+  part_grows now h old new (Visits visit answer unread) p = log_same old new p.log
   part_grows now h old new (Produces batch produced) p = log_grows _ _ old.log new.log batch produced p.log
   part_grows now h old new (Looks group looked) p = log_same old new (ap (λ (s : PartShardState). s.log) p.1)
   part_grows now h old new (Expires answer) p = log_same old new p.log

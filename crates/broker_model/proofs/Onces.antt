@@ -19,6 +19,7 @@ use Rattle.share_model.specs.declared.ack.AckFault.{AckFault}
 use Rattle.share_model.specs.declared.fault.BatchFault.{BatchFault}
 use Rattle.share_model.specs.declared.hold.Grant.{Grant}
 use Rattle.share_model.specs.declared.row.Row.{Row}
+use Rattle.share_model.specs.declared.fault.StoreFault.TheVariants.{Device}
 use Rattle.share_model.specs.declared.visit.AckOutcome.{AckOutcome}
 use Rattle.share_model.specs.declared.visit.AckOutcome.TheVariants.{Done as acknowledged, Malformed, NotHeld, Store as ack_store}
 use Rattle.share_model.specs.declared.visit.ExpireAnswer.{ExpireAnswer}
@@ -32,7 +33,7 @@ use Rattle.share_model.proofs.OneList.{one_list}
 use Rattle.part_log.specs.Shards.{LogShardState, StepsLog}
 use Rattle.share_part.specs.Acknowledging.{Acknowledges, AreSettled, StoresActs}
 use Rattle.share_part.specs.Expiring.{StepsGroups, due_count, ending, more_freed}
-use Rattle.share_part.specs.Following.{Acquires, Does, Fetches, FetchesFirst, MakesTable, fault_of, releases_of}
+use Rattle.share_part.specs.Following.{Acquires, Does, Fetches, FetchesFirst, Follows, MakesTable, Reading, fault_of, releases_of}
 use Rattle.share_part.specs.Hosting.{PartConfParts, key_of}
 use Rattle.share_part.specs.Settling.{Acts, IsLeastMissing, IsNextStart, IsSettled, stored_after}
 use Rattle.share_part.specs.Shards.{PartShardState, StepsProduce, new_state, raised_to, with_held}
@@ -217,18 +218,18 @@ module _ (conf : PartConfParts) (rose also : Type 0) (end at : ℕ) (a : PartSha
   outcomes : answer.then ≡ told.then
   outcomes = done_only answer.then none ∙ sym (done_only told.then nothing)
 
-  acquires_once : (state : ShareState) (limits : Limits) → Acquires conf a state visit limits answer one → Acquires conf a state visit limits told other → IsTaken
+  acquires_once : (state : ShareState) (limits : Limits) → Acquires conf true a state visit limits answer one → Acquires conf true a state visit limits told other → IsTaken
   acquires_once state limits p q =
       let taken = (acquired a.log.batches (table_of state (a.held visit.group)) limits).taken in
       record {
         grants = grants_once taken answer.grants told.grants p.grants q.grants;
-        batches = p.batches ∙ sym q.batches;
+        batches = p.batches refl ∙ sym (q.batches refl);
         held = p.held
             ∙ ap (λ (c : ℕ). with_held a.held visit.group (with_holds visit.member (c + conf.lock_ms) taken (a.held visit.group))) clocks
             ∙ sym q.held;
       }
 
-  first_once : (limits : Limits) → FetchesFirst conf a visit limits answer one → FetchesFirst conf a visit limits told other → IsThen
+  first_once : (limits : Limits) → FetchesFirst conf true a visit limits answer one → FetchesFirst conf true a visit limits told other → IsThen
   first_once limits p q =
       let t = acquires_once (new_state conf (end_of a.log.batches)) limits p.acquires q.acquires in
       record {
@@ -238,10 +239,10 @@ module _ (conf : PartConfParts) (rose also : Type 0) (end at : ℕ) (a : PartSha
         same = record { states = p.states ∙ sym q.states; pending = p.nothing ∙ sym q.nothing; held = t.held };
       }
 
-  fetches_once : (limits : Limits) (o : Option ShareState) → Fetches conf rose end a visit limits answer one o → Fetches conf also at a visit limits told other o → IsThen
+  fetches_once : (limits : Limits) (o : Option ShareState) → Fetches conf true rose end a visit limits answer one o → Fetches conf true also at a visit limits told other o → IsThen
   fetches_once limits None p q = first_once limits
-      (subst (λ (t : ThenOutcome). MakesTable conf rose end a visit limits answer one t) (done_only answer.then none) p)
-      (subst (λ (t : ThenOutcome). MakesTable conf also at a visit limits told other t) (done_only told.then nothing) q)
+      (subst (λ (t : ThenOutcome). MakesTable conf true rose end a visit limits answer one t) (done_only answer.then none) p)
+      (subst (λ (t : ThenOutcome). MakesTable conf true also at a visit limits told other t) (done_only told.then nothing) q)
   fetches_once limits (Some state) p q =
       let t = acquires_once state limits p.acquires q.acquires in
       record {
@@ -251,7 +252,7 @@ module _ (conf : PartConfParts) (rose also : Type 0) (end at : ℕ) (a : PartSha
         same = record { states = p.states ∙ sym q.states; pending = p.pending ∙ sym q.pending; held = t.held };
       }
 
-  then_once : (t : Then) → Does conf rose end a visit answer one t → Does conf also at a visit told other t → IsThen
+  then_once : (t : Then) → Does conf true rose end a visit answer one t → Does conf true also at a visit told other t → IsThen
   then_once Nothing p q = record {
     outcome = outcomes;
     grants = p.0.grants ∙ sym q.0.grants;
@@ -271,6 +272,15 @@ module _ (conf : PartConfParts) (rose also : Type 0) (end at : ℕ) (a : PartSha
   then_once (Fetch records bytes first) p q =
       fetches_once (record { records = records; bytes = bytes; first = first }) (share_state_at a.states (key_of conf visit.group)) p q
 
+  unread_not : (told : ThenOutcome) → store_fault_of_then told ≡ None → told ≡ then_store Device → ⊥
+  unread_not told none is = none_not Device (sym none ∙ ap store_fault_of_then is)
+
+  follows_once : (unread lost : Type 0) (failed missed : Bool) → Follows conf true unread rose end a visit answer one failed
+      → Follows conf true lost also at a visit told other missed → IsThen × (failed ≡ missed)
+  follows_once unread lost false false p q = (then_once visit.then p q, refl)
+  follows_once unread lost true missed p q = absurd (unread_not answer.then none p.empty.outcome_is)
+  follows_once unread lost false true p q = absurd (unread_not told.then nothing q.empty.outcome_is)
+
 -- ---- a visit
 
 same_shards : (one other : PartShardState) → IsSame one other → one.log ≡ other.log → one.clock ≡ other.clock → one ≡ other
@@ -280,17 +290,25 @@ same_shards one other same log clock =
 abbrev Once : {A : Type 0} → A → A → PartShardState → PartShardState → Type 0
 Once answer told one other = (answer ≡ told) × (one ≡ other)
 
-visit_once : (conf : PartConfParts) (c l e x d m f y : ℕ) (a one other : PartShardState) (now : ℕ) (visit : Visit) (answer told : VisitAnswer)
-    → PartMetNoFault (Visits visit answer) → PartMetNoFault (Visits visit told) → StepsVisit conf c l e x a now visit answer one
-    → StepsVisit conf d m f y a now visit told other → Once answer told one other
-visit_once conf c l e x d m f y a one other now visit answer told none nothing p q =
+-- how a machine's fetch read its batches
+abbrev machine_reading : Type 0 → Bool → Reading
+machine_reading rose failed = record { told = true; rose = rose; failed = failed }
+
+visit_once : (conf : PartConfParts) (unread lost : Type 0) (c l e x d m f y : ℕ) (a one other : PartShardState) (now : ℕ) (visit : Visit)
+    (answer told : VisitAnswer) (failed missed : Bool) → PartMetNoFault (Visits visit answer failed) → PartMetNoFault (Visits visit told missed)
+    → StepsVisit conf (machine_reading unread failed) c l e x a now visit answer one
+    → StepsVisit conf (machine_reading lost missed) d m f y a now visit told other → Once answer told one other × (failed ≡ missed)
+visit_once conf unread lost c l e x d m f y a one other now visit answer told failed missed none nothing p q =
     let acks = acks_once conf (Rose c p.counted) (Rose d q.counted) e f a visit p.between q.between answer.ack told.ack none.0 nothing.0 p.acks.does q.acks.does in
     let mids : p.between ≡ q.between = same_shards p.between q.between acks.1 (p.acks.log ∙ sym q.acks.log) (p.acks.clock ∙ sym q.acks.clock) in
     let clocks : one.clock ≡ other.clock = p.clock ∙ sym q.clock in
-    let r = then_once conf (Rose p.counted l) (Rose q.counted m) p.at q.at q.between visit answer told one other clocks none.1 nothing.1 visit.then
-    (subst (λ (b : PartShardState). Does conf (Rose p.counted l) p.at b visit answer one visit.then) mids p.does) q.does in (
-      λ i. record { ack = acks.0 i; «then» = r.outcome i; grants = r.grants i; batches = r.batches i },
-      same_shards one other r.same (p.log ∙ sym q.log) clocks,
+    let r = follows_once conf (Rose p.counted l) (Rose q.counted m) p.at q.at q.between visit answer told one other clocks none.1 nothing.1 unread lost failed missed
+    (subst (λ (b : PartShardState). Follows conf true unread (Rose p.counted l) p.at b visit answer one failed) mids p.does) q.does in (
+      (
+        λ i. record { ack = acks.0 i; «then» = r.0.outcome i; grants = r.0.grants i; batches = r.0.batches i },
+        same_shards one other r.0.same (p.log ∙ sym q.log) clocks,
+      ),
+      r.1,
     )
 
 -- ---- an expiry
@@ -341,25 +359,25 @@ produce_once rose also end there a one other now batch produced told none nothin
 
 -- they ask the same
 abbrev pub AskSame : PartCall → PartCall → Type 0
-AskSame (Visits visit answer) (Visits other told) = visit ≡ other
+AskSame (Visits visit answer unread) (Visits other told missed) = visit ≡ other
 AskSame (Produces batch produced) (Produces other told) = batch ≡ other
 AskSame (Looks group looked) (Looks other told) = group ≡ other
 AskSame (Expires answer) (Expires told) = Unit {0}
 AskSame did done = ⊥
 
 module _ (counts also : Counts) (ends there : Ends) (now : ℕ) (h : Hosted) (a one other : PartShardState) where
-  pub part_once : (did done : PartCall) → AskSame did done → PartMetNoFault did → PartMetNoFault done → StepsPart counts ends now h a did one
-      → StepsPart also there now h a done other → Once did done one other
-  part_once (Visits visit answer) (Visits asked told) same none nothing p q =
-      let r = visit_once h.conf _ _ _ _ _ _ _ _ a one other now asked answer told none nothing
-      (subst (λ (v : Visit). StepsPart counts ends now h a (Visits v answer) one) same p) q in
-      ((λ i. Visits (same i) (r.0 i)), r.1)
+  pub part_once : (did done : PartCall) → AskSame did done → PartMetNoFault did → PartMetNoFault done → StepsPart true counts ends now h a did one
+      → StepsPart true also there now h a done other → Once did done one other
+  part_once (Visits visit answer unread) (Visits asked told missed) same none nothing p q =
+      let r = visit_once h.conf _ _ _ _ _ _ _ _ _ _ a one other now asked answer told unread missed none nothing
+      (subst (λ (v : Visit). StepsPart true counts ends now h a (Visits v answer unread) one) same p) q in
+      ((λ i. Visits (same i) (r.0.0 i) (r.1 i)), r.0.1)
   part_once (Produces batch produced) (Produces asked told) same none nothing p q =
       let r = produce_once _ _ _ _ a one other now asked produced told none nothing
-      (subst (λ (b : List ℕ). StepsPart counts ends now h a (Produces b produced) one) same p) q in
+      (subst (λ (b : List ℕ). StepsPart true counts ends now h a (Produces b produced) one) same p) q in
       ((λ i. Produces (same i) (r.0 i)), r.1)
   part_once (Looks group looked) (Looks asked told) same none nothing p q =
-      let r = subst (λ (g : List ℕ). StepsPart counts ends now h a (Looks g looked) one) same p in
+      let r = subst (λ (g : List ℕ). StepsPart true counts ends now h a (Looks g looked) one) same p in
       ((λ i. Looks (same i) ((r.0 ∙ sym q.0) i)), r.1 ∙ sym q.1)
   part_once (Expires answer) (Expires told) same none nothing p q =
       let r = groups_once h.conf _ _ _ _ _ _ _ _ _ 0 (raised_to now a) one other answer told none nothing p.groups q.groups in

@@ -24,7 +24,7 @@ use Rattle.share_model.specs.declared.visit.Visit.{Visit}
 use Rattle.share_model.specs.declared.visit.VisitAnswer.{VisitAnswer}
 use Rattle.share_part.specs.Acknowledging.{Acknowledges}
 use Rattle.share_part.specs.Expiring.{StepsGroups, ending}
-use Rattle.share_part.specs.Following.{Acquires, Does, Fetches, MakesTable, fault_of, releases_of}
+use Rattle.share_part.specs.Following.{Acquires, Does, Fetches, Follows, MakesTable, fault_of, releases_of}
 use Rattle.share_part.specs.Hosting.{PartConfParts, key_of}
 use Rattle.share_part.specs.Settling.{IsHeldBy, is_chosen, release_of, releases_if, releasing}
 use Rattle.share_part.specs.Shards.{PartShardState, new_state, raised_to}
@@ -57,12 +57,12 @@ told_done (then_store fault) e = absurd (none_not fault (sym e))
 
 -- ---- a fetch
 
-module _ (conf : PartConfParts) (rose : Type 0) (end : ℕ) (a : PartShardState) (visit : Visit) (limits : Limits) (answer : VisitAnswer) (b : PartShardState) where
+module _ (conf : PartConfParts) (told : Bool) (rose : Type 0) (end : ℕ) (a : PartShardState) (visit : Visit) (limits : Limits) (answer : VisitAnswer) (b : PartShardState) where
   abbrev taken : ShareState → List (ℕ × ℕ)
   taken state = (acquired a.log.batches (table_of state (a.held visit.group)) limits).taken
 
   -- what was held stays so
-  acquires_keep : (state : ShareState) → Acquires conf a state visit limits answer b → (other : List ℕ) (o : ℕ) (hold : Hold)
+  acquires_keep : (state : ShareState) → Acquires conf told a state visit limits answer b → (other : List ℕ) (o : ℕ) (hold : Hold)
       → hold_in a other o ≡ Some hold → hold_in b other o ≡ Some hold
   acquires_keep state p other o hold at = ⊎_elim
       (λ its. ap (λ (h : List ℕ → Held). hold_at (h other) o) p.held ∙ ap (λ (h : Held). hold_at h o) its.1
@@ -72,13 +72,13 @@ module _ (conf : PartConfParts) (rose : Type 0) (end : ℕ) (a : PartShardState)
       (λ away. ap (λ (h : List ℕ → Held). hold_at (h other) o) p.held ∙ ap (λ (h : Held). hold_at h o) away ∙ at)
       (one_of_two a.held visit.group (with_holds visit.member (b.clock + conf.lock_ms) (taken state) (a.held visit.group)) other)
 
-  made_keep : (o : ThenOutcome) → MakesTable conf rose end a visit limits answer b o → (other : List ℕ) (offset : ℕ) (hold : Hold)
+  made_keep : (o : ThenOutcome) → MakesTable conf told rose end a visit limits answer b o → (other : List ℕ) (offset : ℕ) (hold : Hold)
       → hold_in a other offset ≡ Some hold → hold_in b other offset ≡ Some hold
   made_keep followed p other offset hold at = acquires_keep (new_state conf (end_of a.log.batches)) p.acquires other offset hold at
   made_keep (then_store Device) p other offset hold at = ap (λ (h : List ℕ → Held). hold_at (h other) offset) p.2.held ∙ at
   made_keep (then_store (Full place)) p other offset hold at = ap (λ (h : List ℕ → Held). hold_at (h other) offset) p.2.held ∙ at
 
-  pub fetches_keep : (o : Option ShareState) → Fetches conf rose end a visit limits answer b o → (other : List ℕ) (offset : ℕ) (hold : Hold)
+  pub fetches_keep : (o : Option ShareState) → Fetches conf told rose end a visit limits answer b o → (other : List ℕ) (offset : ℕ) (hold : Hold)
       → hold_in a other offset ≡ Some hold → hold_in b other offset ≡ Some hold
   fetches_keep None p other offset hold at = made_keep answer.then p other offset hold at
   fetches_keep (Some state) p other offset hold at = acquires_keep state p.acquires other offset hold at
@@ -89,7 +89,7 @@ module _ (conf : PartConfParts) (rose : Type 0) (end : ℕ) (a : PartShardState)
     count : ℕ
     is : hold_in b visit.group o ≡ Some (record { member = visit.member; end = b.clock + conf.lock_ms; count = count })
 
-  acquires_grant : (state : ShareState) → Acquires conf a state visit limits answer b → (o : ℕ) (g : Grant) → IsOf answer.grants g → g.first ≤ o → o ≤ g.last
+  acquires_grant : (state : ShareState) → Acquires conf told a state visit limits answer b → (o : ℕ) (g : Grant) → IsOf answer.grants g → g.first ≤ o → o ≤ g.last
       → IsNew o
   acquires_grant state p o g is low high =
       let there = granted_taken o (taken state) answer.grants g is low high p.grants in
@@ -108,13 +108,13 @@ module _ (conf : PartConfParts) (rose : Type 0) (end : ℕ) (a : PartShardState)
   none_granted : (o : ℕ) (g : Grant) → answer.grants ≡ [] → IsOf answer.grants g → IsNew o
   none_granted o g none is = absurd (subst (λ (l : List Grant). IsOf l g) none is)
 
-  made_grant : (t : ThenOutcome) → MakesTable conf rose end a visit limits answer b t → (o : ℕ) (g : Grant) → IsOf answer.grants g → g.first ≤ o → o ≤ g.last
+  made_grant : (t : ThenOutcome) → MakesTable conf told rose end a visit limits answer b t → (o : ℕ) (g : Grant) → IsOf answer.grants g → g.first ≤ o → o ≤ g.last
       → IsNew o
   made_grant followed p o g is low high = acquires_grant (new_state conf (end_of a.log.batches)) p.acquires o g is low high
   made_grant (then_store Device) p o g is low high = none_granted o g p.1.grants is
   made_grant (then_store (Full place)) p o g is low high = none_granted o g p.1.grants is
 
-  fetches_grant : (t : Option ShareState) → Fetches conf rose end a visit limits answer b t → (o : ℕ) (g : Grant) → IsOf answer.grants g → g.first ≤ o
+  fetches_grant : (t : Option ShareState) → Fetches conf told rose end a visit limits answer b t → (o : ℕ) (g : Grant) → IsOf answer.grants g → g.first ≤ o
       → o ≤ g.last → IsNew o
   fetches_grant None p o g is low high = made_grant answer.then p o g is low high
   fetches_grant (Some state) p o g is low high = acquires_grant state p.acquires o g is low high
@@ -122,18 +122,25 @@ module _ (conf : PartConfParts) (rose : Type 0) (end : ℕ) (a : PartShardState)
 abbrev no_limits : Limits
 no_limits = record { records = 0; bytes = 0; first = true }
 
-module _ (conf : PartConfParts) (rose : Type 0) (end : ℕ) (a : PartShardState) (visit : Visit) (answer : VisitAnswer) (b : PartShardState) where
+module _ (conf : PartConfParts) (told : Bool) (rose : Type 0) (end : ℕ) (a : PartShardState) (visit : Visit) (answer : VisitAnswer) (b : PartShardState) where
   -- what follows the acknowledgements grants so
-  does_grant : (t : Then) → Does conf rose end a visit answer b t → (o : ℕ) → IsGranted o answer.grants
-      → (limits : Limits) × IsNew conf rose end a visit limits answer b o
-  does_grant Nothing p o g = (no_limits, none_granted conf rose end a visit no_limits answer b o g.grant p.0.grants (of_contains answer.grants g.grant g.there))
-  does_grant Release p o g = (no_limits, none_granted conf rose end a visit no_limits answer b o g.grant p.0.grants (of_contains answer.grants g.grant g.there))
+  does_grant : (t : Then) → Does conf told rose end a visit answer b t → (o : ℕ) → IsGranted o answer.grants
+      → (limits : Limits) × IsNew conf told rose end a visit limits answer b o
+  does_grant Nothing p o g = (no_limits, none_granted conf told rose end a visit no_limits answer b o g.grant p.0.grants (of_contains answer.grants g.grant g.there))
+  does_grant Release p o g = (no_limits, none_granted conf told rose end a visit no_limits answer b o g.grant p.0.grants (of_contains answer.grants g.grant g.there))
   does_grant (Fetch records bytes first) p o g =
       let limits : Limits = record { records = records; bytes = bytes; first = first } in (
         limits,
-        fetches_grant conf rose end a visit limits answer b (share_state_at a.states (key_of conf visit.group)) p o g.grant
+        fetches_grant conf told rose end a visit limits answer b (share_state_at a.states (key_of conf visit.group)) p o g.grant
             (of_contains answer.grants g.grant g.there) g.from g.to,
       )
+
+  -- where a batch couldn't be read nothing is granted
+  follows_grant : (unread : Type 0) (failed : Bool) → Follows conf told unread rose end a visit answer b failed → (o : ℕ)
+      → IsGranted o answer.grants → (limits : Limits) × IsNew conf told rose end a visit limits answer b o
+  follows_grant unread true p o g =
+      (no_limits, none_granted conf told rose end a visit no_limits answer b o g.grant p.empty.grants (of_contains answer.grants g.grant g.there))
+  follows_grant unread false p o g = does_grant visit.then p o g
 
 -- ---- a lock
 
@@ -198,10 +205,10 @@ module _ (group : List ℕ) (o : ℕ) (member : List ℕ) (until : ℕ) where
       free : hold_in b group o ≡ None
 
     -- what follows leaves it, or frees it
-    then_lock : (rose : Type 0) (end : ℕ) (a b : PartShardState) (t : Then) → visit.then ≡ t → Does conf rose end a visit answer b t
+    then_lock : (told : Bool) (rose : Type 0) (end : ℕ) (a b : PartShardState) (t : Then) → visit.then ≡ t → Does conf told rose end a visit answer b t
         → Locked a → Locked b ⊎ FreesIt b
-    then_lock rose end a b Nothing asked p l = inl (locked_so a b (ap (λ (h : List ℕ → Held). hold_at (h group) o) p.1.held) l)
-    then_lock rose end a b Release asked p l = ⊎_elim
+    then_lock told rose end a b Nothing asked p l = inl (locked_so a b (ap (λ (h : List ℕ → Held). hold_at (h group) o) p.1.held) l)
+    then_lock told rose end a b Release asked p l = ⊎_elim
         (λ same. inl (locked_so a b same l))
         (λ e. inr (freed e))
         (stores_hold conf rose end a visit.group (releases_of visit.member (a.held visit.group)) b (fault_of answer.then) p.1 group o)
@@ -217,13 +224,18 @@ module _ (group : List ℕ) (o : ℕ) (member : List ℕ) (until : ℕ) where
               stored = told_done answer.then e.stored;
               free = e.free;
             }
-    then_lock rose end a b (Fetch records bytes first) asked p l = inl (record {
+    then_lock told rose end a b (Fetch records bytes first) asked p l = inl (record {
       hold = l.hold;
-      at = fetches_keep conf rose end a visit (record { records = records; bytes = bytes; first = first }) answer b
+      at = fetches_keep conf told rose end a visit (record { records = records; bytes = bytes; first = first }) answer b
           (share_state_at a.states (key_of conf visit.group)) p group o l.hold l.at;
       whose = l.whose;
       ends = l.ends;
     })
+
+    follows_lock : (told : Bool) (unread rose : Type 0) (end : ℕ) (a b : PartShardState) (failed : Bool)
+        → Follows conf told unread rose end a visit answer b failed → Locked a → Locked b ⊎ FreesIt b
+    follows_lock told unread rose end a b true p l = inl (locked_so a b (ap (λ (h : List ℕ → Held). hold_at (h group) o) p.still.held) l)
+    follows_lock told unread rose end a b false p l = then_lock told rose end a b visit.then refl p l
 
   -- ---- an expiry
 
@@ -277,11 +289,12 @@ module _ (group : List ℕ) (o : ℕ) (member : List ℕ) (until : ℕ) where
     raised : (now : ℕ) → Locked s.before → Locked (raised_to now s.before)
     raised now l = record { hold = l.hold; at = l.at; whose = l.whose; ends = l.ends }
 
-    released_in : (visit : Visit) (answer : VisitAnswer) → s.act ≡ Called (Visits visit answer) → Locked s.before → FreesIt h.conf visit answer s.after
+    released_in : (visit : Visit) (answer : VisitAnswer) (unread : Bool) → s.act ≡ Called (Visits visit answer unread) → Locked s.before → FreesIt h.conf visit answer s.after
         → IsReleasedBy group o member s
-    released_in visit answer is l f = record {
+    released_in visit answer unread is l f = record {
       visit = visit;
       answer = answer;
+      unread = unread;
       act = is;
       of_group = f.of_group;
       by_member = f.by_member;
@@ -308,15 +321,15 @@ module _ (group : List ℕ) (o : ℕ) (member : List ℕ) (until : ℕ) where
         }
 
     act_lock : (act : PartAct) → s.act ≡ act → StepsAlone h s.before act s.after → Locked s.before → Locked s.after ⊎ Goes s
-    act_lock (Called (Visits visit answer)) is p l = ⊎_elim
-        (λ locked. ⊎_elim (λ locked. inl locked) (λ f. inr (inr (inl (released_in visit answer is l f))))
-        (then_lock h.conf visit answer _ p.3.at p.3.between s.after visit.then refl p.3.does locked))
+    act_lock (Called (Visits visit answer unread)) is p l = ⊎_elim
+        (λ locked. ⊎_elim (λ locked. inl locked) (λ f. inr (inr (inl (released_in visit answer unread is l f))))
+        (follows_lock h.conf visit answer p.0 _ _ p.4.at p.4.between s.after unread p.4.does locked))
         (λ e. inr (inl e))
-        (acks_lock s visit h.conf _ _ s.before p.3.between answer.ack (ap acks_in is) p.3.acks.does l)
+        (acks_lock s visit h.conf _ _ s.before p.4.between answer.ack (ap acks_in is) p.4.acks.does l)
     act_lock (Called (Produces batch produced)) is p l =
-        inl (locked_so s.before s.after (ap (λ (k : List ℕ → Held). hold_at (k group) o) p.3.still.held) l)
-    act_lock (Called (Looks other looked)) is p l = inl (locked_so s.before s.after (ap (λ (z : PartShardState). hold_in z group o) p.3.1) l)
-    act_lock (Called (Expires answer)) is p l = expiry_lock p.2 _ _ _ _ _ answer (ap frees_due is) p.3.clock p.3.groups l
+        inl (locked_so s.before s.after (ap (λ (k : List ℕ → Held). hold_at (k group) o) p.4.still.held) l)
+    act_lock (Called (Looks other looked)) is p l = inl (locked_so s.before s.after (ap (λ (z : PartShardState). hold_in z group o) p.4.1) l)
+    act_lock (Called (Expires answer)) is p l = expiry_lock p.3 _ _ _ _ _ answer (ap frees_due is) p.4.clock p.4.groups l
     act_lock (AcksAlone visit ack) is p l = ⊎_elim
         (λ locked. inl locked)
         (λ e. inr (inl e))
@@ -329,14 +342,16 @@ module _ (group : List ℕ) (o : ℕ) (member : List ℕ) (until : ℕ) where
       pub step_lock : Locked s.before → Locked s.after ⊎ Goes s
       step_lock l = act_lock s.act refl step l
 
-      visited : (visit : Visit) (answer : VisitAnswer) → s.act ≡ Called (Visits visit answer) → StepsAlone h s.before (Called (Visits visit answer)) s.after
-      visited visit answer is = subst (λ (a : PartAct). StepsAlone h s.before a s.after) is step
+      visited : (visit : Visit) (answer : VisitAnswer) (unread : Bool) → s.act ≡ Called (Visits visit answer unread)
+          → StepsAlone h s.before (Called (Visits visit answer unread)) s.after
+      visited visit answer unread is = subst (λ (a : PartAct). StepsAlone h s.before a s.after) is step
 
       -- a record that is granted is locked
       pub grant_lock : Grants h.conf group o member until s → Locked s.after
       grant_lock g =
-          let p = (visited g.visit g.answer g.act).3 in
-          let n = (does_grant h.conf _ p.at p.between g.visit g.answer s.after g.visit.then p.does o g.granted).1 in
+          let v = visited g.visit g.answer g.unread g.act in
+          let p = v.4 in
+          let n = (follows_grant h.conf v.0 _ p.at p.between g.visit g.answer s.after _ g.unread p.does o g.granted).1 in
           record {
             hold = record { member = g.visit.member; end = s.after.clock + h.conf.lock_ms; count = n.count };
             at = ap (λ (k : List ℕ). hold_in s.after k o) (sym g.of_group) ∙ n.is;
@@ -347,10 +362,11 @@ module _ (group : List ℕ) (o : ℕ) (member : List ℕ) (until : ℕ) where
       -- it isn't granted again before the lock has ended
       pub grant_ends : (other : List ℕ) (late : ℕ) → Grants h.conf group o other late s → Locked s.before → Goes s
       grant_ends other late g l =
-          let p = (visited g.visit g.answer g.act).3 in
+          let v = visited g.visit g.answer g.unread g.act in
+          let p = v.4 in
           ⊎_elim
           (λ (locked : Locked p.between).
-          let n = (does_grant h.conf _ p.at p.between g.visit g.answer s.after g.visit.then p.does o g.granted).1 in
+          let n = (follows_grant h.conf v.0 _ p.at p.between g.visit g.answer s.after _ g.unread p.does o g.granted).1 in
           absurd (none_not locked.hold (sym n.was ∙ ap (λ (k : List ℕ). hold_in p.between k o) g.of_group ∙ locked.at)))
           (λ e. inl e)
           (acks_lock s g.visit h.conf _ _ s.before p.between g.answer.ack (ap acks_in g.act) p.acks.does l)

@@ -37,7 +37,7 @@ use Rattle.part_log.proofs.Frames.{bounds}
 use Rattle.part_log.proofs.Rising.{end_from, end_more, rises_more}
 use Rattle.share_part.specs.Acknowledging.{Acknowledges, AreSettled, StoresActs}
 use Rattle.share_part.specs.Expiring.{StepsGroups, ending}
-use Rattle.share_part.specs.Following.{Does as Follows, Fetches, MakesTable, fault_of, releases_of}
+use Rattle.share_part.specs.Following.{Does as DoesThen, Follows, Fetches, MakesTable, fault_of, releases_of}
 use Rattle.share_part.specs.Hosting.{PartConfParts, key_of}
 use Rattle.share_part.specs.Leaving.{IsDoneOr}
 use Rattle.share_part.specs.Settling.{Acts, AreHeldBy, IsHeldBy, IsSettled, act_row, is_chosen, is_closed, is_closed_state, release_of, releases_if, settled, stored_after}
@@ -303,10 +303,10 @@ module _ (o : ℕ) where
     no_row : (conf_of : PartConfParts) (end : ℕ) → IsClosedRow o (Some (new_state conf_of end)) → ⊥
     no_row conf_of end closed = true≢false (sym closed)
 
-    made_so : (rose : Type 0) (end : ℕ) (a : PartShardState) (visit : Visit) (limits : Limits) (answer : VisitAnswer) (b : PartShardState) (t : ThenOutcome)
+    made_so : (told : Bool) (rose : Type 0) (end : ℕ) (a : PartShardState) (visit : Visit) (limits : Limits) (answer : VisitAnswer) (b : PartShardState) (t : ThenOutcome)
         → table_at conf a.states visit.group ≡ None → (table_at conf a.states group ≡ None → IsBelow o (table_at conf b.states group) → Reason)
-        → MakesTable conf rose end a visit limits answer b t → Reasoned a → Reasoned b
-    made_so rose end a visit limits answer b followed none cause p r = record {
+        → MakesTable conf told rose end a visit limits answer b t → Reasoned a → Reasoned b
+    made_so told rose end a visit limits answer b followed none cause p r = record {
       now = λ passed. ⊎_elim
           (λ one.
           let fresh : table_at conf b.states group ≡ Some (new_state conf (end_of a.log.batches)) = ap (λ (x : ShareStates). table_at conf x group) p.states ∙ one.1 in
@@ -318,8 +318,8 @@ module _ (o : ℕ) where
           (table_set conf a.states visit.group group (new_state conf (end_of a.log.batches)));
       lost = nothing_lost b p.nothing;
     }
-    made_so rose end a visit limits answer b (then_store (Full at)) none cause p r = still a b p.2.states p.2.pending r
-    made_so rose end a visit limits answer b (then_store Device) none cause p r = ⊎_elim
+    made_so told rose end a visit limits answer b (then_store (Full at)) none cause p r = still a b p.2.states p.2.pending r
+    made_so told rose end a visit limits answer b (then_store Device) none cause p r = ⊎_elim
         (λ same. still a b p.2.states same r)
         (λ own. record {
           now = λ passed. r.now (subst (λ (x : ShareStates). Passed (table_at conf x group)) p.2.states passed);
@@ -341,12 +341,12 @@ module _ (o : ℕ) where
         })
         p.2.pending
 
-    fetched_so : (rose : Type 0) (end : ℕ) (a : PartShardState) (visit : Visit) (limits : Limits) (answer : VisitAnswer) (b : PartShardState)
+    fetched_so : (told : Bool) (rose : Type 0) (end : ℕ) (a : PartShardState) (visit : Visit) (limits : Limits) (answer : VisitAnswer) (b : PartShardState)
         (t : Option ShareState) → table_at conf a.states visit.group ≡ t
         → (table_at conf a.states group ≡ None → IsBelow o (table_at conf b.states group) → Reason)
-        → Fetches conf rose end a visit limits answer b t → Reasoned a → Reasoned b
-    fetched_so rose end a visit limits answer b None there cause p r = made_so rose end a visit limits answer b answer.then there cause p r
-    fetched_so rose end a visit limits answer b (Some state) there cause p r = still a b p.states p.pending r
+        → Fetches conf told rose end a visit limits answer b t → Reasoned a → Reasoned b
+    fetched_so told rose end a visit limits answer b None there cause p r = made_so told rose end a visit limits answer b answer.then there cause p r
+    fetched_so told rose end a visit limits answer b (Some state) there cause p r = still a b p.states p.pending r
 
 -- ---- what stands before acknowledgements
 
@@ -437,13 +437,13 @@ module _ (r : Record) (s : Step) (Reason : Type 0) (cause : Closes r s ⊎ IsMad
         closes = closed;
       }))
 
-      module _ (visit : Visit) (answer : VisitAnswer) (call : s.call ≡ Some (CallPart r.shard hosted (Visits visit answer))) where
+      module _ (visit : Visit) (answer : VisitAnswer) (unread : Bool) (call : s.call ≡ Some (CallPart r.shard hosted (Visits visit answer unread))) where
         acted_on : (answer.ack ≡ acknowledged) ⊎ (answer.ack ≡ ack_store Device) → AreHeldBy visit.member (kind_at visit.acks) (x.shard.held visit.group)
             → visit.group ≡ r.group → IsClosedBy r.offset hosted.conf.limit (kind_at visit.acks) (x.shard.held visit.group) → Reason
         acted_on told theirs one act =
             let member : act.hold.member ≡ visit.member =
             subst (IsHeldBy visit.member) act.at (theirs r.offset (subst IsSome (sym act.named) refl)) in
-            closed_by (Visits visit answer) call act.hold act.kind (ap (λ (g : List ℕ). hold_in x.shard g r.offset) (sym one) ∙ act.at)
+            closed_by (Visits visit answer unread) call act.hold act.kind (ap (λ (g : List ℕ). hold_in x.shard g r.offset) (sym one) ∙ act.at)
             (one, member, inl (act.named, told)) act.closes
 
         acks_keep : (rose : Type 0) (end : ℕ) (b : PartShardState) (ack : AckOutcome) → answer.ack ≡ ack → Acknowledges hosted.conf rose end x.shard visit b ack
@@ -463,19 +463,28 @@ module _ (r : Record) (s : Step) (Reason : Type 0) (cause : Closes r s ⊎ IsMad
         then_keeps : (rose : Type 0) (end : ℕ) (a : PartShardState) → IsLog a.log.batches → IsSlotYet r.offset a.log.batches
             → ((hold : Hold) → hold_in a r.group r.offset ≡ Some hold → hold_in x.shard r.group r.offset ≡ Some hold)
             → (table_at hosted.conf a.states r.group ≡ None → table_at hosted.conf x.shard.states r.group ≡ None)
-            → (t : Then) → visit.then ≡ t → Follows hosted.conf rose end a visit answer y.shard t → Kept a → Kept y.shard
+            → (t : Then) → visit.then ≡ t → DoesThen hosted.conf true rose end a visit answer y.shard t → Kept a → Kept y.shard
         then_keeps rose end a log_of slot_of holds tables Nothing asked p k = still r.offset Reason hosted.conf r.group a y.shard p.1.states p.1.pending k
         then_keeps rose end a log_of slot_of holds tables Release asked p k =
             stored_so r.offset Reason hosted.conf r.group rose end a visit.group (releases_of visit.member (a.held visit.group)) y.shard (fault_of answer.then) log_of slot_of
             (λ f one act.
             let chosen = chosen_held (is_chosen (Member visit.member)) (a.held visit.group) r.offset act.hold act.kind act.at act.named in
             let kind : act.kind ≡ ReleaseAct = released_kind (is_chosen (Member visit.member)) (hold_at (a.held visit.group) r.offset) act.kind act.named in
-            closed_by (Visits visit answer) call act.hold act.kind
+            closed_by (Visits visit answer unread) call act.hold act.kind
             (holds act.hold (ap (λ (g : List ℕ). hold_in a g r.offset) (sym one) ∙ act.at))
             (one, sym (group_is visit.member act.hold.member chosen), inr (asked, kind, told_so answer.then f)) act.closes) p.1 k
         then_keeps rose end a log_of slot_of holds tables (Fetch records bytes first) asked p k =
-            fetched_so r.offset Reason hosted.conf r.group rose end a visit (record { records = records; bytes = bytes; first = first }) answer y.shard
+            fetched_so r.offset Reason hosted.conf r.group true rose end a visit (record { records = records; bytes = bytes; first = first }) answer y.shard
             (table_at hosted.conf a.states visit.group) refl (λ none below. made_there (tables none) below) p k
+
+        follows_keeps : (lost rose : Type 0) (end : ℕ) (a : PartShardState) → IsLog a.log.batches → IsSlotYet r.offset a.log.batches
+            → ((hold : Hold) → hold_in a r.group r.offset ≡ Some hold → hold_in x.shard r.group r.offset ≡ Some hold)
+            → (table_at hosted.conf a.states r.group ≡ None → table_at hosted.conf x.shard.states r.group ≡ None)
+            → (failed : Bool) → Follows hosted.conf true lost rose end a visit answer y.shard failed → Kept a → Kept y.shard
+        follows_keeps lost rose end a log_of slot_of holds tables true p k =
+            still r.offset Reason hosted.conf r.group a y.shard p.still.states p.still.pending k
+        follows_keeps lost rose end a log_of slot_of holds tables false p k =
+            then_keeps rose end a log_of slot_of holds tables visit.then refl p k
 
       -- an expiry
       expired : (old : PartShardState) (group : List ℕ) → ((hold : Hold) → hold_in old r.group r.offset ≡ Some hold → hold.end ≤ old.clock
@@ -506,15 +515,15 @@ module _ (r : Record) (s : Step) (Reason : Type 0) (cause : Closes r s ⊎ IsMad
           (λ f one act. expired old group ended one act) p.3.stores k)
 
       part_keeps : (now : ℕ) (did : PartCall) → s.call ≡ Some (CallPart r.shard hosted did)
-          → StepsPart (counts_of s.before s.after) (ends_of s.before s.after) now hosted x.shard did y.shard → Kept x.shard → Kept y.shard
-      part_keeps now (Visits visit answer) call p k =
+          → StepsPart true (counts_of s.before s.after) (ends_of s.before s.after) now hosted x.shard did y.shard → Kept x.shard → Kept y.shard
+      part_keeps now (Visits visit answer unread) call p k =
           let c = (counts_of s.before s.after (first_of hosted)).0 in
           let l = (counts_of s.before s.after (first_of hosted)).1 in
           let same_log : p.between.log.batches ≡ x.shard.log.batches = ap (λ (l : LogShardState). l.batches) p.acks.log in
-          then_keeps visit answer call (Rose p.counted l) p.at p.between (subst IsLog (sym same_log) is_log) (subst (IsSlotYet r.offset) (sym same_log) slot)
+          follows_keeps visit answer unread call _ (Rose p.counted l) p.at p.between (subst IsLog (sym same_log) is_log) (subst (IsSlotYet r.offset) (sym same_log) slot)
           (λ hold at. acks_hold_back hosted.conf (Rose c p.counted) _ x.shard visit p.between answer.ack p.acks.does r.group r.offset hold at)
           (λ none. acks_none hosted.conf (Rose c p.counted) _ x.shard visit p.between answer.ack p.acks.does r.group none)
-          visit.then refl p.does (acks_keep visit answer call (Rose c p.counted) _ p.between answer.ack refl p.acks.does k)
+          unread p.does (acks_keep visit answer unread call (Rose c p.counted) _ p.between answer.ack refl p.acks.does k)
       part_keeps now (Produces batch produced) call p k = still r.offset Reason hosted.conf r.group x.shard y.shard p.still.states p.still.pending k
       part_keeps now (Looks group looked) call p k = still r.offset Reason hosted.conf r.group x.shard y.shard
           (ap (λ (z : PartShardState). z.states) p.1) (ap (λ (z : PartShardState). z.pending) p.1) k
@@ -553,8 +562,8 @@ module _ (r : Record) (s : Step) (Reason : Type 0) (cause : Closes r s ⊎ IsMad
 -- ---- the logs of a run
 
 part_log : (s : Step) (now : ℕ) (h : Hosted) (old new : PartShardState) (did : PartCall)
-    → StepsPart (counts_of s.before s.after) (ends_of s.before s.after) now h old did new → LogGoes old.log.batches new.log.batches
-part_log s now h old new (Visits visit answer) p = log_same old new p.log
+    → StepsPart true (counts_of s.before s.after) (ends_of s.before s.after) now h old did new → LogGoes old.log.batches new.log.batches
+part_log s now h old new (Visits visit answer unread) p = log_same old new p.log
 part_log s now h old new (Produces batch produced) p = log_goes _ _ old.log new.log batch produced p.log
 part_log s now h old new (Looks group looked) p = log_same old new (ap (λ (z : PartShardState). z.log) p.1)
 part_log s now h old new (Expires answer) p = log_same old new p.log

@@ -36,8 +36,8 @@ module _ (s : Step) (hosted : Hosted) (p : HostedPart) (visit : Visit) (answer :
       inr (inr (told ∙ ap (λ (e : ℕ). Store (Full e)) does.1.1, does.1.3))
 
 step_takes : (conf : ConfigParts) (s : Step) → IsStepOf conf s → TakesWhatIsHeld s
-step_takes conf s step shard hosted visit answer call =
-    let c = called conf s step shard hosted (Visits visit answer) call in
+step_takes conf s step shard hosted visit answer unread call =
+    let c = called conf s step shard hosted (Visits visit answer unread) call in
     let p = c.step.step in
     entry_holds shard (λ (q : HostedPart). AreTheirs q.shard visit → IsDoneOrUnstored s hosted q visit answer) (parts_of s.before) c.old c.was
     (λ theirs. by_answer s hosted c.old visit answer theirs p.counted p.between answer.ack refl p.counts.1 p.acks.does)

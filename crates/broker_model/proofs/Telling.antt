@@ -181,13 +181,13 @@ module _ (conf : ConfigParts) (s : Step) (step : IsStepOf conf s) where
   expiry_told shard hosted freed group fault (inl tells) = tells
   expiry_told shard hosted freed group fault (inr d) = absurd (none_not _ d.does)
 
-  release_told : (shard : ℕ) (hosted : Hosted) (visit : Visit) (answer : VisitAnswer) (fault : StoreFault) → visit.«then» ≡ Release → answer.«then» ≡ then_store fault
-      → Told (CallPart shard hosted (Visits visit answer)) s.outcomes → (replies : List Outcome) × (s.outcomes ≡ Fault (OfPart shard) ∷ replies)
-  release_told shard hosted visit answer fault releases unstored t = go t where
+  release_told : (shard : ℕ) (hosted : Hosted) (visit : Visit) (answer : VisitAnswer) (unread : Bool) (fault : StoreFault) → visit.«then» ≡ Release → answer.«then» ≡ then_store fault
+      → Told (CallPart shard hosted (Visits visit answer unread)) s.outcomes → (replies : List Outcome) × (s.outcomes ≡ Fault (OfPart shard) ∷ replies)
+  release_told shard hosted visit answer unread fault releases unstored t = go t where
     one : fault_of_release shard visit.«then» answer.«then» ≡ Fault (OfPart shard) ∷ []
     one = ap (λ (t : Then). fault_of_release shard t answer.«then») releases ∙ ap (λ (o : ThenOutcome). fault_of_release shard Release o) unstored
 
-    go : Told (CallPart shard hosted (Visits visit answer)) s.outcomes → (replies : List Outcome) × (s.outcomes ≡ Fault (OfPart shard) ∷ replies)
+    go : Told (CallPart shard hosted (Visits visit answer unread)) s.outcomes → (replies : List Outcome) × (s.outcomes ≡ Fault (OfPart shard) ∷ replies)
     go (inl tells) = ([], tells ∙ one)
     go (inr d) = (d.replies, d.tells ∙ ap (λ (l : List Outcome). l ++ d.replies) one)
 
@@ -326,12 +326,12 @@ module _ (conf : ConfigParts) (s : Step) (step : IsStepOf conf s) where
   step_tells = record {
     expiry = λ shard hosted freed group fault call. expiry_told conf s step shard hosted freed group fault
         (told conf s step (CallPart shard hosted (Expires (expire_store freed group fault))) call);
-    release = λ shard hosted visit answer fault call releases is. release_told conf s step shard hosted visit answer fault releases is
-        (told conf s step (CallPart shard hosted (Visits visit answer)) call);
-    acks = λ hand shard hosted visit answer fault h call is. visit_acks hand shard visit answer fault is
-        (asks_part (CallPart shard hosted (Visits visit answer)) (PartVisit shard visit) (AnswerVisit answer) call refl hand h);
-    fetch = λ hand shard hosted visit answer fault records bytes first h call fetches is. visit_fetch hand shard visit answer fault records bytes first fetches is
-        (asks_part (CallPart shard hosted (Visits visit answer)) (PartVisit shard visit) (AnswerVisit answer) call refl hand h);
+    release = λ shard hosted visit answer unread fault call releases is. release_told conf s step shard hosted visit answer unread fault releases is
+        (told conf s step (CallPart shard hosted (Visits visit answer unread)) call);
+    acks = λ hand shard hosted visit answer unread fault h call is. visit_acks hand shard visit answer fault is
+        (asks_part (CallPart shard hosted (Visits visit answer unread)) (PartVisit shard visit) (AnswerVisit answer) call refl hand h);
+    fetch = λ hand shard hosted visit answer unread fault records bytes first h call fetches is. visit_fetch hand shard visit answer fault records bytes first fetches is
+        (asks_part (CallPart shard hosted (Visits visit answer unread)) (PartVisit shard visit) (AnswerVisit answer) call refl hand h);
     produce = λ hand shard hosted batch fault h call. batch_entry hand shard batch fault
         (asks_part (CallPart shard hosted (Produces batch (log_store fault))) (PartProduce shard batch) (AnswerProduce (log_store fault)) call refl hand h);
     foreign = λ hand op answer fault h call. foreign_entry hand op answer (at_foreign op answer fault call)

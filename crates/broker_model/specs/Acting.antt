@@ -9,6 +9,7 @@ use Rattle.share_model.specs.ForeignRules.{share_state_at}
 use Rattle.share_model.specs.declared.visit.Visit.{Visit}
 use Rattle.share_part.specs.Expiring.{ExpiresPart, StepsExpire}
 use Rattle.share_part.specs.Hosting.{PartConfParts, key_of}
+use Rattle.share_part.specs.Once.{reading_of}
 use Rattle.share_part.specs.Shards.{PartParts, PartShardState, StepsProduce}
 use Rattle.share_part.specs.Visits.{StepsVisit, VisitsPart}
 use Rattle.broker_model.specs.Shards.{PartCall, look_at, result_of}
@@ -22,8 +23,9 @@ pub record EndsGoOn {D W : Type 0} (old new : PartParts D W) : Type 0 where
 -- The shard takes the step of this call, by the counts of its own disks and the ends of its own journals.
 abbrev pub StepsOn : {D W : Type 0} → (D → DiskView) → PartConfParts → PartParts D W → PartParts D W → (now : ℕ) → PartShardState → PartCall → PartShardState
     → Type 0
-StepsOn seen conf old new now shard (Visits visit answer) after =
-    StepsVisit conf (seen old.states.journal.live.disk).faults (seen new.states.journal.live.disk).faults old.states.journal.live.end new.states.journal.live.end
+StepsOn seen conf old new now shard (Visits visit answer unread) after =
+    StepsVisit conf (reading_of seen old.log new.log unread)
+    (seen old.states.journal.live.disk).faults (seen new.states.journal.live.disk).faults old.states.journal.live.end new.states.journal.live.end
     shard now visit answer after
 StepsOn seen conf old new now shard (Produces batch produced) after =
     StepsProduce (Rose (seen old.log.journal.disk).faults (seen new.log.journal.disk).faults) old.log.journal.end shard now batch (result_of produced) after

@@ -27,7 +27,7 @@ HasCutRuns conf events others = (first last : State) (steps : List Step) → Are
 
 -- no store of the partition met a fault
 abbrev pub PartMetNoFault : PartCall → Type 0
-PartMetNoFault (Visits visit answer) = (store_fault_of_ack answer.ack ≡ None) × (store_fault_of_then answer.then ≡ None)
+PartMetNoFault (Visits visit answer unread) = (store_fault_of_ack answer.ack ≡ None) × (store_fault_of_then answer.then ≡ None)
 PartMetNoFault (Produces batch produced) = store_fault_of_log produced ≡ None
 PartMetNoFault (Looks group looked) = Unit {0}
 PartMetNoFault (Expires answer) = store_fault_of_expiry answer ≡ None

@@ -3,7 +3,7 @@
 -- For example a batch that is answered with base 3 stands in its log, at offset 3, at each later time, also behind a power loss. A record of
 -- it that is accepted at its first delivery is stored as acknowledged with count 1 from then on, or lies below the start; and one that is
 -- released at its fifth, where that is the limit, as archived with count 5.
-use Rattle.std.specs.Prelude.{◌≡◌, ◌⊎◌, ◌<◌, ℕ, List, ◌∷◌, ◌++◌, Option, Some, None, true}
+use Rattle.std.specs.Prelude.{◌≡◌, ◌⊎◌, ◌<◌, ℕ, List, ◌∷◌, ◌++◌, Option, Some, None, Bool, true}
 use Rattle.std.specs.List.{AllByRecursion, AllZip}
 use Rattle.ack_ranges.specs.Batches.{kind_at}
 use Rattle.rec_batch.specs.Placing.{placed}
@@ -54,8 +54,9 @@ pub record IsActedOnIn (r : Record) (s : Step) : Type 0 where
   pub hosted : Hosted
   pub visit : Visit
   pub answer : VisitAnswer
+  pub unread : Bool
   pub kind : AckKind
-  pub call : s.call ≡ Some (CallPart r.shard hosted (Visits visit answer))
+  pub call : s.call ≡ Some (CallPart r.shard hosted (Visits visit answer unread))
   pub group : visit.group ≡ r.group
   pub named : kind_at visit.acks r.offset ≡ Some kind
   pub done : answer.ack ≡ Done

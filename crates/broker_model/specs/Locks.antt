@@ -38,7 +38,8 @@ pub record IsGranted (offset : ℕ) (grants : List Grant) : Type 0 where
 pub record Grants (conf : PartConfParts) (group : List ℕ) (offset : ℕ) (member : List ℕ) (end : ℕ) (s : PartStep) : Type 0 where
   pub visit : Visit
   pub answer : VisitAnswer
-  pub act : s.act ≡ Called (Visits visit answer)
+  pub unread : Bool
+  pub act : s.act ≡ Called (Visits visit answer unread)
   pub of_group : visit.group ≡ group
   pub to_member : visit.member ≡ member
   pub granted : IsGranted offset answer.grants
@@ -46,7 +47,7 @@ pub record Grants (conf : PartConfParts) (group : List ℕ) (offset : ℕ) (memb
 
 -- the visit whose acknowledgements were done, and what became of them
 abbrev pub acks_in : PartAct → Option (Visit × AckOutcome)
-acks_in (Called (Visits visit answer)) = Some (visit, answer.ack)
+acks_in (Called (Visits visit answer unread)) = Some (visit, answer.ack)
 acks_in (Called (Produces batch produced)) = None
 acks_in (Called (Looks group looked)) = None
 acks_in (Called (Expires answer)) = None
@@ -66,7 +67,8 @@ pub record IsActedOnBy (group : List ℕ) (offset : ℕ) (member : List ℕ) (s 
 pub record IsReleasedBy (group : List ℕ) (offset : ℕ) (member : List ℕ) (s : PartStep) : Type 0 where
   pub visit : Visit
   pub answer : VisitAnswer
-  pub act : s.act ≡ Called (Visits visit answer)
+  pub unread : Bool
+  pub act : s.act ≡ Called (Visits visit answer unread)
   pub of_group : visit.group ≡ group
   pub by_member : visit.member ≡ member
   pub releases : visit.then ≡ Release
@@ -76,7 +78,7 @@ pub record IsReleasedBy (group : List ℕ) (offset : ℕ) (member : List ℕ) (s
 
 -- groups of an expiry were freed
 abbrev pub frees_due : PartAct → Bool
-frees_due (Called (Visits visit answer)) = false
+frees_due (Called (Visits visit answer unread)) = false
 frees_due (Called (Produces batch produced)) = false
 frees_due (Called (Looks group looked)) = false
 frees_due (Called (Expires answer)) = true

@@ -2,7 +2,7 @@
 -- partition's shard; a call in which memory ran out may have made some of its writes.
 -- For example `a` fetches and is granted 0; an expiry finds no memory behind the write of the first group that it frees; `a` accepts 0. These are
 -- three steps: a call with its answer, some groups of an expiry, and a call with its answer.
-use Rattle.std.specs.Prelude.{◌≡◌, ℕ, List, [], ◌∷◌}
+use Rattle.std.specs.Prelude.{◌≡◌, ℕ, List, [], ◌∷◌, Bool}
 use Rattle.edge_io.specs.Causes.{Rose}
 use Rattle.share_model.specs.declared.visit.AckOutcome.{AckOutcome}
 use Rattle.share_model.specs.declared.visit.Visit.{Visit}
@@ -26,9 +26,11 @@ pub record PartStep : Type 0 where
   pub act : PartAct
   pub after : PartShardState
 
--- The shard of the partition takes this step, at some moment, by some counts of faults of its disks and some ends of their journals.
+-- The shard of the partition takes this step, at some moment, by some counts of faults of its disks and some ends of their journals. Its
+-- log's disk may tell its content or not.
 abbrev pub StepsAlone : Hosted → PartShardState → PartAct → PartShardState → Type 0
-StepsAlone h old (Called did) new = (counts : Counts) × (ends : Ends) × (now : ℕ) × StepsPart counts ends now h old did new
+StepsAlone h old (Called did) new = (told : Bool) × (counts : Counts) × (ends : Ends) × (now : ℕ)
+    × StepsPart told counts ends now h old did new
 StepsAlone h old (AcksAlone visit ack) new = (counts : Counts) × (ends : Ends) × (now : ℕ)
     × (part : VisitsPart h.conf (Rose (counts (first_of h)).0 (counts (first_of h)).1) (ends (first_of h)).0 old now visit new) × (part.ack ≡ ack)
 StepsAlone h old GroupsAlone new = (counts : Counts) × (ends : Ends) × (now : ℕ)

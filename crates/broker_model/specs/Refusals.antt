@@ -2,7 +2,7 @@
 -- is well formed, and all of whose offsets its member holds, is refused with code 56 alone, and only where a count of faults of the
 -- shard's first state disk rose in the step, or the journal, where it ended before the step, has no room below 2^62 for what it would write.
 -- For example `a` holds 0 to 2 and accepts them: with nothing armed the answer is done.
-use Rattle.std.specs.Prelude.{◌≡◌, ◌⊎◌, ℕ, Some}
+use Rattle.std.specs.Prelude.{◌≡◌, ◌⊎◌, ℕ, Some, Bool}
 use Rattle.share_model.specs.declared.fault.StoreFault.TheVariants.{Device, Full}
 use Rattle.share_model.specs.declared.visit.AckOutcome.TheVariants.{Done, Store}
 use Rattle.share_model.specs.declared.visit.Visit.{Visit}
@@ -25,6 +25,6 @@ IsDoneOrUnstored s hosted p visit answer = (answer.ack ≡ Done)
 
 -- so it is in each step in which such an acknowledgement reaches its partition
 abbrev pub TakesWhatIsHeld : Step → Type 0
-TakesWhatIsHeld s = (shard : ℕ) (hosted : Hosted) (visit : Visit) (answer : VisitAnswer) →
-    s.call ≡ Some (CallPart shard hosted (Visits visit answer)) →
+TakesWhatIsHeld s = (shard : ℕ) (hosted : Hosted) (visit : Visit) (answer : VisitAnswer) (unread : Bool) →
+    s.call ≡ Some (CallPart shard hosted (Visits visit answer unread)) →
     HoldsAt shard (λ (p : HostedPart). AreTheirs p.shard visit → IsDoneOrUnstored s hosted p visit answer) s.before.machine.shards.parts

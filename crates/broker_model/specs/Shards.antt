@@ -2,7 +2,7 @@
 -- foreign state. Each shard's own crate has its states, calls and steps. This project's own.
 -- For example a read of foreign state leaves all shards as they are, and a batch that is produced to `orders` 0 leaves all but that
 -- partition.
-use Rattle.std.specs.Prelude.{◌≡◌, ◌+◌, ℕ, List, [], ◌∷◌, Option, Some, None, Bool, false, map, Result, Ok, Err, if◌then◌else◌}
+use Rattle.std.specs.Prelude.{◌≡◌, ◌+◌, ◌&&◌, ◌||◌, ℕ, List, [], ◌∷◌, Option, Some, None, Bool, true, false, map, Result, Ok, Err, if◌then◌else◌}
 use Rattle.edge_io.specs.Causes.{Rose}
 use Rattle.share_model.specs.ForeignRules.{share_state_at}
 use Rattle.share_model.specs.ShareStates.{ShareState}
@@ -63,9 +63,10 @@ pub record Shards : Type 0 where
 
 -- ---- calls
 
--- what was called of a hosted partition, and what it answered
+-- What was called of a hosted partition, and what it answered. Of a visit besides whether a batch of its fetch couldn't be
+-- read, so that a device fault was one of the log's disk.
 pub data PartCall : Type 0 where
-  Visits : (visit : Visit) (answer : VisitAnswer) → PartCall
+  Visits : (visit : Visit) (answer : VisitAnswer) (unread : Bool) → PartCall
   Produces : (batch : List ℕ) (produced : Produced) → PartCall
   Looks : (group : List ℕ) (looked : Looked) → PartCall
   Expires : (answer : ExpireAnswer) → PartCall
@@ -88,7 +89,7 @@ pub record Answered : Type 0 where
   pub answer : PartAnswer
 
 abbrev pub answered_by_part : ℕ → PartCall → Option Answered
-answered_by_part shard (Visits visit answer) = Some (record { part = PartVisit shard visit; answer = AnswerVisit answer })
+answered_by_part shard (Visits visit answer unread) = Some (record { part = PartVisit shard visit; answer = AnswerVisit answer })
 answered_by_part shard (Produces batch produced) = Some (record { part = Produce shard batch; answer = AnswerProduce produced })
 answered_by_part shard (Looks group looked) = Some (record { part = Look shard group; answer = AnswerLook looked })
 answered_by_part shard (Expires answer) = None
@@ -127,22 +128,23 @@ abbrev pub look_at : Option ShareState → Looked
 look_at None = Absent
 look_at (Some state) = There state.state_epoch state.leader_epoch state.start state.runs
 
--- A partition's shard takes its step at the moment `now`.
-abbrev pub StepsPart : Counts → Ends → (now : ℕ) → Hosted → PartShardState → PartCall → PartShardState → Type 0
-StepsPart counts ends now h old (Visits visit answer) new =
-    StepsVisit h.conf (counts (first_of h)).0 (counts (first_of h)).1 (ends (first_of h)).0 (ends (first_of h)).1 old now visit answer new
-StepsPart counts ends now h old (Produces batch produced) new =
+-- A partition's shard takes its step at the moment `now`. `told` says whether the log's disk tells its content.
+abbrev pub StepsPart : (told : Bool) → Counts → Ends → (now : ℕ) → Hosted → PartShardState → PartCall → PartShardState → Type 0
+StepsPart told counts ends now h old (Visits visit answer unread) new =
+    StepsVisit h.conf (record { told = told; rose = rose_at counts (log_of h); failed = unread })
+    (counts (first_of h)).0 (counts (first_of h)).1 (ends (first_of h)).0 (ends (first_of h)).1 old now visit answer new
+StepsPart told counts ends now h old (Produces batch produced) new =
     StepsProduce (rose_at counts (log_of h)) (ends (log_of h)).0 old now batch (result_of produced) new
-StepsPart counts ends now h old (Looks group looked) new =
+StepsPart told counts ends now h old (Looks group looked) new =
     (looked ≡ look_at (share_state_at old.states (key_of h.conf group))) × (new ≡ old)
-StepsPart counts ends now h old (Expires answer) new =
+StepsPart told counts ends now h old (Expires answer) new =
     StepsExpire h.conf (counts (first_of h)).0 (counts (first_of h)).1 (ends (first_of h)).0 (ends (first_of h)).1 old now answer new
 
--- this partition's shard does
+-- this partition's shard does, and the log's disk tells its content
 pub record StepsHosted (counts : Counts) (ends : Ends) (now : ℕ) (hosted : Hosted) (did : PartCall) (old new : HostedPart) : Type 0 where
   pub was : old.hosted ≡ hosted
   pub is : new.hosted ≡ hosted
-  pub step : StepsPart counts ends now hosted old.shard did new.shard
+  pub step : StepsPart true counts ends now hosted old.shard did new.shard
 
 abbrev pub StepsMembers : ℕ → Memberships → MembersCall → Memberships → Type 0
 StepsMembers now old (Beats request reply) new =
@@ -173,7 +175,7 @@ fault_of_expiry shard (freed_all freed) = []
 fault_of_expiry shard (freed_some freed group fault) = Fault (OfPart shard) ∷ []
 
 abbrev pub faults_of_part : ℕ → PartCall → List Outcome
-faults_of_part shard (Visits visit answer) = fault_of_release shard visit.then answer.then
+faults_of_part shard (Visits visit answer unread) = fault_of_release shard visit.then answer.then
 faults_of_part shard (Produces batch produced) = []
 faults_of_part shard (Looks group looked) = []
 faults_of_part shard (Expires answer) = fault_of_expiry shard answer
@@ -184,11 +186,17 @@ faults_told (CallForeign op answer fault) = []
 faults_told (CallPart shard hosted did) = faults_of_part shard did
 faults_told (CallMembers did) = []
 
--- ---- which disks are called, and how many of their writes fail
+-- ---- which disks are called, and how many of their writes and readings fail
+
+-- a fetch reads batches
+abbrev pub reads_log : Then → Bool
+reads_log Nothing = false
+reads_log Release = false
+reads_log (Fetch records bytes first) = true
 
 -- a partition's log is on its own disk; its tables are written on the first disk of its states, and the second is used at an opening alone
 abbrev pub part_calls : Hosted → PartCall → List ℕ → Bool
-part_calls h (Visits visit answer) name = same_name name (first_of h)
+part_calls h (Visits visit answer unread) name = (reads_log visit.then && same_name name (log_of h)) || same_name name (first_of h)
 part_calls h (Produces batch produced) name = same_name name (log_of h)
 part_calls h (Looks group looked) name = false
 part_calls h (Expires answer) name = same_name name (first_of h)
@@ -200,7 +208,7 @@ calls (Some (CallForeign op answer fault)) name = same_name name state_a
 calls (Some (CallPart shard hosted did)) name = part_calls hosted did name
 calls (Some (CallMembers did)) name = false
 
--- how many writes failed on a device
+-- how many writes or readings failed on a device
 abbrev pub faults_met : Option StoreFault → ℕ
 faults_met None = 0
 faults_met (Some Device) = 1
@@ -225,16 +233,30 @@ abbrev pub store_fault_of_expiry : ExpireAnswer → Option StoreFault
 store_fault_of_expiry (freed_all freed) = None
 store_fault_of_expiry (freed_some freed group fault) = Some fault
 
--- of a visit its acknowledgements may fail, and what follows them; an expiry ends at the first write that fails
-abbrev pub part_faults_met : PartCall → ℕ
-part_faults_met (Visits visit answer) = faults_met (store_fault_of_ack answer.ack) + faults_met (store_fault_of_then answer.then)
-part_faults_met (Produces batch produced) = faults_met (store_fault_of_log produced)
-part_faults_met (Looks group looked) = 0
-part_faults_met (Expires answer) = faults_met (store_fault_of_expiry answer)
+-- Of a visit its acknowledgements may fail, and what follows them, unless that was the reading of a batch. An expiry ends at
+-- the first write that fails.
+abbrev pub state_faults_met : PartCall → ℕ
+state_faults_met (Visits visit answer unread) = faults_met (store_fault_of_ack answer.ack)
+    + (if unread then 0 else faults_met (store_fault_of_then answer.then))
+state_faults_met (Produces batch produced) = 0
+state_faults_met (Looks group looked) = 0
+state_faults_met (Expires answer) = faults_met (store_fault_of_expiry answer)
 
--- how many writes of this call failed on the disk of this name
+-- of a batch its write may fail, and of a fetch the reading of a batch, which ends it
+abbrev pub log_faults_met : PartCall → ℕ
+log_faults_met (Visits visit answer unread) = if unread then faults_met (store_fault_of_then answer.then) else 0
+log_faults_met (Produces batch produced) = faults_met (store_fault_of_log produced)
+log_faults_met (Looks group looked) = 0
+log_faults_met (Expires answer) = 0
+
+-- on the disk of this name
+abbrev pub part_faults_met : Hosted → PartCall → List ℕ → ℕ
+part_faults_met h did name = if same_name name (first_of h) then state_faults_met did
+    else (if same_name name (log_of h) then log_faults_met did else 0)
+
+-- how many writes and readings of this call failed on the disk of this name
 abbrev pub failures_in : List ℕ → Option ShardCall → ℕ
 failures_in name None = 0
 failures_in name (Some (CallForeign op answer fault)) = if same_name name state_a then faults_met fault else 0
-failures_in name (Some (CallPart shard hosted did)) = if part_calls hosted did name then part_faults_met did else 0
+failures_in name (Some (CallPart shard hosted did)) = part_faults_met hosted did name
 failures_in name (Some (CallMembers did)) = 0

@@ -47,7 +47,7 @@ IsClosedRow offset (Some state) = is_closed (row_at state.runs offset) ≡ true
 -- This is done by the call to a record that is held so, and stored, or its write failed on the device and may be found done behind a
 -- power loss: an acknowledgement of the holder, a release of all that the holder holds, or an expiry of a lock that has ended by `clock`.
 abbrev pub Does : PartCall → (clock : ℕ) → (group : List ℕ) → (offset : ℕ) → Hold → AckKind → Type 0
-Does (Visits visit answer) clock group offset hold kind = (visit.group ≡ group) × (hold.member ≡ visit.member)
+Does (Visits visit answer unread) clock group offset hold kind = (visit.group ≡ group) × (hold.member ≡ visit.member)
     × (((kind_at visit.acks offset ≡ Some kind) × ((answer.ack ≡ acknowledged) ⊎ (answer.ack ≡ ack_store Device)))
     ⊎ ((visit.then ≡ Release) × (kind ≡ ReleaseAct) × ((answer.then ≡ followed) ⊎ (answer.then ≡ then_store Device))))
 Does (Produces batch produced) clock group offset hold kind = ⊥

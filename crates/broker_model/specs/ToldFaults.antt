@@ -3,7 +3,7 @@
 -- in the entry that its answer makes in the reply to the request in hand.
 -- For example `a` accepts 0 to 2, and the write fails: the entry of the partition has 56 as its AcknowledgeErrorCode. Where the write of
 -- an expiry fails, the line `fault orders/0` comes in that step.
-use Rattle.std.specs.Prelude.{◌≡◌, ℕ, ℤ, List, [], ◌∷◌, Some, IfSome}
+use Rattle.std.specs.Prelude.{◌≡◌, ℕ, ℤ, List, [], ◌∷◌, Some, IfSome, Bool}
 use Rattle.share_model.specs.ErrorCodes.{KAFKA_STORAGE_ERROR}
 use Rattle.share_model.specs.declared.fault.StoreFault.{StoreFault}
 use Rattle.share_model.specs.declared.foreign.ForeignAnswer.{ForeignAnswer}
@@ -96,13 +96,13 @@ pub record IsInHand (conf : ConfigParts) (s : Step) (hand : Hand) : Type 0 where
 pub record TellsStoreFaults (conf : ConfigParts) (s : Step) : Type 0 where
   pub expiry : (shard : ℕ) (hosted : Hosted) (freed : ℕ) (group : List ℕ) (fault : StoreFault) →
       s.call ≡ Some (CallPart shard hosted (Expires (expire_store freed group fault))) → s.outcomes ≡ Fault (OfPart shard) ∷ []
-  pub release : (shard : ℕ) (hosted : Hosted) (visit : Visit) (answer : VisitAnswer) (fault : StoreFault) →
-      s.call ≡ Some (CallPart shard hosted (Visits visit answer)) → visit.«then» ≡ Release → answer.«then» ≡ then_store fault →
+  pub release : (shard : ℕ) (hosted : Hosted) (visit : Visit) (answer : VisitAnswer) (unread : Bool) (fault : StoreFault) →
+      s.call ≡ Some (CallPart shard hosted (Visits visit answer unread)) → visit.«then» ≡ Release → answer.«then» ≡ then_store fault →
       (replies : List Outcome) × (s.outcomes ≡ Fault (OfPart shard) ∷ replies)
-  pub acks : (hand : Hand) (shard : ℕ) (hosted : Hosted) (visit : Visit) (answer : VisitAnswer) (fault : StoreFault) → IsInHand conf s hand →
-      s.call ≡ Some (CallPart shard hosted (Visits visit answer)) → answer.ack ≡ ack_store fault → TellsAcks hand (AnswerVisit answer)
-  pub fetch : (hand : Hand) (shard : ℕ) (hosted : Hosted) (visit : Visit) (answer : VisitAnswer) (fault : StoreFault)
-      (records bytes : ℕ) (first : _) → IsInHand conf s hand → s.call ≡ Some (CallPart shard hosted (Visits visit answer)) →
+  pub acks : (hand : Hand) (shard : ℕ) (hosted : Hosted) (visit : Visit) (answer : VisitAnswer) (unread : Bool) (fault : StoreFault) → IsInHand conf s hand →
+      s.call ≡ Some (CallPart shard hosted (Visits visit answer unread)) → answer.ack ≡ ack_store fault → TellsAcks hand (AnswerVisit answer)
+  pub fetch : (hand : Hand) (shard : ℕ) (hosted : Hosted) (visit : Visit) (answer : VisitAnswer) (unread : Bool) (fault : StoreFault)
+      (records bytes : ℕ) (first : _) → IsInHand conf s hand → s.call ≡ Some (CallPart shard hosted (Visits visit answer unread)) →
       visit.«then» ≡ ThenFetch records bytes first → answer.«then» ≡ then_store fault → TellsFetch hand (AnswerVisit answer)
   pub produce : (hand : Hand) (shard : ℕ) (hosted : Hosted) (batch : List ℕ) (fault : StoreFault) → IsInHand conf s hand →
       s.call ≡ Some (CallPart shard hosted (Produces batch (log_store fault))) → TellsEntry hand (AnswerProduce (log_store fault))

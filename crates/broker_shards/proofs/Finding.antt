@@ -31,7 +31,7 @@ module _ {D W : Type 0} (seen : D → DiskView) (holding : W → Held)
     pub visit_found : (visit : Visit) (result : Result VisitAnswer NoMemory) → VisitsOnce seen holding now visit old new result
         → FoundWithin seen holding now (asks.Visit visit) old new
     visit_found visit result once = record {
-      log = new_log old.log new.log once.log;
+      log = once.log.reads.journal.looks.moments;
       first = λ s k acks then. new_first old.states new.states (once.unwritten s k acks then);
       second = nothing_new old.states.journal.idle new.states.journal.idle once.idle;
     }

@@ -19,7 +19,7 @@ last_acts acts s t [] e l = (s, l.0, l.1)
 last_acts acts s t (d ∷ es) e l = last_acts acts l.0 t es e l.2
 
 of_kind : (did : PartCall) → CanBeTold did → IsToldOf (asked_by did) (told_by did)
-of_kind (Visits visit answer) fair = (answer, refl, fair)
+of_kind (Visits visit answer unread) fair = (answer, refl, fair)
 of_kind (Produces batch produced) fair = (produced, refl, fair)
 of_kind (Looks group looked) fair = (looked, refl, fair)
 of_kind (Expires answer) fair = (answer, refl)

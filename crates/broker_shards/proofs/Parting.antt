@@ -1,5 +1,5 @@
 -- Calls on a partition as acts.
-use Rattle.std.proofs.Common.{◌≡◌, ◌≢◌, ◌≤◌, ◌⊎◌, arith, inl, inr, refl, sym, ap, ◌∙◌, subst, ℕ, List, Result, Err}
+use Rattle.std.proofs.Common.{◌≡◌, ◌≢◌, ◌≤◌, ◌⊎◌, arith, inl, inr, refl, sym, ap, ◌∙◌, subst, ℕ, List, Bool, Result, Err}
 use Rattle.std.specs.List.{AllByRecursion}
 use Rattle.edge_io.specs.Armed.{RunsOn}
 use Rattle.edge_io.specs.Views.{DiskView}
@@ -11,8 +11,9 @@ use Rattle.share_model.specs.declared.fault.LogFault.TheVariants.{NoMemory}
 use Rattle.share_model.specs.declared.visit.ExpireAnswer.{ExpireAnswer}
 use Rattle.share_model.specs.declared.visit.Visit.{Visit}
 use Rattle.share_model.specs.declared.visit.VisitAnswer.{VisitAnswer}
-use Rattle.part_log.specs.Logs.{LogParts}
-use Rattle.part_log.specs.Shards.{CarriesLog}
+use Rattle.gate_journal.specs.declared.writer.Writer.{Writer}
+use Rattle.part_log.specs.Logs.{LogParts, OnlyReads}
+use Rattle.part_log.proofs.Looking.{carries_on}
 use Rattle.share_coord.specs.Parts.{StoreParts}
 use Rattle.share_coord.specs.Holding.{Holds}
 use Rattle.share_coord.specs.States.{states_of}
@@ -34,20 +35,29 @@ use Rattle.broker_shards.proofs.Telling.{grants_told, not_memory}
 module _ {D W : Type 0} (seen : D → DiskView) (holding : W → Held) (old new : PartParts D W) where
   -- ---- what goes on
 
-  pub states_go : (conf : new.conf ≡ old.conf) (log : new.log ≡ old.log)
+  pub states_go : (conf : new.conf ≡ old.conf) (log : RunsOn seen old.log.journal.disk new.log.journal.disk)
+      (log_end : new.log.journal.end ≡ old.log.journal.end)
       (first : RunsOn seen old.states.journal.live.disk new.states.journal.live.disk) (idle : new.states.journal.idle ≡ old.states.journal.idle)
       (ends : (s : PartShardState) → Carries seen holding old s → old.states.journal.live.end ≤ new.states.journal.live.end)
       → GoesOnPart seen holding old new
-  states_go conf log first idle ends = record {
+  states_go conf log log_end first idle ends = record {
     conf = conf;
-    log = subst (λ (l : LogParts D). RunsOn seen old.log.journal.disk l.journal.disk) (sym log) (runs_none seen old.log.journal.disk);
+    log = log;
     first = first;
     second = idle;
-    ends = λ s k. record {
-      log = (let e : new.log.journal.end ≡ old.log.journal.end = ap (λ (l : LogParts D). l.journal.end) log in omega (arith, e));
-      first = ends s k;
-    };
+    ends = λ s k. record { log = omega (arith, log_end); first = ends s k };
   }
+
+  -- where the log stays
+  pub still_runs : new.log ≡ old.log → RunsOn seen old.log.journal.disk new.log.journal.disk
+  still_runs log = subst (λ (l : LogParts D). RunsOn seen old.log.journal.disk l.journal.disk) (sym log) (runs_none seen old.log.journal.disk)
+
+  pub still_ends : new.log ≡ old.log → new.log.journal.end ≡ old.log.journal.end
+  still_ends log = ap (λ (l : LogParts D). l.journal.end) log
+
+  -- where it was read
+  pub read_ends : OnlyReads seen old.log new.log → new.log.journal.end ≡ old.log.journal.end
+  read_ends only = ap (λ (w : Writer D). w.end) only.journal.rest
 
   pub log_goes : (conf : new.conf ≡ old.conf) (log : RunsOn seen old.log.journal.disk new.log.journal.disk) (states : new.states ≡ old.states)
       (ends : (s : PartShardState) → Carries seen holding old s → old.log.journal.end ≤ new.log.journal.end)
@@ -67,10 +77,10 @@ module _ {D W : Type 0} (seen : D → DiskView) (holding : W → Held) (old new 
 
   -- ---- what is answered
 
-  pub visited : (now : ℕ) (visit : Visit) (answer : VisitAnswer) → Visited seen holding now visit old new answer
+  pub visited : (now : ℕ) (visit : Visit) (answer : VisitAnswer) (unread : Bool) → Visited seen holding now visit old new unread answer
       → AllByRecursion IsSmallGrant answer.grants → Answers seen holding now (asks.Visit visit) (tells.Visit answer) old new
-  visited now visit answer steps small = record {
-    did = Visits visit answer;
+  visited now visit answer unread steps small = record {
+    did = Visits visit answer unread;
     asks = refl;
     tells = refl;
     tellable = record { grants = grants_told answer.grants small };
@@ -95,9 +105,9 @@ module _ {D W : Type 0} (seen : D → DiskView) (holding : W → Held) (old new 
   -- ---- want of memory
 
   -- where nothing of it has changed, it carries what it carried
-  untouched : IsUntouched holding old new → (s : PartShardState) → Carries seen holding old s → Carries seen holding new s
+  untouched : IsUntouched seen holding old new → (s : PartShardState) → Carries seen holding old s → Carries seen holding new s
   untouched same s k = record {
-    log = subst (λ (l : LogParts D). CarriesLog seen l s.log) (sym same.log) k.log;
+    log = carries_on seen old.log new.log same.log s.log k.log;
     pending = k.pending;
     holds = subst (λ (t : StoreParts D). Holds seen t k.pending) (sym same.states) k.holds;
     states = k.states ∙ ap (λ (t : StoreParts D). states_of t.entries) (sym same.states);
@@ -109,7 +119,7 @@ module _ {D W : Type 0} (seen : D → DiskView) (holding : W → Held) (old new 
   }
 
   pub visit_refused : (now : ℕ) (visit : Visit)
-      → (IsUntouched holding old new ⊎ ((s : PartShardState) → Carries seen holding old s → AcksStand seen holding now visit old new s))
+      → (IsUntouched seen holding old new ⊎ ((s : PartShardState) → Carries seen holding old s → AcksStand seen holding now visit old new s))
       → FindsNoMemory seen holding now (asks.Visit visit) old new
   visit_refused now visit (inl same) s k = inl (untouched same s k)
   visit_refused now visit (inr stands) s k = let a = stands s k in inr (BeginsVisit visit, refl, a.0, a.1, a.2)

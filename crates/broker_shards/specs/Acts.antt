@@ -43,21 +43,21 @@ use Rattle.broker_shards.specs.Hosts.{Host, holding}
 
 -- what a call of the machine asks of a partition
 abbrev pub asked_by : PartCall → PartAsk
-asked_by (Visits visit answer) = asks.Visit visit
+asked_by (Visits visit answer unread) = asks.Visit visit
 asked_by (Produces batch produced) = asks.Produce batch
 asked_by (Looks group looked) = asks.Look group
 asked_by (Expires answer) = asks.Expire
 
 -- and what it is told
 abbrev pub told_by : PartCall → PartTold
-told_by (Visits visit answer) = tells.Visit answer
+told_by (Visits visit answer unread) = tells.Visit answer
 told_by (Produces batch produced) = tells.Produce produced
 told_by (Looks group looked) = tells.Look looked
 told_by (Expires answer) = tells.Expire answer
 
 -- a reply can say its numbers
 abbrev pub CanBeTold : PartCall → Type 0
-CanBeTold (Visits visit answer) = IsTellableVisit answer
+CanBeTold (Visits visit answer unread) = IsTellableVisit answer
 CanBeTold (Produces batch produced) = HasTellableBase produced
 CanBeTold (Looks group looked) = IsTellableLook looked
 CanBeTold (Expires answer) = Unit {0}

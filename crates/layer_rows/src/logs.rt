@@ -8,11 +8,12 @@
 // | `log-end` | the offset behind the last one |
 // | `next-slot OFFSET` | the least slot from an offset on, or `none` |
 // | `batch-of OFFSET` | the number, the first and the last offset and the size of the batch that covers it, or `none` |
-// | `batch-bytes OFFSET` | the bytes of that batch |
+// | `batch-bytes OFFSET` | the bytes of that batch, or `fails` |
+// | `read-each N` | reads the first N batches, one after another: how many bytes they have, or `fails at NUMBER` |
 use crate::disks::{Store, bytes_text, number_text, word_number};
 use crate::plain::word;
 use edge_mem::MemDisk;
-use part_log::{OpenFault, PartLog};
+use part_log::{BatchRead, OpenFault, PartLog};
 use row_text::bytes_of;
 use share_model::{LogFault, Room, StoreFault};
 use std::alloc::Global;
@@ -35,6 +36,17 @@ fn append_text(alloc: Global, log: &mut PartLog<MemDisk>, batch: &[u8]) -> io::R
     answer_text(alloc, answer)
 }
 
+/// Why no bytes were given. Those that were to be appended to must be as they were.
+fn unread(alloc: Global, fault: BatchRead, room: &Room) -> io::Result<String> {
+    if !room.as_slice().is_empty() {
+        return word(alloc, "fails and writes");
+    }
+    match fault {
+        BatchRead::Device => word(alloc, "fails"),
+        BatchRead::NoMemory => word(alloc, "no memory"),
+    }
+}
+
 fn batch_bytes(alloc: Global, log: &mut PartLog<MemDisk>, offset: u64) -> io::Result<String> {
     let Some(place) = log.batch_of(offset) else {
         return word(alloc, "none");
@@ -45,8 +57,22 @@ fn batch_bytes(alloc: Global, log: &mut PartLog<MemDisk>, offset: u64) -> io::Re
     }
     match log.batch_bytes(place.number, &mut room) {
         Ok(()) => bytes_text(alloc, room.as_slice()),
-        Err(_) => word(alloc, "no memory"),
+        Err(fault) => unread(alloc, fault, &room),
     }
+}
+
+/// Reads so many batches, from the first one on.
+fn read_each(alloc: Global, log: &mut PartLog<MemDisk>, count: u64) -> io::Result<String> {
+    let mut room = Room::new(alloc);
+    for number in 0..count {
+        if number >= log.len() {
+            return word(alloc, "no such number");
+        }
+        if let Err(_) = log.batch_bytes(number, &mut room) {
+            return word_number(alloc, "fails at", number);
+        }
+    }
+    number_text(alloc, room.as_slice().len() as u64)
 }
 
 fn appends(alloc: Global, log: &mut PartLog<MemDisk>, text: &str) -> io::Result<Option<String>> {
@@ -108,6 +134,7 @@ fn log_told(
         },
         "batch-of" => place_text(alloc, log, number),
         "batch-bytes" => batch_bytes(alloc, log, number),
+        "read-each" => read_each(alloc, log, number),
         _ => return Ok(None),
     };
     Ok(Some(told?))

@@ -1,85 +1,19 @@
--- Frames that are read as batches, one after another.
+-- A content is read as one log, or is damaged at one place.
 use Rattle.std.proofs.Common.{◌≡◌, ◌+◌, ◌<◌, ◌≤◌, ℕ, List, [], ◌∷◌, ◌++◌, length, refl, sym, ap, subst, ◌∙◌, append_assoc, arith}
-use Rattle.std.specs.Prelude.{map, Result, Err}
-use Rattle.part_log.specs.declared.fault.OpenFault.{OpenFault}
-use Rattle.part_log.specs.declared.fault.OpenFault.TheVariants.{Damaged}
-use Rattle.std.proofs.lemmas.List.{append-nil, map-append}
+use Rattle.std.proofs.lemmas.List.{append-nil}
 use Rattle.gate_journal.specs.Frames.{StandsFor, blocks}
-use Rattle.gate_journal.proofs.Texts.{more_at}
 use Rattle.std.specs.List.{AllByRecursion}
 use Rattle.share_model.specs.Logs.{Batch, RisesFrom, end_of}
-use Rattle.part_log.specs.declared.entry.Entry.{Entry}
 use Rattle.part_log.specs.Batches.{IsStored}
-use Rattle.part_log.specs.Entries.{bytes_of, seen}
 use Rattle.std.proofs.Common.{inl, inr, ⊎_elim}
 use Rattle.std.proofs.lemmas.Bool.{cases_lt}
 use Rattle.gate_journal.proofs.Once.{not_both, once, place_once}
 use Rattle.gate_journal.proofs.Total.{text_or_damaged}
-use Rattle.part_log.specs.Logs.{IsBadFrames, IsLogText, IsNoLogText, IsStoredLog, MayFollow, frames_of}
-use Rattle.part_log.proofs.Rising.{end_more, frames_more, same_log, sound_more, sound_none}
-
--- so many frames were read, and so many are left
-pub record Reads (frames yielded rest : List (List ℕ)) (entries : List Entry) (end place : ℕ) : Type 0 where
-  pub parts : frames ≡ yielded ++ rest
-  pub read : frames_of (map seen entries) ≡ yielded
-  pub sound : IsStoredLog (map seen entries)
-  pub at_end : end ≡ end_of (map seen entries)
-  pub at : place ≡ length (blocks yielded)
-
-pub reads_more : (frames yielded rest more : List (List ℕ)) (entries new : List Entry) (end place : ℕ) (frame : List ℕ) (e : Entry) → Reads frames yielded rest entries end place
-    → rest ≡ frame ∷ more → bytes_of e.bytes ≡ frame → IsStored (seen e) → end ≤ e.base → new ≡ entries ++ e ∷ [] → (behind : ℕ) → behind ≡ place + (5 + length frame)
-    → Reads frames (yielded ++ frame ∷ []) more new (e.last + 1) behind
-reads_more frames yielded rest more entries new end place frame e r is bytes stored from pushed behind step =
-    let whole : map seen new ≡ map seen entries ++ seen e ∷ [] = ap (map seen) pushed ∙ map-append seen entries (e ∷ []) in
-    let follows : MayFollow (map seen entries) (seen e) = record { stored = stored; behind = omega (arith, from, r.at_end) } in
-    record {
-      parts = r.parts ∙ ap (λ l. yielded ++ l) is ∙ sym (append_assoc yielded (frame ∷ []) more);
-      read = ap frames_of whole ∙ frames_more (map seen entries) (seen e) ∙ (λ i. r.read i ++ bytes i ∷ []);
-      sound = subst IsStoredLog (sym whole) (sound_more (map seen entries) (seen e) r.sound follows);
-      at_end = sym (ap end_of whole ∙ end_more (map seen entries) (seen e));
-      at = step ∙ more_at yielded (yielded ++ frame ∷ []) frame refl place r.at;
-    }
-
-pub reads_bad : (frames yielded rest more : List (List ℕ)) (entries : List Entry) (end place : ℕ) (frame : List ℕ) → Reads frames yielded rest entries end place
-    → rest ≡ frame ∷ more → ((b : Batch) → b.bytes ≡ frame → IsStored b → b.base < end) → IsBadFrames frames place
-reads_bad frames yielded rest more entries end place frame r is none = record {
-  before = map seen entries;
-  frame = frame;
-  after = more;
-  is = r.parts ∙ ap (λ l. l ++ rest) (sym r.read) ∙ ap (λ l. frames_of (map seen entries) ++ l) is;
-  sound = r.sound;
-  at = r.at ∙ ap (λ l. length (blocks l)) (sym r.read);
-  none = λ b e s. omega (arith, none b e s, r.at_end);
-}
-
-place_of : {T : Type 0} → Result T OpenFault → ℕ
-place_of (Err (Damaged place)) = place
-place_of r = 0
-
-pub place_is : {T : Type 0} (p q : ℕ) → ◌≡◌ {A = Result T OpenFault} (Err (Damaged p)) (Err (Damaged q)) → p ≡ q
-unfolding place_of
-place_is p q e = ap place_of e
+use Rattle.part_log.specs.Logs.{IsBadFrames, IsLogText, IsNoLogText, IsStoredLog, frames_of}
+use Rattle.part_log.proofs.Parts.{head_of, map_parted, tail_of}
+use Rattle.part_log.proofs.Rising.{frames_more, same_log, sound_more, sound_none}
 
 -- ---- a log has no frame that can't stand there
-
-head_of : {A : Type 0} → A → List A → A
-head_of d [] = d
-head_of d (x ∷ xs) = x
-
-tail_of : {A : Type 0} → List A → List A
-tail_of [] = []
-tail_of (x ∷ xs) = xs
-
-parted : (log : List Batch) (fs : List (List ℕ)) (f : List ℕ) (after : List (List ℕ)) → frames_of log ≡ fs ++ (f ∷ after)
-    → (front : List Batch) × (b : Batch) × (back : List Batch) × (log ≡ front ++ (b ∷ back)) × (frames_of front ≡ fs) × (b.bytes ≡ f)
-unfolding head_of tail_of
-parted [] [] f after e = absurd (omega (arith, ap length e))
-parted [] (x ∷ fs) f after e = absurd (omega (arith, ap length e))
-parted (b ∷ log) [] f after e = ([], b, log, refl, refl, ap (head_of f) e)
-parted (b ∷ log) (x ∷ fs) f after e =
-    let r = parted log fs f after (ap tail_of e) in
-    let h = ap (head_of f) e in
-    (b ∷ r.0, r.1, r.2, ap (λ l. b ∷ l) r.3, (λ i. h i ∷ r.4 i), r.5)
 
 stored_parts : (front : List Batch) (b : Batch) (back : List Batch) → AllByRecursion IsStored (front ++ (b ∷ back)) → AllByRecursion IsStored front × IsStored b
 stored_parts [] b back h = (tt, h.0)
@@ -92,11 +26,11 @@ rises_parts e (c ∷ d ∷ front) b back h = let r = rises_parts (c.last + 1) (d
 
 pub bad_none : (frames : List (List ℕ)) (place : ℕ) (log : List Batch) → IsBadFrames frames place → IsStoredLog log → frames ≡ frames_of log → ⊥
 bad_none frames place log bad sound e =
-    let r = parted log (frames_of bad.before) bad.frame bad.after (sym e ∙ bad.is) in
-    let stored = stored_parts r.0 r.1 r.2 (subst (AllByRecursion IsStored) r.3 sound.stored) in
-    let rises = rises_parts 0 r.0 r.1 r.2 (subst (RisesFrom 0) r.3 sound.rises) in
-    let same : r.0 ≡ bad.before = same_log r.0 bad.before (record { stored = stored.0; rises = rises.0 }) bad.sound r.4 in
-    let below = bad.none r.1 r.5 stored.1 in
+    let r = map_parted (λ (b : Batch). b.bytes) log (frames_of bad.before) bad.frame bad.after (sym e ∙ bad.is) in
+    let stored = stored_parts r.front r.x r.back (subst (AllByRecursion IsStored) r.whole sound.stored) in
+    let rises = rises_parts 0 r.front r.x r.back (subst (RisesFrom 0) r.whole sound.rises) in
+    let same : r.front ≡ bad.before = same_log r.front bad.before (record { stored = stored.0; rises = rises.0 }) bad.sound r.fronts in
+    let below = bad.none r.x r.same stored.1 in
     omega (arith, below, rises.1, ap end_of same)
 
 -- ---- and at most one place

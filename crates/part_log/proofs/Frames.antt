@@ -13,7 +13,9 @@ use Rattle.rec_batch.specs.Grammar.{IsRecord, Record}
 use Rattle.rec_batch.specs.Passing.{record_in}
 use Rattle.rec_batch.proofs.Passed.{record_comes}
 use Rattle.rec_batch.proofs.Uniqueness.{batch_clear}
+use Rattle.log_index.specs.declared.entry.Entry.{Entry}
 use Rattle.part_log.specs.Batches.{IsStored, batch_in, deltas_in, delta_and, offsets_in}
+use Rattle.part_log.specs.Holding.{entry_of}
 
 pub zero_pos : (z : ℤ) → pos 0 ≤ℤ z → pos (at_least_zero z) ≡ z
 zero_pos (pos n) h = refl
@@ -81,17 +83,11 @@ module _ (frame : List ℕ) (view : BatchView) (a : Accepts Stored frame view) w
   pub view_last : view.base + view.last_delta ≡ (batch_in frame).last
   view_last = sym (ap at_least_zero sum_is)
 
-  pub viewed : (base last : ℕ) → base ≡ view.base → last ≡ view.base + view.last_delta →
-      IsStored (record { base = base; last = last; offsets = offsets_in frame; bytes = frame })
-  viewed base last e f =
-      let p : (batch_in frame).base ≡ base = sym a.0.base ∙ sym e in
-      let q : (batch_in frame).last ≡ last = sym view_last ∙ sym f in
-      subst IsStored (λ i. record { base = p i; last = q i; offsets = offsets_in frame; bytes = frame }) (stored_by frame a.1.0 a.1.1)
-
-  pub behind_none : (end : ℕ) → view.base < end → (b : Batch) → b.bytes ≡ frame → IsStored b → b.base < end
-  behind_none end lt b e s =
-      let same : b.base ≡ view.base = sym (ap at_least_zero s.base) ∙ ap (λ l. at_least_zero (base_offset l)) e ∙ sym a.0.base in
-      omega (arith, lt, same)
+  pub entry_is : (place last size : ℕ) → last ≡ view.base + view.last_delta → size ≡ length frame →
+      ◌≡◌ {A = Entry} (record { base = view.base; last = last; size = size; place = place }) (entry_of (place, frame))
+  entry_is place last size l s =
+      let end : last ≡ (batch_in frame).last = l ∙ view_last in
+      λ i. record { base = a.0.base i; last = end i; size = s i; place = place }
 
 pub faulty_none : (frame : List ℕ) (f : BatchFault) → IsFirstFault Stored frame f → (b : Batch) → b.bytes ≡ frame → IsStored b → ⊥
 faulty_none frame f first b e s = batch_clear Stored frame s.records (subst (λ l. IsBatch Stored l s.records) e s.batch) f first.0

@@ -1,6 +1,6 @@
 -- From the journal's frames to the log.
 use Rattle.std.proofs.lemmas.Bool.{cases_lt}
-use Rattle.std.proofs.Common.{◌≡◌, ◌⊎◌, ◌↔◌, ◌+◌, ◌^◌, ◌<◌, ◌≤◌, inl, inr, ⊎_elim, refl, sym, subst, ap, ◌∙◌, ℕ, List, [], ◌∷◌, ◌++◌}
+use Rattle.std.proofs.Common.{◌≡◌, ◌≢◌, ◌⊎◌, ◌↔◌, ◌+◌, ◌^◌, ◌<◌, ◌≤◌, inl, inr, ⊎_elim, refl, sym, subst, ap, ◌∙◌, ℕ, List, [], ◌∷◌, ◌++◌}
 use Rattle.std.proofs.Common.{Option, Some, None, Result, Ok, Err}
 use Rattle.share_model.specs.declared.fault.StoreFault.{StoreFault}
 use Rattle.share_model.specs.declared.fault.StoreFault.TheVariants.{Device, Full}
@@ -110,6 +110,16 @@ store_of r = Device
 pub store_is : {T : Type 0} (f h : StoreFault) → ◌≡◌ {A = Result T LogFault} (Err (Store f)) (Err (Store h)) → f ≡ h
 unfolding store_of
 store_is f h e = ap store_of e
+
+fault_of : {T : Type 0} → Result T LogFault → LogFault
+fault_of (Err f) = f
+fault_of (Ok x) = Store Device
+
+-- any other refusal than a device fault is that of a full journal
+pub full_else : {T X : Type 0} (f : StoreFault) → ((end : ℕ) → f ≡ Full end → X) → (fault : LogFault) → ◌≡◌ {A = Result T LogFault} (Err (Store f)) (Err fault) → fault ≢ Store Device → X
+unfolding fault_of
+full_else Device full fault is other = absurd (other (sym (ap fault_of is)))
+full_else (Full end) full fault is other = full end refl
 
 pub has_room : (r : Result ℕ StoreFault) (e n : ℕ) → ((end : ℕ) → (r ≡ Err (Full end)) ↔ ((end ≡ e) × (2 ^ 62 < e + n))) → (e + n ≤ 2 ^ 62) ⊎ (r ≡ Err (Full e))
 has_room r e n full = ⊎_elim (λ lt. inr ((full e).1 (refl, lt))) (λ le. inl le) (cases_lt (2 ^ 62) (e + n))

@@ -1,4 +1,4 @@
 pub mod Batches
 pub mod Logs
-pub mod Entries
+pub mod Holding
 pub mod Shards

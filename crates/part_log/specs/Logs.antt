@@ -13,13 +13,14 @@ use Rattle.edge_io.specs.Causes.{Rose}
 use Rattle.edge_io.specs.Moments.{LeavesOnly}
 use Rattle.gate_journal.specs.Frames.{StandsFor, IsDamaged, blocks}
 use Rattle.gate_journal.specs.Journals.{IsQuiet, Stands}
+use Rattle.gate_journal.specs.Reading.{ReadsOnly}
 use Rattle.gate_journal.specs.declared.writer.Writer.{Writer}
 use Rattle.share_model.specs.Logs.{Batch, Covers, IsAt, IsLog, end_of}
 use Rattle.share_model.specs.Pending.{WithPending, WithinWrite}
 use Rattle.share_model.specs.declared.fault.LogFault.{LogFault}
 use Rattle.share_model.specs.declared.fault.LogFault.TheVariants.{Store}
 use Rattle.share_model.specs.declared.fault.StoreFault.TheVariants.{Device, Full}
-use Rattle.part_log.specs.declared.place.BatchPlace.{BatchPlace}
+use Rattle.share_model.specs.declared.batch_place.BatchPlace.{BatchPlace}
 use Rattle.part_log.specs.Batches.{IsStored}
 use Rattle.edge_io.specs.Views.{DiskView}
 
@@ -110,6 +111,12 @@ pub record IsUnwritten {D : Type 0} (seen : D → DiskView) (old new : LogParts 
   pub batches : new.batches ≡ old.batches
   pub follows : MayFollow old.batches b
   pub kept : (pending : Option Batch) → Keeps seen old pending → Keeps seen new pending ⊎ Keeps seen new (Some b)
+
+-- A log was only looked at: its batches are the same, and of its journal the numbers, the frames and what is pending
+-- are, in every reading. So it keeps what it kept, with the same batch pending.
+pub record OnlyReads {D : Type 0} (seen : D → DiskView) (old new : LogParts D) : Type 0 where
+  pub batches : new.batches ≡ old.batches
+  pub journal : ReadsOnly seen old.journal new.journal
 
 -- A call that adds this batch, and what it leaves.
 pub record AddsOnce {D : Type 0} (seen : D → DiskView) (old new : LogParts D) (b : Batch) (result : Result ℕ LogFault) : Type 0 where

@@ -1,35 +1,18 @@
-// A batch that is kept in memory.
+// The batch of a frame, and the buffer of an append.
 ghost use Rattle.std.specs.Prelude.{◌≡◌, ◌+◌, ◌<◌, ◌≤◌, ◌^◌, length, IfOk, MatchOption, List};
 ghost use Rattle.gate_journal.specs.Frames.{frame_in};
 ghost use Rattle.rec_batch.specs.Placing.{placed};
 ghost use Rattle.share_model.specs.Logs.{Batch};
-ghost use Rattle.part_log.specs.Batches.{IsStored};
-ghost use Rattle.part_log.specs.Entries.{bytes_of, seen};
+ghost use Rattle.part_log.specs.Batches.{IsStored, batch_in};
+ghost use Rattle.part_log.specs.Holding.{entry_of};
 
 use gate_journal::buffer_of;
+use log_index::Entry;
 use rec_batch::{Form, place_batch, read_batch};
-use share_model::Blob;
 use std::alloc::{AllocError, Global};
 
-/// The bytes of a batch, as they came.
-#[derive(Drop)]
-pub enum Kept {
-    /// As they were read from the journal.
-    Read(Blob),
-    /// In the buffer from which they were written: behind four bytes, and before one.
-    Written(Vec<u8>),
-}
-
-/// A batch, with its first and its last offset.
-#[derive(Drop)]
-pub struct Entry {
-    pub base: u64,
-    pub last: u64,
-    pub bytes: Kept,
-}
-
-// The frame in a buffer.
-fn inner(buffer: &[u8]) -> &[u8]
+/// The frame in a buffer.
+pub fn inner(buffer: &[u8]) -> &[u8]
     requires { 5 ≤ length buffer.now }
     ensures { result.now ≡ frame_in buffer.now }
 {
@@ -38,23 +21,12 @@ fn inner(buffer: &[u8]) -> &[u8]
     frame
 }
 
-/// The bytes of the batch.
-pub fn bytes_of(kept: &Kept) -> &[u8]
-    requires { 0 < length (bytes_of kept.now) }
-    ensures { result.now ≡ bytes_of kept.now }
+/// The batch of a frame at a place, if it is one that a log keeps and begins at this end of the log or behind it.
+pub fn next_entry(place: u64, frame: &[u8], end: u64) -> Option<Entry>
+    ensures { MatchOption result ((b : Batch) → b.bytes ≡ frame.now → IsStored b → b.base < end)
+        (λ e. (e ≡ entry_of (place, frame.now)) × IsStored (batch_in frame.now) × (end ≤ (batch_in frame.now).base)) }
 {
-    match kept {
-        Kept::Read(blob) => blob.as_slice(),
-        Kept::Written(buffer) => inner(buffer),
-    }
-}
-
-/// The batch of a frame, if it is one that a log keeps and begins at this end of the log or behind it.
-pub fn next_entry(frame: Blob, end: u64) -> Option<Entry>
-    ensures { MatchOption result ((b : Batch) → b.bytes ≡ frame → IsStored b → b.base < end)
-        (λ e. (bytes_of e.bytes ≡ frame) × IsStored (seen e) × (end ≤ e.base)) }
-{
-    let Ok(view) = read_batch(frame.as_slice(), Form::Stored) else {
+    let Ok(view) = read_batch(frame, Form::Stored) else {
         return None;
     };
     if view.base < end {
@@ -63,7 +35,8 @@ pub fn next_entry(frame: Blob, end: u64) -> Option<Entry>
     Some(Entry {
         base: view.base,
         last: view.base + u64::from(view.last_delta),
-        bytes: Kept::Read(frame),
+        size: frame.len() as u32,
+        place,
     })
 }
 

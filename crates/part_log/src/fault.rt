@@ -10,18 +10,7 @@ pub enum OpenFault {
     /// The disk failed.
     #[error("the disk of the log failed")]
     Device,
-    /// There was no memory for the content.
-    #[error("out of memory")]
-    NoMemory,
-}
-
-/// Why the bytes of a batch were not given.
-#[derive(Clone, Copy, Debug, Error)]
-pub enum BatchRead {
-    /// The disk failed.
-    #[error("the disk of the log failed")]
-    Device,
-    /// There was no memory for the bytes.
+    /// There was no memory for a frame, or for the index of the batches.
     #[error("out of memory")]
     NoMemory,
 }

@@ -1,15 +1,14 @@
-//! The log of a partition on a disk: a list of record batches through crashes.
+//! The log of a partition on a disk: a list of record batches through crashes. The batches are found by an index in
+//! memory, and their bytes are read from the disk.
 #![tactic(auto)]
 
 mod entry;
 mod fault;
 mod laws;
 mod log;
-mod place;
 mod reading;
-mod search;
 
-pub use fault::{BatchRead, OpenFault};
+pub use fault::OpenFault;
 pub use laws::{a_frame_is_one_batch, log_text_is_read_one_way};
 pub use log::PartLog;
-pub use place::BatchPlace;
+pub use share_model::{BatchPlace, BatchRead};

@@ -5,27 +5,28 @@ ghost use Rattle.share_model.specs.declared.fault.BatchFault.{BatchFault};
 ghost use Rattle.share_model.specs.declared.fault.LogFault.{LogFault};
 ghost use Rattle.edge_io.specs.Armed.{ArmsAlone, RunsOn, StarvesUnarmed};
 ghost use Rattle.edge_io.specs.Causes.{Rose};
-ghost use Rattle.edge_io.specs.Disk.{SameContent};
+ghost use Rattle.edge_io.specs.Counting.{MakesUpTo};
+ghost use Rattle.edge_io.specs.Disk.{IsTold};
 ghost use Rattle.edge_io.specs.Moments.{Elapses, LeavesOnly};
 ghost use Rattle.gate_journal.specs.Frames.{StandsAs, frame_in};
 ghost use Rattle.gate_journal.specs.Journals.{IsQuiet};
 ghost use Rattle.rec_batch.specs.Batches.{IsFirstFault};
 ghost use Rattle.rec_batch.specs.Placing.{placed};
 ghost use Rattle.share_model.specs.Logs.{Batch, IsAt, IsNextSlot, IsSlot, end_of};
-ghost use Rattle.share_model.specs.Rooms.{Appends};
+ghost use Rattle.share_model.specs.Rooms.{Appends, Reserves};
+ghost use Rattle.log_index.specs.Indexes.{FillsWithin};
 ghost use Rattle.part_log.specs.Batches.{IsStored, batch_in};
 ghost use Rattle.part_log.specs.Logs.{IsLogText, IsNoLogText, Keeps};
 ghost use Rattle.part_log.specs.Shards.{CarriesLog, LogShardState, StepsLog};
 
-use crate::entry::{Entry, Kept, bytes_of, placed_copy};
-use crate::fault::{BatchRead, OpenFault};
-use crate::place::BatchPlace;
-use crate::reading::read_frames;
-use crate::search::{end_of, next_slot, place_of};
+use crate::entry::{inner, placed_copy};
+use crate::fault::OpenFault;
+use crate::reading::Reader;
 use edge_io::{Disk, FaultMode};
-use gate_journal::{Journal, StartFault, buffer_of, start};
+use gate_journal::{Journal, SeenFrames, StartFault, buffer_of, start_each};
+use log_index::LogIndex;
 use rec_batch::{Form, read_batch};
-use share_model::{LogFault, Room, StoreFault};
+use share_model::{BatchPlace, BatchRead, LogFault, Room, StoreFault};
 use std::alloc::Global;
 use std::marker::Model;
 
@@ -35,24 +36,26 @@ const OFFSETS: u64 = 1 << 62;
 /// crash at any moment.
 ///
 /// A contract sees its batches, each with its first and last offset, the offsets of its records and its bytes, and
-/// beside them the writing end of its journal. Each batch stands in one frame of the journal, and its bytes are kept
-/// in memory besides.
+/// beside them the writing end of its journal. Each batch stands in one frame of the journal. In memory are the
+/// offsets, the size and the place of each, and the bytes of the 64 that were read last.
 #[derive(Drop)]
 pub struct PartLog<D: Disk> {
+    alloc: Global,
     journal: Journal<D>,
-    entries: Vec<Entry>,
+    index: LogIndex,
+    end: u64,
+    seen: SeenFrames,
 }
 
 impl<D: Disk> Model for PartLog<D> {
-    ghost use Rattle.std.specs.Prelude.{map};
-    ghost use Rattle.part_log.specs.Logs.{LogParts, IsStoredLog};
-    ghost use Rattle.part_log.specs.Entries.{seen};
+    ghost use Rattle.part_log.specs.Logs.{LogParts};
+    ghost use Rattle.part_log.specs.Holding.{HoldsLog, batches_of};
 
     ghost Value = { LogParts D };
 
-    ghost view = { λ l. record { batches = map seen l.entries.items; journal = l.journal } };
+    ghost view = { λ l. record { batches = batches_of l.seen.frames; journal = l.journal } };
 
-    ghost invariant = { λ l. IsStoredLog (map seen l.entries.items) };
+    ghost invariant = { λ l. HoldsLog D.seen l.seen.frames l.index l.journal l.end };
 }
 
 // The disk of a journal was not opened.
@@ -78,11 +81,12 @@ fn last_offset(base: u64, last_delta: u32) -> Option<u64>
 
 impl<D: Disk> PartLog<D> {
     ghost use Rattle.part_log.specs.Logs.{AddsOnce, IsAdded, IsPlaceOf, IsUnwritten, IsWithin, MayFollow, LogParts};
+    ghost use Rattle.part_log.specs.Logs.{OnlyReads};
 
     /// Opens the log of a disk: reads the batches that its content stands for, in time linear in the content.
     ///
-    /// It syncs first, so that what it reads is what a crash would leave, and repairs the end of the journal. At an
-    /// `Err` the disk comes back.
+    /// It syncs first, so that what it reads is what a crash would leave, and repairs the end of the journal. It reads
+    /// in pieces, and keeps of a batch its offsets, its size and its place. At an `Err` the disk comes back.
     pub fn open(alloc: Global, disk: D) -> Result<PartLog<D>, (D, OpenFault)>
         // The log is the one that the content stands for; each image stands for it from now on, and nothing is pending.
         ensures kept { IfOk result (λ log. Keeps D.seen log None) }
@@ -104,10 +108,19 @@ impl<D: Disk> PartLog<D> {
         ensures runs { MatchResult result (λ log. RunsOn D.seen disk log.journal.disk)
             (λ e. RunsOn D.seen disk e.0) }
     {
-        match start(alloc, disk) {
-            Ok((journal, frames)) => match read_frames(alloc, frames) {
-                Ok(entries) => Ok(PartLog { journal, entries }),
-                Err(fault) => Err((journal.into_disk(), fault)),
+        let Ok(mut reader) = Reader::new(alloc) else {
+            return Err((disk, OpenFault::NoMemory));
+        };
+        match start_each(alloc, disk, &mut reader) {
+            Ok(journal) => match reader.finish() {
+                Ok((index, end, seen)) => Ok(PartLog {
+                    alloc,
+                    journal,
+                    index,
+                    end,
+                    seen,
+                }),
+                Err(place) => Err((journal.into_disk(), OpenFault::Damaged { place })),
             },
             Err((disk, fault)) => Err((disk, open_fault(fault))),
         }
@@ -137,15 +150,18 @@ impl<D: Disk> PartLog<D> {
             LeavesOnly D.seen self.old.journal.disk self.new.journal.disk (IsWithin self.old.batches pending (batch_in (frame_in buffer.items))) }
         ensures runs { RunsOn D.seen self.old.journal.disk self.new.journal.disk }
     {
-        if let Err(_) = self.entries.reserve(1) {
+        if let Err(_) = self.index.reserve() {
             return Err(LogFault::NoMemory);
         }
+        let place = self.journal.last_gate();
         match self.journal.append(&mut buffer) {
             Ok(_) => {
-                let bytes = Kept::Written(buffer);
-                if let Err(_) = self.entries.push(Entry { base, last, bytes }) {
+                let frame = inner(&buffer);
+                if let Err(_) = self.index.push(base, last, frame.len() as u32, place) {
                     unreachable!()
                 }
+                self.seen = self.seen.with(&place, frame);
+                self.end = last + 1;
                 Ok(base)
             }
             Err(fault) => Err(LogFault::Store(fault)),
@@ -173,7 +189,7 @@ impl<D: Disk> PartLog<D> {
         let Some(last) = last_offset(base, view.last_delta) else {
             return Err(LogFault::Store(StoreFault::Full { end: base }));
         };
-        let Ok(buffer) = placed_copy(*self.entries.allocator(), batch, base) else {
+        let Ok(buffer) = placed_copy(self.alloc, batch, base) else {
             return Err(LogFault::NoMemory);
         };
         self.store(base, last, buffer)
@@ -228,7 +244,7 @@ impl<D: Disk> PartLog<D> {
         if view.base < end {
             return Err(LogFault::Behind { end });
         }
-        let Ok(buffer) = buffer_of(*self.entries.allocator(), batch) else {
+        let Ok(buffer) = buffer_of(self.alloc, batch) else {
             return Err(LogFault::NoMemory);
         };
         self.store(view.base, view.base + u64::from(view.last_delta), buffer)
@@ -238,21 +254,21 @@ impl<D: Disk> PartLog<D> {
     pub fn next_slot(&self, from: u64) -> Option<u64>
         ensures { IsNextSlot self.now.batches from result }
     {
-        next_slot(&self.entries, from)
+        self.index.next_slot(from)
     }
 
     /// The batch that covers an offset, found in the logarithm of the number of batches.
     pub fn batch_of(&self, offset: u64) -> Option<BatchPlace>
         ensures { MatchOption result (IsSlot self.now.batches offset → ⊥) (IsPlaceOf self.now.batches offset) }
     {
-        place_of(&self.entries, offset)
+        self.index.batch_of(offset)
     }
 
     /// The number of batches.
     pub fn len(&self) -> u64
         ensures { result ≡ length self.now.batches }
     {
-        self.entries.len() as u64
+        self.index.len()
     }
 
     /// The offset behind the last slot, or 0.
@@ -260,25 +276,34 @@ impl<D: Disk> PartLog<D> {
         ensures end { result ≡ end_of self.now.batches }
         ensures below { result ≤ 2 ^ 62 }
     {
-        end_of(&self.entries)
+        self.end
     }
 
-    /// Appends the bytes of the batch with this number, from 0 on, to a room. It finds no memory only where the spare
-    /// number of the room is below their number, and the room is then as it was. The log stays as it is, and no
-    /// device is called.
+    /// Appends the bytes of the batch with this number, from 0 on, to a room. The bytes of the 64 batches that were
+    /// read last are kept; those of another are read from the disk by two device calls, of which the first that fails
+    /// is the last.
+    ///
+    /// The answer doesn't depend on what is kept, but for `Device`. It finds no memory only where the spare number of
+    /// the room is below the number of bytes. After a refusal the room has the bytes that it had, and its spare number
+    /// is no smaller.
     pub fn batch_bytes(&mut self, number: u64, out: &mut Room) -> Result<(), BatchRead>
         requires { number < length self.old.batches }
-        ensures ok { OnOk result ((b : Batch) → IsAt self.old.batches number b → Appends out.old out.new b.bytes) }
-        ensures err { OnErr result (out.new ≡ out.old) }
-        ensures spared { (b : Batch) → IsAt self.old.batches number b → length b.bytes ≤ out.old.spare → IsOk result }
-        ensures device { result ≢ Err BatchRead.Device }
-        ensures log { self.new ≡ self.old }
+
+        // At Ok the bytes of that batch stand behind those of the room, where the disk tells its content. In any case
+        // no more bytes than it has do.
+        ensures ok { OnOk result (IsTold (D.seen self.old.journal.disk).content →
+            (b : Batch) → IsAt self.old.batches number b → Appends out.old out.new b.bytes) }
+        ensures extends { OnOk result ((b : Batch) → IsAt self.old.batches number b →
+            FillsWithin (length b.bytes) out.old out.new) }
+        ensures err { OnErr result (Reserves out.old out.new 0) }
+        ensures spared { (b : Batch) → IsAt self.old.batches number b → length b.bytes ≤ out.old.spare →
+            result ≢ Err BatchRead.NoMemory }
+
+        // Nothing is changed in the log, and a device fault comes only where a call failed.
+        ensures log { OnlyReads D.seen self.old self.new }
+        ensures disk { MakesUpTo D.seen 2 self.old.journal.disk self.new.journal.disk (result ≡ Err BatchRead.Device) }
     {
-        let entry = &self.entries[number as usize];
-        if let Err(_) = out.append(bytes_of(&entry.bytes)) {
-            return Err(BatchRead::NoMemory);
-        }
-        Ok(())
+        self.index.read(&mut self.journal, number, out)
     }
 
     /// Whether a call of its disk has failed for want of memory.

@@ -1,6 +1,6 @@
 -- The acknowledgements of a visit as a step of the shard, and what follows them.
-use Rattle.std.proofs.Common.{◌≡◌, ◌≢◌, ◌⊎◌, ⊎_elim, ◌∙◌, inl, inr, refl, sym, ap, subst, arith, ℕ, max, ◌≤◌, List, Option, Some, None, Bool, true, cond}
-use Rattle.std.specs.Prelude.{Result, Ok, Err, IsErr, IsSome, is_none}
+use Rattle.std.proofs.Common.{◌≡◌, ◌≢◌, ◌⊎◌, ⊎_elim, ◌∙◌, inl, inr, refl, sym, ap, subst, arith, ℕ, max, ◌≤◌, List, Option, Some, None, Bool, true, false, cond}
+use Rattle.std.specs.Prelude.{Result, Ok, Err, IsErr, IsSome, is_none, is_some}
 use Rattle.std.specs.BTreeMap.{is_at}
 use Rattle.std.specs.Cmp.Lexicographic.{slice_cmp, nat_list_cmp_total}
 use Rattle.std.specs.Ordering.{nat_cmp}
@@ -26,21 +26,21 @@ use Rattle.share_model.specs.declared.visit.ThenOutcome.{ThenOutcome}
 use Rattle.share_model.specs.declared.visit.ThenOutcome.TheVariants.{Done as then_done, Store as then_store}
 use Rattle.share_model.specs.declared.visit.Visit.{Visit}
 use Rattle.share_model.specs.declared.visit.VisitAnswer.{VisitAnswer}
-use Rattle.part_log.specs.Logs.{IsStoredLog}
+use Rattle.part_log.specs.Logs.{IsStoredLog, LogParts, OnlyReads}
 use Rattle.share_coord.specs.Parts.{StoreParts}
 use Rattle.share_coord.specs.Stored.{Entries}
 use Rattle.share_coord.proofs.Ends.{EndsLater, later_same}
 use Rattle.share_part.specs.Acknowledging.{Acknowledges, AreTheirs, NameNone, NameOne, StoresActs}
-use Rattle.share_part.specs.Following.{Acquires, Does, Fetches, HasNothingToWrite, IsEmptyAnswer, MakesTable, TakesMemory, releases_of}
-use Rattle.share_part.specs.Foreseeing.{IsFetch, with_ack}
+use Rattle.share_part.specs.Following.{Acquires, Does, Fetches, Follows, HasNothingToWrite, IsEmptyAnswer, IsFetch, MakesTable, TakesMemory, releases_of}
+use Rattle.share_part.specs.Foreseeing.{with_ack}
 use Rattle.share_part.specs.Hosting.{PartConfParts, AreHosted, key_of}
 use Rattle.share_coord.specs.States.{states_of}
-use Rattle.share_part.specs.Once.{AcksStand, FollowsOnce, VisitsOnce}
+use Rattle.share_part.specs.Once.{AcksStand, FollowsOnce, ReadsBatches, VisitsOnce}
 use Rattle.share_part.specs.Settling.{Acts, AreHeldBy, held_after}
 use Rattle.share_part.specs.Shards.{PartShardState, PartParts, Carries, IsStill, IsUntouched, held_in, raised_to, with_held}
 use Rattle.share_part.specs.Storing.{AcksOnce, SettlesGroup, StoresGroup}
 use Rattle.share_part.specs.Visits.{AreToWrite, AreWritten, StepsAcks}
-use Rattle.share_part.specs.Writes.{WritesActs, WritesAcks, WritesPart, WritesThen, held_behind}
+use Rattle.share_part.specs.Writes.{WritesActs, WritesAcks, WritesPart, WritesUnless, held_behind}
 use Rattle.share_part.specs.declared.limits.Limits.{Limits}
 use Rattle.share_part.proofs.Holding.{AreKept}
 use Rattle.share_part.proofs.Mapping.{at_self}
@@ -51,26 +51,32 @@ use Rattle.edge_io.specs.Views.{DiskView}
 
 -- ---- an answer with another outcome of the acknowledgements
 
-module _ (conf : PartConfParts) (rose : Type 0) (end : ℕ) (old : PartShardState) (visit : Visit) (ack : AckOutcome) (a : VisitAnswer) (new : PartShardState) where
+module _ (conf : PartConfParts) (told : Bool) (rose : Type 0) (end : ℕ) (old : PartShardState) (visit : Visit) (ack : AckOutcome)
+    (a : VisitAnswer) (new : PartShardState) where
   empty_as : (o : ThenOutcome) → IsEmptyAnswer o a → IsEmptyAnswer o (with_ack ack a)
   empty_as o h = record { outcome_is = h.outcome_is; grants = h.grants; batches = h.batches }
 
-  acquires_as : (state : ShareState) (limits : Limits) → Acquires conf old state visit limits a new → Acquires conf old state visit limits (with_ack ack a) new
-  acquires_as state limits h = record { outcome_is = h.outcome_is; grants = h.grants; batches = h.batches; held = h.held }
+  acquires_as : (state : ShareState) (limits : Limits) → Acquires conf told old state visit limits a new → Acquires conf told old state visit limits (with_ack ack a) new
+  acquires_as state limits h = record { outcome_is = h.outcome_is; grants = h.grants; batches = h.batches; size = h.size; held = h.held }
 
-  makes_as : (limits : Limits) (o : ThenOutcome) → MakesTable conf rose end old visit limits a new o → MakesTable conf rose end old visit limits (with_ack ack a) new o
+  makes_as : (limits : Limits) (o : ThenOutcome) → MakesTable conf told rose end old visit limits a new o → MakesTable conf told rose end old visit limits (with_ack ack a) new o
   makes_as limits then_done h = record { acquires = acquires_as _ limits h.acquires; states = h.states; nothing = h.nothing }
   makes_as limits (then_store Device) h = (h.0, empty_as (then_store Device) h.1, h.2)
   makes_as limits (then_store (Full at)) h = (h.0, empty_as (then_store (Full at)) h.1, h.2, h.3)
 
-  fetches_as : (limits : Limits) (o : Option ShareState) → Fetches conf rose end old visit limits a new o → Fetches conf rose end old visit limits (with_ack ack a) new o
+  fetches_as : (limits : Limits) (o : Option ShareState) → Fetches conf told rose end old visit limits a new o → Fetches conf told rose end old visit limits (with_ack ack a) new o
   fetches_as limits None h = makes_as limits a.then h
   fetches_as limits (Some state) h = record { acquires = acquires_as state limits h.acquires; states = h.states; pending = h.pending }
 
-  pub does_as : (t : Then) → Does conf rose end old visit a new t → Does conf rose end old visit (with_ack ack a) new t
+  does_as : (t : Then) → Does conf told rose end old visit a new t → Does conf told rose end old visit (with_ack ack a) new t
   does_as Nothing h = (empty_as then_done h.0, h.1)
   does_as Release h = (empty_as a.then h.0, h.1)
   does_as (Fetch records bytes first) h = fetches_as (record { records = records; bytes = bytes; first = first }) (share_state_at old.states (key_of conf visit.group)) h
+
+  pub follows_as : (unread : Type 0) (failed : Bool) → Follows conf told unread rose end old visit a new failed
+      → Follows conf told unread rose end old visit (with_ack ack a) new failed
+  follows_as unread true h = record { asked = h.asked; risen = h.risen; empty = empty_as (then_store Device) h.empty; still = h.still }
+  follows_as unread false h = does_as visit.then h
 
 pub ok_same : (a b : AckOutcome) → ◌≡◌ {A = Result AckOutcome want} (Ok a) (Ok b) → a ≡ b
 ok_same a b e = cc
@@ -344,21 +350,23 @@ module _ {D W : Type 0} (seen : D → DiskView) (holding : W → Held) (visit : 
 
   -- ---- nothing has changed
 
-  same_all : states ≡ old.states → Same → IsUntouched holding old mid
-  same_all is same = record { conf = refl; log = refl; states = is; clock = refl; held = same }
+  same_all : OnlyReads seen old.log old.log → states ≡ old.states → Same → IsUntouched seen holding old mid
+  same_all only is same = record { conf = refl; log = only; states = is; clock = refl; held = same }
 
   -- where their write didn't come to the device
-  back_settled : (ack : AckOutcome) → Settles (Ok ack) → (AreWritten visit ack → ⊥) → IsUntouched holding old mid
-  back_settled (NotHeld o) h none = same_all h.1 h.2
-  back_settled (Malformed f) h none = absurd h
-  back_settled Done h none = ⊎_elim (λ n. same_all n.1 n.2) (λ g. absurd (none g.0)) h.1
-  back_settled (Store Device) h none = absurd (none tt)
-  back_settled (Store (Full at)) h none = same_all (h.1.1.once.unchanged (λ e. let clash : ⊥ = cc in clash)) h.1.2
+  back_settled : OnlyReads seen old.log old.log → (ack : AckOutcome) → Settles (Ok ack) → (AreWritten visit ack → ⊥)
+      → IsUntouched seen holding old mid
+  back_settled only (NotHeld o) h none = same_all only h.1 h.2
+  back_settled only (Malformed f) h none = absurd h
+  back_settled only Done h none = ⊎_elim (λ n. same_all only n.1 n.2) (λ g. absurd (none g.0)) h.1
+  back_settled only (Store Device) h none = absurd (none tt)
+  back_settled only (Store (Full at)) h none = same_all only (h.1.1.once.unchanged (λ e. let clash : ⊥ = cc in clash)) h.1.2
 
-  pub back : (ack : AckOutcome) → Acked (Ok ack) → (AreWritten visit ack → ⊥) → IsUntouched holding old mid
-  back ack (inl m) none = same_all m.3.0 m.3.1
-  back ack (inr (inl n)) none = same_all n.3.0 n.3.1
-  back ack (inr (inr g)) none = back_settled ack g.2 none
+  pub back : OnlyReads seen old.log old.log → (ack : AckOutcome) → Acked (Ok ack) → (AreWritten visit ack → ⊥)
+      → IsUntouched seen holding old mid
+  back only ack (inl m) none = same_all only m.3.0 m.3.1
+  back only ack (inr (inl n)) none = same_all only n.3.0 n.3.1
+  back only ack (inr (inr g)) none = back_settled only ack g.2 none
 
   -- acknowledgements that are done are well formed
   pub formed_done : (r : Result AckOutcome want) (ack : AckOutcome) → r ≡ Ok ack → Acked r → ack ≡ Done → IsWellFormed visit.acks
@@ -370,24 +378,27 @@ module _ {D W : Type 0} (seen : D → DiskView) (holding : W → Held) (visit : 
       by_case (inr (inr g)) = g.0
 
   -- no memory was found for them
-  pub unanswered : (e : want) → Acked (Err e) → IsUntouched holding old mid
-  unanswered e (inl m) = absurd (not_ok e (Malformed m.0) m.1)
-  unanswered e (inr (inl n)) = absurd (not_ok e Done n.2)
-  unanswered e (inr (inr g)) = same_all g.2.0 g.2.1
+  pub unanswered : OnlyReads seen old.log old.log → (e : want) → Acked (Err e) → IsUntouched seen holding old mid
+  unanswered only e (inl m) = absurd (not_ok e (Malformed m.0) m.1)
+  unanswered only e (inr (inl n)) = absurd (not_ok e Done n.2)
+  unanswered only e (inr (inr g)) = same_all only g.2.0 g.2.1
 
-  pub none_acked : (now : ℕ) (r : Result AckOutcome want) (e : want) → r ≡ Err e → Acked r → states.journal.idle ≡ old.states.journal.idle → (result : Result VisitAnswer want) → IsErr result
+  pub none_acked : (read : ReadsBatches seen (false ≡ true) old.log old.log) (now : ℕ) (r : Result AckOutcome want) (e : want) → r ≡ Err e
+      → Acked r → states.journal.idle ≡ old.states.journal.idle → (result : Result VisitAnswer want) → IsErr result
       → VisitsOnce seen holding now visit old mid result
-  none_acked now r e is h idle (Ok answer) none = absurd (let clash : ⊥ = cc in clash)
-  none_acked now r e is h idle (Err f) none = record {
+  none_acked read now r e is h idle (Ok answer) none = absurd (let clash : ⊥ = cc in clash)
+  none_acked read now r e is h idle (Err f) none = record {
+    unread = false;
     steps = tt;
-    memory = inl (unanswered e (subst Acked is h));
-    records = inl (unanswered e (subst Acked is h)).states;
+    memory = inl (unanswered read.reads e (subst Acked is h));
+    records = inl (unanswered read.reads e (subst Acked is h)).states;
     quiet = tt;
     ack_sound = tt;
     sound = tt;
     unwritten = λ s c nothing behind. unwritten r h s c nothing;
     ends = λ s c. later r h c.pending c.holds;
-    log = refl;
+    log = read;
+    others = λ away. refl;
     idle = idle;
     conf = refl;
   }
@@ -438,6 +449,7 @@ module _ {D W : Type 0} (seen : D → DiskView) (holding : W → Held) (visit : 
     visited inner done is once =
         let o = subst (FollowsOnce seen holding now visit mid new) is once in
         record {
+          unread = o.unread;
           steps = λ s c.
               let first = steps ack acked s c in
               let then = o.steps first.0 first.1 in (
@@ -452,7 +464,9 @@ module _ {D W : Type 0} (seen : D → DiskView) (holding : W → Held) (visit : 
                   ends = (later r r_acked c.pending c.holds, o.ends first.0 first.1);
                   unwritten = λ nothing. ap (λ (p : StoreParts D). p.journal.live.end) (unwritten r r_acked s c nothing);
                   still = λ nothing. ap (λ (p : StoreParts D). p.journal.live.end) (o.unwritten first.0 first.1 nothing);
-                  does = does_as old.conf (Rose (seen states.journal.live.disk).faults (seen new.states.journal.live.disk).faults) states.journal.live.end first.0 visit ack inner then.0 visit.then then.2.does;
+                  does = follows_as old.conf (is_some (seen old.log.journal.disk).content)
+                      (Rose (seen states.journal.live.disk).faults (seen new.states.journal.live.disk).faults) states.journal.live.end first.0 visit ack inner then.0
+                      (Rose (seen old.log.journal.disk).faults (seen new.log.journal.disk).faults) o.unread then.2.does;
                   clock = then.2.clock ∙ ap (λ (n : ℕ). max n now) first.2.clock;
                   log = then.2.log ∙ first.2.log;
                 },
@@ -461,11 +475,11 @@ module _ {D W : Type 0} (seen : D → DiskView) (holding : W → Held) (visit : 
           records = record {
             between = states;
             acks = writes_acked ack acked;
-            follows = subst (λ (h : Held). WritesThen seen old.conf old.log.batches visit h states new.states inner.then visit.then) (holds_acked ack acked) o.records;
+            follows = subst (λ (h : Held). WritesUnless o.unread seen old.conf old.log.batches visit h states new.states inner.then visit.then) (holds_acked ack acked) o.records;
           };
           quiet = λ none none_then told. o.quiet none_then (runs.told ∙ told) ∙ quiet_acked ack acked none told;
           ack_sound = λ fault told bare. more.stays (runs.told ∙ told) (device_sound ack acked fault told bare);
-          sound = λ fault told bare. o.sound fault (runs.told ∙ told) (runs.unarmed told bare);
+          sound = λ fault wrote told bare. o.sound fault wrote (runs.told ∙ told) (runs.unarmed told bare);
           unwritten = λ s c nothing behind. nothing_at_all o.unwritten s c nothing behind;
           ends = λ s c.
               let first = steps ack acked s c in
@@ -473,6 +487,7 @@ module _ {D W : Type 0} (seen : D → DiskView) (holding : W → Held) (visit : 
               let behind = o.ends first.0 first.1 in
               omega (arith, before, behind);
           log = o.log;
+          others = o.others;
           idle = o.idle ∙ idle;
           conf = o.conf;
         }
@@ -480,11 +495,12 @@ module _ {D W : Type 0} (seen : D → DiskView) (holding : W → Held) (visit : 
     -- no memory was found behind them
     stopped : (e : want) (done : Result VisitAnswer want) → done ≡ Err e → FollowsOnce seen holding now visit mid new done → (after : PartParts D W)
         → after.conf ≡ new.conf → after.log ≡ new.log → after.states ≡ new.states
-        → (IsUntouched holding old after ⊎ ((s : PartShardState) → Carries seen holding old s → AcksStand seen holding now visit old after s))
+        → (IsUntouched seen holding old after ⊎ ((s : PartShardState) → Carries seen holding old s → AcksStand seen holding now visit old after s))
         → WritesPart seen old.conf old.log.batches visit was old.states after.states → (f : want) → VisitsOnce seen holding now visit old after (Err f)
     stopped e done is once after conf log same memory records f =
         let o = subst (FollowsOnce seen holding now visit mid new) is once in
         record {
+          unread = o.unread;
           steps = tt;
           memory = memory;
           records = records;
@@ -498,16 +514,17 @@ module _ {D W : Type 0} (seen : D → DiskView) (holding : W → Held) (visit : 
               let behind = o.ends first.0 first.1 in
               let end : after.states.journal.live.end ≡ new.states.journal.live.end = ap (λ (p : StoreParts D). p.journal.live.end) same in
               omega (arith, before, behind, end);
-          log = log ∙ o.log;
+          log = subst (λ (l : LogParts D). ReadsBatches seen (o.unread ≡ true) old.log l) (sym log) o.log;
+          others = λ away. log ∙ o.others away;
           idle = ap (λ (p : StoreParts D). p.journal.idle) same ∙ o.idle ∙ idle;
           conf = conf ∙ o.conf;
         }
 
-    pub unfollowed : (e : want) (done : Result VisitAnswer want) → done ≡ Err e → FollowsOnce seen holding now visit mid new done
-        → (AreWritten visit ack → ⊥) → (f : want) → VisitsOnce seen holding now visit old new (Err f)
-    unfollowed e done is once none f =
+    pub unfollowed : OnlyReads seen old.log old.log → (e : want) (done : Result VisitAnswer want) → done ≡ Err e
+        → FollowsOnce seen holding now visit mid new done → (AreWritten visit ack → ⊥) → (f : want) → VisitsOnce seen holding now visit old new (Err f)
+    unfollowed only e done is once none f =
         let o = subst (FollowsOnce seen holding now visit mid new) is once in
-        let b = back ack acked none in
+        let b = back only ack acked none in
         let u = o.memory in
         stopped e done is once new refl refl refl (inl (record {
           conf = u.conf;

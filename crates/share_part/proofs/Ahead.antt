@@ -1,5 +1,5 @@
 -- A fetch that was ready before the acknowledgements before it were stored: which plan it goes by.
-use Rattle.std.proofs.Common.{◌≡◌, ⊎_elim, ◌∙◌, inl, inr, refl, sym, ap, subst, arith, ℕ, ◌≤◌, List, Option, Some, None}
+use Rattle.std.proofs.Common.{◌≡◌, ⊎_elim, ◌∙◌, inl, inr, refl, sym, ap, subst, arith, ℕ, ◌≤◌, List, Option, Some, None, true, false}
 use Rattle.std.specs.Prelude.{Result, Ok, Err, IsErr, IsSome, unwrap_or}
 use Rattle.ack_ranges.specs.Batches.{kind_at}
 use Rattle.coord_checkpoint.specs.Disks.{HasFailed}
@@ -26,7 +26,7 @@ use Rattle.share_part.specs.Collecting.{IsPlanOf}
 use Rattle.share_part.specs.Foreseeing.{IsPlanBehind, JudgesAcks, MovesBy}
 use Rattle.share_part.specs.Hosting.{AreHosted, PartConfParts, key_of}
 use Rattle.share_part.specs.Making.{MakesTableOnce, state_for}
-use Rattle.share_part.specs.Once.{VisitsOnce}
+use Rattle.share_part.specs.Once.{ReadsBatches, VisitsOnce}
 use Rattle.share_part.specs.Settling.{AreHeldBy, IsChange, held_after}
 use Rattle.share_part.specs.Shards.{PartParts, held_in, new_state, with_held}
 use Rattle.share_part.specs.Storing.{IsActsStored, SettlesGroup}
@@ -179,19 +179,21 @@ module _ {D W : Type 0} (seen : D → DiskView) (holding : W → Held) (visit : 
 
 -- no memory was found for it
 pub none_ready : {D W : Type 0} (seen : D → DiskView) (holding : W → Held) (now : ℕ) (visit : Visit) (old : PartParts D W) (windows : List (List ℕ × W))
-    → ((group : List ℕ) → held_in holding windows group ≡ held_in holding old.windows group) → (answer : Result VisitAnswer want) → IsErr answer
+    → ReadsBatches seen (false ≡ true) old.log old.log → ((group : List ℕ) → held_in holding windows group ≡ held_in holding old.windows group) → (answer : Result VisitAnswer want) → IsErr answer
     → VisitsOnce seen holding now visit old (record { conf = old.conf; log = old.log; states = old.states; windows = windows; clock = old.clock }) answer
-none_ready seen holding now visit old windows same (Ok answer) none = absurd (let clash : ⊥ = cc in clash)
-none_ready seen holding now visit old windows same (Err e) none = record {
+none_ready seen holding now visit old windows read same (Ok answer) none = absurd (let clash : ⊥ = cc in clash)
+none_ready seen holding now visit old windows read same (Err e) none = record {
+  unread = false;
   steps = tt;
-  memory = inl (record { conf = refl; log = refl; states = refl; clock = refl; held = same });
+  memory = inl (record { conf = refl; log = read.reads; states = refl; clock = refl; held = same });
   records = inl refl;
   quiet = tt;
   ack_sound = tt;
   sound = tt;
   unwritten = λ s c first behind. refl;
   ends = λ s c. omega arith;
-  log = refl;
+  log = read;
+  others = λ away. refl;
   idle = refl;
   conf = refl;
 }

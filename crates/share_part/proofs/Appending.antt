@@ -2,6 +2,7 @@
 use Rattle.std.proofs.Common.{◌≡◌, ◌∙◌, refl, sym, ap, subst, arith, ℕ, zero, suc, ◌+◌, ◌<◌, ◌≤◌, List, [], ◌∷◌, ◌++◌, length, drop, get_or, append_assoc, length-append, drop-cons, add-one}
 use Rattle.std.specs.List.{AllByRecursion}
 use Rattle.share_model.specs.Logs.{Batch, IsAt}
+use Rattle.log_index.specs.Indexes.{FillsWithin}
 use Rattle.share_model.specs.Rooms.{Filled, Appends}
 use Rattle.share_part.specs.Collecting.{AreAt}
 use Rattle.share_part.specs.Making.{bytes_at, numbered_bytes}
@@ -38,13 +39,15 @@ all_within log [] (b ∷ batches) h = absurd h
 all_within log (n ∷ numbers) [] h = absurd h
 all_within log (n ∷ numbers) (b ∷ batches) h = ((at_is log n b h.0).1, all_within log numbers batches h.1)
 
--- so many are appended
-pub record HasAppended (log : List Batch) (numbers : List ℕ) (i : ℕ) (was out : Filled) : Type 0 where
-  pub bytes : out.bytes ++ numbered_bytes log (drop i numbers) ≡ was.bytes ++ numbered_bytes log numbers
+-- So many are appended. Where they aren't told, nothing is known of them but how many bytes there are at most.
+pub record HasAppended (told : Type 0) (log : List Batch) (numbers : List ℕ) (i : ℕ) (was out : Filled) : Type 0 where
+  pub bytes : told → out.bytes ++ numbered_bytes log (drop i numbers) ≡ was.bytes ++ numbered_bytes log numbers
+  pub size : length out.bytes + length (numbered_bytes log (drop i numbers)) ≤ length was.bytes + length (numbered_bytes log numbers)
   pub spare : length (numbered_bytes log (drop i numbers)) ≤ out.spare
   pub within : AllByRecursion (λ n. n < length log) (drop i numbers)
 
-module _ (log : List Batch) (numbers : List ℕ) (i : ℕ) (was out : Filled) (h : HasAppended log numbers i was out) (lt : i < length numbers) where
+module _ (told : Type 0) (log : List Batch) (numbers : List ℕ) (i : ℕ) (was out : Filled) (h : HasAppended told log numbers i was out)
+    (lt : i < length numbers) where
   split : drop i numbers ≡ get_or numbers i 0 ∷ drop (i + 1) numbers
   split = rw (add-one, drop-cons numbers i 0)
 
@@ -56,14 +59,19 @@ module _ (log : List Batch) (numbers : List ℕ) (i : ℕ) (was out : Filled) (h
       let all = subst (λ (l : List ℕ). length (numbered_bytes log l) ≤ out.spare) split h.spare in
       omega (arith, all, length-append (bytes_at log (get_or numbers i 0)) (numbered_bytes log (drop (i + 1) numbers)))
 
-  pub appended : (next : Filled) → Appends out next (bytes_at log (get_or numbers i 0)) → HasAppended log numbers (i + 1) was next
-  appended next a =
+  pub appended : (next : Filled) → (told → Appends out next (bytes_at log (get_or numbers i 0)))
+      → FillsWithin (length (bytes_at log (get_or numbers i 0))) out next → HasAppended told log numbers (i + 1) was next
+  appended next a f =
       let all = subst (λ (l : List ℕ). length (numbered_bytes log l) ≤ out.spare) split h.spare in
-      let spare = a.spare in
+      let size = subst (λ (l : List ℕ). length out.bytes + length (numbered_bytes log l) ≤ length was.bytes + length (numbered_bytes log numbers)) split h.size in
+      let spare = f.spare in
+      let within = f.bytes.within in
+      let sum = length-append (bytes_at log (get_or numbers i 0)) (numbered_bytes log (drop (i + 1) numbers)) in
       record {
-        bytes = ap (λ (l : List ℕ). l ++ numbered_bytes log (drop (i + 1) numbers)) a.bytes
+        bytes = λ t. ap (λ (l : List ℕ). l ++ numbered_bytes log (drop (i + 1) numbers)) (a t).bytes
             ∙ append_assoc out.bytes (bytes_at log (get_or numbers i 0)) (numbered_bytes log (drop (i + 1) numbers))
-            ∙ subst (λ (l : List ℕ). out.bytes ++ numbered_bytes log l ≡ was.bytes ++ numbered_bytes log numbers) split h.bytes;
-        spare = omega (arith, all, spare, length-append (bytes_at log (get_or numbers i 0)) (numbered_bytes log (drop (i + 1) numbers)));
+            ∙ subst (λ (l : List ℕ). out.bytes ++ numbered_bytes log l ≡ was.bytes ++ numbered_bytes log numbers) split (h.bytes t);
+        size = omega (arith, size, within, sum);
+        spare = omega (arith, all, spare, sum);
         within = (subst (AllByRecursion (λ n. n < length log)) split h.within).1;
       }

@@ -1,6 +1,6 @@
 -- The releases of a group as a step of the shard.
-use Rattle.std.proofs.Common.{◌≡◌, ◌≢◌, ◌∙◌, refl, sym, ap, subst, ℕ, max, ◌≤◌, List, Option, Some}
-use Rattle.std.specs.Prelude.{Result, Ok, Err, IsErr}
+use Rattle.std.proofs.Common.{◌≡◌, ◌≢◌, ◌∙◌, refl, sym, ap, subst, ℕ, max, ◌≤◌, List, Option, Some, Bool, true, false}
+use Rattle.std.specs.Prelude.{Result, Ok, Err, IsErr, is_some}
 use Rattle.edge_io.specs.Causes.{Rose}
 use Rattle.flex_fields.specs.declared.fault.NoMemory.{NoMemory as want}
 use Rattle.gate_journal.specs.Journals.{IsQuiet}
@@ -19,7 +19,7 @@ use Rattle.share_part.specs.Acknowledging.{NameNone, NameOne, StoresActs}
 use Rattle.share_part.specs.Following.{Does, HasNothingToWrite, IsEmptyAnswer, TakesMemory, fault_of, releases_of}
 use Rattle.share_part.specs.Hosting.{AreHosted}
 use Rattle.share_coord.specs.States.{states_of}
-use Rattle.share_part.specs.Once.{FollowsOnce}
+use Rattle.share_part.specs.Once.{FollowsOnce, ReadsBatches}
 use Rattle.share_part.specs.Releasing.{Counts, ReleasesOnce, fault_in, told_in}
 use Rattle.share_part.specs.Settling.{Acts, is_chosen, releasing}
 use Rattle.share_part.specs.Shards.{PartParts, PartShardState, Carries, IsUntouched, held_in}
@@ -121,7 +121,11 @@ module _ {D W : Type 0} (seen : D → DiskView) (holding : W → Held) (group : 
 -- ---- as what follows acknowledgements
 
 module _ {D W : Type 0} (seen : D → DiskView) (holding : W → Held)
-    (now clock : ℕ) (visit : Visit) (old new : PartParts D W) (is : visit.then ≡ Release) where
+    (now clock : ℕ) (visit : Visit) (old new : PartParts D W) (is : visit.then ≡ Release)
+    (read : new.log ≡ old.log → ReadsBatches seen (false ≡ true) old.log new.log) where
+  abbrev told_there : Bool
+  told_there = is_some (seen old.log.journal.disk).content
+
   abbrev Rising : Type 0
   Rising = Rose (seen old.states.journal.live.disk).faults (seen new.states.journal.live.disk).faults
 
@@ -133,7 +137,7 @@ module _ {D W : Type 0} (seen : D → DiskView) (holding : W → Held)
 
   told_as : (s t : PartShardState) (answer : VisitAnswer) (outcome : ThenOutcome) (r : Released) → IsEmptyAnswer outcome answer → fault_of outcome ≡ fault_in r
       → StoresActs old.conf Rising old.states.journal.live.end s visit.group (releases_of visit.member (s.held visit.group)) t (fault_in r)
-      → Does old.conf Rising old.states.journal.live.end s visit answer t Release
+      → Does old.conf told_there Rising old.states.journal.live.end s visit answer t Release
   told_as s t answer outcome r empty same stores = (
     record { outcome_is = refl; grants = empty.grants; batches = empty.batches },
     subst (λ (f : Option StoreFault). StoresActs old.conf Rising old.states.journal.live.end s visit.group (releases_of visit.member (s.held visit.group)) t f)
@@ -152,6 +156,7 @@ module _ {D W : Type 0} (seen : D → DiskView) (holding : W → Held)
   let_go result r done at once answer outcome ack empty same =
       let o = subst Once done once in
       record {
+        unread = false;
         steps = λ s c.
             let st = o.steps s c in (
               st.0,
@@ -160,7 +165,7 @@ module _ {D W : Type 0} (seen : D → DiskView) (holding : W → Held)
                 clock = st.2.clock_is ∙ at ∙ ap (λ (n : ℕ). max n now) (sym c.clock);
                 log = st.2.log;
                 ack = ack;
-                does = subst (Does old.conf Rising old.states.journal.live.end s visit answer st.0) (sym is) (told_as s st.0 answer outcome r empty same st.2.stores);
+                does = subst (Does old.conf told_there Rising old.states.journal.live.end s visit answer st.0) (sym is) (told_as s st.0 answer outcome r empty same st.2.stores);
               },
             );
         follows = tt;
@@ -168,19 +173,20 @@ module _ {D W : Type 0} (seen : D → DiskView) (holding : W → Held)
         records = subst (WritesThen seen old.conf old.log.batches visit was_held old.states new.states answer.then) (sym is)
             (subst (WritesActs seen old.conf old.log.batches visit.group (releases_of visit.member was_held) was_held old.states new.states)
             (sym (ap fault_of empty.outcome_is ∙ same)) o.records);
-        quiet = λ none. o.quiet (λ fault is. none fault (empty.outcome_is ∙ is_told outcome fault (same ∙ ap fault_in is)));
-        sound = λ fault. o.sound (is_store r Device (sym same ∙ (ap fault_of (sym empty.outcome_is) ∙ ap fault_of fault)));
+        quiet = λ none. o.quiet (λ fault is. none refl fault (empty.outcome_is ∙ is_told outcome fault (same ∙ ap fault_in is)));
+        sound = λ fault wrote. o.sound (is_store r Device (sym same ∙ (ap fault_of (sym empty.outcome_is) ∙ ap fault_of fault)));
         unwritten = λ s c. none_let_go s c o.unwritten;
         ends = o.ends;
-        log = o.log;
+        log = read o.log;
+        others = λ away. o.log;
         idle = o.idle;
         conf = o.conf;
       }
 
-  unchanged : new ≡ old → IsUntouched holding old new
+  unchanged : new ≡ old → IsUntouched seen holding old new
   unchanged same = record {
     conf = ap (λ (p : PartParts D W). p.conf) same;
-    log = ap (λ (p : PartParts D W). p.log) same;
+    log = (read (ap (λ (p : PartParts D W). p.log) same)).reads;
     states = ap (λ (p : PartParts D W). p.states) same;
     clock = ap (λ (p : PartParts D W). p.clock) same;
     held = λ group. ap (λ (p : PartParts D W). held_in holding p.windows group) same;
@@ -191,4 +197,4 @@ module _ {D W : Type 0} (seen : D → DiskView) (holding : W → Held)
   kept_back result e none once (Ok answer) failed = absurd (let clash : ⊥ = cc in clash)
   kept_back result e none once (Err f) failed =
       let o = subst Once none once in
-      record { steps = tt; follows = subst (TakesMemory visit.member (held_in holding old.windows visit.group)) (sym is) o.named; memory = unchanged o.memory; records = tt; quiet = tt; sound = tt; unwritten = λ s c. none_let_go s c o.unwritten; ends = o.ends; log = o.log; idle = o.idle; conf = o.conf }
+      record { unread = false; steps = tt; follows = subst (TakesMemory visit.member (held_in holding old.windows visit.group)) (sym is) o.named; memory = unchanged o.memory; records = tt; quiet = tt; sound = tt; unwritten = λ s c. none_let_go s c o.unwritten; ends = o.ends; log = read o.log; others = λ away. o.log; idle = o.idle; conf = o.conf }

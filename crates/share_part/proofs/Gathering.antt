@@ -7,7 +7,7 @@ use Rattle.std.specs.Prelude.{option_to_list}
 use Rattle.share_model.specs.Logs.{Batch, Covers, IsAt, IsLog, IsSlot}
 use Rattle.share_model.specs.declared.hold.Grant.{Grant}
 use Rattle.part_log.specs.Logs.{IsPlaceOf}
-use Rattle.part_log.specs.declared.place.BatchPlace.{BatchPlace}
+use Rattle.share_model.specs.declared.batch_place.BatchPlace.{BatchPlace}
 use Rattle.share_part.specs.Slots.{batch_at, covers}
 use Rattle.share_part.specs.Tables.{Table, delivery_of}
 use Rattle.share_part.specs.Walks.{Walk, after_slot, at_slot, bytes_in, fits, in_answer, new_batch, offsets_with, taking, with_batch, with_batch_of, with_slot, AreRunsOf, IsSmallGrant, joins}

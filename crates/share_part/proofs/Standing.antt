@@ -8,7 +8,7 @@ use Rattle.share_model.specs.Logs.{Batch, Covers, IsAt, IsLog, IsNextSlot, IsSlo
 use Rattle.share_model.specs.Runs.{IsCanonical, row_at, row_of}
 use Rattle.share_model.specs.declared.run.Run.{Run}
 use Rattle.part_log.specs.Logs.{IsPlaceOf}
-use Rattle.part_log.specs.declared.place.BatchPlace.{BatchPlace}
+use Rattle.share_model.specs.declared.batch_place.BatchPlace.{BatchPlace}
 use Rattle.share_part.specs.Hosting.{IsHostedRow}
 use Rattle.share_part.specs.Judging.{AllIn, IsBefore, MayBeStored, RowsMayStand, behind, slot_behind}
 use Rattle.share_part.specs.Slots.{and_more, next_slot, slots_from}

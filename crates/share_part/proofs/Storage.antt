@@ -148,7 +148,7 @@ module _ {D W : Type 0} (seen : D → DiskView) (holding : W → Held) (group : 
   pub same_carried : (batch : Option Batch) (was_pending pending : Option Entries) → Keeping seen holding old batch was_pending → states.entries ≡ old.states.entries
       → Holds seen states pending → IsPendingHosted old.conf old.log.batches (option_map states_of pending) → Same → Carries seen holding behind (shard_same batch pending)
   same_carried batch was_pending pending k entries holds fine same =
-      carries_with seen holding old behind batch was_pending pending (held_in holding old.windows) k refl refl entries holds fine (λ group. sym (same group))
+      carries_with seen holding old behind batch was_pending pending (held_in holding old.windows) k refl (λ shard c. c) entries holds fine (λ group. sym (same group))
 
   pub still : (Does : PartShardState → PartShardState → Type 0) → states ≡ old.states → Same
       → ((batch : Option Batch) (pending : Option Entries) → Does (shard_of seen holding old batch pending) (shard_same batch pending)) → AllSteps Does

@@ -1,6 +1,6 @@
 -- A visit as a step of the shard.
-use Rattle.std.proofs.Common.{◌≡◌, ◌≢◌, ◌⊎◌, ⊎_elim, ◌∙◌, inl, inr, refl, sym, ap, subst, ℕ, pos, ◌+◌, ◌^◌, ◌<◌, max, List, [], length}
-use Rattle.std.specs.Prelude.{Option, Some, None, Result, Ok, Err, IsErr, IsSome, unwrap_or}
+use Rattle.std.proofs.Common.{◌≡◌, ◌≢◌, ◌⊎◌, ⊎_elim, ◌∙◌, inl, inr, refl, sym, ap, subst, ℕ, pos, ◌+◌, ◌^◌, ◌<◌, ◌≤◌, max, List, [], length}
+use Rattle.std.specs.Prelude.{Option, Some, None, Result, Ok, Err, IsErr, IsSome, is_some, unwrap_or, Bool, true, false}
 use Rattle.std.specs.BTreeMap.{insert_entry}
 use Rattle.std.specs.Option.{option_map}
 use Rattle.edge_io.specs.Armed.{StarvesUnarmed}
@@ -21,8 +21,9 @@ use Rattle.share_model.specs.declared.visit.ThenOutcome.{ThenOutcome}
 use Rattle.share_model.specs.declared.visit.ThenOutcome.TheVariants.{Done, Store as store_outcome}
 use Rattle.share_model.specs.declared.visit.Visit.{Visit}
 use Rattle.share_model.specs.declared.visit.VisitAnswer.{VisitAnswer}
-use Rattle.part_log.specs.Logs.{Keeps, LogParts}
-use Rattle.part_log.specs.Shards.{CarriesLog}
+use Rattle.part_log.specs.Logs.{Keeps}
+use Rattle.part_log.specs.Shards.{CarriesLog, LogShardState}
+use Rattle.part_log.proofs.Looking.{carries_on}
 use Rattle.share_coord.specs.Calls.{IsInitialised}
 use Rattle.share_coord.specs.Holding.{Holds, WritesOnce}
 use Rattle.share_coord.specs.Parts.{StoreParts}
@@ -38,12 +39,12 @@ use Rattle.share_coord.specs.States.{states_of}
 use Rattle.share_part.specs.declared.plan.Plan.{Plan}
 use Rattle.share_part.specs.Collecting.{IsPlanOf}
 use Rattle.share_part.specs.Making.{IsTableRecord, MakesOnce, MakesTableOnce, Tells, numbered_bytes, state_for}
-use Rattle.share_part.specs.Once.{Followed, FollowsOnce}
-use Rattle.share_part.specs.Following.{Acquires, Does, Fetches, HasNothingToWrite, IsEmptyAnswer, MakesTable, StepsThen, TakesMemory}
+use Rattle.share_part.specs.Once.{Followed, FollowsOnce, ReadsBatches, reading_of}
+use Rattle.share_part.specs.Following.{Acquires, Does, Fetches, HasNothingToWrite, IsFetch, IsEmptyAnswer, MakesTable, StepsThen, TakesMemory}
 use Rattle.share_part.specs.Shards.{PartShardState, PartParts, Carries, IsStill, IsPendingHosted, IsUntouched, held_in, with_held, new_state, first_start}
 use Rattle.share_part.specs.Tables.{table_of, with_holds}
 use Rattle.share_part.specs.Walks.{acquired, AreRunsOf, bytes_in, written_out}
-use Rattle.share_part.specs.Writes.{WritesThen}
+use Rattle.share_part.specs.Writes.{WritesThen, WritesUnless}
 use Rattle.share_part.proofs.Appending.{numbered_is}
 use Rattle.share_part.proofs.Holding.{AreKept, kept_taken, none_kept, one_kept, same_kept, table_kept}
 use Rattle.share_part.proofs.Mapping.{keys_exact, keys_total, set_found}
@@ -96,7 +97,8 @@ module _ {D W : Type 0} (seen : D → DiskView) (holding : W → Held) where
 
   -- with other holds, another clock, and a store of the same states
   pub carries_with : (parts after : PartParts D W) (batch : Option Batch) (was pending : Option Entries) (held : List ℕ → Held) → Keeping parts batch was
-      → after.conf ≡ parts.conf → after.log ≡ parts.log → after.states.entries ≡ parts.states.entries → Holds seen after.states pending
+      → after.conf ≡ parts.conf → ((shard : LogShardState) → CarriesLog seen parts.log shard → CarriesLog seen after.log shard)
+      → after.states.entries ≡ parts.states.entries → Holds seen after.states pending
       → IsPendingHosted parts.conf parts.log.batches (option_map states_of pending) → ((group : List ℕ) → held group ≡ held_in holding after.windows group)
       → Carries seen holding after (record {
         log = record { batches = parts.log.batches; pending = batch };
@@ -106,7 +108,7 @@ module _ {D W : Type 0} (seen : D → DiskView) (holding : W → Held) where
         clock = after.clock;
       })
   carries_with parts after batch was pending held k conf log entries holds hosted same = record {
-    log = subst (λ (l : LogParts D). CarriesLog seen l (record { batches = parts.log.batches; pending = batch })) (sym log) k.log;
+    log = log (record { batches = parts.log.batches; pending = batch }) k.log;
     pending = pending;
     holds = holds;
     states = ap states_of (sym entries);
@@ -135,7 +137,7 @@ module _ {D W : Type 0} (seen : D → DiskView) (holding : W → Held) where
   }
 
   -- where nothing has changed, what was carried is carried
-  pub untouched : (old new : PartParts D W) → IsUntouched holding old new → (shard : PartShardState) → Carries seen holding old shard
+  pub untouched : (old new : PartParts D W) → IsUntouched seen holding old new → (shard : PartShardState) → Carries seen holding old shard
       → Carries seen holding new shard
   untouched old new h = carried old (λ s. Carries seen holding new s) (λ batch pending k.
       subst (λ (c : ℕ). Carries seen holding new (record {
@@ -145,7 +147,7 @@ module _ {D W : Type 0} (seen : D → DiskView) (holding : W → Held) where
         held = held_in holding old.windows;
         clock = c;
       })) h.clock
-      (carries_with old new batch pending pending (held_in holding old.windows) k h.conf h.log (ap (λ (s : StoreParts D). s.entries) h.states)
+      (carries_with old new batch pending pending (held_in holding old.windows) k h.conf (carries_on seen old.log new.log h.log) (ap (λ (s : StoreParts D). s.entries) h.states)
       (held_still seen old.states new.states h.states pending k.holds) k.pending_hosted (λ group. sym (h.held group))))
 
 -- ---- a fetch
@@ -154,7 +156,14 @@ pub err_is : {T E : Type 0} (r : Result T E) (e : E) → r ≡ Err e → IsErr r
 err_is {T} {E} r e is = subst (λ (x : Result T E). IsErr x) (sym is) refl
 
 module _ {D W : Type 0} (seen : D → DiskView) (holding : W → Held) (now : ℕ) (visit : Visit) (old new : PartParts D W)
-    (conf : new.conf ≡ old.conf) (log : new.log ≡ old.log) (idle : new.states.journal.idle ≡ old.states.journal.idle) where
+    (conf : new.conf ≡ old.conf) (log : ReadsBatches seen (false ≡ true) old.log new.log)
+    (idle : new.states.journal.idle ≡ old.states.journal.idle) where
+  abbrev told_there : Bool
+  told_there = is_some (seen old.log.journal.disk).content
+
+  abbrev carries_read : (shard : LogShardState) → CarriesLog seen old.log shard → CarriesLog seen new.log shard
+  carries_read = carries_on seen old.log new.log log.reads
+
   abbrev Rises : Type 0
   Rises = Rose (seen old.states.journal.live.disk).faults (seen new.states.journal.live.disk).faults
 
@@ -162,7 +171,7 @@ module _ {D W : Type 0} (seen : D → DiskView) (holding : W → Held) (now : �
   Once result = FollowsOnce seen holding now visit old new result
 
   abbrev Leads : VisitAnswer → PartShardState → Type 0
-  Leads answer s = (t : PartShardState) × Carries seen holding new t × StepsThen old.conf Rises old.states.journal.live.end s now visit answer t
+  Leads answer s = (t : PartShardState) × Carries seen holding new t × StepsThen old.conf (reading_of seen old.log new.log false) Rises old.states.journal.live.end s now visit answer t
 
   abbrev Starves : Type 0
   Starves = StarvesUnarmed seen old.states.journal.live.disk new.states.journal.live.disk
@@ -185,20 +194,23 @@ module _ {D W : Type 0} (seen : D → DiskView) (holding : W → Held) (now : �
   quiet_same same = λ told. ap (λ (s : StoreParts D). (seen s.journal.live.disk).faults) same
 
   abbrev Records : VisitAnswer → Type 0
-  Records answer = WritesThen seen old.conf old.log.batches visit (held_in holding old.windows visit.group) old.states new.states answer.then visit.then
+  Records answer = WritesUnless false seen old.conf old.log.batches visit (held_in holding old.windows visit.group) old.states new.states answer.then visit.then
 
   answered : (answer : VisitAnswer) → Writes → Records answer → (((fault : StoreFault) → answer.then ≢ store_outcome fault) → Quiet)
-      → Followed seen holding now visit old new answer → (answer.then ≡ store_outcome Device → Starves) → Once (Ok answer)
-  answered answer writes records quiet visited sound = record {
+      → Followed seen holding now visit old new false answer → (answer.then ≡ store_outcome Device → Starves)
+      → ((IsFetch visit.then → ⊥) → new.log ≡ old.log) → Once (Ok answer)
+  answered answer writes records quiet visited sound others = record {
+    unread = false;
     steps = visited;
     follows = tt;
     memory = tt;
     records = records;
-    quiet = quiet;
-    sound = sound;
+    quiet = λ none. quiet (none refl);
+    sound = λ is wrote. sound is;
     unwritten = writes.unwritten;
     ends = λ s c. writes.later c.pending c.holds;
     log = log;
+    others = others;
     idle = idle;
     conf = conf;
   }
@@ -207,15 +219,17 @@ module _ {D W : Type 0} (seen : D → DiskView) (holding : W → Held) (now : �
   pub hungry : (limits : Limits) → visit.then ≡ Fetch limits.records limits.bytes limits.first → (e : want) → new.states ≡ old.states
       → ((group : List ℕ) → held_in holding new.windows group ≡ held_in holding old.windows group) → new.clock ≡ old.clock → Once (Err e)
   hungry limits fetch e states held clock = record {
+    unread = false;
     steps = tt;
     follows = subst (TakesMemory visit.member (held_in holding old.windows visit.group)) (sym fetch) tt;
-    memory = record { conf = conf; log = log; states = states; clock = clock; held = held };
+    memory = record { conf = conf; log = log.reads; states = states; clock = clock; held = held };
     records = tt;
     quiet = tt;
     sound = tt;
     unwritten = λ s c nothing. states;
     ends = λ s c. later_same seen old.states new.states states c.pending c.holds;
     log = log;
+    others = λ away. absurd (away (subst IsFetch (sym fetch) tt));
     idle = idle;
     conf = conf;
   }
@@ -226,9 +240,9 @@ module _ {D W : Type 0} (seen : D → DiskView) (holding : W → Held) (now : �
   starved_so limits fetch (Err e) is states held clock = hungry limits fetch e states held clock
 
   -- nothing is fetched
-  pub idly : (answer : VisitAnswer) → answer.ack ≡ acknowledged → IsEmptyAnswer Done answer → visit.then ≡ Nothing
+  pub idly : (answer : VisitAnswer) → answer.ack ≡ acknowledged → IsEmptyAnswer Done answer → visit.then ≡ Nothing → new.log ≡ old.log
       → new.states ≡ old.states → new.windows ≡ old.windows → new.clock ≡ max old.clock now → Once (Ok answer)
-  idly answer ack empty what states windows clock = answered answer (writes_none states)
+  idly answer ack empty what still_log states windows clock = answered answer (writes_none states)
       (subst (WritesThen seen old.conf old.log.batches visit (held_in holding old.windows visit.group) old.states new.states answer.then) (sym what) states)
       (λ none. quiet_same states)
       (carried seen holding old (Leads answer) (λ batch pending k.
@@ -240,21 +254,24 @@ module _ {D W : Type 0} (seen : D → DiskView) (holding : W → Held) (now : �
         clock = new.clock;
       } in (
         t,
-        carries_with seen holding old new batch pending pending (held_in holding old.windows) k conf log (ap (λ (s : StoreParts D). s.entries) states)
+        carries_with seen holding old new batch pending pending (held_in holding old.windows) k conf carries_read (ap (λ (s : StoreParts D). s.entries) states)
             (subst (λ (s : StoreParts D). Holds seen s pending) (sym states) k.holds) k.pending_hosted
             (λ group. ap (λ (w : List (List ℕ × W)). held_in holding w group) (sym windows)),
         record { clock = clock; log = refl; ack = ack; does = by_kind (shard_of seen holding old batch pending) t (record { states = refl; pending = refl; held = refl }) },
       )))
-      (λ is. absurd (let never : Done ≡ store_outcome Device = sym empty.outcome_is ∙ is in let clash : ⊥ = cc in clash))
+      (λ is. absurd (let never : Done ≡ store_outcome Device = sym empty.outcome_is ∙ is in let clash : ⊥ = cc in clash)) (λ away. still_log)
     where
-      by_kind : (s t : PartShardState) → IsStill s t → Does old.conf Rises old.states.journal.live.end s visit answer t visit.then
-      by_kind s t still = subst (Does old.conf Rises old.states.journal.live.end s visit answer t) (sym what) (empty, still)
+      by_kind : (s t : PartShardState) → IsStill s t → Does old.conf told_there Rises old.states.journal.live.end s visit answer t visit.then
+      by_kind s t still = subst (Does old.conf told_there Rises old.states.journal.live.end s visit answer t) (sym what) (empty, still)
 
   module _ (limits : Limits) (is_fetch : visit.then ≡ Fetch limits.records limits.bytes limits.first) where
+    others_fetch : (IsFetch visit.then → ⊥) → new.log ≡ old.log
+    others_fetch away = absurd (away (subst IsFetch (sym is_fetch) tt))
+
     does_fetch : (s t : PartShardState) (answer : VisitAnswer) (o : Option ShareState) → share_state_at s.states key ≡ o
-        → Fetches old.conf Rises old.states.journal.live.end s visit limits answer t o → Does old.conf Rises old.states.journal.live.end s visit answer t visit.then
-    does_fetch s t answer o is f = subst (Does old.conf Rises old.states.journal.live.end s visit answer t) (sym is_fetch)
-        (subst (Fetches old.conf Rises old.states.journal.live.end s visit limits answer t) (sym is) f)
+        → Fetches old.conf told_there Rises old.states.journal.live.end s visit limits answer t o → Does old.conf told_there Rises old.states.journal.live.end s visit answer t visit.then
+    does_fetch s t answer o is f = subst (Does old.conf told_there Rises old.states.journal.live.end s visit answer t) (sym is_fetch)
+        (subst (Fetches old.conf told_there Rises old.states.journal.live.end s visit limits answer t) (sym is) f)
 
     -- ---- records are acquired
 
@@ -270,7 +287,8 @@ module _ {D W : Type 0} (seen : D → DiskView) (holding : W → Held) (now : �
       pub ack : answer.ack ≡ acknowledged
       pub outcome_is : answer.then ≡ Done
       pub grants : AreRunsOf (acquired old.log.batches (table_of state table_held) limits).taken answer.grants
-      pub batches : answer.batches ≡ bytes_in (acquired old.log.batches (table_of state table_held) limits).batches
+      pub batches : told_there ≡ true → answer.batches ≡ bytes_in (acquired old.log.batches (table_of state table_held) limits).batches
+      pub size : length answer.batches ≤ length (bytes_in (acquired old.log.batches (table_of state table_held) limits).batches)
       pub held : (group : List ℕ) → held_in holding new.windows group ≡ held_then state group
       pub clock : new.clock ≡ max old.clock now
 
@@ -287,9 +305,9 @@ module _ {D W : Type 0} (seen : D → DiskView) (holding : W → Held) (now : �
     }
 
     acquires : (batch : Option Batch) (pending : Option Entries) (states : ShareStates) (now_pending : Option ShareStates) (answer : VisitAnswer) (state : ShareState) → Took answer state
-        → Acquires old.conf (shard_of seen holding old batch pending) state visit limits answer (shard_then batch states now_pending state)
+        → Acquires old.conf told_there (shard_of seen holding old batch pending) state visit limits answer (shard_then batch states now_pending state)
     acquires batch pending states now_pending answer state took =
-        record { outcome_is = took.outcome_is; grants = took.grants; batches = took.batches; held = refl }
+        record { outcome_is = took.outcome_is; grants = took.grants; batches = took.batches; size = took.size; held = refl }
 
     -- what the store has answered, and was stored of the table
     abbrev Kept_by : ThenOutcome → Type 0
@@ -306,7 +324,7 @@ module _ {D W : Type 0} (seen : D → DiskView) (holding : W → Held) (now : �
     acquired_there answer kept is states by took = answered answer (writes_none states) (records_of answer Done took.outcome_is by) (λ none. quiet_same states)
         (carried seen holding old (Leads answer) (λ batch pending k. (
           shard_then batch (states_of old.states.entries) (option_map states_of pending) kept.view,
-          carries_with seen holding old new batch pending pending (held_then kept.view) k conf log (ap (λ (s : StoreParts D). s.entries) states)
+          carries_with seen holding old new batch pending pending (held_then kept.view) k conf carries_read (ap (λ (s : StoreParts D). s.entries) states)
               (subst (λ (s : StoreParts D). Holds seen s pending) (sym states) k.holds) k.pending_hosted (λ group. sym (took.held group)),
           record {
             clock = took.clock;
@@ -315,7 +333,7 @@ module _ {D W : Type 0} (seen : D → DiskView) (holding : W → Held) (now : �
             does = does_fetch (shard_of seen holding old batch pending) _ answer (Some kept.view) (state_seen old.states.entries key ∙ ap (option_map view_of) is)
                 (record { acquires = acquires batch pending _ _ answer kept.view took; states = refl; pending = refl });
           },
-        ))) (not_fault answer kept.view took)
+        ))) (not_fault answer kept.view took) others_fetch
 
     abbrev made : ShareState
     made = new_state old.conf (end_of old.log.batches)
@@ -354,7 +372,7 @@ module _ {D W : Type 0} (seen : D → DiskView) (holding : W → Held) (now : �
         (carried seen holding old (Leads answer) (λ batch pending k. (
           shard_then batch (states_of new.states.entries) None made,
           record {
-            log = subst (λ (l : LogParts D). CarriesLog seen l (record { batches = old.log.batches; pending = batch })) (sym log) k.log;
+            log = carries_read (record { batches = old.log.batches; pending = batch }) k.log;
             pending = None;
             holds = once.kept pending k.holds;
             states = refl;
@@ -369,10 +387,10 @@ module _ {D W : Type 0} (seen : D → DiskView) (holding : W → Held) (now : �
             log = refl;
             ack = took.ack;
             does = does_fetch (shard_of seen holding old batch pending) _ answer None (none_there none)
-                (subst (MakesTable old.conf Rises old.states.journal.live.end (shard_of seen holding old batch pending) visit limits answer (shard_then batch (states_of new.states.entries) None made)) (sym took.outcome_is)
+                (subst (MakesTable old.conf told_there Rises old.states.journal.live.end (shard_of seen holding old batch pending) visit limits answer (shard_then batch (states_of new.states.entries) None made)) (sym took.outcome_is)
                 (record { acquires = acquires batch pending _ _ answer made took; states = made_states new.states.entries once.written; nothing = refl }));
           },
-        ))) (not_fault answer made took)
+        ))) (not_fault answer made took) others_fetch
 
     -- ---- the table couldn't be stored
 
@@ -397,17 +415,17 @@ module _ {D W : Type 0} (seen : D → DiskView) (holding : W → Held) (now : �
     unmade : (answer : VisitAnswer) (fault : StoreFault) (batch : Option Batch) (was pending : Option Entries) → Keeping seen holding old batch was → Refused answer fault
         → new.states.entries ≡ old.states.entries → Holds seen new.states pending → IsPendingHosted old.conf old.log.batches (option_map states_of pending)
         → kept_at old.states.entries key ≡ None
-        → MakesTable old.conf Rises old.states.journal.live.end (shard_of seen holding old batch was) visit limits answer (shard_same batch pending) (store_outcome fault)
+        → MakesTable old.conf told_there Rises old.states.journal.live.end (shard_of seen holding old batch was) visit limits answer (shard_same batch pending) (store_outcome fault)
         → Leads answer (shard_of seen holding old batch was)
     unmade answer fault batch was pending k refused entries holds hosted none makes = (
       shard_same batch pending,
-      carries_with seen holding old new batch was pending (held_in holding old.windows) k conf log entries holds hosted (λ group. sym (refused.held group)),
+      carries_with seen holding old new batch was pending (held_in holding old.windows) k conf carries_read entries holds hosted (λ group. sym (refused.held group)),
       record {
         clock = refused.clock;
         log = refl;
         ack = refused.ack;
         does = does_fetch (shard_of seen holding old batch was) _ answer None (none_there none)
-            (subst (MakesTable old.conf Rises old.states.journal.live.end (shard_of seen holding old batch was) visit limits answer (shard_same batch pending)) (sym refused.empty.outcome_is) makes);
+            (subst (MakesTable old.conf told_there Rises old.states.journal.live.end (shard_of seen holding old batch was) visit limits answer (shard_same batch pending)) (sym refused.empty.outcome_is) makes);
       },
     )
 
@@ -423,7 +441,7 @@ module _ {D W : Type 0} (seen : D → DiskView) (holding : W → Held) (now : �
         (λ lost. unmade answer Device batch pending (Some lost.0) k refused once.same lost.2 (made_hosted lost.0 lost.1 k.hosted) none
         (failed.0.0, refused.empty, record { states = refl; pending = inr (states_of lost.0, refl, made_states lost.0 lost.1); held = refl }))
         (once.failed pending k.holds)))
-        (λ is. failed.0.1)
+        (λ is. failed.0.1) others_fetch
     unstored answer (Full at) none once by refused =
         let full = once.full at refl in
         answered answer (writes_one none (Err (Store (Full at))) once) (records_of answer (store_outcome (Full at)) refused.empty.outcome_is by) (λ told. absurd (told (Full at) refused.empty.outcome_is))
@@ -444,6 +462,7 @@ module _ {D W : Type 0} (seen : D → DiskView) (holding : W → Held) (now : �
           },
         )))
         (λ is. absurd (let never : store_outcome (Full at) ≡ store_outcome Device = sym refused.empty.outcome_is ∙ is in let clash : ⊥ = cc in clash))
+        others_fetch
 
     -- ---- by what became of the table
 
@@ -578,17 +597,20 @@ module _ {D W : Type 0} (seen : D → DiskView) (holding : W → Held) (now : �
         → ((group : List ℕ) → held_in holding w2 group ≡ held_in holding w1 group) → (plan : Plan) (state : ShareState)
         → IsPlanOf old.log.batches plan (acquired old.log.batches (table_of state (held_in holding w1 visit.group)) limits)
         → (answer : VisitAnswer) → answer.ack ≡ acknowledged → answer.then ≡ Done → answer.grants ≡ plan.grants.items
-        → answer.batches ≡ numbered_bytes old.log.batches plan.numbers.items → (end : ℕ) → end ≡ new.clock + old.conf.lock_ms
+        → (told_there ≡ true → answer.batches ≡ numbered_bytes old.log.batches plan.numbers.items)
+        → length answer.batches ≤ length (numbered_bytes old.log.batches plan.numbers.items) → (end : ℕ) → end ≡ new.clock + old.conf.lock_ms
         → ((other : List ℕ) → held_in holding new.windows other ≡ with_held (held_in holding w2) visit.group
         (with_holds visit.member end (written_out plan.grants.items) (held_in holding w2 visit.group)) other)
         → new.clock ≡ max old.clock now → Took answer state
-    took_by w1 w2 h1 h2 plan state planned answer ack outcome grants batches end at held clock =
+    took_by w1 w2 h1 h2 plan state planned answer ack outcome grants batches size end at held clock =
         let p = subst (λ (h : Held). IsPlanOf old.log.batches plan (acquired old.log.batches (table_of state h) limits)) (h1 visit.group) planned in
+        let are = numbered_is old.log.batches plan.numbers.items _ p.batches in
         record {
           ack = ack;
           outcome_is = outcome;
           grants = subst (AreRunsOf (acquired old.log.batches (table_of state table_held) limits).taken) (sym grants) p.taken;
-          batches = batches ∙ numbered_is old.log.batches plan.numbers.items _ p.batches;
+          batches = λ told. batches told ∙ are;
+          size = subst (λ (l : List ℕ). length answer.batches ≤ length l) are size;
           held = held_by w1 w2 h1 h2 plan state planned end at held;
           clock = clock;
         }
@@ -658,3 +680,51 @@ module _ {D W : Type 0} (seen : D → DiskView) (holding : W → Held) (now : �
         (with_holds visit.member (new.clock + old.conf.lock_ms) (acquired old.log.batches (table_of its_state table_held) limits).taken table_held) first
         (subst (λ (o : Option ShareState). KeepsHolds old.log.batches o
         (with_holds visit.member (new.clock + old.conf.lock_ms) (acquired old.log.batches (table_of its_state table_held) limits).taken table_held)) (sym there) more))
+
+-- ---- a batch couldn't be read
+
+pub unread_so : {D W : Type 0} (seen : D → DiskView) (holding : W → Held) (now : ℕ) (visit : Visit) (old new : PartParts D W)
+    → new.conf ≡ old.conf → ReadsBatches seen (true ≡ true) old.log new.log → new.states ≡ old.states
+    → IsFetch visit.then → (answer : VisitAnswer) → answer.ack ≡ acknowledged → IsEmptyAnswer (store_outcome Device) answer
+    → ((group : List ℕ) → held_in holding new.windows group ≡ held_in holding old.windows group) → new.clock ≡ max old.clock now
+    → FollowsOnce seen holding now visit old new (Ok answer)
+unread_so {D} {W} seen holding now visit old new conf log states asked answer ack empty held clock = record {
+  unread = true;
+  steps = carried seen holding old Leads (λ batch pending k. (
+    shard_same batch pending,
+    carries_with seen holding old new batch pending pending (held_in holding old.windows) k conf (carries_on seen old.log new.log log.reads)
+        (ap (λ (s : StoreParts D). s.entries) states) (subst (λ (s : StoreParts D). Holds seen s pending) (sym states) k.holds) k.pending_hosted
+        (λ group. sym (held group)),
+    record {
+      clock = clock;
+      log = refl;
+      ack = ack;
+      does = record { asked = asked; risen = log.calls.rose refl; empty = empty; still = record { states = refl; pending = refl; held = refl } };
+    },
+  ));
+  follows = tt;
+  memory = tt;
+  records = states;
+  quiet = λ none told. ap (λ (s : StoreParts D). (seen s.journal.live.disk).faults) states;
+  sound = λ is wrote. absurd (let clash : ⊥ = cc in clash);
+  unwritten = λ s c nothing. states;
+  ends = λ s c. later_same seen old.states new.states states c.pending c.holds;
+  log = log;
+  others = λ away. absurd (away asked);
+  idle = ap (λ (s : StoreParts D). s.journal.idle) states;
+  conf = conf;
+}
+  where
+    Leads : PartShardState → Type 0
+    Leads s = (t : PartShardState) × Carries seen holding new t
+        × StepsThen old.conf (reading_of seen old.log new.log true)
+        (Rose (seen old.states.journal.live.disk).faults (seen new.states.journal.live.disk).faults) old.states.journal.live.end s now visit answer t
+
+    shard_same : Option Batch → Option Entries → PartShardState
+    shard_same batch pending = record {
+      log = record { batches = old.log.batches; pending = batch };
+      states = states_of old.states.entries;
+      pending = option_map states_of pending;
+      held = held_in holding old.windows;
+      clock = new.clock;
+    }

@@ -11,7 +11,7 @@ use Rattle.share_model.specs.declared.hold.Grant.{Grant}
 use Rattle.share_model.specs.declared.hold.Hold.{Hold}
 use Rattle.share_model.specs.declared.row.Row.{Row}
 use Rattle.share_model.specs.declared.run.Run.{Run}
-use Rattle.part_log.specs.declared.place.BatchPlace.{BatchPlace}
+use Rattle.share_model.specs.declared.batch_place.BatchPlace.{BatchPlace}
 use Rattle.share_part.specs.Tables.{Table, delivery_of}
 use Rattle.share_part.specs.Walks.{Walk, AreRunsOf, IsSmallGrant, after_slot, bytes_in, offsets_with}
 use Rattle.share_part.specs.declared.collector.Collector.{Collector}

@@ -2,11 +2,14 @@
 -- that is answered and leaves of a shard (KIP-932; the pending writes and code 56 are this project's own).
 -- A group's table is made at its first fetch, with the log's end as its start or 0, and is stored before anything is acquired. A lock
 -- ends at the shard's clock plus the lock duration. A release is stored by one write, and there is none where the member holds nothing.
+-- The batches of a fetch are read from the log's disk, before a table is made. Where one can't be read, nothing is
+-- acquired, and nothing written.
 -- Worked example: a log has one batch of three records from 0 to 2, `g` has no table, a new group begins at 0, locks last 30000. A fetch
 -- of 2 records by `a` at 5000 stores a table with start 0 and no rows, and acquires 0 and 1 with count 1 until 35000. A fetch by `b` at
 -- 1000 acquires 2, until 35000 as well. Each is answered with the whole batch. A release of `a` then stores 0 and 1 as available with
--- count 1, and `b` still holds 2.
-use Rattle.std.specs.Prelude.{◌≡◌, ◌+◌, max, ℕ, List, [], Option, Some, None, IsSome}
+-- count 1, and `b` still holds 2. Had the log's disk failed in the fetch of `b`, that would be answered with a device
+-- fault and no batch, and 2 would still be available.
+use Rattle.std.specs.Prelude.{◌≡◌, ◌≤◌, ◌+◌, max, ℕ, List, [], length, Option, Some, None, IsSome, Bool, true, false}
 use Rattle.share_model.specs.ForeignRules.{ShareStates, share_state_at}
 use Rattle.share_model.specs.Held.{Held}
 use Rattle.share_model.specs.Logs.{end_of}
@@ -31,6 +34,19 @@ use Rattle.share_part.specs.declared.settle.Whose.TheVariants.{Member}
 
 -- ---- a fetch
 
+-- a fetch is asked for
+abbrev pub IsFetch : Then → Type 0
+IsFetch Nothing = ⊥
+IsFetch Release = ⊥
+IsFetch (Fetch records bytes first) = Unit {0}
+
+-- How the batches of a fetch were read: whether the log's disk tells its content, whether its count of faults rose, and
+-- whether a batch couldn't be read.
+pub record Reading : Type 1 where
+  pub told : Bool
+  pub rose : Type 0
+  pub failed : Bool
+
 -- no record is acquired, and no batch is answered
 pub record IsEmptyAnswer (outcome : ThenOutcome) (answer : VisitAnswer) : Type 0 where
   pub outcome_is : answer.then ≡ outcome
@@ -38,26 +54,28 @@ pub record IsEmptyAnswer (outcome : ThenOutcome) (answer : VisitAnswer) : Type 0
   pub batches : answer.batches ≡ []
 
 -- What the walk takes is held by the member until the clock's moment plus the lock duration; the answer tells its runs, and has its
--- batches whole, in order.
-pub record Acquires (conf : PartConfParts) (old : PartShardState) (state : ShareState) (visit : Visit) (limits : Limits) (answer : VisitAnswer)
-    (new : PartShardState) : Type 0 where
+-- batches whole, in order. Where the log's disk doesn't tell its content, nothing is known of these bytes but how many
+-- there are at most.
+pub record Acquires (conf : PartConfParts) (told : Bool) (old : PartShardState) (state : ShareState) (visit : Visit) (limits : Limits)
+    (answer : VisitAnswer) (new : PartShardState) : Type 0 where
   pub outcome_is : answer.then ≡ Done
   pub grants : AreRunsOf (acquired old.log.batches (table_of state (old.held visit.group)) limits).taken answer.grants
-  pub batches : answer.batches ≡ bytes_in (acquired old.log.batches (table_of state (old.held visit.group)) limits).batches
+  pub batches : told ≡ true → answer.batches ≡ bytes_in (acquired old.log.batches (table_of state (old.held visit.group)) limits).batches
+  pub size : length answer.batches ≤ length (bytes_in (acquired old.log.batches (table_of state (old.held visit.group)) limits).batches)
   pub held : new.held ≡ with_held old.held visit.group (with_holds visit.member (new.clock + conf.lock_ms)
       (acquired old.log.batches (table_of state (old.held visit.group)) limits).taken (old.held visit.group))
 
 -- a fetch of a group that has a table
-pub record FetchesThere (conf : PartConfParts) (old : PartShardState) (state : ShareState) (visit : Visit) (limits : Limits) (answer : VisitAnswer)
-    (new : PartShardState) : Type 0 where
-  pub acquires : Acquires conf old state visit limits answer new
+pub record FetchesThere (conf : PartConfParts) (told : Bool) (old : PartShardState) (state : ShareState) (visit : Visit) (limits : Limits)
+    (answer : VisitAnswer) (new : PartShardState) : Type 0 where
+  pub acquires : Acquires conf told old state visit limits answer new
   pub states : new.states ≡ old.states
   pub pending : new.pending ≡ old.pending
 
 -- the first fetch of a group: its table is stored, and then records are acquired
-pub record FetchesFirst (conf : PartConfParts) (old : PartShardState) (visit : Visit) (limits : Limits) (answer : VisitAnswer)
-    (new : PartShardState) : Type 0 where
-  pub acquires : Acquires conf old (new_state conf (end_of old.log.batches)) visit limits answer new
+pub record FetchesFirst (conf : PartConfParts) (told : Bool) (old : PartShardState) (visit : Visit) (limits : Limits)
+    (answer : VisitAnswer) (new : PartShardState) : Type 0 where
+  pub acquires : Acquires conf told old (new_state conf (end_of old.log.batches)) visit limits answer new
   pub states : new.states ≡ with_new conf old visit.group
   pub nothing : new.pending ≡ None
 
@@ -66,17 +84,17 @@ abbrev pub IsMade : PartConfParts → PartShardState → Visit → ShareStates �
 IsMade conf old visit states = states ≡ with_new conf old visit.group
 
 -- a first fetch, by what became of it
-abbrev pub MakesTable : PartConfParts → (rose : Type 0) → (end : ℕ) → PartShardState → Visit → Limits → VisitAnswer → PartShardState
+abbrev pub MakesTable : PartConfParts → (told : Bool) → (rose : Type 0) → (end : ℕ) → PartShardState → Visit → Limits → VisitAnswer → PartShardState
     → ThenOutcome → Type 0
-MakesTable conf rose end old visit limits answer new Done = FetchesFirst conf old visit limits answer new
-MakesTable conf rose end old visit limits answer new (Store Device) = rose × IsEmptyAnswer (Store Device) answer × IsNotStored (IsMade conf old visit) old new
-MakesTable conf rose end old visit limits answer new (Store (Full at)) =
+MakesTable conf told rose end old visit limits answer new Done = FetchesFirst conf told old visit limits answer new
+MakesTable conf told rose end old visit limits answer new (Store Device) = rose × IsEmptyAnswer (Store Device) answer × IsNotStored (IsMade conf old visit) old new
+MakesTable conf told rose end old visit limits answer new (Store (Full at)) =
     (at ≡ end) × IsEmptyAnswer (Store (Full at)) answer × IsStill old new × HasNoRoom (IsMade conf old visit) end old
 
-abbrev pub Fetches : PartConfParts → (rose : Type 0) → (end : ℕ) → PartShardState → Visit → Limits → VisitAnswer → PartShardState
+abbrev pub Fetches : PartConfParts → (told : Bool) → (rose : Type 0) → (end : ℕ) → PartShardState → Visit → Limits → VisitAnswer → PartShardState
     → Option ShareState → Type 0
-Fetches conf rose end old visit limits answer new (Some state) = FetchesThere conf old state visit limits answer new
-Fetches conf rose end old visit limits answer new None = MakesTable conf rose end old visit limits answer new answer.then
+Fetches conf told rose end old visit limits answer new (Some state) = FetchesThere conf told old state visit limits answer new
+Fetches conf told rose end old visit limits answer new None = MakesTable conf told rose end old visit limits answer new answer.then
 
 -- ---- a release
 
@@ -91,14 +109,27 @@ fault_of (Store fault) = Some fault
 
 -- ---- by what is asked for
 
--- what follows the acknowledgements
-abbrev pub Does : PartConfParts → (rose : Type 0) → (end : ℕ) → PartShardState → Visit → VisitAnswer → PartShardState → Then → Type 0
-Does conf rose end old visit answer new Nothing = IsEmptyAnswer Done answer × IsStill old new
-Does conf rose end old visit answer new Release = IsEmptyAnswer answer.then answer
+-- what follows the acknowledgements, where no batch was asked for that couldn't be read
+abbrev pub Does : PartConfParts → (told : Bool) → (rose : Type 0) → (end : ℕ) → PartShardState → Visit → VisitAnswer → PartShardState → Then → Type 0
+Does conf told rose end old visit answer new Nothing = IsEmptyAnswer Done answer × IsStill old new
+Does conf told rose end old visit answer new Release = IsEmptyAnswer answer.then answer
     × StoresActs conf rose end old visit.group (releases_of visit.member (old.held visit.group)) new (fault_of answer.then)
-Does conf rose end old visit answer new (Fetch records bytes first) =
-    Fetches conf rose end old visit (record { records = records; bytes = bytes; first = first }) answer new
+Does conf told rose end old visit answer new (Fetch records bytes first) =
+    Fetches conf told rose end old visit (record { records = records; bytes = bytes; first = first }) answer new
     (share_state_at old.states (key_of conf visit.group))
+
+-- a fetch of which a batch couldn't be read: nothing is acquired, and nothing is written
+pub record IsUnread (rose : Type 0) (old : PartShardState) (visit : Visit) (answer : VisitAnswer) (new : PartShardState) : Type 0 where
+  pub asked : IsFetch visit.then
+  pub risen : rose
+  pub empty : IsEmptyAnswer (Store Device) answer
+  pub still : IsStill old new
+
+-- what follows the acknowledgements, by whether a batch couldn't be read
+abbrev pub Follows : PartConfParts → (told : Bool) → (unread rose : Type 0) → (end : ℕ) → PartShardState → Visit
+    → VisitAnswer → PartShardState → (failed : Bool) → Type 0
+Follows conf told unread rose end old visit answer new true = IsUnread unread old visit answer new
+Follows conf told unread rose end old visit answer new false = Does conf told rose end old visit answer new visit.then
 
 -- There is nothing to write: nothing is asked for, or a release by a member who holds nothing, or a fetch of a group that has a table.
 abbrev pub HasNothingToWrite : PartConfParts → PartShardState → Visit → Then → Type 0
@@ -114,9 +145,9 @@ TakesMemory member held (Fetch records bytes first) = Unit {0}
 
 -- What follows the acknowledgements, at the moment `now`. `rose` says that the count of faults of the first state disk rose, `end` is where
 -- its journal ends.
-pub record StepsThen (conf : PartConfParts) (rose : Type 0) (end : ℕ) (old : PartShardState) (now : ℕ) (visit : Visit) (answer : VisitAnswer)
-    (new : PartShardState) : Type 0 where
+pub record StepsThen (conf : PartConfParts) (reading : Reading) (rose : Type 0) (end : ℕ) (old : PartShardState) (now : ℕ)
+    (visit : Visit) (answer : VisitAnswer) (new : PartShardState) : Type 0 where
   pub clock : new.clock ≡ max old.clock now
   pub log : new.log ≡ old.log
   pub ack : answer.ack ≡ acknowledged
-  pub does : Does conf rose end old visit answer new visit.then
+  pub does : Follows conf reading.told reading.rose rose end old visit answer new reading.failed

@@ -15,8 +15,6 @@ use Rattle.share_model.specs.Rooms.{Filled}
 use Rattle.share_model.specs.Runs.{row_at}
 use Rattle.share_model.specs.ShareStates.{ShareState}
 use Rattle.share_model.specs.declared.visit.AckOutcome.{AckOutcome}
-use Rattle.share_model.specs.declared.visit.Then.{Then}
-use Rattle.share_model.specs.declared.visit.Then.TheVariants.{Nothing, Release, Fetch}
 use Rattle.share_model.specs.declared.visit.Visit.{Visit}
 use Rattle.share_model.specs.declared.visit.VisitAnswer.{VisitAnswer}
 use Rattle.share_part.specs.Acknowledging.{NameNone, NameOne}
@@ -83,6 +81,14 @@ MovesBy limit visit log table limits (Changes change) (Some plan) =
 abbrev pub IsTold : Plan → Type 0
 IsTold plan = vec_len plan.grants ≤ 2001
 
+-- a fetch of this table is planned, and memory is set aside for it
+pub record IsPrepared {W : Type 0} (spare : W → ℕ) (windows : List (List ℕ × W)) (group : List ℕ) (log : List Batch)
+    (table : Table) (limits : Limits) (plan : Plan) (out : Filled) : Type 0 where
+  pub empty : out.bytes ≡ []
+  pub is : IsPlanOf log plan (acquired log table limits)
+  pub room : HasRoomFor spare windows group out plan
+  pub told : IsTold plan
+
 -- a fetch of a group that has this table is ready, whatever becomes of the write before it
 pub record IsReady {W : Type 0} (spare : W → ℕ) (windows : List (List ℕ × W)) (limit : ℕ) (visit : Visit)
     (log : List Batch) (table : Table) (acks : Acks) (limits : Limits) (ready : Ready) : Type 0 where
@@ -93,12 +99,6 @@ pub record IsReady {W : Type 0} (spare : W → ℕ) (windows : List (List ℕ ×
   pub room_behind : IfSome ready.moves (HasRoomFor spare windows visit.group ready.out)
   pub told : IsTold ready.stays
   pub told_behind : IfSome ready.moves IsTold
-
--- a fetch is asked for
-abbrev pub IsFetch : Then → Type 0
-IsFetch Nothing = ⊥
-IsFetch Release = ⊥
-IsFetch (Fetch records bytes first) = Unit {0}
 
 -- an answer with another outcome of the acknowledgements
 abbrev pub with_ack : AckOutcome → VisitAnswer → VisitAnswer

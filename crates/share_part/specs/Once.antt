@@ -1,6 +1,6 @@
 -- What a call on the shard of a partition does, as one record. This project's own.
 -- For example a visit without acknowledgements that finds no memory leaves the shard and its disks as they were.
-use Rattle.std.specs.Prelude.{◌≡◌, ◌≢◌, ◌⊎◌, ◌≤◌, max, ℕ, List, Some, Result, Ok, Err, IfOk, MatchResult, OnErr}
+use Rattle.std.specs.Prelude.{◌≡◌, ◌≢◌, ◌⊎◌, ◌≤◌, max, ℕ, List, Some, Result, Ok, Err, IfOk, MatchResult, OnErr, Bool, true, false, is_some}
 use Rattle.edge_io.specs.Armed.{StarvesUnarmed}
 use Rattle.edge_io.specs.Causes.{Rose}
 use Rattle.edge_io.specs.Moments.{LeavesOnly}
@@ -9,6 +9,7 @@ use Rattle.share_model.specs.Held.{Held}
 use Rattle.share_model.specs.declared.fault.LogFault.{LogFault}
 use Rattle.share_model.specs.declared.fault.LogFault.TheVariants.{Store as log_store, NoMemory as log_memory}
 use Rattle.gate_journal.specs.Journals.{IsQuiet}
+use Rattle.gate_journal.specs.Visits.{CallsFor}
 use Rattle.share_model.specs.declared.fault.StoreFault.{StoreFault}
 use Rattle.share_model.specs.declared.fault.StoreFault.TheVariants.{Device}
 use Rattle.share_model.specs.declared.visit.AckOutcome.TheVariants.{Store as ack_store}
@@ -17,57 +18,84 @@ use Rattle.share_model.specs.declared.visit.ExpireAnswer.TheVariants.{Done, Stor
 use Rattle.share_model.specs.declared.visit.ThenOutcome.TheVariants.{Store}
 use Rattle.share_model.specs.declared.visit.Visit.{Visit}
 use Rattle.share_model.specs.declared.visit.VisitAnswer.{VisitAnswer}
+use Rattle.part_log.specs.Logs.{LogParts, OnlyReads}
 use Rattle.part_log.specs.Shards.{IsLogOf, at_end}
 use Rattle.share_coord.specs.States.{states_of}
 use Rattle.share_part.specs.Acknowledging.{NameNone}
 use Rattle.share_part.specs.Expiring.{ExpiresPart, StepsExpire, ending, groups_of}
-use Rattle.share_part.specs.Following.{HasNothingToWrite, StepsThen, TakesMemory}
+use Rattle.share_part.specs.Following.{HasNothingToWrite, IsFetch, Reading, StepsThen, TakesMemory}
 use Rattle.share_part.specs.Shards.{PartShardState, PartParts, Carries, IsUntouched, StepsProduce, held_in}
 use Rattle.share_part.specs.Visits.{AreToWrite, StepsVisit, VisitsPart}
-use Rattle.share_part.specs.Writes.{WritesExpiry, WritesPart, WritesThen, WritesVisit}
+use Rattle.share_part.specs.Writes.{WritesExpiry, WritesPart, WritesUnless, WritesVisit}
 use Rattle.edge_io.specs.Views.{DiskView}
+
+-- ---- what is read
+
+-- Batches were read from a log, which stays as it is. `failed` says that one couldn't be read: then a call of its disk
+-- failed, and else none did.
+pub record ReadsBatches {D : Type 0} (seen : D → DiskView) (failed : Type 0) (before after : LogParts D) : Type 0 where
+  pub reads : OnlyReads seen before after
+  pub calls : CallsFor seen before.journal.disk after.journal.disk failed
+
+-- how batches were read over a call, where `unread` tells whether one couldn't be
+abbrev pub reading_of : {D : Type 0} → (D → DiskView) → LogParts D → LogParts D → (unread : Bool) → Reading
+reading_of seen before after unread = record {
+  told = is_some (seen before.journal.disk).content;
+  rose = Rose (seen before.journal.disk).faults (seen after.journal.disk).faults;
+  failed = unread;
+}
+
+-- ---- visits
 
 -- no call of the first state disk failed: where it tells its content, its count of faults is as before
 abbrev pub AreQuiet : {D W : Type 0} → (D → DiskView) → PartParts D W → PartParts D W → Type 0
 AreQuiet seen before after = IsQuiet seen before.states.journal.live.disk after.states.journal.live.disk
 
 -- a shard that carried a state carries one that what follows the acknowledgements leads to
-abbrev pub Followed : {D W : Type 0} → (D → DiskView) → (W → Held) → ℕ → Visit → PartParts D W → PartParts D W → VisitAnswer → Type 0
-Followed seen holding now visit before after answer = (old : PartShardState) → Carries seen holding before old → (new : PartShardState)
-    × Carries seen holding after new
-    × StepsThen before.conf (Rose (seen before.states.journal.live.disk).faults (seen after.states.journal.live.disk).faults) before.states.journal.live.end
+abbrev pub Followed : {D W : Type 0} → (D → DiskView) → (W → Held) → ℕ → Visit → PartParts D W → PartParts D W
+    → (unread : Bool) → VisitAnswer → Type 0
+Followed seen holding now visit before after unread answer = (old : PartShardState) → Carries seen holding before old
+    → (new : PartShardState) × Carries seen holding after new
+    × StepsThen before.conf (reading_of seen before.log after.log unread)
+    (Rose (seen before.states.journal.live.disk).faults (seen after.states.journal.live.disk).faults) before.states.journal.live.end
     old now visit answer new
 
 -- What follows the acknowledgements.
 pub record FollowsOnce {D W : Type 0} (seen : D → DiskView) (holding : W → Held) (now : ℕ) (visit : Visit) (before after : PartParts D W) (result : Result VisitAnswer NoMemory)
     : Type 0 where
+  -- whether a batch couldn't be read
+  pub unread : Bool
   -- where it answers, a step was made; where it finds no memory, nothing has changed
-  pub steps : IfOk result (Followed seen holding now visit before after)
-  pub memory : OnErr result (IsUntouched holding before after)
+  pub steps : IfOk result (Followed seen holding now visit before after unread)
+  pub memory : OnErr result (IsUntouched seen holding before after)
   pub follows : OnErr result (TakesMemory visit.member (held_in holding before.windows visit.group) visit.then)
   -- which record is stored
-  pub records : IfOk result (λ answer. WritesThen seen before.conf before.log.batches visit
+  pub records : IfOk result (λ answer. WritesUnless unread seen before.conf before.log.batches visit
       (held_in holding before.windows visit.group) before.states after.states answer.then visit.then)
-  -- where the answer tells no store fault, no device call failed
-  pub quiet : IfOk result (λ answer. ((fault : StoreFault) → answer.then ≢ Store fault) → AreQuiet seen before after)
-  -- with nothing armed, a device fault comes only where the disk finds no memory
-  pub sound : IfOk result (λ answer. answer.then ≡ Store Device →
+  -- where the answer tells no store fault, or the fault of a reading, no device call of the states failed
+  pub quiet : IfOk result (λ answer. (unread ≡ false → (fault : StoreFault) → answer.then ≢ Store fault) →
+      AreQuiet seen before after)
+  -- with nothing armed, a device fault of a write comes only where the disk finds no memory
+  pub sound : IfOk result (λ answer. answer.then ≡ Store Device → unread ≡ false →
       StarvesUnarmed seen before.states.journal.live.disk after.states.journal.live.disk)
   -- where there is nothing to write, the states and their disks stay
   pub unwritten : (old : PartShardState) → Carries seen holding before old → HasNothingToWrite before.conf old visit visit.then →
       after.states ≡ before.states
   -- the journal of the states never ends before where it did
   pub ends : (old : PartShardState) → Carries seen holding before old → before.states.journal.live.end ≤ after.states.journal.live.end
-  -- the log, its disk and the second state disk stay
-  pub log : after.log ≡ before.log
+  -- the log is read alone, and but for a fetch it stays; the second state disk stays
+  pub log : ReadsBatches seen (unread ≡ true) before.log after.log
+  pub others : (IsFetch visit.then → ⊥) → after.log ≡ before.log
   pub idle : after.states.journal.idle ≡ before.states.journal.idle
   pub conf : after.conf ≡ before.conf
 
 -- a shard that carried a state carries one that a visit leads to
-abbrev pub Visited : {D W : Type 0} → (D → DiskView) → (W → Held) → ℕ → Visit → PartParts D W → PartParts D W → VisitAnswer → Type 0
-Visited seen holding now visit before after answer = (old : PartShardState) → Carries seen holding before old → (new : PartShardState)
-    × Carries seen holding after new
-    × StepsVisit before.conf (seen before.states.journal.live.disk).faults (seen after.states.journal.live.disk).faults before.states.journal.live.end
+abbrev pub Visited : {D W : Type 0} → (D → DiskView) → (W → Held) → ℕ → Visit → PartParts D W → PartParts D W
+    → (unread : Bool) → VisitAnswer → Type 0
+Visited seen holding now visit before after unread answer = (old : PartShardState) → Carries seen holding before old
+    → (new : PartShardState) × Carries seen holding after new
+    × StepsVisit before.conf (reading_of seen before.log after.log unread)
+    (seen before.states.journal.live.disk).faults (seen after.states.journal.live.disk).faults before.states.journal.live.end
     after.states.journal.live.end old now visit answer new
 
 -- the acknowledgements were done alone
@@ -79,32 +107,35 @@ AcksStand seen holding now visit before after old = (new : PartShardState) × Ca
 -- A visit.
 pub record VisitsOnce {D W : Type 0} (seen : D → DiskView) (holding : W → Held) (now : ℕ) (visit : Visit) (before after : PartParts D W) (result : Result VisitAnswer NoMemory)
     : Type 0 where
+  -- whether a batch couldn't be read
+  pub unread : Bool
   -- where it answers, a step was made
-  pub steps : IfOk result (Visited seen holding now visit before after)
+  pub steps : IfOk result (Visited seen holding now visit before after unread)
   -- where it finds no memory, nothing has changed, or what the acknowledgements left stands, where their write came to the device
-  pub memory : OnErr result (IsUntouched holding before after
+  pub memory : OnErr result (IsUntouched seen holding before after
       ⊎ ((old : PartShardState) → Carries seen holding before old → AcksStand seen holding now visit before after old))
   -- which records are stored
   pub records : MatchResult result
-      (WritesVisit seen before.conf before.log.batches visit (held_in holding before.windows visit.group)
+      (WritesVisit unread seen before.conf before.log.batches visit (held_in holding before.windows visit.group)
       before.states after.states)
       (λ e. WritesPart seen before.conf before.log.batches visit (held_in holding before.windows visit.group)
       before.states after.states)
-  -- where the answer tells no store fault, no device call failed
-  pub quiet : IfOk result (λ answer. ((fault : StoreFault) → answer.ack ≢ ack_store fault) → ((fault : StoreFault) → answer.then ≢ Store fault) →
-      AreQuiet seen before after)
+  -- where the answer tells no store fault, or the fault of a reading, no device call of the states failed
+  pub quiet : IfOk result (λ answer. ((fault : StoreFault) → answer.ack ≢ ack_store fault) →
+      (unread ≡ false → (fault : StoreFault) → answer.then ≢ Store fault) → AreQuiet seen before after)
   pub ack_sound : IfOk result (λ answer. answer.ack ≡ ack_store Device →
       StarvesUnarmed seen before.states.journal.live.disk after.states.journal.live.disk)
-  -- with nothing armed, a device fault comes only where the disk finds no memory
-  pub sound : IfOk result (λ answer. answer.then ≡ Store Device →
+  -- with nothing armed, a device fault of a write comes only where the disk finds no memory
+  pub sound : IfOk result (λ answer. answer.then ≡ Store Device → unread ≡ false →
       StarvesUnarmed seen before.states.journal.live.disk after.states.journal.live.disk)
   -- where there is nothing to write, of acknowledgements or behind them, the states and their disks stay
   pub unwritten : (old : PartShardState) → Carries seen holding before old → (AreToWrite old visit → ⊥) →
       HasNothingToWrite before.conf old visit visit.then → after.states ≡ before.states
   -- the journal of the states never ends before where it did
   pub ends : (old : PartShardState) → Carries seen holding before old → before.states.journal.live.end ≤ after.states.journal.live.end
-  -- the log, its disk and the second state disk stay
-  pub log : after.log ≡ before.log
+  -- the log is read alone, and but for a fetch it stays; the second state disk stays
+  pub log : ReadsBatches seen (unread ≡ true) before.log after.log
+  pub others : (IsFetch visit.then → ⊥) → after.log ≡ before.log
   pub idle : after.states.journal.idle ≡ before.states.journal.idle
   pub conf : after.conf ≡ before.conf
 

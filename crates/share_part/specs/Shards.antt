@@ -17,7 +17,7 @@ use Rattle.share_model.specs.ShareStates.{ShareState}
 use Rattle.share_model.specs.declared.fault.LogFault.{LogFault}
 use Rattle.share_model.specs.declared.reset.Reset.{Reset}
 use Rattle.share_model.specs.declared.reset.Reset.TheVariants.{Latest, Earliest}
-use Rattle.part_log.specs.Logs.{LogParts}
+use Rattle.part_log.specs.Logs.{LogParts, OnlyReads}
 use Rattle.part_log.specs.Shards.{LogShardState, CarriesLog, StepsLog}
 use Rattle.share_coord.specs.Holding.{Holds}
 use Rattle.share_coord.specs.Parts.{StoreParts}
@@ -106,11 +106,12 @@ abbrev pub IsPendingHosted : PartConfParts → List Batch → Option ShareStates
 IsPendingHosted conf log None = Unit {0}
 IsPendingHosted conf log (Some states) = AreHosted conf log states
 
--- Nothing of a shard has changed: neither its log, its states, the disks of both and its clock, nor what any group holds. A window may have
--- been made, which holds nothing, or memory set aside in one.
-pub record IsUntouched {D W : Type 0} (holding : W → Held) (before after : PartParts D W) : Type 0 where
+-- Nothing of a shard has changed: neither its log, its states, the disk of these and its clock, nor what any group holds.
+-- The log may have been read. A window may have been made, which holds nothing, or memory set aside in one.
+pub record IsUntouched {D W : Type 0} (seen : D → DiskView) (holding : W → Held) (before after : PartParts D W)
+    : Type 0 where
   pub conf : after.conf ≡ before.conf
-  pub log : after.log ≡ before.log
+  pub log : OnlyReads seen before.log after.log
   pub states : after.states ≡ before.states
   pub clock : after.clock ≡ before.clock
   pub held : (group : List ℕ) → held_in holding after.windows group ≡ held_in holding before.windows group

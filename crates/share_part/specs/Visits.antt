@@ -12,7 +12,7 @@ use Rattle.share_model.specs.declared.visit.Visit.{Visit}
 use Rattle.share_model.specs.declared.visit.VisitAnswer.{VisitAnswer}
 use Rattle.edge_io.specs.Causes.{Rose}
 use Rattle.share_part.specs.Acknowledging.{Acknowledges, AreTheirs, NameOne}
-use Rattle.share_part.specs.Following.{Does, HasNothingToWrite, releases_of}
+use Rattle.share_part.specs.Following.{Follows, HasNothingToWrite, Reading, releases_of}
 use Rattle.share_part.specs.Hosting.{PartConfParts}
 use Rattle.share_part.specs.Shards.{PartShardState, raised_to}
 
@@ -35,10 +35,10 @@ AreWritten visit (Store (Full end)) = ⊥
 abbrev pub AreToWrite : PartShardState → Visit → Type 0
 AreToWrite old visit = AreTheirs old visit × NameOne (kind_at visit.acks)
 
--- A visit at the moment `now`. `count` and `later` are the faults of the first state disk before it and behind it, `end` and `last` are where its
--- journal ends before it and behind it.
-pub record StepsVisit (conf : PartConfParts) (count later end last : ℕ) (old : PartShardState) (now : ℕ) (visit : Visit) (answer : VisitAnswer)
-    (new : PartShardState) : Type 0 where
+-- A visit at the moment `now`. `reading` tells how the batches of a fetch were read, `count` and `later` are the faults
+-- of the first state disk before it and behind it, `end` and `last` are where its journal ends before it and behind it.
+pub record StepsVisit (conf : PartConfParts) (reading : Reading) (count later end last : ℕ) (old : PartShardState) (now : ℕ)
+    (visit : Visit) (answer : VisitAnswer) (new : PartShardState) : Type 0 where
   -- what the acknowledgements left, the faults by then, and where the journal ended then
   pub between : PartShardState
   pub counted : ℕ
@@ -48,7 +48,7 @@ pub record StepsVisit (conf : PartConfParts) (count later end last : ℕ) (old :
   pub ends : (end ≤ at) × (at ≤ last)
   pub unwritten : (AreToWrite old visit → ⊥) → at ≡ end
   pub still : HasNothingToWrite conf between visit visit.then → last ≡ at
-  pub does : Does conf (Rose counted later) at between visit answer new visit.then
+  pub does : Follows conf reading.told reading.rose (Rose counted later) at between visit answer new reading.failed
   pub clock : new.clock ≡ max old.clock now
   pub log : new.log ≡ old.log
 

@@ -6,7 +6,7 @@
 -- Worked example: a log has one batch from 0 to 9, the start is 0, nothing is stored, and `a` holds 0 to 9 with count
 -- 1. An accept of 3 stores an update with start -1 and the row of 3. An accept of 0 behind it stores an update with
 -- start 1 and no rows: that of 3 isn't stored again.
-use Rattle.std.specs.Prelude.{◌≡◌, ◌⊎◌, ◌++◌, ℕ, List, [], ◌∷◌, Option, Some, None, Result, Ok, Err}
+use Rattle.std.specs.Prelude.{◌≡◌, ◌⊎◌, ◌++◌, ℕ, List, [], ◌∷◌, Option, Some, None, Result, Ok, Err, Bool, true, false}
 use Rattle.ack_ranges.specs.Batches.{kind_at}
 use Rattle.coord_checkpoint.specs.Disks.{HasFailed}
 use Rattle.edge_io.specs.Views.{DiskView}
@@ -71,14 +71,20 @@ WritesThen seen conf log visit was old new outcome Release =
 WritesThen seen conf log visit was old new outcome (Fetch records bytes first) =
     MakesTableOnce seen (HasFailed seen) conf visit.group (end_of log) old new (Ok outcome)
 
+-- the same by whether a batch of it couldn't be read: then nothing is written
+abbrev pub WritesUnless : {D : Type 0} → (unread : Bool) → (D → DiskView) → PartConfParts → (log : List Batch) → Visit
+    → (was : Held) → (old new : StoreParts D) → ThenOutcome → Then → Type 0
+WritesUnless true seen conf log visit was old new outcome asked = new ≡ old
+WritesUnless false seen conf log visit was old new outcome asked = WritesThen seen conf log visit was old new outcome asked
+
 -- a visit that is answered
-pub record WritesVisit {D : Type 0} (seen : D → DiskView) (conf : PartConfParts) (log : List Batch) (visit : Visit)
-    (was : Held) (old new : StoreParts D) (answer : VisitAnswer) : Type 0 where
+pub record WritesVisit {D : Type 0} (unread : Bool) (seen : D → DiskView) (conf : PartConfParts) (log : List Batch)
+    (visit : Visit) (was : Held) (old new : StoreParts D) (answer : VisitAnswer) : Type 0 where
   -- the states between the two writes
   pub between : StoreParts D
   pub acks : WritesAcks seen conf log visit was old between answer.ack
   pub follows :
-      WritesThen seen conf log visit (held_behind visit was answer.ack) between new answer.then visit.then
+      WritesUnless unread seen conf log visit (held_behind visit was answer.ack) between new answer.then visit.then
 
 -- a visit that finds no memory: nothing is written, or the acknowledgements are, and nothing behind them
 abbrev pub WritesPart : {D : Type 0} → (D → DiskView) → PartConfParts → (log : List Batch) → Visit → (was : Held)

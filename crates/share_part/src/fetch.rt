@@ -1,13 +1,15 @@
 // The pieces of a fetch.
-ghost use Rattle.std.specs.Prelude.{◌≡◌, ◌≤◌, ◌<◌, ◌^◌, ◌++◌, pos, ◌≤ℤ◌, List, None, Ok, true, false, IsSome, IfOk, OnOk, length, vec_len};
+ghost use Rattle.std.specs.Prelude.{◌≡◌, ◌≤◌, ◌<◌, ◌+◌, ◌^◌, ◌++◌, pos, ◌≤ℤ◌, List, None, Ok, true, false, IsErr, IsSome, IfOk, OnOk, length, vec_len};
 ghost use Rattle.std.specs.BTreeMap.{is_at};
 ghost use Rattle.std.specs.Cmp.Lexicographic.{slice_cmp};
 ghost use Rattle.std.specs.List.{AllByRecursion};
 ghost use Rattle.std.specs.Map.{lookup};
 ghost use Rattle.std.specs.Ordering.{nat_cmp};
 ghost use Rattle.edge_io.specs.Armed.{RunsOn};
+ghost use Rattle.edge_io.specs.Disk.{IsTold};
 ghost use Rattle.coord_checkpoint.specs.Disks.{HasFailed};
 ghost use Rattle.share_model.specs.ForeignRules.{share_state_at, size_of};
+ghost use Rattle.share_model.specs.declared.fault.BatchRead.{BatchRead};
 ghost use Rattle.part_log.specs.Logs.{IsStoredLog};
 ghost use Rattle.share_coord.specs.Calls.{IsInitialised};
 ghost use Rattle.share_coord.specs.Stored.{kept_at};
@@ -18,6 +20,7 @@ ghost use Rattle.share_part.specs.Foreseeing.{HasChange, IsPlanBehind};
 ghost use Rattle.share_part.specs.Hosting.{AreHosted, HoldsWell, key_of};
 ghost use Rattle.share_coord.specs.States.{states_of};
 ghost use Rattle.share_part.specs.Making.{IsTableRecord, MakesOnce, MakesTableOnce, numbered_bytes, state_for};
+ghost use Rattle.share_part.specs.Once.{ReadsBatches};
 ghost use Rattle.share_part.specs.Shards.{first_start, held_in};
 ghost use Rattle.share_part.specs.Tables.{table_of};
 ghost use Rattle.share_part.specs.Walks.{acquired};
@@ -27,10 +30,10 @@ use crate::limits::Limits;
 use crate::plan::Plan;
 use crate::settle::Change;
 use crate::walk::{plan, plan_laid};
-use edge_io::Disk;
+use edge_io::{Disk, Failed};
 use lock_index::Window;
 use offset_runs::Runs;
-use part_log::PartLog;
+use part_log::{BatchRead, PartLog};
 use share_coord::{Coord, CoordFault, StateView};
 use share_model::{Key, Name, NoMemory, Reset, Room, ThenOutcome, Visit};
 use std::alloc::Global;
@@ -185,16 +188,35 @@ pub fn make_table<D: Disk>(
     store_state(states, &key, first_start(conf.reset(), end))
 }
 
-/// Appends the bytes of the batches with these numbers to a room that has memory set aside for them.
-pub fn append_batches<D: Disk>(log: &mut PartLog<D>, numbers: &[u64], out: &mut Room)
+// Why a batch couldn't be read, where there was memory for it.
+fn read_fault(fault: BatchRead) -> Failed
+    requires { fault ≡ BatchRead.Device }
+{
+    match fault {
+        BatchRead::Device => Failed,
+        BatchRead::NoMemory => unreachable!(),
+    }
+}
+
+/// Appends the bytes of the batches with these numbers, in order, to a room that has memory set aside for them. The
+/// first that the disk of the log fails to give ends it.
+pub fn append_batches<D: Disk>(
+    log: &mut PartLog<D>,
+    numbers: &[u64],
+    out: &mut Room,
+) -> Result<(), Failed>
     requires numbers { AllByRecursion (λ n. n < length log.old.batches) numbers.now }
     requires spare { length (numbered_bytes log.old.batches numbers.now) ≤ out.old.spare }
-    ensures bytes { out.new.bytes ≡ out.old.bytes ++ numbered_bytes log.old.batches numbers.now }
-    ensures log { log.new ≡ log.old }
+    ensures bytes { OnOk result (IsTold (D.seen log.old.journal.disk).content →
+        out.new.bytes ≡ out.old.bytes ++ numbered_bytes log.old.batches numbers.now) }
+    ensures size { OnOk result (length out.new.bytes ≤
+        length out.old.bytes + length (numbered_bytes log.old.batches numbers.now)) }
+    ensures log { ReadsBatches D.seen (IsErr result) log.old log.new }
 {
     for number in numbers {
-        if let Err(_) = log.batch_bytes(*number, out) {
-            unreachable!()
+        if let Err(fault) = log.batch_bytes(*number, out) {
+            return Err(read_fault(fault));
         }
     }
+    Ok(())
 }

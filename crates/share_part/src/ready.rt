@@ -1,5 +1,5 @@
 // A fetch that is planned before the acknowledgements before it are stored, and takes no memory behind them.
-ghost use Rattle.std.specs.Prelude.{◌≡◌, ◌≤◌, ◌+◌, ◌^◌, ◌<◌, [], ℕ, List, IfOk, IfSome, IsSome, length, unwrap_or};
+ghost use Rattle.std.specs.Prelude.{◌≡◌, ◌≤◌, ◌+◌, ◌^◌, ◌<◌, ℕ, List, IfOk, IfSome, IsSome, length, unwrap_or};
 ghost use Rattle.std.specs.BTreeMap.{is_at};
 ghost use Rattle.std.specs.Cmp.Lexicographic.{slice_cmp};
 ghost use Rattle.std.specs.List.{AllByRecursion};
@@ -9,9 +9,10 @@ ghost use Rattle.part_log.specs.Logs.{IsStoredLog};
 ghost use Rattle.share_coord.specs.States.{states_of};
 ghost use Rattle.share_model.specs.ForeignRules.{share_state_at};
 ghost use Rattle.share_part.specs.Collecting.{IsPlanOf};
-ghost use Rattle.share_part.specs.Foreseeing.{HasRoomFor, IsReady, IsTold, JudgesAcks, MovesBy};
+ghost use Rattle.share_model.specs.Logs.{Batch};
+ghost use Rattle.share_part.specs.Foreseeing.{HasSpare, IsPrepared, IsReady, IsTold, JudgesAcks, MovesBy};
 ghost use Rattle.share_part.specs.Hosting.{AreHosted, HoldsWell, key_of};
-ghost use Rattle.share_part.specs.Making.{numbered_bytes, state_for};
+ghost use Rattle.share_part.specs.Making.{state_for};
 ghost use Rattle.share_part.specs.Shards.{held_in, with_held};
 ghost use Rattle.share_part.specs.Tables.{table_of, with_holds};
 ghost use Rattle.share_part.specs.Walks.{IsSmallGrant, Walk, written_out};
@@ -19,7 +20,7 @@ ghost use Rattle.topic_conf.specs.Configs.{IsLimit};
 
 use crate::acks::Acks;
 use crate::conf::PartConf;
-use crate::fetch::{append_batches, planned, planned_behind};
+use crate::fetch::{planned, planned_behind};
 use crate::limits::Limits;
 use crate::plan::{Plan, Ready};
 use crate::windows::{add_window, hold, set_aside};
@@ -120,6 +121,36 @@ pub fn ready<D: Disk, W: Window>(
     Ok(Ready { stays, moves, out })
 }
 
+/// Plans a fetch of a group, by its table or the one that it would get, and sets aside all the memory that it takes.
+pub fn prepared<D: Disk, W: Window>(
+    alloc: Global,
+    conf: &PartConf,
+    log: &PartLog<D>,
+    states: &Coord<D>,
+    windows: &mut BTreeMap<Name, W>,
+    group: &Name,
+    limits: Limits,
+) -> Result<(Plan, Room), NoMemory>
+    requires sound { IsStoredLog log.now.batches }
+    requires hosted { AreHosted conf.now log.now.batches (states_of states.now.entries) }
+    requires well { HoldsWell log.now.batches
+        (share_state_at (states_of states.now.entries) (key_of conf.now group.now))
+        (held_in W.held windows.old.entries group.now) }
+    ensures held { (other : List ℕ) →
+        held_in W.held windows.new.entries other ≡ held_in W.held windows.old.entries other }
+    ensures prepared { IfOk result (λ x. IsPrepared W.spare windows.new.entries group.now log.now.batches
+        (table_of (state_for conf.now log.now.batches states.now.entries group.now)
+        (held_in W.held windows.old.entries group.now))
+        limits x.0 x.1) }
+{
+    add_window(alloc, windows, group)?;
+    let plan = planned(alloc, conf, log, states, windows, group, limits)?;
+    set_aside(windows, group, plan.count)?;
+    let mut out = Room::new(alloc);
+    out.reserve(plan.size)?;
+    Ok((plan, out))
+}
+
 /// Which plan a fetch goes by, once the acknowledgements before it are answered.
 pub fn chosen(ready: Ready, ack: AckOutcome) -> (Plan, Room)
     ensures out { result.1 ≡ ready.out }
@@ -135,39 +166,35 @@ pub fn chosen(ready: Ready, ack: AckOutcome) -> (Plan, Room)
     }
 }
 
-/// Answers a fetch by its plan: copies the batches, and holds the offsets until the clock plus the lock duration. It
-/// takes no memory.
-pub fn hand_out<D: Disk, W: Window>(
+/// Answers a fetch by its plan and the bytes of its batches, and holds the offsets until the clock plus the lock
+/// duration. It takes no memory.
+pub fn hand_out<W: Window>(
     conf: &PartConf,
-    log: &mut PartLog<D>,
     windows: &mut BTreeMap<Name, W>,
     clock: u64,
     visit: &Visit,
     plan: Plan,
-    mut out: Room,
+    batches: Room,
 ) -> VisitAnswer
     requires clock { clock ≤ 2 ^ 62 }
-    requires plan { (walk : Walk) × IsPlanOf log.old.batches plan walk }
+    requires plan { (log : List Batch) × (walk : Walk) × IsPlanOf log plan walk }
     requires told { IsTold plan }
-    requires empty { out.bytes ≡ [] }
-    requires room { HasRoomFor W.spare windows.old.entries visit.now.group out plan }
+    requires room { HasSpare W.spare windows.old.entries visit.now.group plan.count }
     ensures ack { result.ack ≡ AckOutcome.Done }
     ensures outcome { result.then ≡ ThenOutcome.Done }
     ensures grants { result.grants ≡ plan.grants.items }
-    ensures batches { result.batches ≡ numbered_bytes log.old.batches plan.numbers.items }
+    ensures batches { result.batches ≡ batches.bytes }
     ensures held { (other : List ℕ) → held_in W.held windows.new.entries other ≡ with_held (held_in W.held windows.old.entries) visit.now.group
         (with_holds visit.now.member (clock + conf.now.lock_ms) (written_out plan.grants.items)
         (held_in W.held windows.old.entries visit.now.group)) other }
-    ensures log { log.new ≡ log.old }
     ensures ranges { AllByRecursion IsSmallGrant result.grants }
 {
-    append_batches(log, &plan.numbers, &mut out);
     let end = clock + u64::from(conf.lock_ms());
     hold(windows, &visit.group, &visit.member, end, &plan.grants);
     VisitAnswer {
         ack: AckOutcome::Done,
         then: ThenOutcome::Done,
         grants: Items::new(plan.grants),
-        batches: out.into_blob(),
+        batches: batches.into_blob(),
     }
 }

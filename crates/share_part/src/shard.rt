@@ -10,10 +10,10 @@ ghost use Rattle.coord_checkpoint.specs.Disks.{RunsBoth};
 ghost use Rattle.edge_io.specs.Moments.{LeavesOnly};
 ghost use Rattle.gate_journal.specs.Frames.{StandsAs};
 ghost use Rattle.share_part.specs.Opening.{IsOpened, IsNotOpened};
-ghost use Rattle.share_part.specs.Foreseeing.{IsFetch, JudgesAcks, with_ack};
+ghost use Rattle.share_part.specs.Foreseeing.{JudgesAcks, with_ack};
 ghost use Rattle.share_part.specs.Hosting.{key_of};
 ghost use Rattle.share_coord.specs.States.{states_of};
-ghost use Rattle.share_part.specs.Following.{IsEmptyAnswer};
+ghost use Rattle.share_part.specs.Following.{IsEmptyAnswer, IsFetch};
 ghost use Rattle.share_part.specs.Shards.{Carries, PartShardState, held_in};
 ghost use Rattle.share_part.specs.Releasing.{ReleasesOnce};
 ghost use Rattle.share_part.specs.Walks.{IsSmallGrant};
@@ -23,15 +23,14 @@ ghost use Rattle.share_part.specs.Once.{ExpiresOnce, FollowsOnce, VisitsOnce, Pr
 
 use crate::acks::{Acks, first_named, judge_acks, settle_acks};
 use crate::conf::PartConf;
-use crate::fetch::{append_batches, has_table, make_table, planned};
+use crate::fetch::{append_batches, has_table, make_table};
 use crate::judge::are_hosted;
 use crate::limits::Limits;
 use crate::opening::{PartFault, PartOpen, fault_of_log, fault_of_states};
-use crate::plan::Plan;
-use crate::ready::{chosen, hand_out, ready};
+use crate::ready::{chosen, hand_out, prepared, ready};
 use crate::release::{Released, outcome_of, release_held};
 use crate::settle::Whose;
-use crate::windows::{add_window, due_groups, hold, set_aside};
+use crate::windows::due_groups;
 use edge_io::{Disk, DiskPlace, FaultMode};
 use flex_fields::Items;
 use lock_index::Window;
@@ -80,6 +79,14 @@ fn empty(alloc: Global, outcome: ThenOutcome) -> VisitAnswer
         grants: Items::new(Vec::new(alloc)),
         batches: Room::new(alloc).into_blob(),
     }
+}
+
+// The answer of a fetch of which a batch couldn't be read. It takes no memory.
+fn unread(alloc: Global) -> VisitAnswer
+    ensures ack { result.ack ≡ AckOutcome.Done }
+    ensures answer { IsEmptyAnswer (ThenOutcome.Store StoreFault.Device) result }
+{
+    empty(alloc, ThenOutcome::Store(StoreFault::Device))
 }
 
 // Whether a write of acknowledgements came to the device, by what they are answered.
@@ -218,33 +225,25 @@ impl<D: Disk, W: Window> PartShard<D, W> {
         ensures ranges { IfOk result (λ answer. AllByRecursion IsSmallGrant answer.grants) }
     {
         let group = &visit.group;
-        add_window(self.alloc, &mut self.windows, group)?;
-        let plan = planned(
+        let (plan, mut out) = prepared(
             self.alloc,
             &self.conf,
             &self.log,
             &self.states,
-            &self.windows,
+            &mut self.windows,
             group,
             limits,
         )?;
-        set_aside(&mut self.windows, group, plan.count)?;
-        let mut out = Room::new(self.alloc);
-        out.reserve(plan.size)?;
+        if let Err(_) = append_batches(&mut self.log, &plan.numbers, &mut out) {
+            self.clock = self.clock.max(now);
+            return Ok(unread(self.alloc));
+        }
         let outcome = make_table(&mut self.states, &self.conf, group, self.log.end())?;
         self.clock = self.clock.max(now);
         let ThenOutcome::Done = outcome else {
             return Ok(empty(self.alloc, outcome));
         };
-        append_batches(&mut self.log, &plan.numbers, &mut out);
-        let end = self.clock + u64::from(self.conf.lock_ms());
-        hold(&mut self.windows, group, &visit.member, end, &plan.grants);
-        Ok(VisitAnswer {
-            ack: AckOutcome::Done,
-            then: ThenOutcome::Done,
-            grants: Items::new(plan.grants),
-            batches: out.into_blob(),
-        })
+        Ok(hand_out(&self.conf, &mut self.windows, self.clock, visit, plan, out))
     }
 
     // Releases what a group holds, and raises the clock to a moment that isn't before it. After want of memory the
@@ -382,16 +381,11 @@ impl<D: Disk, W: Window> PartShard<D, W> {
             acks,
         )?;
         self.clock = self.clock.max(now);
-        let (plan, out) = chosen(ready, ack);
-        let answer = hand_out(
-            &self.conf,
-            &mut self.log,
-            &mut self.windows,
-            self.clock,
-            visit,
-            plan,
-            out,
-        );
+        let (plan, mut out) = chosen(ready, ack);
+        if let Err(_) = append_batches(&mut self.log, &plan.numbers, &mut out) {
+            return Ok(with_ack(ack, unread(self.alloc)));
+        }
+        let answer = hand_out(&self.conf, &mut self.windows, self.clock, visit, plan, out);
         Ok(with_ack(ack, answer))
     }
 
@@ -402,11 +396,12 @@ impl<D: Disk, W: Window> PartShard<D, W> {
     /// or none is. What the visit asks for follows them, whatever became of them.
     ///
     /// A fetch walks the first 2000 slots from the start of the group's table, in order, and acquires those that are
-    /// available, until the record limit is used up, or a batch doesn't fit. The first fetch of a group makes its
-    /// table, which is stored first; where that fails nothing is acquired. A fetch of a group that has a table takes
-    /// all its memory before the acknowledgements are written. After want of memory nothing has changed; but where a
-    /// write of the acknowledgements came to the device before, and a release behind them found none, what they left
-    /// stands, and the clock is raised.
+    /// available, until the record limit is used up, or a batch doesn't fit. The batches that it answers are read from
+    /// the disk of the log, in order, behind the write of the acknowledgements; where one can't be read, the answer is a
+    /// device fault, and nothing is acquired. The first fetch of a group makes its table, which is stored when they were
+    /// read; where that fails nothing is acquired. A fetch of a group that has a table takes all its memory before the
+    /// acknowledgements are written. After want of memory nothing has changed; but where a write of the acknowledgements
+    /// came to the device before, and a release behind them found none, what they left stands, and the clock is raised.
     pub fn visit(&mut self, now: u64, visit: &Visit) -> Result<VisitAnswer, NoMemory>
         requires now { now ≤ 2 ^ 62 }
         ensures once { VisitsOnce D.seen W.held now visit.now self.old self.new result }

@@ -1,4 +1,4 @@
-use Rattle.std.proofs.Common.{◌≡◌, ◌<◌, inr, length, get_or, rules}
+use Rattle.std.proofs.Common.{◌≡◌, ◌<◌, inr, length, get_or, rules, Bool}
 use Rattle.share_model.specs.declared.visit.VisitAnswer.{VisitAnswer}
 use Rattle.broker_model.specs.Shards.PartCall.{Visits}
 use Rattle.broker_model.specs.Acting.Begun.{BeginsVisit}
@@ -12,8 +12,11 @@ returns-clause-ok g c =
     let lt : c.args.shard < length c.args.parts.now.items = search rules in
     let is : c.in-Some.slot.now ≡ get_or c.args.parts.now.items c.args.shard c.in-Some.slot.now = search rules in
     ok_weaker _ _ c.visit_in.result
-    (λ answer p. changes_set (LeadsSlot g.D.Disk.seen c.args.now (Visits c.args.asked.now answer))
-    c.args.shard c.args.parts.now.items c.in-Some.slot.now c.visit_in.new.slot lt is p)
+    (λ answer p. (
+      p.0,
+      changes_set (LeadsSlot g.D.Disk.seen c.args.now (Visits c.args.asked.now answer p.0))
+          c.args.shard c.args.parts.now.items c.in-Some.slot.now c.visit_in.new.slot lt is p.1,
+    ))
     c.visit_in.ensures.ok
 
 pub returns-clause-stopped : goal.returns-clause-stopped
@@ -21,6 +24,6 @@ returns-clause-stopped g c =
     let lt : c.args.shard < length c.args.parts.now.items = search rules in
     let is : c.in-Some.slot.now ≡ get_or c.args.parts.now.items c.args.shard c.in-Some.slot.now = search rules in
     on_err_weaker c.visit_in.result
-    (λ p. inr (changes_set (HaltsSlot g.D.Disk.seen c.args.now (λ did. (answer : VisitAnswer) × (did ≡ Visits c.args.asked.now answer)) (λ begun. begun ≡ BeginsVisit c.args.asked.now))
+    (λ p. inr (changes_set (HaltsSlot g.D.Disk.seen c.args.now (λ did. (answer : VisitAnswer) × (unread : Bool) × (did ≡ Visits c.args.asked.now answer unread)) (λ begun. begun ≡ BeginsVisit c.args.asked.now))
     c.args.shard c.args.parts.now.items c.in-Some.slot.now c.visit_in.new.slot lt is p))
     c.visit_in.ensures.stopped

@@ -1,4 +1,4 @@
-use Rattle.std.proofs.Common.{◌≡◌, refl, sym, ap, ◌∙◌, subst, ℕ, List, Some, length}
+use Rattle.std.proofs.Common.{◌≡◌, refl, sym, ap, ◌∙◌, subst, ℕ, List, Some, Bool, length}
 use Rattle.call_fold.specs.declared.part.Part.TheVariants.{Produce}
 use Rattle.call_fold.specs.declared.part.PartAnswer.TheVariants.{Foreign as AnswerForeign, Produce as AnswerProduce, Visit as AnswerVisit}
 use Rattle.call_fold.specs.declared.part.Produced.{Produced}
@@ -77,41 +77,41 @@ returns-in_err-produced-in-Produce-clause-stopped g c = on_err c.from_residual-i
     (part_halts g.D.Disk.seen (parts_of c.args.hosts.now) c.produce_at.new.parts.items c.in-Produce.shard c.args.now (λ did. (produced : Produced) × (did ≡ Produces c.as_slice.result.now produced)) (λ begun. ⊥) c.in_err-produced-in-Produce.ensures.stopped c.requires.apart s k))
 
 pub returns-in_ok-answer-in-Visit-clause-disks : goal.returns-in_ok-answer-in-Visit-clause-disks
-returns-in_ok-answer-in-Visit-clause-disks g c = turned_on g.D.Disk.seen (parts_of c.args.hosts.now) c.visit_at.new.parts.items c.in-Visit.shard (led_turned g.D.Disk.seen c.in-Visit.shard c.args.now (Visits c.in-Visit.visit (c.in_ok-answer-in-Visit.answer)) c.args.hosts.now.parts.items c.visit_at.new.parts.items c.in_ok-answer-in-Visit.ensures.ok)
+returns-in_ok-answer-in-Visit-clause-disks g c = turned_on g.D.Disk.seen (parts_of c.args.hosts.now) c.visit_at.new.parts.items c.in-Visit.shard (led_turned g.D.Disk.seen c.in-Visit.shard c.args.now (Visits c.in-Visit.visit c.in_ok-answer-in-Visit.answer c.in_ok-answer-in-Visit.ensures.ok.0) c.args.hosts.now.parts.items c.visit_at.new.parts.items c.in_ok-answer-in-Visit.ensures.ok.1)
 
 pub returns-in_err-answer-in-Visit-clause-disks : goal.returns-in_err-answer-in-Visit-clause-disks
-returns-in_err-answer-in-Visit-clause-disks g c = may_on g.D.Disk.seen (parts_of c.args.hosts.now) c.visit_at.new.parts.items c.in-Visit.shard c.args.now (λ did. (answer : VisitAnswer) × (did ≡ Visits c.in-Visit.visit answer)) (λ begun. begun ≡ BeginsVisit c.in-Visit.visit) c.in_err-answer-in-Visit.ensures.stopped (λ h. GoOn g.D.Disk.seen (disks_in (parts_of c.args.hosts.now)) (disks_in h)) (go_on_same g.D.Disk.seen (disks_in (parts_of c.args.hosts.now))) (turned_on g.D.Disk.seen (parts_of c.args.hosts.now) c.visit_at.new.parts.items c.in-Visit.shard)
+returns-in_err-answer-in-Visit-clause-disks g c = may_on g.D.Disk.seen (parts_of c.args.hosts.now) c.visit_at.new.parts.items c.in-Visit.shard c.args.now (λ did. (answer : VisitAnswer) × (unread : Bool) × (did ≡ Visits c.in-Visit.visit answer unread)) (λ begun. begun ≡ BeginsVisit c.in-Visit.visit) c.in_err-answer-in-Visit.ensures.stopped (λ h. GoOn g.D.Disk.seen (disks_in (parts_of c.args.hosts.now)) (disks_in h)) (go_on_same g.D.Disk.seen (disks_in (parts_of c.args.hosts.now))) (turned_on g.D.Disk.seen (parts_of c.args.hosts.now) c.visit_at.new.parts.items c.in-Visit.shard)
 
 pub returns-in_ok-answer-in-Visit-clause-stays : goal.returns-in_ok-answer-in-Visit-clause-stays
-returns-in_ok-answer-in-Visit-clause-stays g c = turned_hosted g.D.Disk.seen (parts_of c.args.hosts.now) c.visit_at.new.parts.items c.in-Visit.shard (led_turned g.D.Disk.seen c.in-Visit.shard c.args.now (Visits c.in-Visit.visit (c.in_ok-answer-in-Visit.answer)) c.args.hosts.now.parts.items c.visit_at.new.parts.items c.in_ok-answer-in-Visit.ensures.ok)
+returns-in_ok-answer-in-Visit-clause-stays g c = turned_hosted g.D.Disk.seen (parts_of c.args.hosts.now) c.visit_at.new.parts.items c.in-Visit.shard (led_turned g.D.Disk.seen c.in-Visit.shard c.args.now (Visits c.in-Visit.visit c.in_ok-answer-in-Visit.answer c.in_ok-answer-in-Visit.ensures.ok.0) c.args.hosts.now.parts.items c.visit_at.new.parts.items c.in_ok-answer-in-Visit.ensures.ok.1)
 
 pub returns-in_err-answer-in-Visit-clause-stays : goal.returns-in_err-answer-in-Visit-clause-stays
-returns-in_err-answer-in-Visit-clause-stays g c = may_on g.D.Disk.seen (parts_of c.args.hosts.now) c.visit_at.new.parts.items c.in-Visit.shard c.args.now (λ did. (answer : VisitAnswer) × (did ≡ Visits c.in-Visit.visit answer)) (λ begun. begun ≡ BeginsVisit c.in-Visit.visit) c.in_err-answer-in-Visit.ensures.stopped (λ h. StaysHosted (parts_of c.args.hosts.now) h) (record { hosted = refl; topics = refl }) (turned_hosted g.D.Disk.seen (parts_of c.args.hosts.now) c.visit_at.new.parts.items c.in-Visit.shard)
+returns-in_err-answer-in-Visit-clause-stays g c = may_on g.D.Disk.seen (parts_of c.args.hosts.now) c.visit_at.new.parts.items c.in-Visit.shard c.args.now (λ did. (answer : VisitAnswer) × (unread : Bool) × (did ≡ Visits c.in-Visit.visit answer unread)) (λ begun. begun ≡ BeginsVisit c.in-Visit.visit) c.in_err-answer-in-Visit.ensures.stopped (λ h. StaysHosted (parts_of c.args.hosts.now) h) (record { hosted = refl; topics = refl }) (turned_hosted g.D.Disk.seen (parts_of c.args.hosts.now) c.visit_at.new.parts.items c.in-Visit.shard)
 
 pub returns-in_ok-answer-in-Visit-clause-open : goal.returns-in_ok-answer-in-Visit-clause-open
-returns-in_ok-answer-in-Visit-clause-open g c = turned_open g.D.Disk.seen (parts_of c.args.hosts.now) c.visit_at.new.parts.items c.in-Visit.shard (led_turned g.D.Disk.seen c.in-Visit.shard c.args.now (Visits c.in-Visit.visit (c.in_ok-answer-in-Visit.answer)) c.args.hosts.now.parts.items c.visit_at.new.parts.items c.in_ok-answer-in-Visit.ensures.ok) c.requires.open
+returns-in_ok-answer-in-Visit-clause-open g c = turned_open g.D.Disk.seen (parts_of c.args.hosts.now) c.visit_at.new.parts.items c.in-Visit.shard (led_turned g.D.Disk.seen c.in-Visit.shard c.args.now (Visits c.in-Visit.visit c.in_ok-answer-in-Visit.answer c.in_ok-answer-in-Visit.ensures.ok.0) c.args.hosts.now.parts.items c.visit_at.new.parts.items c.in_ok-answer-in-Visit.ensures.ok.1) c.requires.open
 
 pub returns-in_err-answer-in-Visit-clause-open : goal.returns-in_err-answer-in-Visit-clause-open
-returns-in_err-answer-in-Visit-clause-open g c = may_on g.D.Disk.seen (parts_of c.args.hosts.now) c.visit_at.new.parts.items c.in-Visit.shard c.args.now (λ did. (answer : VisitAnswer) × (did ≡ Visits c.in-Visit.visit answer)) (λ begun. begun ≡ BeginsVisit c.in-Visit.visit) c.in_err-answer-in-Visit.ensures.stopped (λ h. AreOpen h) c.requires.open (λ t. turned_open g.D.Disk.seen (parts_of c.args.hosts.now) c.visit_at.new.parts.items c.in-Visit.shard t c.requires.open)
+returns-in_err-answer-in-Visit-clause-open g c = may_on g.D.Disk.seen (parts_of c.args.hosts.now) c.visit_at.new.parts.items c.in-Visit.shard c.args.now (λ did. (answer : VisitAnswer) × (unread : Bool) × (did ≡ Visits c.in-Visit.visit answer unread)) (λ begun. begun ≡ BeginsVisit c.in-Visit.visit) c.in_err-answer-in-Visit.ensures.stopped (λ h. AreOpen h) c.requires.open (λ t. turned_open g.D.Disk.seen (parts_of c.args.hosts.now) c.visit_at.new.parts.items c.in-Visit.shard t c.requires.open)
 
 pub returns-in_ok-answer-in-Visit-clause-ok : goal.returns-in_ok-answer-in-Visit-clause-ok
 returns-in_ok-answer-in-Visit-clause-ok g c = λ s k. leads_to g.D.Disk.seen
     (parts_of c.args.hosts.now) (with_parts g.D.Disk.seen (parts_of c.args.hosts.now) c.visit_at.new.parts.items) s _ _
-    (λ a call b d. (CallPart c.in-Visit.shard d.0 (Visits c.in-Visit.visit (c.in_ok-answer-in-Visit.answer)), d.1, ap (λ part. Some (record { part = part; answer = AnswerVisit (c.in_ok-answer-in-Visit.answer) })) (sym c.in-Visit.is), d.2))
-    (part_leads g.D.Disk.seen (parts_of c.args.hosts.now) c.visit_at.new.parts.items c.in-Visit.shard c.args.now (Visits c.in-Visit.visit (c.in_ok-answer-in-Visit.answer)) c.in_ok-answer-in-Visit.ensures.ok c.requires.apart s k)
+    (λ a call b d. (CallPart c.in-Visit.shard d.0 (Visits c.in-Visit.visit c.in_ok-answer-in-Visit.answer c.in_ok-answer-in-Visit.ensures.ok.0), d.1, ap (λ part. Some (record { part = part; answer = AnswerVisit (c.in_ok-answer-in-Visit.answer) })) (sym c.in-Visit.is), d.2))
+    (part_leads g.D.Disk.seen (parts_of c.args.hosts.now) c.visit_at.new.parts.items c.in-Visit.shard c.args.now (Visits c.in-Visit.visit c.in_ok-answer-in-Visit.answer c.in_ok-answer-in-Visit.ensures.ok.0) c.in_ok-answer-in-Visit.ensures.ok.1 c.requires.apart s k)
 
 pub returns-in_err-answer-in-Visit-clause-stopped : goal.returns-in_err-answer-in-Visit-clause-stopped
 returns-in_err-answer-in-Visit-clause-stopped g c = on_err c.from_residual-in_err-answer-in-Visit.result
     (λ s k. halts_so g.D.Disk.seen
     (with_parts g.D.Disk.seen (parts_of c.args.hosts.now) c.visit_at.new.parts.items) s _ _ _ _
-    (λ a call b d. (AnswerVisit d.1.0, visit_halts g.D.Disk.seen _ _ c.args.now c.in-Visit.shard c.args.part.now c.in-Visit.visit c.in-Visit.is d.0 d.1.0 d.1.1 a call b d.2))
+    (λ a call b d. (AnswerVisit d.1.0, visit_halts g.D.Disk.seen _ _ c.args.now c.in-Visit.shard c.args.part.now c.in-Visit.visit c.in-Visit.is d.0 d.1.0 d.1.1 d.1.2 a call b d.2))
     (λ a b d. half_of_visit g.D.Disk.seen (counts_in g.D.Disk.seen (disks_in (parts_of c.args.hosts.now)) (disks_in (with_parts g.D.Disk.seen (parts_of c.args.hosts.now) c.visit_at.new.parts.items))) (ends_over (parts_of c.args.hosts.now) (with_parts g.D.Disk.seen (parts_of c.args.hosts.now) c.visit_at.new.parts.items)) c.args.now c.args.part.now c.in-Visit.shard c.in-Visit.visit c.in-Visit.is d.0 d.1 a b d.2)
-    (part_halts g.D.Disk.seen (parts_of c.args.hosts.now) c.visit_at.new.parts.items c.in-Visit.shard c.args.now (λ did. (answer : VisitAnswer) × (did ≡ Visits c.in-Visit.visit answer)) (λ begun. begun ≡ BeginsVisit c.in-Visit.visit) c.in_err-answer-in-Visit.ensures.stopped c.requires.apart s k))
+    (part_halts g.D.Disk.seen (parts_of c.args.hosts.now) c.visit_at.new.parts.items c.in-Visit.shard c.args.now (λ did. (answer : VisitAnswer) × (unread : Bool) × (did ≡ Visits c.in-Visit.visit answer unread)) (λ begun. begun ≡ BeginsVisit c.in-Visit.visit) c.in_err-answer-in-Visit.ensures.stopped c.requires.apart s k))
 
 pub returns-in_ok-answer-in-Visit-clause-there : goal.returns-in_ok-answer-in-Visit-clause-there
 returns-in_ok-answer-in-Visit-clause-there g c = subst (λ part. IsThere (length c.args.hosts.now.parts.items) part) (sym c.in-Visit.is)
-    (changes_within (LeadsSlot g.D.Disk.seen c.args.now (Visits c.in-Visit.visit c.in_ok-answer-in-Visit.answer)) c.in-Visit.shard c.args.hosts.now.parts.items
-    c.visit_at.new.parts.items c.in_ok-answer-in-Visit.ensures.ok)
+    (changes_within (LeadsSlot g.D.Disk.seen c.args.now (Visits c.in-Visit.visit c.in_ok-answer-in-Visit.answer c.in_ok-answer-in-Visit.ensures.ok.0)) c.in-Visit.shard c.args.hosts.now.parts.items
+    c.visit_at.new.parts.items c.in_ok-answer-in-Visit.ensures.ok.1)
 
 pub returns-in_ok-looked-in-Look-clause-ok : goal.returns-in_ok-looked-in-Look-clause-ok
 returns-in_ok-looked-in-Look-clause-ok g c = λ s k. leads_to g.D.Disk.seen

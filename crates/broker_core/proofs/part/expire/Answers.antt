@@ -3,7 +3,7 @@ use Rattle.share_part.specs.Once.{Expired, PartStands}
 use Rattle.share_part.specs.Shards.{Carries, PartShardState}
 use Rattle.broker_core.specs.Carried.{holding}
 use Rattle.broker_core.proofs.Stepping.{on_err}
-use Rattle.broker_core.proofs.Parting.{expire_leads, expire_refused, expire_whole}
+use Rattle.broker_core.proofs.Parting.{expire_leads, expire_refused, expire_whole, expiry_on}
 use Rattle.broker_core.proofs.Reopens.{fed_three}
 use Rattle.broker_core.proofs.part.expire.Goals as goal
 
@@ -13,14 +13,14 @@ returns-in_err-answer-clause-stopped g c =
     let memory = subst (λ r. OnErr r ((c.expire.new.self ≡ c.args.part.now) ⊎ ((t : PartShardState) → Carries g.D.Disk.seen holding c.args.part.now t → PartStands g.D.Disk.seen holding c.args.now c.args.part.now c.expire.new.self t))) is c.expire.ensures.once.memory in
     on_err c.from_residual.result
     (expire_refused g.D.Disk.seen c.args.part.now c.expire.new.self c.args.now
-    (record { runs = c.expire.ensures.runs; ends = c.expire.ensures.once.ends; log = c.expire.ensures.once.log; idle = c.expire.ensures.once.idle; conf = c.expire.ensures.once.conf }) memory)
+    (expiry_on g.D.Disk.seen c.args.part.now c.expire.new.self c.args.now c.expire.result c.expire.ensures.once c.expire.ensures.runs) memory)
 
 pub returns-then-starved-clause-stopped : goal.returns-then-starved-clause-stopped
 returns-then-starved-clause-stopped g c =
     let is : c.expire.result ≡ Ok c.in_ok-answer.answer = search rules in
     let steps : Expired g.D.Disk.seen holding c.args.now c.args.part.now c.expire.new.self c.in_ok-answer.answer = subst (λ r. IfOk r (Expired g.D.Disk.seen holding c.args.now c.args.part.now c.expire.new.self)) is c.expire.ensures.once.steps in
     expire_whole g.D.Disk.seen c.args.part.now c.expire.new.self c.args.now c.in_ok-answer.answer _
-    (record { runs = c.expire.ensures.runs; ends = c.expire.ensures.once.ends; log = c.expire.ensures.once.log; idle = c.expire.ensures.once.idle; conf = c.expire.ensures.once.conf }) steps
+    (expiry_on g.D.Disk.seen c.args.part.now c.expire.new.self c.args.now c.expire.result c.expire.ensures.once c.expire.ensures.runs) steps
 
 pub returns-clause-ok : goal.returns-clause-ok
 returns-clause-ok g c =
@@ -28,4 +28,4 @@ returns-clause-ok g c =
     let is : c.expire.result ≡ Ok c.in_ok-answer.answer = search rules in
     let steps : Expired g.D.Disk.seen holding c.args.now c.args.part.now c.expire.new.self c.in_ok-answer.answer = subst (λ r. IfOk r (Expired g.D.Disk.seen holding c.args.now c.args.part.now c.expire.new.self)) is c.expire.ensures.once.steps in
     expire_leads g.D.Disk.seen c.args.part.now c.expire.new.self c.args.now c.in_ok-answer.answer
-    (record { runs = c.expire.ensures.runs; ends = c.expire.ensures.once.ends; log = c.expire.ensures.once.log; idle = c.expire.ensures.once.idle; conf = c.expire.ensures.once.conf }) steps (fed_three c.starved.result _ _ _ no c.starved.ensures)
+    (expiry_on g.D.Disk.seen c.args.part.now c.expire.new.self c.args.now c.expire.result c.expire.ensures.once c.expire.ensures.runs) c.expire.ensures.once.log steps (fed_three c.starved.result _ _ _ no c.starved.ensures)

@@ -1,4 +1,4 @@
-use Rattle.std.proofs.Common.{◌≡◌, refl, sym, ap, ◌∙◌, subst, ℕ, List, Err, rules}
+use Rattle.std.proofs.Common.{refl, sym, ap, subst, ℕ, List}
 use Rattle.share_members.specs.Groups.{Memberships}
 use Rattle.conn_core.specs.Conns.{ConnParts}
 use Rattle.broker_model.specs.Machine.{Machine}
@@ -8,7 +8,7 @@ use Rattle.broker_core.specs.Cores.{IsCore, core_of, state_of}
 use Rattle.broker_core.specs.Hosts.{parts_of}
 use Rattle.broker_model.specs.Hosted.{hosted_of}
 use Rattle.broker_core.proofs.Partitions.{takes_fresh}
-use Rattle.broker_core.proofs.Stepping.{err_same, on_err}
+use Rattle.broker_core.proofs.Stepping.{err_same}
 use Rattle.broker_core.proofs.Starting.{all_counted, all_moves, all_others, all_out, hosts_apart, hosts_are, hosts_held, hosts_named, hosts_open, refused, retold, started}
 use Rattle.broker_core.proofs.broker.Core.start.Goals as goal
 

@@ -1,20 +1,61 @@
-use Rattle.std.proofs.Common.{◌∙◌, ap, inr, Err}
-use Rattle.part_log.specs.Logs.{frames_of}
-use Rattle.part_log.proofs.FrameReads.{bad_none}
-use Rattle.part_log.proofs.Rising.{same_log}
+use Rattle.std.proofs.Common.{◌++◌, ap, sym, subst, ◌∙◌, ℕ, List, None}
+use Rattle.gate_journal.specs.Visits.{OpensEach, placed}
+use Rattle.part_log.specs.Holding.{HoldsLog, batches_of}
+use Rattle.part_log.specs.Logs.{IsLogText, IsNoLogText, Keeps, frames_of}
+use Rattle.part_log.proofs.Opening.{damaged, holds, keeps, never_damaged, place_is, recovers, text}
 use Rattle.part_log.proofs.log.PartLog.open.Goals as goal
 
-pub returns-in-Ok-read_frames-clause-recovers : goal.returns-in-Ok-read_frames-clause-recovers
-returns-in-Ok-read_frames-clause-recovers g c = λ content batches told text.
-    same_log _ batches c.in-Ok-read_frames.ensures.log text.sound (c.in-Ok-read_frames.ensures.frames ∙ c.in-Ok.ensures.recovers content (frames_of batches) told text.frames)
+pub invariant_of-result : goal.invariant_of-result
+invariant_of-result g c =
+    let journal = c.in-Ok-start_each.journal in
+    let visit = c.start_each.new.visit in
+    let read = c.in-Ok-finish in
+    let opens = subst (λ (l : List (ℕ × List ℕ)). OpensEach g.D.Disk.seen c.args.disk journal l visit) c.in-Ok.ensures c.in-Ok-start_each.ensures.ok in
+    subst (λ (l : List (ℕ × List ℕ)). HoldsLog g.D.Disk.seen l read.index journal read.end) (sym read.ensures.frames)
+    (holds g.D.Disk.seen c.args.disk journal visit opens read.index read.end read.ensures.indexed read.ensures.cached)
 
-pub returns-in-Err-read_frames-clause-recovers : goal.returns-in-Err-read_frames-clause-recovers
-returns-in-Err-read_frames-clause-recovers g c = λ content batches told text place is.
-    bad_none _ place batches (c.in-Err-read_frames.ensures.damaged place (ap Err is)) text.sound (c.in-Ok.ensures.recovers content (frames_of batches) told text.frames)
+pub returns-in-Ok-finish-clause-kept : goal.returns-in-Ok-finish-clause-kept
+returns-in-Ok-finish-clause-kept g c =
+    let journal = c.in-Ok-start_each.journal in
+    let visit = c.start_each.new.visit in
+    let read = c.in-Ok-finish in
+    let opens = subst (λ (l : List (ℕ × List ℕ)). OpensEach g.D.Disk.seen c.args.disk journal l visit) c.in-Ok.ensures c.in-Ok-start_each.ensures.ok in
+    subst (λ (l : List (ℕ × List ℕ)). Keeps g.D.Disk.seen (record { batches = batches_of l; journal = journal }) None) (sym read.ensures.frames)
+    (keeps g.D.Disk.seen c.args.disk journal visit opens read.index read.end read.ensures.indexed)
 
-pub returns-in-Err-read_frames-clause-damaged : goal.returns-in-Err-read_frames-clause-damaged
-returns-in-Err-read_frames-clause-damaged g c = λ place is content told.
-    inr (c.in-Ok.frames.items, c.in-Ok.ensures.ok.stands content told, c.in-Err-read_frames.ensures.damaged place (ap Err is))
+pub returns-in-Ok-finish-clause-opens : goal.returns-in-Ok-finish-clause-opens
+returns-in-Ok-finish-clause-opens g c = λ content told.
+    let journal = c.in-Ok-start_each.journal in
+    let visit = c.start_each.new.visit in
+    let read = c.in-Ok-finish in
+    let opens = subst (λ (l : List (ℕ × List ℕ)). OpensEach g.D.Disk.seen c.args.disk journal l visit) c.in-Ok.ensures c.in-Ok-start_each.ensures.ok in
+    subst (λ (l : List (ℕ × List ℕ)). IsLogText content (batches_of l)) (sym read.ensures.frames)
+    (text g.D.Disk.seen c.args.disk journal visit opens read.index read.end read.ensures.indexed content told)
+
+pub returns-in-Ok-finish-clause-recovers : goal.returns-in-Ok-finish-clause-recovers
+returns-in-Ok-finish-clause-recovers g c = λ content batches told log.
+    let journal = c.in-Ok-start_each.journal in
+    let visit = c.start_each.new.visit in
+    let read = c.in-Ok-finish in
+    let opens = subst (λ (l : List (ℕ × List ℕ)). OpensEach g.D.Disk.seen c.args.disk journal l visit) c.in-Ok.ensures c.in-Ok-start_each.ensures.ok in
+    let handed = c.in-Ok-start_each.ensures.recovers content (frames_of batches) told log.frames
+    ∙ ap (λ (l : List (ℕ × List ℕ)). l ++ placed 0 (frames_of batches)) c.in-Ok.ensures in
+    ap batches_of read.ensures.frames
+    ∙ recovers g.D.Disk.seen c.args.disk journal visit opens read.index read.end read.ensures.indexed batches log.sound handed
+
+pub returns-in-Err-finish-clause-recovers : goal.returns-in-Err-finish-clause-recovers
+returns-in-Err-finish-clause-recovers g c = λ content batches told log place is.
+    never_damaged c.start_each.new.visit c.in-Err-finish.place batches c.in-Err-finish.ensures.bad log.sound
+    (c.in-Ok-start_each.ensures.recovers content (frames_of batches) told log.frames
+    ∙ ap (λ (l : List (ℕ × List ℕ)). l ++ placed 0 (frames_of batches)) c.in-Ok.ensures)
+
+pub returns-in-Err-finish-clause-damaged : goal.returns-in-Err-finish-clause-damaged
+returns-in-Err-finish-clause-damaged g c = λ place is content told.
+    let journal = c.in-Ok-start_each.journal in
+    let visit = c.start_each.new.visit in
+    let opens = subst (λ (l : List (ℕ × List ℕ)). OpensEach g.D.Disk.seen c.args.disk journal l visit) c.in-Ok.ensures c.in-Ok-start_each.ensures.ok in
+    subst (λ (p : ℕ). IsNoLogText content p) (place_is c.in-Err-finish.place place is)
+    (damaged g.D.Disk.seen c.args.disk journal visit opens c.in-Err-finish.place c.in-Err-finish.ensures.bad content told)
 
 pub returns-in-Err-clause-recovers : goal.returns-in-Err-clause-recovers
 returns-in-Err-clause-recovers g c = λ content batches told text place is.

@@ -3,12 +3,13 @@ use Rattle.std.specs.Prelude.{Ok, Err}
 use Rattle.share_coord.specs.States.{states_of}
 use Rattle.share_model.specs.ForeignRules.{share_state_at}
 use Rattle.share_model.specs.declared.visit.VisitAnswer.{VisitAnswer}
-use Rattle.share_part.specs.Foreseeing.{IsFetch}
+use Rattle.share_part.specs.Following.{IsFetch}
 use Rattle.share_part.specs.Hosting.{key_of}
 use Rattle.edge_io.proofs.Runs.{runs_then}
 use Rattle.share_part.specs.Once.{VisitsOnce}
 use Rattle.share_part.specs.Shards.{PartParts}
 use Rattle.share_part.proofs.Acked.{formed_done, none_acked, stands, unfollowed, unfollowed_behind, visited}
+use Rattle.share_part.proofs.Looked.{nothing_read}
 use Rattle.share_part.proofs.shard.PartShard.visit_plain.Goals as goal
 
 pub invariant_of-self : goal.invariant_of-self
@@ -21,7 +22,8 @@ invariant_of-self g c =
 pub returns-in_err-ack-clause-once : goal.returns-in_err-ack-clause-once
 returns-in_err-ack-clause-once g c = rw (← c.self.view_is) (none_acked g.D.Disk.seen g.W.Window.held c.args.visit.now
     (record { conf = c.self.inside.conf; log = c.self.inside.log; states = c.self.inside.states; windows = c.self.inside.windows.entries; clock = c.self.inside.clock })
-    c.settle_acks.new.states c.settle_acks.new.windows.entries c.self.invariant.log_is c.settle_acks.ensures.range.few c.self.invariant.hosted c.self.invariant.holds c.args.now c.settle_acks.result _ c.in_err-ack.was c.settle_acks.ensures.once
+    c.settle_acks.new.states c.settle_acks.new.windows.entries c.self.invariant.log_is c.settle_acks.ensures.range.few c.self.invariant.hosted c.self.invariant.holds
+    (nothing_read g.D.Disk.seen g.met.D.Disk.only_now c.self.inside.log) c.args.now c.settle_acks.result _ c.in_err-ack.was c.settle_acks.ensures.once
     c.settle_acks.ensures.idle c.from_residual.result c.from_residual.ensures.0)
 
 pub invariant_of-self-2 : goal.invariant_of-self-2
@@ -42,7 +44,7 @@ returns-then-not-are_written-clause-once g c = rw (← c.self.view_is) (unfollow
     (record { conf = c.self.inside.conf; log = c.self.inside.log; states = c.self.inside.states; windows = c.self.inside.windows.entries; clock = c.self.inside.clock })
     c.settle_acks.new.states c.settle_acks.new.windows.entries c.self.invariant.log_is c.settle_acks.ensures.range.few c.self.invariant.hosted c.self.invariant.holds c.args.now c.follow.new.self c.settle_acks.result c.in_ok-ack.ack c.in_ok-ack.was
     c.settle_acks.ensures.once c.settle_acks.ensures.idle c.settle_acks.ensures.runs c.follow.ensures.runs
-    _ c.follow.result c.in-Err.is c.follow.ensures.once (c.are_written.ensures.not_written (search rules)) c.in-Err.fault)
+    (nothing_read g.D.Disk.seen g.met.D.Disk.only_now c.self.inside.log).reads _ c.follow.result c.in-Err.is c.follow.ensures.once (c.are_written.ensures.not_written (search rules)) c.in-Err.fault)
 
 pub returns-else-not-are_written-clause-once : goal.returns-else-not-are_written-clause-once
 returns-else-not-are_written-clause-once g c = rw (← c.self.view_is) (subst (λ (p : PartParts g.row.D.Denot g.row.W.Denot). VisitsOnce g.D.Disk.seen g.W.Window.held c.args.now c.args.visit.now
