@@ -3,15 +3,32 @@
 use clap::{Arg, Command};
 use std::alloc::{AllocError, Global};
 
-// What stands behind the list of options.
+// What stands behind all commands.
 const ABOUT_TOPICS: &str = "\
-A name has 1 to 249 ASCII letters, digits, '.', '_' and '-', and is neither '.' nor '..'. Names differ, and so do ids.
-There are at most 64 partitions in all. For example: orders:3:6ba7b810-9dad-11d1-80b4-00c04fd430c8";
+A topic's name has 1 to 249 ASCII letters, digits, '.', '_' and '-', and is neither '.' nor '..'. Its id is any UUID but
+the one of zeros, such as uuidgen gives; it stays the same at each start. Names differ, and so do ids. There are at most
+64 partitions in all.";
 
-// What `serve` does.
-const ABOUT_SERVE: &str = "\
-Serves producers and share consumers over TCP until it is stopped, and keeps all that it answered in the folder. For example:
-sharebroker serve --dir data --listen localhost:9092 orders:3:6ba7b810-9dad-11d1-80b4-00c04fd430c8";
+// An example of each command.
+const SERVE_EXAMPLE: &str = "\
+Example:
+  sharebroker serve --dir data --listen 127.0.0.1:9092 --reset earliest jobs:1:6ba7b810-9dad-11d1-80b4-00c04fd430c8";
+
+const REPLAY_EXAMPLE: &str = "\
+Example:
+  sharebroker replay --reset earliest orders:1:22222222-2222-2222-2222-222222222222 < examples/queue";
+
+const LOAD_EXAMPLE: &str = "\
+Example:
+  sharebroker load --dir data jobs 0 jobs:1:6ba7b810-9dad-11d1-80b4-00c04fd430c8 < 00000000000000000000.log";
+
+const DUMP_STATE_EXAMPLE: &str =
+    "Example:\n  sharebroker dump-state --dir data jobs:1:6ba7b810-9dad-11d1-80b4-00c04fd430c8";
+
+const GENERATE_EXAMPLE: &str = "\
+Example:
+  sharebroker gen 1000 |
+      sharebroker replay --output summary --reset earliest orders:1:22222222-2222-2222-2222-222222222222";
 
 // The topics, which stand last.
 fn topics<'a>(alloc: Global) -> Arg<'a> {
@@ -28,7 +45,7 @@ fn reset<'a>(alloc: Global) -> Arg<'a> {
         .long("reset")
         .value_name("latest|earliest")
         .default_value("latest")
-        .help("Where a group begins on a partition that it has not read before")
+        .help("A group new to a partition begins at its end, or at its first record")
 }
 
 // How long locks stand.
@@ -37,7 +54,7 @@ fn lock_ms<'a>(alloc: Global) -> Arg<'a> {
         .long("lock-ms")
         .value_name("N")
         .default_value("30000")
-        .help("How long a record stays locked, 1 to 3600000 milliseconds")
+        .help("How long a record is locked for its worker, 1 to 3600000 milliseconds")
 }
 
 // How often a record is delivered.
@@ -46,7 +63,7 @@ fn limit<'a>(alloc: Global) -> Arg<'a> {
         .long("limit")
         .value_name("N")
         .default_value("5")
-        .help("How often a record is delivered at most, 2 to 10")
+        .help("How often a record is delivered before it is archived, 2 to 10 times")
 }
 
 // What `replay` takes.
@@ -55,12 +72,13 @@ fn replay<'a>(alloc: Global) -> Result<Command<'a>, AllocError> {
         .long("output")
         .value_name("lines|summary")
         .default_value("lines")
-        .help("A line for each outcome, or one line of their numbers behind the end");
+        .help("A line for each outcome, or one line of their numbers at the end");
     Command::new(alloc, "replay")
         .bin_name("sharebroker replay")?
         .about(
-            "Replays a recorded session from standard input, and writes its outcomes to standard output",
+            "Replays a recorded session from standard input over disks in memory, and writes its outcomes to standard output",
         )
+        .after_help(REPLAY_EXAMPLE)
         .disable_help_flag(true)
         .arg(reset(alloc))?
         .arg(lock_ms(alloc))?
@@ -75,7 +93,7 @@ fn folder<'a>(alloc: Global) -> Arg<'a> {
         .long("dir")
         .value_name("FOLDER")
         .required(true)
-        .help("The folder of the disks, which is made where it is missing")
+        .help("The folder of the broker's files, which is made where it is missing")
 }
 
 // What `load` takes.
@@ -91,8 +109,9 @@ fn load<'a>(alloc: Global) -> Result<Command<'a>, AllocError> {
     Command::new(alloc, "load")
         .bin_name("sharebroker load")?
         .about(
-            "Appends record batches from standard input to the log of a partition, with the offsets that they have",
+            "Adds record batches from standard input, as a Kafka segment has them, to the log of a partition",
         )
+        .after_help(LOAD_EXAMPLE)
         .disable_help_flag(true)
         .arg(folder(alloc))?
         .arg(name)?
@@ -105,8 +124,9 @@ fn dump_state<'a>(alloc: Global) -> Result<Command<'a>, AllocError> {
     Command::new(alloc, "dump-state")
         .bin_name("sharebroker dump-state")?
         .about(
-            "Writes the stored tables of share groups, and the states of partitions that aren't hosted",
+            "Writes each group's stored start offsets, states and delivery counts, also of partitions that aren't hosted",
         )
+        .after_help(DUMP_STATE_EXAMPLE)
         .disable_help_flag(true)
         .arg(folder(alloc))?
         .arg(topics(alloc))
@@ -121,6 +141,7 @@ fn generate<'a>(alloc: Global) -> Result<Command<'a>, AllocError> {
     Command::new(alloc, "gen")
         .bin_name("sharebroker gen")?
         .about("Writes a script of a producer and two share consumers, which `replay` reads")
+        .after_help(GENERATE_EXAMPLE)
         .disable_help_flag(true)
         .arg(rounds)
 }
@@ -131,27 +152,27 @@ fn serve<'a>(alloc: Global) -> Result<Command<'a>, AllocError> {
         .long("listen")
         .value_name("HOST:PORT")
         .required(true)
-        .help("The address to listen at; with the port 0 the system chooses one");
+        .help("The address to listen at; port 0 is any free one, and needs --advertise");
     let advertise = Arg::new(alloc, "advertise")
         .long("advertise")
         .value_name("HOST:PORT")
-        .help(
-            "The address that clients are told, which is else that of --listen; the port 0 needs it",
-        );
+        .help("The address that clients are told, port 1 to 65535 [default: that of --listen]");
     let workers = Arg::new(alloc, "workers")
         .long("workers")
         .value_name("N")
         .default_value("16")
-        .help("How many connections are served at a time, 1 to 256; others wait");
+        .help("Connections answered at once, 1 to 256; a consumer takes two, others wait");
     let accept = Arg::new(alloc, "accept")
         .long("accept")
         .value_name("N")
         .default_value("4294967295")
-        .help("After how many connections it ends, 1 to 4294967295");
+        .help("How many connections it serves before it ends, 1 to 4294967295");
     Command::new(alloc, "serve")
         .bin_name("sharebroker serve")?
-        .about(ABOUT_SERVE)
-        .after_help(ABOUT_TOPICS)
+        .about(
+            "Serves producers and share consumers over TCP until it is stopped, and keeps what it answered in a folder",
+        )
+        .after_help(SERVE_EXAMPLE)
         .disable_help_flag(true)
         .arg(folder(alloc))?
         .arg(listen)?
@@ -164,12 +185,12 @@ fn serve<'a>(alloc: Global) -> Result<Command<'a>, AllocError> {
         .arg(topics(alloc))
 }
 
-/// The usage text: each command with its options and the words behind them.
+/// The usage text: each command with its options, the words behind them and an example, and what topics are.
 pub fn usage_text(alloc: Global) -> Result<String, AllocError> {
+    let serve = serve(alloc)?.render_help()?;
     let replay = replay(alloc)?.render_help()?;
     let load = load(alloc)?.render_help()?;
-    let generate = generate(alloc)?.render_help()?;
     let dump_state = dump_state(alloc)?.render_help()?;
-    let serve = serve(alloc)?.render_help()?;
-    Ok(format!(in alloc; "{replay}\n{load}\n{generate}\n{dump_state}\n{serve}")?)
+    let generate = generate(alloc)?.render_help()?;
+    Ok(format!(in alloc; "{serve}\n{replay}\n{load}\n{dump_state}\n{generate}\n{ABOUT_TOPICS}\n")?)
 }
