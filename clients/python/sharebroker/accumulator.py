@@ -39,7 +39,8 @@ class Batch:
         self.tries = 0
         self.is_hurried = False
         self.is_done = False
-        self.maybe_stored = False
+        #: Why an earlier sending may have stored it, where one may.
+        self.doubt: Optional[Exception] = None
         self._bytes: Optional[bytes] = None
 
     def add(self, timestamp_ms: int, key: Optional[bytes], value: Optional[bytes], headers: Sequence[Header],
@@ -62,7 +63,7 @@ class Batch:
         for i, future in enumerate(self.futures):
             offset = base_offset if base_offset < 0 else base_offset + i
             if future.set_running_or_notify_cancel():
-                future.set_result(RecordMetadata(self.topic, self.partition, offset, self.maybe_stored))
+                future.set_result(RecordMetadata(self.topic, self.partition, offset, self.doubt is not None))
 
     def failed(self, fault: Exception) -> None:
         """Tells each record why it failed."""
@@ -153,6 +154,15 @@ class Accumulator:
         for batch in taken:
             if self._gathering.get(batch.topic) == batch.partition:
                 self._gathering[batch.topic] = batch.partition + 1
+        self._taken += taken
+        return taken
+
+    def take_older(self, moment: float) -> List[Batch]:
+        """Takes the batches that wait and whose first record came at this moment or before (`time.monotonic`)."""
+        taken: List[Batch] = []
+        for queue in self._queues.values():
+            while queue and queue[0].since <= moment:
+                taken.append(queue.popleft())
         self._taken += taken
         return taken
 

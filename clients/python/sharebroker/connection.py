@@ -3,7 +3,6 @@
 from __future__ import annotations
 
 import itertools
-import select
 import socket
 import struct
 import time
@@ -125,6 +124,15 @@ class Connection:
             pass
         self._socket.close()
 
+    def _has_news(self) -> bool:
+        """Whether the connection has ended, or bytes have come, between a reply and the next request."""
+        self._socket.setblocking(False)
+        try:
+            self._socket.recv(1, socket.MSG_PEEK)
+        except BlockingIOError:
+            return False
+        return True
+
     def _set_time(self, deadline: float) -> None:
         left = deadline - time.monotonic()
         if left <= 0:
@@ -134,12 +142,12 @@ class Connection:
     def _send(self, frame: bytes, deadline: float) -> None:
         sent = 0
         try:
-            if select.select([self._socket], [], [], 0)[0]:
+            if self._has_news():
                 raise ConnectionResetError("the broker closed it, or sent what nobody asked for")
             while sent < len(frame):
                 self._set_time(deadline)
                 sent += self._socket.send(frame[sent:sent + 1048576])
-        except (OSError, ValueError) as fault:
+        except OSError as fault:
             raise NotSent(f"the connection ended within a request: {fault}") from fault
 
     def _receive(self, size: int, deadline: float) -> bytes:

@@ -11,7 +11,7 @@ from .batches import read_batches
 from .errors import (INVALID_RECORD_STATE, KAFKA_STORAGE_ERROR, Closed, ConnectionLost, MalformedReply, NotSent,
                      Refused, Unacknowledged, Unreachable, WrongMode)
 from .hand import Hand, Part, Sent
-from .link import LOG, Link, Pause
+from .link import LOG, Link, Pause, check_timeout
 from .membership import Membership
 from .records import Acknowledgement, AcknowledgeType, ConsumerRecord, Outcome
 from .session import ShareSession
@@ -65,8 +65,9 @@ class ConsumerSettings:
             raise ValueError("max_poll_records is at least 1")
         if not 1 <= self.fetch_max_bytes <= 2147483647:
             raise ValueError("fetch_max_bytes is at least 1")
-        if min(self.fetch_max_wait_ms, self.request_timeout_ms) < 0:
-            raise ValueError("a time is at least 0")
+        if not 0 <= self.fetch_max_wait_ms <= 2147483647:
+            raise ValueError("fetch_max_wait_ms is 0 to 2147483647")
+        check_timeout(self.request_timeout_ms)
 
 
 class ShareConsumer:
@@ -137,7 +138,8 @@ class ShareConsumer:
 
     def poll(self, timeout_ms: float = 1000, max_records: Optional[int] = None) -> List[ConsumerRecord]:
         """Gives records, in order for each partition, and waits for them at most `timeout_ms`; then there are none.
-        It takes longer where the broker is late with a reply, by `request_timeout_ms` at most.
+        It takes longer where the broker is late: by `request_timeout_ms` for each reply that it waits for, and for a
+        new connection, which takes two replies.
 
         There are at most `max_records`, where that is given, and else at most `max_poll_records` of the settings.
 
@@ -145,8 +147,9 @@ class ShareConsumer:
         way. In explicit mode one that isn't acknowledged makes it `Unacknowledged`, and nothing is done.
 
         A broker that can't be reached is tried again, with a warning in the log now and then, and no records come.
-        `Refused`: the broker takes no such member (code 81: the group is full). `UnsupportedBroker`,
-        `MalformedReply`, `Closed`.
+        `Refused`: the broker takes no such member (code 81: the group is full), and so at each later `poll`; another
+        consumer may be taken. `UnsupportedBroker`: likewise. `MalformedReply`: what was fetched isn't in hand, and the
+        broker releases it. `Closed`.
         """
         self._check_open()
         most = self.settings.max_poll_records if max_records is None else max_records

@@ -99,14 +99,17 @@ class BufferFull(ShareBrokerError):
 
 
 class OutcomeUnknown(ShareBrokerError):
-    """A batch was sent, and no reply came: it may be stored or not. It isn't sent again unless that was asked for."""
+    """A batch was sent, and no reply came: it may be stored or not. It isn't sent again unless that was asked for.
+
+    So also where a batch that was sent again was refused then: the cause (`__cause__`) is that refusal.
+    """
 
 
 class DeliveryTimeout(ShareBrokerError):
     """A batch couldn't be stored in time.
 
-    The cause (`__cause__`) is the last thing that kept it from being stored. Where that is `OutcomeUnknown` or a
-    code 56 it may be stored; else it isn't.
+    The cause (`__cause__`) is `OutcomeUnknown`, or `Refused` with code 56, where any sending of it may have stored it.
+    Else it isn't stored, and the cause is the last thing that kept it from that.
     """
 
 

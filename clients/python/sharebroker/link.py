@@ -20,6 +20,12 @@ LOG = logging.getLogger("sharebroker")
 WARN_AGAIN_S = 10.0
 
 
+def check_timeout(request_timeout_ms: int) -> None:
+    """A time that no request can be given is a `ValueError`: it is sent along as a number of 32 bits."""
+    if not isinstance(request_timeout_ms, int) or not 1 <= request_timeout_ms <= 2147483647:
+        raise ValueError("request_timeout_ms is a whole number, 1 to 2147483647")
+
+
 class Pause:
     """A pause that doubles each time, from the first to the greatest, each up to a fifth shorter or longer. In ms."""
 
@@ -125,8 +131,7 @@ class Link:
         """Says that the connection failed: it is closed, and the next one is made after a pause."""
         if self._connection is not None:
             self._connection.close()
-        if not self._closed.is_set():
-            self._put_off(fault)
+        self._put_off(fault)
 
     def works(self) -> None:
         """Says that the broker answered: the pause after the next loss is short again."""
@@ -134,12 +139,14 @@ class Link:
         self._warned_at = -WARN_AGAIN_S
 
     def close(self) -> None:
-        """Closes the connection. It isn't made again."""
+        """Closes the connection, also one that is just made. It isn't made again."""
         self._closed.set()
         if self._connection is not None:
             self._connection.close()
 
     def _put_off(self, fault: Exception) -> None:
+        if self._closed.is_set():
+            return
         pause_ms = self._pause.next_ms()
         self._not_before = time.monotonic() + pause_ms / 1000
         now = time.monotonic()
@@ -152,20 +159,24 @@ class Link:
         fault: Optional[Unreachable] = None
         for address in self._bootstrap:
             try:
-                first = Connection(address, self._client_id, self._timeout_ms)
+                first = self._open(address)
                 break
             except Unreachable as told:
                 fault = told
         else:
             raise fault or Unreachable("there is no address")
         try:
-            connection = self._greet(first)
+            return self._greet(first)
         except BaseException:
             first.close()
             raise
+
+    def _open(self, address: Address) -> Connection:
+        """A connection, which `close` ends from now on."""
+        connection = Connection(address, self._client_id, self._timeout_ms)
+        self._connection = connection
         if self._closed.is_set():
             connection.close()
-        self._connection = connection
         return connection
 
     def _greet(self, connection: Connection) -> Connection:
@@ -177,4 +188,4 @@ class Link:
         if address == connection.address:
             return connection
         connection.close()
-        return Connection(address, self._client_id, self._timeout_ms)
+        return self._open(address)

@@ -11,7 +11,7 @@ from typing import Optional, Sequence
 from .accumulator import Accumulator, RecordMetadata
 from .batches import MAX_BATCH_BYTES, Header
 from .errors import BufferFull, Closed, RecordTooLarge, UnknownTopic
-from .link import Link, Topics
+from .link import Link, Topics, check_timeout
 from .partitioner import partition_of
 from .sender import Sender
 
@@ -53,8 +53,9 @@ class ProducerSettings:
             raise ValueError("acks is -1, 0 or 1")
         if not 61 <= self.batch_size <= MAX_BATCH_BYTES:
             raise ValueError(f"batch_size is 61 to {MAX_BATCH_BYTES}")
-        if min(self.linger_ms, self.max_block_ms, self.delivery_timeout_ms, self.request_timeout_ms) < 0:
+        if min(self.linger_ms, self.max_block_ms, self.delivery_timeout_ms) < 0:
             raise ValueError("a time is at least 0")
+        check_timeout(self.request_timeout_ms)
         if self.buffer_memory < MAX_BATCH_BYTES:
             raise ValueError(f"buffer_memory is at least {MAX_BATCH_BYTES}")
         if not 1 <= self.max_request_size <= 8388608:
@@ -107,7 +108,7 @@ class Producer:
         The future's callbacks run in the thread that sends, so they must not wait for it, as `flush` and `close` do.
 
         In the future's `result()`: where and at which offset it is stored; or `Refused` (it isn't stored; with code 56
-        never, as that is sent again), `OutcomeUnknown` (it may be), `DeliveryTimeout`, `Closed`.
+        never, as that is sent again), `OutcomeUnknown` (it may be), `DeliveryTimeout`, `Closed` (it isn't).
         """
         for content in (key, value):
             if content is not None and not isinstance(content, (bytes, bytearray)):
@@ -147,8 +148,7 @@ class Producer:
 
     def close(self, timeout_ms: Optional[float] = None) -> None:
         """Sends what waits, at most `timeout_ms` long, and closes the connection. The futures of what is left are
-        `Closed`: batches that weren't sent aren't stored; of one that was under way it isn't known. A second call
-        does nothing."""
+        `Closed`, and it isn't stored; or `OutcomeUnknown` where it was sent. A second call does nothing."""
         with self._changed:
             if self._closed:
                 return

@@ -115,15 +115,16 @@ class Sender:
                 answers: List[Optional[ProducedPartition]] = [None] * len(ordered)
             else:
                 answers = match(ordered, connection.call(PRODUCE, request))
-        except Unreachable as fault:
+        except (Unreachable, NotSent) as fault:
+            if isinstance(fault, NotSent):
+                self._link.lost(fault)
             self._again(batches, fault, 0)
-        except NotSent as fault:
-            self._link.lost(fault)
-            self._again(batches, fault, 0)
+            self._fail_old(fault)
         except (ConnectionLost, MalformedReply) as fault:
             self._link.lost(fault)
             for batch in batches:
                 self._unknown(batch, fault)
+            self._fail_old(fault)
         except ShareBrokerError as fault:
             for batch in batches:
                 self._fail(batch, fault)
@@ -157,7 +158,7 @@ class Sender:
 
     def _refused_for_now(self, batch: Batch, fault: Refused) -> None:
         if fault.code == KAFKA_STORAGE_ERROR:
-            batch.maybe_stored = True
+            batch.doubt = fault
             LOG.warning("%s; its %d records are sent again, and if the broker loses power in between, both may be kept",
                         fault, len(batch.futures))
         pause_ms = self._settings.retry_backoff_ms * 2 ** min(batch.tries - 1, 20)
@@ -170,7 +171,7 @@ class Sender:
             self._fail(batch, told)
             return
         LOG.warning("%s; they are sent again, and may be stored twice", told)
-        batch.maybe_stored = True
+        batch.doubt = told
         self._again([batch], told, 0)
 
     def _again(self, batches: List[Batch], fault: Exception, pause_ms: float) -> None:
@@ -180,17 +181,33 @@ class Sender:
             if now < batch.since + self._settings.delivery_timeout_ms / 1000:
                 with self._changed:
                     self._waiting.put_back(batch, now + pause_ms / 1000)
-                continue
-            told = DeliveryTimeout(f"{batch.topic}/{batch.partition}: {len(batch.futures)} records couldn't be stored "
-                                   f"within {self._settings.delivery_timeout_ms} ms: {fault}")
-            told.__cause__ = fault
-            self._fail(batch, told)
+            else:
+                self._time_is_up(batch, fault)
+
+    def _fail_old(self, fault: Exception) -> None:
+        """Fails the batches that wait and whose time is up, where the connection is gone by which they would be
+        sent."""
+        with self._changed:
+            old = self._waiting.take_older(time.monotonic() - self._settings.delivery_timeout_ms / 1000)
+        for batch in old:
+            self._time_is_up(batch, fault)
+
+    def _time_is_up(self, batch: Batch, fault: Exception) -> None:
+        told = DeliveryTimeout(f"{batch.topic}/{batch.partition}: {len(batch.futures)} records couldn't be stored "
+                               f"within {self._settings.delivery_timeout_ms} ms: {fault}")
+        told.__cause__ = batch.doubt or fault
+        self._fail(batch, told)
 
     def _store(self, batch: Batch, base_offset: int) -> None:
         batch.stored(base_offset)
         self._forget(batch)
 
     def _fail(self, batch: Batch, fault: Exception) -> None:
+        """Fails a batch. One that an earlier sending may have stored isn't told as one that isn't stored."""
+        if batch.doubt is not None and not isinstance(fault, (DeliveryTimeout, OutcomeUnknown)):
+            told = OutcomeUnknown(f"{batch.doubt}; and when it was sent again: {fault}")
+            told.__cause__ = fault
+            fault = told
         batch.failed(fault)
         self._forget(batch)
 

@@ -84,6 +84,9 @@ def _state_of(topic: str, result: ReadResult) -> PartitionState:
         return PartitionState(topic, result.partition, None, ())
     if result.error_code:
         raise Refused(f"ReadShareGroupState of {topic}/{result.partition}", result.error_code)
-    runs = tuple(StoredRun(run.first_offset, run.last_offset, DeliveryState(run.delivery_state), run.delivery_count)
-                 for run in result.state_batches)
+    try:
+        runs = tuple(StoredRun(run.first_offset, run.last_offset, DeliveryState(run.delivery_state),
+                               run.delivery_count) for run in result.state_batches)
+    except ValueError as fault:
+        raise MalformedReply(f"a stored run of {topic}/{result.partition}: {fault}", 0) from fault
     return PartitionState(topic, result.partition, result.start_offset, runs)

@@ -1,5 +1,7 @@
 """Connections, against a socket that answers what a test says."""
 
+import os
+import resource
 import socket
 import threading
 import time
@@ -7,7 +9,7 @@ import unittest
 
 import context  # noqa: F401
 from rows import bytes_of
-from sharebroker import ConnectionLost, MalformedReply, NotSent, Unreachable, UnsupportedBroker
+from sharebroker import Closed, ConnectionLost, MalformedReply, NotSent, Unreachable, UnsupportedBroker
 from sharebroker.connection import Connection, ask_metadata, check_versions
 from sharebroker.link import Link, Pause
 
@@ -85,6 +87,41 @@ class Answering(unittest.TestCase):
         with self.assertRaises(UnsupportedBroker):
             link.connect(time.monotonic())
         link.close()
+
+    def test_a_process_with_many_open_files(self):
+        # The system's select takes no descriptor above 1023.
+        soft, hard = resource.getrlimit(resource.RLIMIT_NOFILE)
+        if hard != resource.RLIM_INFINITY and hard < 2048:
+            self.skipTest("a process may not have so many open files")
+        if soft != resource.RLIM_INFINITY and soft < 2048:
+            resource.setrlimit(resource.RLIMIT_NOFILE, (2048, hard))
+            self.addCleanup(resource.setrlimit, resource.RLIMIT_NOFILE, (soft, hard))
+        for _ in range(1100):
+            self.addCleanup(os.close, os.open(os.devnull, os.O_RDONLY))
+        connection = self.connection(bytes_of("0000000c 00000001 0000 01 00000000 00"))
+        with self.assertRaises(UnsupportedBroker):
+            check_versions(connection)
+
+    def test_closing_ends_a_connection_that_is_just_made(self):
+        host, port = self.server(b"")
+        link = Link(f"{host}:{port}", "c", 60000, 1, 1)
+        faults = []
+
+        def connect():
+            try:
+                link.connect(time.monotonic() + 60)
+            except Closed as fault:
+                faults.append(fault)
+
+        thread = threading.Thread(target=connect, daemon=True)
+        thread.start()
+        end = time.monotonic() + 5
+        while link.current() is None and time.monotonic() < end:
+            time.sleep(0.002)
+        link.close()
+        thread.join(5)
+        self.assertFalse(thread.is_alive())
+        self.assertEqual(1, len(faults))
 
     def test_nobody_answers(self):
         with socket.create_server(("127.0.0.1", 0)) as unused:

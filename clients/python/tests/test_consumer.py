@@ -355,7 +355,8 @@ class Misuse(BrokerCase):
             self.assertLess(time.monotonic() - began, 3)
 
     def test_settings_that_make_no_sense(self):
-        for settings in ({"share_acknowledgement_mode": "auto"}, {"max_poll_records": 0}, {"fetch_max_bytes": 0}):
+        for settings in ({"share_acknowledgement_mode": "auto"}, {"max_poll_records": 0}, {"fetch_max_bytes": 0},
+                         {"fetch_max_wait_ms": 1 << 31}, {"request_timeout_ms": 0}):
             with self.assertRaises(ValueError):
                 ShareConsumer("localhost:9092", "g", **settings)
         with self.assertRaises(ValueError), ShareConsumer("localhost:9092", "g") as consumer:

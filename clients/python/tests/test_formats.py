@@ -15,6 +15,7 @@ from sharebroker.errors import MalformedReply
 from sharebroker.fields import Reader, Writer, skip_tags
 from sharebroker.hand import Hand, batches_of
 from sharebroker.partitioner import murmur2, partition_of
+from sharebroker.states import _state_of
 
 CALLS = [messages.API_VERSIONS, messages.METADATA, messages.PRODUCE, messages.READ_STATE,
          share_messages.SHARE_GROUP_HEARTBEAT, share_messages.SHARE_FETCH, share_messages.SHARE_ACKNOWLEDGE]
@@ -262,6 +263,11 @@ class Small(unittest.TestCase):
         told = batches_of({3: 1, 1: 1, 2: 1, 7: 2, 8: 0, 11: 3})
         self.assertEqual([(1, 3, [1]), (7, 8, [2, 0]), (11, 11, [3])],
                          [(b.first_offset, b.last_offset, b.acknowledge_types) for b in told])
+
+    def test_a_state_that_nobody_knows(self):
+        run = messages.StateBatch(0, 0, 3, 1)
+        with self.assertRaises(MalformedReply):
+            _state_of("orders", messages.ReadResult(0, 0, None, 0, 0, [run]))
 
     def test_addresses(self):
         self.assertEqual([("a", 9092), ("::1", 1)], parse_addresses("a:9092, [::1]:1"))

@@ -6,9 +6,12 @@ import unittest
 
 import context  # noqa: F401
 from broker_case import ORDERS, BrokerCase, told
-from sharebroker import (BufferFull, Closed, DeliveryTimeout, NotSent, OutcomeUnknown, Producer, RecordTooLarge,
-                         Refused, UnknownTopic, Unreachable)
+from sharebroker import (BufferFull, Closed, ConnectionLost, DeliveryTimeout, NotSent, OutcomeUnknown, Producer,
+                         ProducerSettings, RecordTooLarge, Refused, UnknownTopic, Unreachable)
+from sharebroker.accumulator import Accumulator
+from sharebroker.messages import ProducedPartition, ProducedTopic, ProduceResponse
 from sharebroker.partitioner import partition_of
+from sharebroker.sender import Sender
 
 
 class Sending(BrokerCase):
@@ -230,6 +233,19 @@ class Failing(BrokerCase):
         stored = future.result(10)
         self.assertEqual((0, True), (stored.offset, stored.maybe_stored_twice))
 
+    def test_what_was_not_answered_is_in_doubt_until_it_is_stored(self):
+        broker = self.scripted_broker()
+        producer = self.producer(linger_ms=0, retry_unknown=True, delivery_timeout_ms=300)
+        producer.partitions_for("orders")
+        with self.assertLogs("sharebroker", "WARNING"), broker.steps_held():
+            future = producer.send("orders", b"x")
+            self.wait_until(lambda: broker.held)
+            broker.stop_listening()
+            broker.drop_connections()
+            fault = future.exception(10)
+        self.assertIsInstance(fault, DeliveryTimeout)
+        self.assertIsInstance(fault.__cause__, OutcomeUnknown)
+
     def test_a_connection_that_was_closed_meanwhile(self):
         broker = self.scripted_broker()
         producer = self.producer(linger_ms=0)
@@ -253,7 +269,8 @@ class Alone(unittest.TestCase):
 
     def test_settings_that_make_no_sense(self):
         for settings in ({"acks": 2}, {"batch_size": 60}, {"batch_size": 1048589}, {"linger_ms": -1},
-                         {"buffer_memory": 1}, {"max_request_size": 0}, {"client_id": "x" * 32768}):
+                         {"buffer_memory": 1}, {"max_request_size": 0}, {"client_id": "x" * 32768},
+                         {"request_timeout_ms": 0}, {"request_timeout_ms": 1.5}, {"request_timeout_ms": 1 << 31}):
             with self.assertRaises(ValueError):
                 Producer("localhost:9092", **settings)
         with self.assertRaises(TypeError):
@@ -267,6 +284,68 @@ class Alone(unittest.TestCase):
                 producer.send("orders", b"x")
         with self.assertRaises(Closed):
             producer.send("orders", b"x")
+
+
+class Answering:
+    """A link to nobody. Of each request for orders/0 the next of these becomes: a code is answered, a fault comes."""
+
+    def __init__(self, *answers):
+        self.answers = list(answers)
+        self.topics = None
+
+    def connect(self, deadline):
+        if isinstance(self.answers[0], Unreachable):
+            time.sleep(0.1)
+            raise self.answers[0]
+        return self
+
+    def call(self, call, request):
+        answer = self.answers.pop(0)
+        if isinstance(answer, Exception):
+            raise answer
+        return ProduceResponse([ProducedTopic("orders", [ProducedPartition(0, answer, 0, -1, 0, [], None)])], 0)
+
+    def lost(self, fault):
+        """The connection is there again at once."""
+
+    def works(self):
+        """Nothing is noted of it."""
+
+    def close(self):
+        """Nothing is open."""
+
+
+class Again(unittest.TestCase):
+    """What becomes of a batch that is sent more than once, with no broker."""
+
+    def sent(self, number, *answers, **settings):
+        """What becomes of so many batches for orders/0."""
+        changed, waiting = threading.Condition(), Accumulator(61, 0, 1048576)
+        sender = Sender(ProducerSettings(retry_backoff_ms=1, **settings), Answering(*answers), waiting, changed)
+        sender.start()
+        self.addCleanup(sender.stop)
+        with changed:
+            futures = [waiting.add("orders", 0, 0, None, b"x", ()) for _ in range(number)]
+            changed.notify_all()
+        return [future.exception(10) for future in futures]
+
+    def test_a_batch_that_may_be_stored_and_is_refused_then(self):
+        for first in (ConnectionLost("it ended"), 56):
+            with self.assertLogs("sharebroker", "WARNING"):
+                fault = self.sent(1, first, 3, retry_unknown=True)[0]
+            self.assertIsInstance(fault, OutcomeUnknown)
+            self.assertEqual(3, fault.__cause__.code)
+
+    def test_a_batch_that_was_not_sent_and_is_refused_then(self):
+        fault = self.sent(1, NotSent("it ended"), 3)[0]
+        self.assertIsInstance(fault, Refused)
+        self.assertEqual(3, fault.code)
+
+    def test_batches_whose_time_is_up_fail_together(self):
+        began = time.monotonic()
+        faults = self.sent(50, Unreachable("nobody answers"), delivery_timeout_ms=150)
+        self.assertLess(time.monotonic() - began, 2)
+        self.assertEqual({(DeliveryTimeout, Unreachable)}, {(type(fault), type(fault.__cause__)) for fault in faults})
 
 
 class Refusing(BrokerCase):
