@@ -1,10 +1,11 @@
--- The division of whole bytes, one at a time and eight at a time.
+-- The division of whole bytes, one, four and sixteen at a time.
 use Rattle.std.proofs.Common.{◌≡◌, ℕ, zero, suc, ◌+◌, ◌*◌, ◌/◌, ◌%◌, ◌^◌, ◌<◌, List, [], ◌∷◌, ◌++◌, length, get_or, take, drop, refl, sym, ap, ◌∙◌, arith}
-use Rattle.std.proofs.Math.Nat.{pow-suc}
+use Rattle.std.proofs.Math.Nat.{mod-lt, pow-suc}
 use Rattle.std.proofs.lemmas.List.{take-append-drop}
+use Rattle.std.proofs.lemmas.Nat.{div-add-mod', pow_pos}
 use Rattle.std.proofs.lemmas.Grind.{flat_map-append}
 use Rattle.std.specs.Prelude.{flat_map}
-use Rattle.std.specs.Int.{w64, from_le_bytes}
+use Rattle.std.specs.Int.{w32, w128, from_le_bytes}
 use Rattle.std.specs.Int.Bits.{bit_xor, xor_assoc, xor_comm, xor_zero_r, xor_shifted, xor_mod, xor_shr}
 use Rattle.crc_castagnoli.specs.Division.{castagnoli, step, steps, low_bits, remainder_after, bits_of, number_of}
 use Rattle.crc_castagnoli.proofs.Xor.{low_and_half}
@@ -47,12 +48,18 @@ unfolding steps
 steps-add zero k n = let e : 0 + k ≡ k = omega arith in ap (λ (x : ℕ). steps x n) e
 steps-add (suc j) k n = let e : suc j + k ≡ suc (j + k) = omega arith in rw e (steps-add j k (step n))
 
--- steps of a byte with what is above it
-pub steps-byte : (k low high : ℕ) → low < 256 → steps (8 + k) (low + 256 * high) ≡ bit_xor (steps (8 + k) low) (steps k high)
-steps-byte k low high h =
-    let sum : bit_xor low (high * 2 ^ 8) ≡ low + 256 * high = xor_comm low (high * 2 ^ 8) ∙ xor_shifted high 8 low h ∙ omega arith in
-    ap (steps (8 + k)) (sym sum) ∙ steps-xor (8 + k) low (high * 2 ^ 8)
-    ∙ ap (bit_xor (steps (8 + k) low)) (steps-add 8 k (high * 2 ^ 8) ∙ ap (steps k) (steps-shifted 8 high))
+-- the lowest bits of a number, and those above them
+pub steps-parts : (j bits k x : ℕ) → j ≡ bits + k
+    → steps j x ≡ bit_xor (steps j (x % 2 ^ bits)) (steps k (x / 2 ^ bits))
+steps-parts j bits k x e =
+    let low : ℕ = x % 2 ^ bits in
+    let high : ℕ = x / 2 ^ bits in
+    let sum : bit_xor low (high * 2 ^ bits) ≡ x =
+    xor_comm low (high * 2 ^ bits) ∙ xor_shifted high bits low (mod-lt x (pow_pos bits)) ∙ div-add-mod' x (2 ^ bits) in
+    let above : steps j (high * 2 ^ bits) ≡ steps k high =
+    ap (λ (n : ℕ). steps n (high * 2 ^ bits)) e ∙ steps-add bits k (high * 2 ^ bits)
+    ∙ ap (steps k) (steps-shifted bits high) in
+    ap (steps j) (sym sum) ∙ steps-xor j low (high * 2 ^ bits) ∙ ap (bit_xor (steps j low)) above
 
 -- each element is a byte
 abbrev pub AreBytes : List ℕ → Type 0
@@ -74,32 +81,56 @@ remainder_after-bytes left (b ∷ bytes) h =
     ∙ steps-add 8 k (bit_xor (bit_xor left b) (number_of bytes * 2 ^ 8))
     ∙ ap (steps k) (steps-xor 8 (bit_xor left b) (number_of bytes * 2 ^ 8) ∙ ap (bit_xor (steps 8 (bit_xor left b))) (steps-shifted 8 (number_of bytes))))
 
--- the lowest byte of a number, and the bytes above it
-part : (k y low high : ℕ) → y % 256 ≡ low → y / 256 ≡ high → steps (8 + k) y ≡ bit_xor (steps (8 + k) low) (steps k high)
-part k y low high e f =
-    let parts : y ≡ y % 256 + 256 * (y / 256) = omega arith in
-    ap (steps (8 + k)) parts ∙ steps-byte k (y % 256) (y / 256) (omega arith)
-    ∙ ap (λ (x : ℕ). bit_xor (steps (8 + k) x) (steps k (y / 256))) e ∙ ap (λ (x : ℕ). bit_xor (steps (8 + k) low) (steps k x)) f
+-- the same by a number that the code reads
+pub remainder_after-number : (left x n : ℕ) (bytes : List ℕ) → AreBytes bytes → length bytes ≡ n → number_of bytes ≡ x
+    → steps (8 * n) (bit_xor x left) ≡ remainder_after left (bits_of bytes)
+remainder_after-number left x n bytes h e f =
+    ap (steps (8 * n)) (ap (λ (y : ℕ). bit_xor y left) (sym f) ∙ xor_comm (number_of bytes) left)
+    ∙ ap (λ (k : ℕ). steps (8 * k) (bit_xor left (number_of bytes))) (sym e) ∙ sym (remainder_after-bytes left bytes h)
 
--- the eight bytes of a number, each remainder_after by itself
-pub steps-word : (x : ℕ) → x < 2 ^ 64 →
-    bit_xor (bit_xor (bit_xor (steps 64 (x % 256)) (steps 56 (x / 256 % 256))) (bit_xor (steps 48 (x / 65536 % 256)) (steps 40 (x / 16777216 % 256))))
-    (bit_xor (bit_xor (steps 32 (x / 4294967296 % 256)) (steps 24 (x / 1099511627776 % 256))) (bit_xor (steps 16 (x / 281474976710656 % 256)) (steps 8 (x / 72057594037927936 % 256)))) ≡ steps 64 x
-steps-word x h = simp xor_assoc (sym (
-    part 56 x (x % 256) (x / 256) refl refl
-    ∙ ap (bit_xor (steps 64 (x % 256))) (part 48 (x / 256) (x / 256 % 256) (x / 65536) refl (omega arith)
-    ∙ ap (bit_xor (steps 56 (x / 256 % 256))) (part 40 (x / 65536) (x / 65536 % 256) (x / 16777216) refl (omega arith)
-    ∙ ap (bit_xor (steps 48 (x / 65536 % 256))) (part 32 (x / 16777216) (x / 16777216 % 256) (x / 4294967296) refl (omega arith)
-    ∙ ap (bit_xor (steps 40 (x / 16777216 % 256))) (part 24 (x / 4294967296) (x / 4294967296 % 256) (x / 1099511627776) refl (omega arith)
-    ∙ ap (bit_xor (steps 32 (x / 4294967296 % 256))) (part 16 (x / 1099511627776) (x / 1099511627776 % 256) (x / 281474976710656) refl (omega arith)
-    ∙ ap (bit_xor (steps 24 (x / 1099511627776 % 256))) (part 8 (x / 281474976710656) (x / 281474976710656 % 256) (x / 72057594037927936) refl (omega arith)
-    ∙ ap (bit_xor (steps 16 (x / 281474976710656 % 256))) (ap (steps 8) (let e : x / 72057594037927936 ≡ x / 72057594037927936 % 256 = omega arith in e))))))))))
+-- the four bytes of a word, each divided by itself
+pub steps-word : (n x : ℕ) → x < 2 ^ 32 →
+    bit_xor (bit_xor (steps (8 * (4 * n + 3 + 1)) (x % 256)) (steps (8 * (4 * n + 2 + 1)) (x / 256 % 256)))
+    (bit_xor (steps (8 * (4 * n + 1 + 1)) (x / 65536 % 256)) (steps (8 * (4 * n + 1)) (x / 16777216 % 256)))
+    ≡ steps (32 * (n + 1)) x
+steps-word n x h =
+    let k : ℕ = 32 * n in
+    let a : 8 * (4 * n + 3 + 1) ≡ 32 + k = omega arith in
+    let b : 8 * (4 * n + 2 + 1) ≡ 24 + k = omega arith in
+    let c : 8 * (4 * n + 1 + 1) ≡ 16 + k = omega arith in
+    let d : 8 * (4 * n + 1) ≡ 8 + k = omega arith in
+    let whole : 32 * (n + 1) ≡ 32 + k = omega arith in
+    let second : x / 256 / 256 ≡ x / 65536 = omega arith in
+    let third : x / 65536 / 256 ≡ x / 16777216 = omega arith in
+    let fourth : x / 16777216 ≡ x / 16777216 % 256 = omega arith in
+    let back : ℕ = bit_xor (steps (16 + k) (x / 65536 % 256)) (steps (8 + k) (x / 16777216 % 256)) in
+    rw (a, b, c, d, whole) (xor_assoc (steps (32 + k) (x % 256)) (steps (24 + k) (x / 256 % 256)) back
+    ∙ sym (steps-parts (32 + k) 8 (24 + k) x (omega arith)
+    ∙ ap (bit_xor (steps (32 + k) (x % 256))) (steps-parts (24 + k) 8 (16 + k) (x / 256) (omega arith)
+    ∙ ap (bit_xor (steps (24 + k) (x / 256 % 256)))
+    (ap (steps (16 + k)) second ∙ steps-parts (16 + k) 8 (8 + k) (x / 65536) (omega arith)
+    ∙ ap (bit_xor (steps (16 + k) (x / 65536 % 256))) (ap (steps (8 + k)) (third ∙ fourth))))))
 
--- the number of eight bytes
-pub number-word : (bytes : List ℕ) → length bytes ≡ 8 → number_of bytes ≡ from_le_bytes w64 bytes
+-- the four words of sixteen bytes, each divided by itself
+pub steps-block : (x : ℕ) →
+    bit_xor (steps 128 (x % 4294967296)) (bit_xor (steps 96 (x / 4294967296 % 4294967296))
+    (bit_xor (steps 64 (x / 4294967296 / 4294967296 % 4294967296))
+    (steps 32 (x / 4294967296 / 4294967296 / 4294967296)))) ≡ steps 128 x
+steps-block x =
+    sym (steps-parts 128 32 96 x refl
+    ∙ ap (bit_xor (steps 128 (x % 4294967296))) (steps-parts 96 32 64 (x / 4294967296) refl
+    ∙ ap (bit_xor (steps 96 (x / 4294967296 % 4294967296))) (steps-parts 64 32 32 (x / 4294967296 / 4294967296) refl)))
+
+-- the number of four bytes, and of sixteen
+pub number-word : (bytes : List ℕ) → length bytes ≡ 4 → number_of bytes ≡ from_le_bytes w32 bytes
 unfolding number_of
-number-word (a ∷ b ∷ c ∷ d ∷ e ∷ f ∷ g ∷ h ∷ []) p = omega arith
+number-word (a ∷ b ∷ c ∷ d ∷ []) p = omega arith
 number-word _ p = absurd (omega arith)
+
+pub number-block : (bytes : List ℕ) → length bytes ≡ 16 → number_of bytes ≡ from_le_bytes w128 bytes
+unfolding number_of
+number-block (a ∷ b ∷ c ∷ d ∷ e ∷ f ∷ g ∷ h ∷ i ∷ j ∷ k ∷ l ∷ m ∷ n ∷ o ∷ p ∷ []) q = omega arith
+number-block _ q = absurd (omega arith)
 
 -- the division goes on from what the front left
 pub remainder_after-append : (left : ℕ) (a b : List ℕ) → remainder_after left (a ++ b) ≡ remainder_after (remainder_after left a) b
@@ -120,6 +151,11 @@ remainder_after-split left n bytes =
 pub steps-next : (left byte : ℕ) → byte < 256 → steps 8 (bit_xor left byte) ≡ bit_xor (steps 8 (bit_xor (left % 256) byte)) (left / 256)
 unfolding steps
 steps-next left byte h =
-    part 0 (bit_xor left byte) (bit_xor (left % 256) byte) (left / 256)
-    (xor_mod left byte 8 ∙ ap (bit_xor (left % 256)) (let e : byte % 256 ≡ byte = omega arith in e))
-    (xor_shr left byte 8 ∙ ap (bit_xor (left / 256)) (let e : byte / 256 ≡ 0 = omega arith in e) ∙ xor_zero_r (left / 256))
+    let small : byte % 256 ≡ byte = omega arith in
+    let none : byte / 256 ≡ 0 = omega arith in
+    let low : bit_xor left byte % 256 ≡ bit_xor (left % 256) byte =
+    xor_mod left byte 8 ∙ ap (bit_xor (left % 256)) small in
+    let high : bit_xor left byte / 256 ≡ left / 256 =
+    xor_shr left byte 8 ∙ ap (bit_xor (left / 256)) none ∙ xor_zero_r (left / 256) in
+    steps-parts 8 8 0 (bit_xor left byte) refl ∙ ap (λ (x : ℕ). bit_xor (steps 8 x) (bit_xor left byte / 256)) low
+    ∙ ap (bit_xor (steps 8 (bit_xor (left % 256) byte))) high

@@ -13,8 +13,9 @@ loop-byte-preserved c =
     let bytes = c.args.bytes.now in
     let byte : ℕ = get_or bytes i 0 in
     let left : ℕ = c.loop-byte.left in
-    let next : bit_xor c.steps_8.result (left / 256) ≡ steps 8 (bit_xor left byte) =
-    ap (λ (x : ℕ). bit_xor x (left / 256)) (c.steps_8.ensures ∙ ap (λ (x : ℕ). steps 8 (bit_xor x byte)) (and_mask left 8))
+    let next : bit_xor c.byte_steps.result (left / 256) ≡ steps 8 (bit_xor left byte) =
+    ap (λ (x : ℕ). bit_xor x (left / 256)) (c.byte_steps.ensures
+    ∙ ap (λ (x : ℕ). steps 8 (bit_xor x byte)) (and_mask left 8))
     ∙ sym (steps-next left byte (omega (arith, c.type_inv.bytes i))) in
     let within : i < length bytes = omega arith in
     let front : drop i bytes ≡ byte ∷ drop (i + 1) bytes = rw (add-one, drop-cons bytes i 0) refl in
