@@ -1,4 +1,6 @@
 //! What wakes the threads that wait for their turn.
+use share_model::NoMemory;
+use std::alloc::Global;
 use std::sync::{Condvar, Mutex, Wait};
 
 /// How often it rang, and how many threads sleep until it rings again.
@@ -49,5 +51,35 @@ impl Bell {
             .wait_while(rt, rings, |rings| rings.count == heard);
         rings.asleep = rings.asleep.saturating_sub(1);
         rings.count
+    }
+}
+
+/// A bell for each seat. Of the tickets that wait at a time no two have one bell, so a ring wakes the next thread and
+/// no other.
+#[derive(Drop)]
+pub struct Bells {
+    first: Bell,
+    others: Vec<Bell>,
+}
+
+impl Bells {
+    pub fn for_seats(alloc: Global, seats: u32) -> Result<Bells, NoMemory> {
+        let mut others = Vec::new(alloc);
+        for _ in 1..seats {
+            others.push(Bell::new())?;
+        }
+        Ok(Bells {
+            first: Bell::new(),
+            others,
+        })
+    }
+
+    /// The bell of a ticket.
+    pub fn for_ticket(&self, ticket: u64) -> &Bell {
+        let seats = self.others.len() as u64 + 1;
+        match self.others.get((ticket % seats) as usize) {
+            Some(bell) => bell,
+            None => &self.first,
+        }
     }
 }
