@@ -80,6 +80,7 @@ pub fn go_on<C: Call>(
 ) -> Result<Stage<Asking<C, C::Question, C::Row>>, NoMemory>
     ensures { IfOk result (λ stage. stage ≡ stage_of C.acts call left.items rows.items) }
 {
+    rows.reserve(left.len())?;
     while let Some(entry) = left.pop_front() {
         match entry {
             Entry::Known(row) => rows.push_back(row)?,
@@ -93,6 +94,7 @@ pub fn go_on<C: Call>(
             }
         }
     }
+    drop(left);
     let body = call.body(alloc, rows)?;
     Ok(Stage::Says(body))
 }

@@ -8,7 +8,7 @@ ghost use Rattle.conn_core.specs.Beginning.{Begins, metadata_begins, coordinator
 ghost use Rattle.conn_core.specs.Beginning.{heartbeat_begins, initialize_begins, read_begins, write_begins, delete_begins};
 
 use crate::begun::Begun;
-use crate::coordinators::coordinator_reply;
+use crate::coordinators::coordinator_body;
 use crate::hand::{Hand, under_name};
 use crate::metadata::metadata_reply;
 use crate::versions::versions_reply;
@@ -16,7 +16,7 @@ use call_fold::Stage;
 use log_calls::produce_call;
 use msgs_base::{
     ApiVersionsRequest, FindCoordinatorRequest, MetadataRequest, ProduceRequest,
-    write_api_versions_reply, write_find_coordinator_reply, write_metadata_reply,
+    write_api_versions_reply, write_metadata_reply,
 };
 use msgs_group::HeartbeatRequest;
 use msgs_share::{ShareAckRequest, ShareFetchRequest};
@@ -79,8 +79,7 @@ impl Request for FindCoordinatorRequest {
     ghost begins = { coordinator_begins };
 
     fn begin(self, alloc: Global, conf: &Config, _: &Sessions) -> Result<Begun, NoMemory> {
-        let reply = coordinator_reply(alloc, conf, self)?;
-        let body = write_find_coordinator_reply(alloc, &reply)?;
+        let body = coordinator_body(alloc, conf, &self)?;
         replied!(body)
     }
 }

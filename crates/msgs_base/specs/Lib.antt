@@ -1,6 +1,7 @@
 pub mod ApiVersionsOldReply
 pub mod ApiVersionsReply
 pub mod ApiVersionsRequest
+pub mod CoordinatorOfAll
 pub mod Counted
 pub mod CountedRead
 pub mod FindCoordinatorReply
@@ -10,3 +11,4 @@ pub mod MetadataRequest
 pub mod OldReply
 pub mod ProduceRequest
 pub mod ProduceReply
+pub mod Texts

@@ -2,9 +2,10 @@ ghost use Rattle.std.specs.Prelude.{IfOk};
 ghost use Rattle.flex_fields.specs.Formats.{ReadsWhole, IsSpelling};
 ghost use Rattle.msgs_base.specs.FindCoordinatorRequest.{find_coordinator_request};
 
+use crate::texts::Texts;
 use flex_fields::{
-    Bytes, Cursor, Items, NoMemory, Out, Text, Wire, WireFault, put_structure, read_whole,
-    take_structure, write_whole,
+    Bytes, Cursor, NoMemory, Out, Wire, WireFault, put_structure, read_whole, take_structure,
+    write_whole,
 };
 use std::alloc::Global;
 
@@ -12,7 +13,7 @@ use std::alloc::Global;
 #[derive(Debug, Drop)]
 pub struct FindCoordinatorRequest {
     pub key_type: i8,
-    pub coordinator_keys: Items<Text>,
+    pub coordinator_keys: Texts,
 }
 
 impl Wire for FindCoordinatorRequest {

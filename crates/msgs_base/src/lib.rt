@@ -7,6 +7,7 @@
 mod api_versions_old_reply;
 mod api_versions_reply;
 mod api_versions_request;
+mod coordinator_of_all;
 mod counted;
 mod find_coordinator_reply;
 mod find_coordinator_request;
@@ -14,6 +15,7 @@ mod metadata_reply;
 mod metadata_request;
 mod produce_reply;
 mod produce_request;
+mod texts;
 
 pub use api_versions_old_reply::{
     ApiVersionsOldReply, OldApiVersion, read_api_versions_old_reply, write_api_versions_old_reply,
@@ -24,6 +26,7 @@ pub use api_versions_reply::{
 pub use api_versions_request::{
     ApiVersionsRequest, read_api_versions_request, write_api_versions_request,
 };
+pub use coordinator_of_all::{CoordinatorOfAll, write_coordinator_of_all};
 pub use find_coordinator_reply::{
     Coordinator, FindCoordinatorReply, read_find_coordinator_reply, write_find_coordinator_reply,
 };
@@ -44,3 +47,4 @@ pub use produce_reply::{
 pub use produce_request::{
     ProducePartition, ProduceRequest, ProduceTopic, read_produce_request, write_produce_request,
 };
+pub use texts::Texts;

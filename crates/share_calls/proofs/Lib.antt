@@ -1,5 +1,6 @@
 -- Lists: loops that put what they find behind a list. Grouping: rows under their topics. Places: the partition of a shard.
 -- Placing: the partitions of a ShareAcknowledge, each with its row or its visit.
+-- Replying: the reply to ShareFetch, written from its fields.
 -- Elements: each topic with rows has one element of the reply.
 -- FetchTalked, AckTalked: each partition is told by its own visit.
 pub mod Lists
@@ -9,3 +10,4 @@ pub mod Placing
 pub mod FetchTalked
 pub mod AckTalked
 pub mod Elements
+pub mod Replying

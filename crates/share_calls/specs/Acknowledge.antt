@@ -40,7 +40,7 @@ use Rattle.share_calls.specs.declared.partition.PartitionId.{PartitionId}
 use Rattle.share_calls.specs.declared.visiting.Visiting.{Visiting}
 use Rattle.share_calls.specs.declared.acknowledge.AckHand.{AckHand}
 use Rattle.share_calls.specs.Codes.{ack_code, unhosted_code}
-use Rattle.share_calls.specs.Fetch.{leader}
+use Rattle.share_calls.specs.FetchedRows.{leader}
 use Rattle.share_calls.specs.Shapes.{TopicShapeParts}
 use Rattle.share_calls.specs.Visits.{visit_of, untold, told_rows}
 

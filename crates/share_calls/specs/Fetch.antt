@@ -16,7 +16,6 @@ use Rattle.share_model.specs.declared.visit.VisitAnswer.{VisitAnswer}
 use Rattle.topic_conf.specs.Configs.{ConfigParts}
 use Rattle.topic_conf.specs.declared.topic.Topic.{Topic}
 use Rattle.topic_conf.specs.Topics.{shard_at}
-use Rattle.msgs_share.specs.declared.nodes.CurrentLeader.{CurrentLeader}
 use Rattle.msgs_share.specs.declared.share_fetch_reply.AcquiredRecords.{AcquiredRecords}
 use Rattle.msgs_share.specs.declared.share_fetch_reply.FetchedPartition.{FetchedPartition}
 use Rattle.msgs_share.specs.declared.share_fetch_request.ShareFetchRequest.{ShareFetchRequest}
@@ -46,6 +45,7 @@ use Rattle.share_calls.specs.declared.visiting.Visiting.{Visiting}
 use Rattle.share_calls.specs.declared.fetch.FetchHand.{FetchHand}
 use Rattle.share_calls.specs.declared.fetch_rows.FetchRow.{FetchRow}
 use Rattle.share_calls.specs.Codes.{ack_code, fetch_code, unhosted_code}
+use Rattle.share_calls.specs.FetchedRows.{leader}
 use Rattle.share_calls.specs.Partitions.{partition_of}
 use Rattle.share_calls.specs.Rows.{grouped, topics_of}
 use Rattle.share_calls.specs.Visits.{visit_of, untold, told_rows}
@@ -83,10 +83,7 @@ then_of hand Nothing = ThenNothing
 then_of hand Release = ThenRelease
 then_of hand Fetch = ThenFetch hand.records hand.bytes hand.first
 
--- ---- what the reply tells of a partition; no message is ever told, and the leader of each is this broker
-
-abbrev pub leader : CurrentLeader
-leader = record { leader_id = pos 1; leader_epoch = pos 0 }
+-- ---- what the reply tells of a partition; no message is ever told
 
 abbrev pub acquired : Grant → AcquiredRecords
 acquired g = record { first_offset = pos g.first; last_offset = pos g.last; delivery_count = pos g.count }

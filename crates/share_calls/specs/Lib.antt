@@ -4,6 +4,7 @@ pub mod Visits
 pub mod Changes
 pub mod Heartbeats
 pub mod Rows
+pub mod FetchedRows
 pub mod Fetch
 pub mod Shapes
 pub mod Acknowledge

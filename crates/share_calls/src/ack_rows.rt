@@ -2,7 +2,7 @@
 ghost use Rattle.std.specs.Prelude.{◌≡◌, map, take, drop, IfOk, OnOk};
 ghost use Rattle.share_calls.specs.Acknowledge.{acknowledged, shape_of, rows_by_topic};
 
-use crate::fetch_rows::leader;
+use crate::fetched_row::leader;
 use call_fold::next_rows;
 use flex_fields::Items;
 use msgs_share::{AcknowledgedPartition, SharePartition, ShareTopic};

@@ -48,7 +48,7 @@ impl Call for AckHand {
     ghost acts = { ack_acts };
 
     fn part(&self, alloc: Global, question: &Visiting) -> Result<Part, NoMemory> {
-        let step = &question.step;
+        let step = question.step.step();
         Ok(Part::Visit {
             shard: step.shard,
             visit: visit_of(alloc, step, ack_then(step.purpose))?,
@@ -121,12 +121,13 @@ fn ack_stage(
 {
     let mut left = VecDeque::new(alloc);
     place_all(
+        alloc,
         conf,
         request.topics.as_slice(),
         VecDeque::from(told),
         &mut left,
     )?;
-    push_untold(closed, &mut left)?;
+    push_untold(alloc, closed, &mut left)?;
     let hand = AckHand {
         shape: shapes_of(alloc, &request.topics)?,
     };

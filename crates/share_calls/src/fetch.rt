@@ -7,14 +7,14 @@ ghost use Rattle.share_calls.specs.Visits.{told_rows, untold};
 ghost use Rattle.share_calls.specs.Changes.{Fits};
 
 use crate::fetch_rows::{FetchRow, fetch_row, push_all_unhosted};
+use crate::fetched_row::FetchedRow;
 use crate::groups::topics_of;
+use crate::kept_step::KeptStep;
 use crate::partition::partition_of;
 use crate::visiting::{Visiting, push_untold, visit_of};
 use call_fold::{Asking, Call, Entry, Part, PartAnswer, Stage, go_on};
-use flex_fields::{Bytes, Items};
-use msgs_share::{
-    FetchedPartition, ShareFetchReply, ShareFetchRequest, ShareTopic, write_share_fetch_reply,
-};
+use flex_fields::{Bytes, Items, Out, Text, put_fields};
+use msgs_share::{NodeEndpoint, ShareFetchRequest, ShareTopic};
 use share_model::{Code, Grant, NoMemory, Then, VisitAnswer};
 use share_session::{Planned, Purpose, SessionChange, Sessions, VisitPlan};
 use std::alloc::Global;
@@ -107,7 +107,7 @@ impl Call for FetchHand {
     ghost acts = { fetch_acts };
 
     fn part(&self, alloc: Global, question: &Visiting) -> Result<Part, NoMemory> {
-        let step = &question.step;
+        let step = question.step.step();
         Ok(Part::Visit {
             shard: step.shard,
             visit: visit_of(alloc, step, self.then_of(step.purpose))?,
@@ -125,7 +125,7 @@ impl Call for FetchHand {
             PartAnswer::Visit(answer) => {
                 self.count(&answer);
                 match told {
-                    Some(id) => Ok(Some(fetch_row(alloc, step.purpose, id, answer)?)),
+                    Some(id) => Ok(Some(fetch_row(alloc, step.step().purpose, id, answer)?)),
                     None => Ok(None),
                 }
             }
@@ -154,21 +154,20 @@ fn reply_with(
     alloc: Global,
     lock_ms: i32,
     code: Code,
-    responses: Items<ShareTopic<FetchedPartition>>,
+    responses: Items<ShareTopic<FetchedRow>>,
 ) -> Result<Bytes, NoMemory>
     ensures { IfOk result (λ body. body ≡ fetch_reply lock_ms code.0 responses) }
 {
-    write_share_fetch_reply(
-        alloc,
-        &ShareFetchReply {
-            throttle_time_ms: 0,
-            error_code: code.0,
-            error_message: None,
-            acquisition_lock_timeout_ms: lock_ms,
-            responses,
-            node_endpoints: Items::new(Vec::new(alloc)),
-        },
-    )
+    let mut out = Out::new(alloc);
+    let throttle_time_ms: i32 = 0;
+    let error_message: Option<Text> = None;
+    let node_endpoints: Items<NodeEndpoint> = Items::new(Vec::new(alloc));
+    let told = (&lock_ms, (&responses, &node_endpoints));
+    put_fields(
+        &mut out,
+        (&throttle_time_ms, (&code.0, (&error_message, told))),
+    )?;
+    Ok(out.into_bytes())
 }
 
 // The body of the reply to a request that is refused as a whole: it tells no partition.
@@ -185,6 +184,7 @@ fn refused_fetch(alloc: Global, conf: &Config, code: Code) -> Result<Bytes, NoMe
 
 // Steps are put behind what is left; the reply tells each by its partition.
 fn push_told(
+    alloc: Global,
     conf: &Config,
     steps: VisitPlan,
     left: &mut VecDeque<Entry<Visiting, Option<FetchRow>>>,
@@ -193,6 +193,7 @@ fn push_told(
 {
     for step in steps {
         let told = partition_of(conf.topics(), step.shard);
+        let step = KeptStep::new(alloc, step)?;
         left.push_back(Entry::Ask(Visiting { step, told }))?;
     }
     Ok(())
@@ -218,9 +219,9 @@ fn fetch_stage(
         ++ (map (told conf.now.topics) steps.items ++ (map untold closed.items ++ map known (unhosted conf.now.topics request.now)))) []) }
 {
     let mut left = VecDeque::new(alloc);
-    push_untold(released, &mut left)?;
-    push_told(conf, steps, &mut left)?;
-    push_untold(closed, &mut left)?;
+    push_untold(alloc, released, &mut left)?;
+    push_told(alloc, conf, steps, &mut left)?;
+    push_untold(alloc, closed, &mut left)?;
     push_all_unhosted(alloc, conf, request.topics.as_slice(), &mut left)?;
     let hand = FetchHand {
         lock_ms: conf.lock_ms() as i32,

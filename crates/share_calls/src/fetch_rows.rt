@@ -3,16 +3,15 @@ ghost use Rattle.std.specs.Prelude.{◌≡◌, ◌++◌, ◌+◌, ◌<◌, ◌^�
 ghost use Rattle.std.specs.List.{filter_map};
 ghost use Rattle.call_fold.specs.Parts.{IsTellableGrant, IsTellableVisit};
 ghost use Rattle.share_session.specs.Requests.{topic_entries, entries};
-ghost use Rattle.share_calls.specs.Fetch.{leader, acquired, fetch_row, unhosted_row, unhosted_of, known};
+ghost use Rattle.share_calls.specs.Fetch.{acquired, fetch_row, unhosted_row, unhosted_of, known};
 
 use crate::codes::{ack_code, fetch_code, unhosted_code};
+use crate::fetched_row::{FetchedRow, leader};
 use crate::partition::PartitionId;
 use crate::visiting::Visiting;
 use call_fold::Entry;
 use flex_fields::Items;
-use msgs_share::{
-    AcquiredRecords, CurrentLeader, FetchedPartition, Records, SharePartition, ShareTopic,
-};
+use msgs_share::{AcquiredRecords, FetchedPartition, Records, SharePartition, ShareTopic};
 use share_model::{Blob, Code, Grant, NoMemory, VisitAnswer};
 use share_session::Purpose;
 use std::alloc::Global;
@@ -24,7 +23,7 @@ use uuid::Uuid;
 #[derive(Drop)]
 pub struct FetchRow {
     pub topic_id: Uuid,
-    pub partition: FetchedPartition,
+    pub partition: FetchedRow,
 }
 
 fn acquired(grant: &Grant) -> AcquiredRecords
@@ -48,16 +47,6 @@ fn all_acquired(alloc: Global, grants: &[Grant]) -> Result<Items<AcquiredRecords
         records.push(acquired(grant))?;
     }
     Ok(Items::new(records))
-}
-
-/// The leader of each partition: this broker.
-pub fn leader() -> CurrentLeader
-    ensures { result ≡ leader }
-{
-    CurrentLeader {
-        leader_id: 1,
-        leader_epoch: 0,
-    }
 }
 
 /// The most bytes whose number and one have 32 bits.
@@ -91,18 +80,19 @@ pub fn fetch_row(
         batches,
         ..
     } = answer;
+    let told = FetchedPartition {
+        partition_index: id.index,
+        error_code: fetch_code(purpose, then).0,
+        error_message: None,
+        acknowledge_error_code: ack_code(ack).0,
+        acknowledge_error_message: None,
+        current_leader: leader(),
+        records: Some(records_of(batches)?),
+        acquired_records,
+    };
     Ok(FetchRow {
         topic_id: id.topic_id,
-        partition: FetchedPartition {
-            partition_index: id.index,
-            error_code: fetch_code(purpose, then).0,
-            error_message: None,
-            acknowledge_error_code: ack_code(ack).0,
-            acknowledge_error_message: None,
-            current_leader: leader(),
-            records: Some(records_of(batches)?),
-            acquired_records,
-        },
+        partition: FetchedRow::visited(alloc, told)?,
     })
 }
 
@@ -117,16 +107,7 @@ fn unhosted_row(alloc: Global, code: Code, topic_id: Uuid, partition: &SharePart
     };
     FetchRow {
         topic_id,
-        partition: FetchedPartition {
-            partition_index: partition.partition_index,
-            error_code: code.0,
-            error_message: None,
-            acknowledge_error_code: ack.0,
-            acknowledge_error_message: None,
-            current_leader: leader(),
-            records: Some(Items::new(Vec::new(alloc))),
-            acquired_records: Items::new(Vec::new(alloc)),
-        },
+        partition: FetchedRow::refused(alloc, partition.partition_index, code, ack),
     }
 }
 
@@ -156,7 +137,9 @@ fn push_unhosted(
 ) -> Result<(), NoMemory>
     ensures { OnOk result (left.new.items ≡ left.old.items ++ map known (filter_map (unhosted_of conf.now.topics) (topic_entries topic.now))) }
 {
-    for partition in topic.partitions.as_slice() {
+    let partitions = topic.partitions.as_slice();
+    left.reserve(partitions.len())?;
+    for partition in partitions {
         if let Some(row) = unhosted_of(alloc, conf, topic.topic_id, partition) {
             left.push_back(Entry::Known(Some(row)))?;
         }

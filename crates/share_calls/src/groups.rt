@@ -5,15 +5,16 @@ ghost use Rattle.share_calls.specs.Visits.{told_rows};
 ghost use Rattle.share_calls.specs.Rows.{with_row, grouped, topics_of};
 
 use crate::fetch_rows::FetchRow;
+use crate::fetched_row::FetchedRow;
 use flex_fields::Items;
 use indexmap::IndexMap;
-use msgs_share::{FetchedPartition, ShareTopic};
+use msgs_share::ShareTopic;
 use share_model::NoMemory;
 use std::alloc::Global;
 use std::collections::VecDeque;
 use uuid::Uuid;
 
-type Groups = IndexMap<Uuid, Vec<FetchedPartition>>;
+type Groups = IndexMap<Uuid, Vec<FetchedRow>>;
 
 // A row goes under its topic, which stands last where it had none.
 fn put_row(alloc: Global, groups: &mut Groups, row: FetchRow) -> Result<(), NoMemory>
@@ -56,7 +57,7 @@ fn items<T: Drop>(list: Vec<T>) -> Result<Items<T>, NoMemory>
     Ok(Items::new(list))
 }
 
-fn topics_in(alloc: Global, groups: Groups) -> Result<Items<ShareTopic<FetchedPartition>>, NoMemory>
+fn topics_in(alloc: Global, groups: Groups) -> Result<Items<ShareTopic<FetchedRow>>, NoMemory>
     ensures { IfOk result (λ topics. topics ≡ topics_of (map (λ g. (g.0, g.1.items)) groups.entries)) }
 {
     let mut topics = Vec::with_capacity(alloc, groups.len())?;
@@ -74,7 +75,7 @@ fn topics_in(alloc: Global, groups: Groups) -> Result<Items<ShareTopic<FetchedPa
 pub fn topics_of(
     alloc: Global,
     rows: VecDeque<Option<FetchRow>>,
-) -> Result<Items<ShareTopic<FetchedPartition>>, NoMemory>
+) -> Result<Items<ShareTopic<FetchedRow>>, NoMemory>
     ensures { IfOk result (λ topics. topics ≡ topics_of (grouped (map row_of_topic (told_rows rows.items)))) }
 {
     let groups = group(alloc, rows)?;

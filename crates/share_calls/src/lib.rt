@@ -9,8 +9,10 @@ mod acknowledge;
 mod codes;
 mod fetch;
 mod fetch_rows;
+mod fetched_row;
 mod groups;
 mod heartbeat;
+mod kept_step;
 mod law;
 mod partition;
 mod visiting;
@@ -19,7 +21,9 @@ pub use ack_rows::TopicShape;
 pub use acknowledge::{AckHand, AckStage, ack_call};
 pub use fetch::{FetchHand, FetchStage, fetch_call};
 pub use fetch_rows::FetchRow;
+pub use fetched_row::FetchedRow;
 pub use heartbeat::{HeartbeatHand, HeartbeatStage, heartbeat_call};
+pub use kept_step::KeptStep;
 pub use law::{
     a_heartbeat_is_told_by_its_own_answer, each_acknowledged_partition_is_told_by_its_own_visit,
     each_fetched_partition_is_told_by_its_own_visit, each_shard_is_told_by_its_partition,
