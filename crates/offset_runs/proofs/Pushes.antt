@@ -1,5 +1,6 @@
 -- A run that is put behind the others.
 use Rattle.std.proofs.Common.{◌≡◌, ℕ, zero, suc, Bool, true, false, cond, List, [], ◌∷◌, ◌++◌, length, get_or, set, refl, ap, ◌∙◌, sym, arith}
+use Rattle.std.specs.Prelude.{Result, Ok, Err, IsOk, is_ok, if◌then◌else◌}
 use Rattle.share_model.specs.declared.run.Run.{Run}
 use Rattle.offset_runs.specs.Parts.{touches, join}
 
@@ -26,3 +27,8 @@ push-apart (w ∷ w2 ∷ xs) (suc k) y z count at_z apart = ap (λ (l : List Run
 pub push-empty : (xs : List Run) (y : Run) → length xs ≡ 0 → xs ++ y ∷ [] ≡ join xs (y ∷ [])
 push-empty [] y count = refl
 push-empty (w ∷ xs) y count = absurd (omega arith)
+
+-- a push that didn't fail
+pub pushed : {T E : Type 0} (result : Result T E) (new old more : List Run) → IsOk result → new ≡ (if is_ok result then more else old) → new ≡ more
+pushed (Ok x) new old more ok e = e
+pushed (Err x) new old more ok e = let never : false ≡ true = ok in absurd cc

@@ -7,7 +7,7 @@ use Rattle.std.specs.Option.{option_or}
 use Rattle.share_model.specs.Runs.{row_of, row_at, IsCanonical}
 use Rattle.share_model.specs.declared.row.Row.{Row}
 use Rattle.share_model.specs.declared.run.Run.{Run}
-use Rattle.offset_runs.proofs.Joins.{choose, join-canonical, join-row_at, join-back, EndsBelow-more, EndsBelow-join}
+use Rattle.offset_runs.proofs.Joins.{choose, join-canonical, join-row_at, join-front, join-back, EndsBelow-more, EndsBelow-join}
 use Rattle.offset_runs.proofs.Places.{drop-whole}
 use Rattle.offset_runs.proofs.Cuts.{before-row_at, before-canonical, before-ends, from_on-row_at, from_on-canonical, from_on-starts}
 use Rattle.offset_runs.specs.Parts.{touches, join, before, from_on, maybe_run, put_over, EndsBelow}
@@ -118,3 +118,15 @@ put_parts xs front back new pieces start end left right middle same same2 before
     ∙ pieces_between (take start xs) (drop end xs) left right middle (none_before left start xs no_left) (none_behind right end xs no_right2)
     ∙ ap (λ (l : List Run). join (join l (middle ∷ [])) (maybe_run right ++ drop end xs)) (sym before2)
     ∙ ap (λ (l : List Run). join (join (before xs middle.first) (middle ∷ [])) l) (sym behind2)
+
+-- the run of a range, once it is joined to what is left before it and behind it
+pub pieces_joined : (left l right r : Option Run) (middle m n : Run) → maybe_run l ++ m ∷ [] ≡ join (maybe_run left) (middle ∷ [])
+    → n ∷ maybe_run r ≡ join (m ∷ []) (maybe_run right)
+    → maybe_run l ++ n ∷ maybe_run r ≡ join (join (maybe_run left) (middle ∷ [])) (maybe_run right)
+pieces_joined left l right r middle m n before_is behind_is =
+    ap (λ (xs : List Run). maybe_run l ++ xs) behind_is ∙ sym (join-front (maybe_run l) m (maybe_run right))
+    ∙ ap (λ (xs : List Run). join xs (maybe_run right)) before_is
+
+pub maybe_few : (run : Option Run) → length (maybe_run run) ≤ 1
+maybe_few None = omega arith
+maybe_few (Some x) = omega arith

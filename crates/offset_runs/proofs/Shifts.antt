@@ -1,35 +1,42 @@
 -- Runs that are moved within their list.
 use Rattle.std.proofs.Common.{◌≡◌, ℕ, suc, ◌+◌, ◌-◌, ◌<◌, ◌≤◌, max, true, false, cond, set, List}
-use Rattle.std.proofs.Common.{[], ◌∷◌, length, get_or, take, drop, refl, ap, ◌∙◌, sym, arith}
-use Rattle.std.proofs.lemmas.List.{ext_get_or, get_or-drop, get_or-take, length-drop, length-take, nil_from_length}
-use Rattle.std.specs.Prelude.{None, nat_lt}
-use Rattle.std.specs.Iterator.{Yields}
-use Rattle.std.specs.Vec.Iter.{into_iter_steps, into_iter_items, into_iter_len}
-use Rattle.std.specs.declared.vec.IntoIter.{IntoIter}
-use Rattle.std.specs.declared.alloc.Global.{Global}
-use Rattle.share_model.specs.declared.row.RowState.TheVariants.{Available}
+use Rattle.std.proofs.Common.{[], ◌∷◌, ◌++◌, length, get_or, take, drop, refl, ap, ◌∙◌, sym, arith, append_assoc}
+use Rattle.std.proofs.lemmas.List.{drop_at, drop-set-lt, length-append, length-drop, length-take, nil_from_length, take_at, take_more_set, take_rest}
+use Rattle.std.specs.List.{copy_within, insert}
+use Rattle.std.specs.Prelude.{nat_lt}
 use Rattle.share_model.specs.declared.run.Run.{Run}
 use Rattle.offset_runs.specs.Parts.{end_count, from_on, run_from}
 
--- what comes out of a vector
-pub drained : (xs : List Run) (s t u : IntoIter Run Global) → Yields into_iter_steps s xs t → into_iter_steps t None u → into_iter_len s ≡ length (into_iter_items s) → xs ≡ into_iter_items s
-drained [] s t u yields end len =
-    let none : into_iter_len s ≡ 0 = ap into_iter_len yields ∙ end.0 in
-    sym (nil_from_length (into_iter_items s) (sym len ∙ none))
-drained (x ∷ xs) s t u yields end len =
-    let next = yields.0 in
-    let step = yields.1 in
-    let rest = drained xs next t u yields.2 end (omega (arith, step.1, len, ap length step.0)) in
-    ap (λ (l : List Run). x ∷ l) rest ∙ sym step.0
+-- what stands there once the runs between two places are gone
+pub removed : (xs : List Run) (start end n : ℕ) → start ≤ end → end ≤ length xs → n ≡ length xs - (end - start)
+    → take n (copy_within xs end (length xs) start) ≡ take start xs ++ drop end xs
+removed xs start end n order within count =
+    let back = take (length xs - end) (drop end xs) in
+    let at : length (take start xs ++ back) ≡ n =
+    omega (arith, length-append (take start xs) back, length-take start xs, length-take (length xs - end) (drop end xs), length-drop end xs) in
+    take_at (take start xs ++ back) (drop (start + (length xs - end)) xs) n at ∙ ap (λ (l : List Run). take start xs ++ l) (take_rest xs end)
 
--- what stands in front after each run has moved down by a count
-pub moved_down : (xs ys : List Run) (count n : ℕ) → n ≡ length xs - count → length ys ≡ length xs → count ≤ length xs
-    → ((k : ℕ) (d : Run) → k < n → get_or ys k d ≡ get_or xs (count + k) d) → take n ys ≡ drop count xs
-moved_down xs ys count n rest len within moved =
-    let default : Run = record { first = 0; last = 0; state = Available; count = 0 } in
-    ext_get_or default (take n ys) (drop count xs) (omega (arith, length-take n ys, length-drop count xs))
-    (λ i low. let here : i < n = omega (arith, length-take n ys) in
-    get_or-take n ys i default here ∙ moved i default here ∙ sym (get_or-drop count xs i default))
+-- a run takes the place of another, and the others are put behind it
+pub put_first : (xs rest : List Run) (x : Run) (start end : ℕ) → start < end → end ≤ length xs
+    → take (start + 1) (set xs start x) ++ (rest ++ drop end (set xs start x)) ≡ take start xs ++ ((x ∷ rest) ++ drop end xs)
+put_first xs rest x start end order within =
+    ap (λ (l : List Run). l ++ (rest ++ drop end (set xs start x))) (take_more_set xs start x (omega (arith)))
+    ∙ ap (λ (l : List Run). (take start xs ++ x ∷ []) ++ (rest ++ l)) (drop-set-lt end xs start x order)
+    ∙ append_assoc (take start xs) (x ∷ []) (rest ++ drop end xs)
+
+-- a run comes between others, and the rest is put behind it
+pub insert_first : (xs rest : List Run) (x : Run) (start end : ℕ) → start ≡ end → end ≤ length xs
+    → take (start + 1) (insert xs start x) ++ (rest ++ drop (end + 1) (insert xs start x)) ≡ take start xs ++ ((x ∷ rest) ++ drop end xs)
+insert_first xs rest x start end same within =
+    let p = take start xs ++ x ∷ [] in
+    let parts : insert xs start x ≡ p ++ drop start xs = sym (append_assoc (take start xs) (x ∷ []) (drop start xs)) in
+    let at : length p ≡ start + 1 = omega (arith, length-append (take start xs) (x ∷ []), length-take start xs) in
+    let at2 : length p ≡ end + 1 = omega (arith, at, same) in
+    ap (λ (l : List Run). take (start + 1) l ++ (rest ++ drop (end + 1) l)) parts
+    ∙ ap (λ (l : List Run). l ++ (rest ++ drop (end + 1) (p ++ drop start xs))) (take_at p (drop start xs) (start + 1) at)
+    ∙ ap (λ (l : List Run). p ++ (rest ++ l)) (drop_at p (drop start xs) (end + 1) at2)
+    ∙ append_assoc (take start xs) (x ∷ []) (rest ++ drop start xs)
+    ∙ ap (λ (n : ℕ). take start xs ++ ((x ∷ rest) ++ drop n xs)) same
 
 abbrev first_cut : List Run → ℕ → List Run
 first_cut [] f = []

@@ -7,6 +7,11 @@ use Rattle.share_model.specs.Runs.{row_at}
 use Rattle.share_model.specs.declared.row.Row.{Row}
 use Rattle.share_model.specs.declared.run.Run.{Run}
 
+-- canonical runs, and how many more there can be with no memory
+pub record RunsParts : Type 0 where
+  pub list : List Run
+  pub spare : ℕ
+
 -- each offset from `first` to `last` has this row, and each other offset what it had
 abbrev pub PutsRange : List Run → List Run → ℕ → ℕ → Row → Type 0
 PutsRange old new first last row =

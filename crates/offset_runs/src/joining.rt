@@ -1,8 +1,7 @@
-ghost use Rattle.std.specs.Prelude.{◌≡◌, ◌≤◌, [], ◌∷◌, OnOk, OnErr, IfOk};
+ghost use Rattle.std.specs.Prelude.{◌≡◌, ◌<◌, ◌≤◌, ◌+◌, [], ◌∷◌, ◌++◌, length, vec_len, vec_capacity};
 ghost use Rattle.offset_runs.specs.Parts.{touches, join, maybe_run};
 
 use share_model::Run;
-use std::alloc::{AllocError, Global};
 
 /// Whether the second run begins right behind the first, with the same row, so that the two could be
 /// one.
@@ -16,36 +15,58 @@ pub fn touches(x: &Run, y: &Run) -> bool
         && x.count == y.count
 }
 
-// Puts a run behind the others, and joins it to the last of them where they touch.
-pub(crate) fn push_joined(runs: &mut Vec<Run>, run: Run) -> Result<(), AllocError>
-    ensures ok { OnOk result (runs.new.items ≡ join runs.old.items (run ∷ [])) }
-    ensures err { OnErr result (runs.new.items ≡ runs.old.items) }
+// Puts a run behind the others, where there is room for it, and joins it to the last of them where they touch.
+pub(crate) fn push_joined(runs: &mut Vec<Run>, run: Run)
+    requires { vec_len runs.old < vec_capacity runs.old }
+    ensures runs { runs.new.items ≡ join runs.old.items (run ∷ []) }
+    ensures len { vec_len runs.new ≤ vec_len runs.old + 1 }
+    ensures capacity { vec_capacity runs.old ≤ vec_capacity runs.new }
 {
     let count = runs.len();
     if count > 0 && touches(&runs[count - 1], &run) {
         runs[count - 1].last = run.last;
-        return Ok(());
+        return;
     }
-    runs.push(run)?;
-    Ok(())
+    if let Err(_) = runs.push(run) {
+        unreachable!()
+    }
 }
 
-// What a range is replaced by: what is left of it before and behind, and the range itself.
-pub(crate) fn pieces(
-    alloc: Global,
-    left: Option<Run>,
-    middle: Run,
-    right: Option<Run>,
-) -> Result<Vec<Run>, AllocError>
-    ensures { IfOk result (λ v. v.items ≡ join (join (maybe_run left) (middle ∷ [])) (maybe_run right)) }
+// A run behind another one, with which it is one run where the two touch.
+pub(crate) fn join_behind(left: Option<Run>, run: Run) -> (Option<Run>, Run)
+    ensures joined { maybe_run result.0 ++ result.1 ∷ [] ≡ join (maybe_run left) (run ∷ []) }
 {
-    let mut pieces = Vec::with_capacity(alloc, 3)?;
-    if let Some(run) = left {
-        pieces.push(run)?;
+    let Some(x) = left else {
+        return (None, run);
+    };
+    if touches(&x, &run) {
+        return (
+            None,
+            Run {
+                last: run.last,
+                ..x
+            },
+        );
     }
-    push_joined(&mut pieces, middle)?;
-    if let Some(run) = right {
-        push_joined(&mut pieces, run)?;
+    (left, run)
+}
+
+// A run before another one, with which it is one run where the two touch.
+pub(crate) fn join_before(run: Run, right: Option<Run>) -> (Run, Option<Run>)
+    ensures joined { result.0 ∷ maybe_run result.1 ≡ join (run ∷ []) (maybe_run right) }
+    ensures fewer { length (maybe_run result.1) ≤ length (maybe_run right) }
+{
+    let Some(y) = right else {
+        return (run, None);
+    };
+    if touches(&run, &y) {
+        return (
+            Run {
+                last: y.last,
+                ..run
+            },
+            None,
+        );
     }
-    Ok(pieces)
+    (run, right)
 }

@@ -1,4 +1,4 @@
-ghost use Rattle.std.specs.Prelude.{◌≡◌, ◌++◌, [], ◌∷◌, OnOk, IfOk, IfNone};
+ghost use Rattle.std.specs.Prelude.{◌≡◌, ◌<◌, ◌≤◌, ◌+◌, ◌*◌, ◌++◌, [], ◌∷◌, length, vec_len, vec_capacity, IfNone};
 ghost use Rattle.offset_runs.specs.Changes.{Overlays};
 ghost use Rattle.offset_runs.specs.Parts.{before, join, maybe_run};
 ghost use Rattle.share_model.specs.Runs.{IsCanonical};
@@ -6,7 +6,6 @@ ghost use Rattle.share_model.specs.Runs.{IsCanonical};
 use crate::joining::push_joined;
 use crate::parts::{run_before, run_behind};
 use share_model::Run;
-use std::alloc::{AllocError, Global};
 
 // The first run, and the others.
 fn first_and_rest(runs: &[Run]) -> (Option<Run>, &[Run])
@@ -20,54 +19,67 @@ fn first_and_rest(runs: &[Run]) -> (Option<Run>, &[Run])
 }
 
 // Writes the part of a run below an offset.
-fn push_before(out: &mut Vec<Run>, run: Run, offset: u64) -> Result<(), AllocError>
-    ensures ok { OnOk result (out.new.items ≡ join out.old.items (before (run ∷ []) offset)) }
+fn push_before(out: &mut Vec<Run>, run: Run, offset: u64)
+    requires { vec_len out.old < vec_capacity out.old }
+    ensures runs { out.new.items ≡ join out.old.items (before (run ∷ []) offset) }
+    ensures len { vec_len out.new ≤ vec_len out.old + 1 }
+    ensures capacity { vec_capacity out.old ≤ vec_capacity out.new }
 {
     if run.first < offset {
-        push_joined(out, run_before(run, offset))?;
+        push_joined(out, run_before(run, offset));
     }
-    Ok(())
+}
+
+// Writes runs that can't be joined to what stands there.
+fn push_apart(out: &mut Vec<Run>, runs: &[Run])
+    requires { vec_len out.old + length runs.now ≤ vec_capacity out.old }
+    ensures runs { out.new.items ≡ out.old.items ++ runs.now }
+    ensures capacity { vec_capacity out.old ≤ vec_capacity out.new }
+{
+    if let Err(_) = out.extend_from_slice(runs) {
+        unreachable!()
+    }
 }
 
 // Writes runs behind the others.
-fn push_all(out: &mut Vec<Run>, runs: &[Run]) -> Result<(), AllocError>
-    ensures ok { OnOk result (out.new.items ≡ join out.old.items runs.now) }
+fn push_all(out: &mut Vec<Run>, runs: &[Run])
+    requires { vec_len out.old + length runs.now ≤ vec_capacity out.old }
+    ensures runs { out.new.items ≡ join out.old.items runs.now }
+    ensures capacity { vec_capacity out.old ≤ vec_capacity out.new }
 {
     if let Some((first, rest)) = runs.split_first() {
-        push_joined(out, *first)?;
-        out.extend_from_slice(rest)?;
+        push_joined(out, *first);
+        push_apart(out, rest);
     }
-    Ok(())
 }
 
-// The rows of `theirs` where it has one, and else those of `mine`, in one pass over both.
-pub(crate) fn overlay(
-    alloc: Global,
-    mine: &[Run],
-    mut theirs: &[Run],
-) -> Result<Vec<Run>, AllocError>
+// The rows of `theirs` where it has one, and else those of `mine`, in one pass over both. A run of theirs may part one
+// of mine in two, so there is room for two. It takes no memory.
+pub(crate) fn overlay(out: &mut Vec<Run>, mine: &[Run], mut theirs: &[Run])
     requires mine { IsCanonical mine.now }
     requires theirs { IsCanonical theirs.now }
-    ensures canonical { IfOk result (λ v. IsCanonical v.items) }
-    ensures rows { IfOk result (λ v. Overlays mine.now v.items theirs.entry.now) }
+    requires empty { out.old.items ≡ [] }
+    requires room { length mine.now + 2 * length theirs.now ≤ vec_capacity out.old }
+    ensures canonical { IsCanonical out.new.items }
+    ensures rows { Overlays mine.now out.new.items theirs.entry.now }
+    ensures capacity { vec_capacity out.old ≤ vec_capacity out.new }
 {
-    let mut out = Vec::with_capacity(alloc, mine.len().saturating_add(theirs.len()))?;
     let (mut head, mut rest) = first_and_rest(mine);
     loop {
         let Some(x) = head else {
-            push_all(&mut out, theirs)?;
-            return Ok(out);
+            push_all(out, theirs);
+            return;
         };
         let Some((y, others)) = theirs.split_first() else {
-            push_joined(&mut out, x)?;
-            out.extend_from_slice(rest)?;
-            return Ok(out);
+            push_joined(out, x);
+            push_apart(out, rest);
+            return;
         };
-        push_before(&mut out, x, y.first)?;
+        push_before(out, x, y.first);
         if x.last <= y.last {
             (head, rest) = first_and_rest(rest);
         } else {
-            push_joined(&mut out, *y)?;
+            push_joined(out, *y);
             head = Some(run_behind(x, y.last));
             theirs = others;
         }

@@ -45,7 +45,7 @@ pub(crate) fn part_before(runs: &[Run], offset: u64) -> (usize, Option<Run>)
 // The runs behind an offset: the first one, cut at the offset, and the place of those that stay as they are.
 pub(crate) fn part_behind(runs: &[Run], offset: u64) -> (Option<Run>, usize)
     requires { IsCanonical runs.now }
-    ensures place { end_count runs.now (offset + 1) ≤ result.1 }
+    ensures place { end_count runs.now (offset + 1) + length (maybe_run result.0) ≤ result.1 }
     ensures parts { from_on runs.now (offset + 1) ≡ maybe_run result.0 ++ drop result.1 runs.now }
     ensures none { IfNone result.0 (result.1 ≡ length runs.now) }
     ensures within { result.1 ≤ length runs.now }

@@ -1,4 +1,4 @@
-ghost use Rattle.std.specs.Prelude.{◌≡◌, ◌≤◌, [], length, OnOk, OnErr};
+ghost use Rattle.std.specs.Prelude.{◌≡◌, ◌≤◌, ◌+◌, ◌*◌, [], length, OnOk, OnErr, IsOk, IfSome};
 
 use crate::change::{cut_front, put_over};
 use crate::overlay::overlay;
@@ -7,22 +7,33 @@ use share_model::{NoMemory, Row, Run, RunList};
 use std::alloc::Global;
 use std::marker::Model;
 
+// How many runs there can be once so many lie over so many. `None` where that is no `usize`.
+fn room_to_lay(under: usize, over: usize) -> Option<usize>
+    ensures { IfSome result (λ room. room ≡ under + 2 * over) }
+{
+    let Some(twice) = over.checked_mul(2) else {
+        return None;
+    };
+    twice.checked_add(under)
+}
+
 /// Rows by offset, kept as the canonical list of their runs.
 ///
-/// A contract sees that list; `row_at` of it is the row at an offset. Offsets are those of a `u64`.
+/// A contract sees that list, and beside it the spare number: how many more runs there can be with no memory. `row_at`
+/// of the list is the row at an offset. Offsets are those of a `u64`.
 #[derive(Drop)]
 pub struct Runs {
     list: Vec<Run>,
 }
 
 impl Model for Runs {
-    ghost use Rattle.std.specs.Prelude.{List};
-    ghost use Rattle.share_model.specs.declared.run.Run.{Run};
+    ghost use Rattle.std.specs.Prelude.{◌-◌, vec_len, vec_capacity};
     ghost use Rattle.share_model.specs.Runs.{IsCanonical};
+    ghost use Rattle.offset_runs.specs.Changes.{RunsParts};
 
-    ghost Value = { List Run };
+    ghost Value = { RunsParts };
 
-    ghost view = { λ r. r.list.items };
+    ghost view = { λ r. record { list = r.list.items; spare = vec_capacity r.list - vec_len r.list } };
 
     ghost invariant = { λ r. IsCanonical r.list.items };
 }
@@ -33,29 +44,56 @@ impl Runs {
 
     /// No rows. It takes no memory.
     pub fn new(alloc: Global) -> Runs
-        ensures { result ≡ [] }
+        ensures { result.list ≡ [] }
     {
         Runs {
             list: Vec::new(alloc),
         }
     }
 
+    /// Sets memory aside, so that the spare number is at least `runs`. After want of memory all is as it was.
+    pub fn reserve(&mut self, runs: u32) -> Result<(), NoMemory>
+        ensures ok { OnOk result (runs ≤ self.new.spare) }
+        ensures list { self.new.list ≡ self.old.list }
+        ensures kept { self.old.spare ≤ self.new.spare }
+        ensures err { OnErr result (self.new ≡ self.old) }
+        ensures spared { runs ≤ self.old.spare → IsOk result }
+    {
+        self.list.reserve(runs as usize)?;
+        Ok(())
+    }
+
     /// The row at an offset, found in the logarithm of the number of runs.
     pub fn look(&self, offset: u64) -> Option<Row>
-        ensures { result ≡ row_at self.now offset }
+        ensures { result ≡ row_at self.now.list offset }
     {
         find_row(&self.list, offset)
     }
 
     /// Gives each offset from `first` to `last` this row; there are none where `last` is below
     /// `first`. It finds the place in the logarithm of the number of runs, and moves each run at most
-    /// once. After want of memory the rows are as before.
+    /// twice. After want of memory, which needs that none was set aside, the rows are as before.
     pub fn put_range(&mut self, first: u64, last: u64, row: Row) -> Result<(), NoMemory>
-        ensures ok { OnOk result (PutsRange self.old self.new first last row) }
+        ensures ok { OnOk result (PutsRange self.old.list self.new.list first last row) }
         ensures err { OnErr result (self.new ≡ self.old) }
+        ensures spared { 2 ≤ self.old.spare → IsOk result }
     {
         if last < first {
             return Ok(());
+        }
+        self.reserve(2)?;
+        self.put_reserved(first, last, row);
+        Ok(())
+    }
+
+    /// Does what [`Runs::put_range`] does, where two runs more can be had with no memory. It takes none.
+    pub fn put_reserved(&mut self, first: u64, last: u64, row: Row)
+        requires { 2 ≤ self.old.spare }
+        ensures put { PutsRange self.old.list self.new.list first last row }
+        ensures spare { self.old.spare ≤ self.new.spare + 2 }
+    {
+        if last < first {
+            return;
         }
         let middle = Run {
             first,
@@ -63,32 +101,56 @@ impl Runs {
             state: row.state,
             count: row.count,
         };
-        put_over(*self.list.allocator(), &mut self.list, middle)?;
-        Ok(())
+        put_over(&mut self.list, middle);
     }
 
     /// Takes away the rows below an offset. It finds the place in the logarithm of the number of runs, and
-    /// moves each run at most once, and none where no run ends below the offset.
+    /// moves each run at most once, and none where no run ends below the offset. It takes no memory.
     pub fn cut_below(&mut self, offset: u64)
-        ensures { CutsBelow self.old self.new offset }
+        ensures cut { CutsBelow self.old.list self.new.list offset }
+        ensures spare { self.old.spare ≤ self.new.spare }
     {
         cut_front(&mut self.list, offset);
+    }
+
+    /// Takes all rows away, and keeps the memory of their runs.
+    pub fn clear(&mut self)
+        ensures list { self.new.list ≡ [] }
+        ensures spare { self.old.spare + length self.old.list ≤ self.new.spare }
+    {
+        self.list.clear();
     }
 
     /// Lays the rows of others over these, in one pass over both: where the others have a row, that is
     /// the row. After want of memory the rows are as before.
     pub fn merge_from(&mut self, other: &Runs) -> Result<(), NoMemory>
-        ensures ok { OnOk result (Overlays self.old self.new other.now) }
+        ensures ok { OnOk result (Overlays self.old.list self.new.list other.now.list) }
         ensures err { OnErr result (self.new ≡ self.old) }
     {
-        self.list = overlay(*self.list.allocator(), &self.list, &other.list)?;
+        let Some(room) = room_to_lay(self.list.len(), other.list.len()) else {
+            return Err(NoMemory);
+        };
+        let mut laid = Vec::with_capacity(*self.list.allocator(), room)?;
+        overlay(&mut laid, &self.list, &other.list);
+        self.list = laid;
         Ok(())
+    }
+
+    /// Puts rows that are laid over others in the place of these, in one pass over both. There is room for the runs
+    /// that lie under, and for two for each that lies over. It takes no memory.
+    pub fn lay_reserved(&mut self, under: &Runs, over: &Runs)
+        requires { length under.now.list + 2 * length over.now.list ≤ self.old.spare + length self.old.list }
+        ensures laid { Overlays under.now.list self.new.list over.now.list }
+        ensures room { self.old.spare + length self.old.list ≤ self.new.spare + length self.new.list }
+    {
+        self.list.clear();
+        overlay(&mut self.list, &under.list, &over.list);
     }
 
     /// The rows of canonical runs. It takes no memory.
     pub fn from_list(runs: RunList) -> Runs
         requires { IsCanonical runs }
-        ensures { result ≡ runs }
+        ensures { result.list ≡ runs }
     {
         Runs {
             list: runs.into_vec(),
@@ -97,8 +159,8 @@ impl Runs {
 
     /// The canonical runs, handed out with no memory.
     pub fn into_vec(self) -> Vec<Run>
-        ensures same { result.items ≡ self }
-        ensures canonical { IsCanonical self }
+        ensures same { result.items ≡ self.list }
+        ensures canonical { IsCanonical self.list }
     {
         let Runs { list } = self;
         list
@@ -106,8 +168,8 @@ impl Runs {
 
     /// The canonical runs, in order.
     pub fn list(&self) -> &[Run]
-        ensures same { result.now ≡ self.now }
-        ensures canonical { IsCanonical self.now }
+        ensures same { result.now ≡ self.now.list }
+        ensures canonical { IsCanonical self.now.list }
     {
         &self.list
     }

@@ -1,5 +1,5 @@
 -- Reading and spelling: Spells (readers that read just what a spelling writes), Stored (runs), Records (a key and a state),
--- Whole (a record), Loop (runs read one after the other, as a loop does). Writing: Appends and Signed.
+-- Whole (a record), Loop (runs read one after the other, as a loop does). Writing: Sizes, Appends and Signed.
 -- Where bytes are wrong: Begins (how readers fail, and two one behind the other), FieldFaults (fields), RunFaults (runs),
 -- RecordFaults (a key and a state), FaultPlaces (a record).
 pub mod Loop
@@ -12,5 +12,6 @@ pub mod FieldFaults
 pub mod RunFaults
 pub mod RecordFaults
 pub mod FaultPlaces
+pub mod Sizes
 pub mod Appends
 pub mod Signed

@@ -1,3 +1,6 @@
+ghost use Rattle.std.specs.Prelude.{◌≡◌};
+
+use crate::lent::LentState;
 use share_model::{Key, RunList};
 use std::marker::Model;
 
@@ -31,6 +34,22 @@ impl Model for KeyState {
     } };
 
     ghost invariant = { λ s. IsEpoch s.state_epoch × IsEpoch s.leader_epoch × IsStart s.start × AreStoredRuns s.runs };
+}
+
+impl KeyState {
+    /// The state, lent.
+    pub fn lend(&self) -> LentState<'_>
+        ensures { result ≡ self.now }
+    {
+        LentState {
+            key: &self.key,
+            snapshot: self.snapshot,
+            state_epoch: self.state_epoch,
+            leader_epoch: self.leader_epoch,
+            start: self.start,
+            runs: self.runs.as_slice(),
+        }
+    }
 }
 
 /// A record of the state journal.

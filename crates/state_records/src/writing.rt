@@ -1,92 +1,105 @@
-ghost use Rattle.std.specs.Prelude.{◌≡◌, ◌<◌, ◌+◌, ◌^◌, ◌++◌, length, OnOk, IfOk};
+ghost use Rattle.std.specs.Prelude.{◌≡◌, ◌≤◌, ◌<◌, ◌^◌, length, OnOk, IfOk};
+ghost use Rattle.std.specs.Int.{w16, w32, w64, to_be_bytes};
 ghost use Rattle.std.specs.List.{flat_map};
+ghost use Rattle.share_model.specs.Names.{IsName};
+ghost use Rattle.share_model.specs.Rooms.{Appends};
 ghost use Rattle.state_records.specs.Spelling.{IsRecord, name_bytes, key_bytes, run_bytes, runs_bytes, state_bytes, record_bytes, epoch_number, start_number};
 ghost use Rattle.state_records.specs.States.{IsKey, IsState, IsEpoch, IsStart};
-ghost use Rattle.std.specs.Int.{w16, w32, w64, to_be_bytes};
-ghost use Rattle.share_model.specs.Names.{IsName};
+ghost use Rattle.state_records.specs.declared.record.StateRecord.TheVariants.{Snapshot as snapshot_record, Update as update_record};
 
-use crate::record::{KeyState, StateRecord};
-use share_model::{Blob, Key, Name, NoMemory, Run, RunList};
-use std::alloc::{AllocError, Global};
+use crate::lengths::record_len;
+use crate::lent::LentState;
+use crate::record::StateRecord;
+use share_model::{Blob, Key, Name, NoMemory, Room, Run};
+use std::alloc::Global;
 use uuid::Uuid;
 
-fn put_u16(out: &mut Vec<u8>, number: u16) -> Result<(), AllocError>
-    ensures { OnOk result (out.new.items ≡ out.old.items ++ to_be_bytes w16 number) }
+// Appends bytes for which there is room.
+fn put(out: &mut Room, more: &[u8])
+    requires { length more.now ≤ out.old.spare }
+    ensures { Appends out.old out.new more.now }
 {
-    out.extend_from_slice(&number.to_be_bytes())?;
-    Ok(())
+    if let Err(_) = out.append(more) {
+        unreachable!()
+    }
 }
 
-fn put_u32(out: &mut Vec<u8>, number: u32) -> Result<(), AllocError>
-    ensures { OnOk result (out.new.items ≡ out.old.items ++ to_be_bytes w32 number) }
+fn put_u16(out: &mut Room, number: u16)
+    requires { 2 ≤ out.old.spare }
+    ensures { Appends out.old out.new (to_be_bytes w16 number) }
 {
-    out.extend_from_slice(&number.to_be_bytes())?;
-    Ok(())
+    put(out, &number.to_be_bytes());
 }
 
-fn put_u64(out: &mut Vec<u8>, number: u64) -> Result<(), AllocError>
-    ensures written { OnOk result (out.new.items ≡ out.old.items ++ to_be_bytes w64 number) }
-    ensures fits { OnOk result (number < 2 ^ 64) }
+fn put_u32(out: &mut Room, number: u32)
+    requires { 4 ≤ out.old.spare }
+    ensures { Appends out.old out.new (to_be_bytes w32 number) }
 {
-    out.extend_from_slice(&number.to_be_bytes())?;
-    Ok(())
+    put(out, &number.to_be_bytes());
 }
 
-fn put_name(out: &mut Vec<u8>, name: &Name) -> Result<(), AllocError>
-    ensures written { OnOk result (out.new.items ≡ out.old.items ++ name_bytes name.now) }
-    ensures name { OnOk result (IsName name.now) }
+fn put_u64(out: &mut Room, number: u64)
+    requires { 8 ≤ out.old.spare }
+    ensures written { Appends out.old out.new (to_be_bytes w64 number) }
+    ensures fits { number < 2 ^ 64 }
+{
+    put(out, &number.to_be_bytes());
+}
+
+fn put_name(out: &mut Room, name: &Name)
+    requires { length (name_bytes name.now) ≤ out.old.spare }
+    ensures written { Appends out.old out.new (name_bytes name.now) }
+    ensures name { IsName name.now }
 {
     let bytes = name.as_bytes();
-    put_u16(out, bytes.len() as u16)?;
-    out.extend_from_slice(bytes)?;
-    Ok(())
+    put_u16(out, bytes.len() as u16);
+    put(out, bytes);
 }
 
-fn put_topic(out: &mut Vec<u8>, topic: &Uuid) -> Result<(), AllocError>
-    ensures written { OnOk result (out.new.items ≡ out.old.items ++ topic.now) }
-    ensures len { OnOk result (length topic.now ≡ 16) }
+fn put_topic(out: &mut Room, topic: &Uuid)
+    requires { length topic.now ≤ out.old.spare }
+    ensures written { Appends out.old out.new topic.now }
+    ensures len { length topic.now ≡ 16 }
 {
-    out.extend_from_slice(topic.as_bytes())?;
-    Ok(())
+    put(out, topic.as_bytes());
 }
 
-fn put_key(out: &mut Vec<u8>, key: &Key) -> Result<(), AllocError>
-    ensures written { OnOk result (out.new.items ≡ out.old.items ++ key_bytes key.now) }
-    ensures key { OnOk result (IsKey key.now) }
+fn put_key(out: &mut Room, key: &Key)
+    requires { length (key_bytes key.now) ≤ out.old.spare }
+    ensures written { Appends out.old out.new (key_bytes key.now) }
+    ensures key { IsKey key.now }
 {
-    put_name(out, &key.group)?;
-    put_topic(out, &key.topic)?;
-    put_u32(out, key.part)?;
-    Ok(())
+    put_name(out, &key.group);
+    put_topic(out, &key.topic);
+    put_u32(out, key.part);
 }
 
-fn put_run(out: &mut Vec<u8>, run: &Run) -> Result<(), AllocError>
-    ensures { OnOk result (out.new.items ≡ out.old.items ++ run_bytes run.now) }
+fn put_run(out: &mut Room, run: &Run)
+    requires { 19 ≤ out.old.spare }
+    ensures { Appends out.old out.new (run_bytes run.now) }
 {
-    put_u64(out, run.first)?;
-    put_u64(out, run.last)?;
-    out.push(run.state.number())?;
-    put_u16(out, run.count)?;
-    Ok(())
+    put_u64(out, run.first);
+    put_u64(out, run.last);
+    put(out, &[run.state.number()]);
+    put_u16(out, run.count);
 }
 
-fn put_each(out: &mut Vec<u8>, runs: &[Run]) -> Result<(), AllocError>
-    ensures { OnOk result (out.new.items ≡ out.old.items ++ flat_map run_bytes runs.now) }
+fn put_each(out: &mut Room, runs: &[Run])
+    requires { length (flat_map run_bytes runs.now) ≤ out.old.spare }
+    ensures { Appends out.old out.new (flat_map run_bytes runs.now) }
 {
     for run in runs {
-        put_run(out, run)?;
+        put_run(out, run);
     }
-    Ok(())
 }
 
-fn put_runs(out: &mut Vec<u8>, runs: &RunList) -> Result<(), AllocError>
-    ensures written { OnOk result (out.new.items ≡ out.old.items ++ runs_bytes runs.now) }
-    ensures few { OnOk result (length runs.now < 2 ^ 32) }
+fn put_runs(out: &mut Room, runs: &[Run])
+    requires few { length runs.now < 2 ^ 32 }
+    requires room { length (runs_bytes runs.now) ≤ out.old.spare }
+    ensures { Appends out.old out.new (runs_bytes runs.now) }
 {
-    let runs = runs.as_slice();
-    put_u32(out, runs.len() as u32)?;
-    put_each(out, runs)?;
-    Ok(())
+    put_u32(out, runs.len() as u32);
+    put_each(out, runs);
 }
 
 fn epoch_bits(epoch: i32) -> u32
@@ -104,22 +117,58 @@ fn start_bits(start: i64) -> u64
     if start < 0 { u64::MAX } else { start as u64 }
 }
 
-fn put_state(out: &mut Vec<u8>, state: &KeyState) -> Result<(), AllocError>
-    ensures written { OnOk result (out.new.items ≡ out.old.items ++ state_bytes state.now) }
-    ensures state { OnOk result (IsState state.now) }
+fn put_state(out: &mut Room, state: &LentState<'_>)
+    requires { length (state_bytes state.now) ≤ out.old.spare }
+    ensures written { Appends out.old out.new (state_bytes state.now) }
+    ensures state { IsState state.now }
 {
-    put_key(out, &state.key)?;
-    put_u64(out, state.snapshot)?;
-    put_u32(out, epoch_bits(state.state_epoch))?;
-    put_u32(out, epoch_bits(state.leader_epoch))?;
-    put_u64(out, start_bits(state.start))?;
-    put_runs(out, &state.runs)?;
-    Ok(())
+    put_key(out, state.key);
+    put_u64(out, state.snapshot);
+    put_u32(out, epoch_bits(state.state_epoch));
+    put_u32(out, epoch_bits(state.leader_epoch));
+    put_u64(out, start_bits(state.start));
+    put_runs(out, state.runs);
 }
 
-// The bytes of a record with so many runs, of which the fields before them are at most these.
-fn room(runs: &RunList) -> usize {
-    runs.as_slice().len().saturating_mul(19).saturating_add(307)
+/// Appends the snapshot of a state, where there is room for it. It takes no memory.
+pub fn write_snapshot(state: &LentState<'_>, out: &mut Room)
+    requires room { length (record_bytes (snapshot_record state.now)) ≤ out.old.spare }
+    ensures written { Appends out.old out.new (record_bytes (snapshot_record state.now)) }
+    ensures valid { IsRecord (snapshot_record state.now) }
+{
+    put(out, &[0, 0]);
+    put_state(out, state);
+}
+
+/// Appends the update of a state, where there is room for it. It takes no memory.
+pub fn write_update(state: &LentState<'_>, out: &mut Room)
+    requires room { length (record_bytes (update_record state.now)) ≤ out.old.spare }
+    ensures written { Appends out.old out.new (record_bytes (update_record state.now)) }
+    ensures valid { IsRecord (update_record state.now) }
+{
+    put(out, &[1, 0]);
+    put_state(out, state);
+}
+
+/// Appends a record, where there is room for it. It takes no memory.
+pub fn write_into(record: &StateRecord, out: &mut Room)
+    requires room { length (record_bytes «record».now) ≤ out.old.spare }
+    ensures written { Appends out.old out.new (record_bytes «record».now) }
+    ensures valid { IsRecord «record».now }
+{
+    match record {
+        StateRecord::Snapshot(state) => write_snapshot(&state.lend(), out),
+        StateRecord::Update(state) => write_update(&state.lend(), out),
+        StateRecord::Removal { key } => {
+            put(out, &[2, 0]);
+            put_key(out, key);
+        }
+        StateRecord::Head { generation } => {
+            put(out, &[3, 0]);
+            put_u64(out, *generation);
+        }
+        StateRecord::Seal => put(out, &[4, 0]),
+    }
 }
 
 /// The bytes of a record, in memory that is found at once.
@@ -127,33 +176,7 @@ pub fn write_record(alloc: Global, record: &StateRecord) -> Result<Blob, NoMemor
     ensures value { IfOk result (λ b. b ≡ record_bytes «record».now) }
     ensures valid { OnOk result (IsRecord «record».now) }
 {
-    let mut out = match record {
-        StateRecord::Snapshot(state) | StateRecord::Update(state) => Vec::with_capacity(
-            alloc,
-            room(&state.runs),
-        )?,
-        StateRecord::Removal { .. } => Vec::with_capacity(alloc, 279)?,
-        StateRecord::Head { .. } => Vec::with_capacity(alloc, 10)?,
-        StateRecord::Seal => Vec::with_capacity(alloc, 2)?,
-    };
-    match record {
-        StateRecord::Snapshot(state) => {
-            out.extend_from_slice(&[0, 0])?;
-            put_state(&mut out, state)?;
-        }
-        StateRecord::Update(state) => {
-            out.extend_from_slice(&[1, 0])?;
-            put_state(&mut out, state)?;
-        }
-        StateRecord::Removal { key } => {
-            out.extend_from_slice(&[2, 0])?;
-            put_key(&mut out, key)?;
-        }
-        StateRecord::Head { generation } => {
-            out.extend_from_slice(&[3, 0])?;
-            put_u64(&mut out, *generation)?;
-        }
-        StateRecord::Seal => out.extend_from_slice(&[4, 0])?,
-    }
-    Ok(Blob::new(out))
+    let mut out = Room::of(Vec::with_capacity(alloc, record_len(record) as usize)?);
+    write_into(record, &mut out);
+    Ok(out.into_blob())
 }

@@ -1,4 +1,4 @@
-use Rattle.std.proofs.Common.{◌≡◌, ◌++◌, ◌+◌, [], IfNone, length}
+use Rattle.std.proofs.Common.{◌≡◌, ◌≤◌, ◌++◌, ◌+◌, ◌*◌, [], IfNone, length, vec_len, vec_capacity}
 use Rattle.offset_runs.specs.Parts.{maybe_run}
 use Rattle.offset_runs.proofs.Merges.{IsMerging}
 use Rattle.offset_runs.proofs.overlay.overlay.Given as goal
@@ -8,6 +8,8 @@ invariant-loop-head l =
     record {
       merging : IsMerging l.fn.mine l.fn.theirs l.out.items (maybe_run l.head ++ l.rest) l.theirs;
       none : IfNone l.head (l.rest ≡ []);
+      room : vec_len l.out + (length (maybe_run l.head ++ l.rest) + 2 * length l.theirs) ≤ vec_capacity l.fn.out;
+      capacity : vec_capacity l.fn.out ≤ vec_capacity l.out;
     }
 
 abbrev pub decreases-loop-head : goal.decreases-loop-head
