@@ -15,4 +15,4 @@ pub use laws::{a_seal_comes_last, stores_are_read_one_way, the_next_generation_i
 pub use making::{CheckpointFault, write_checkpoint};
 pub use mark::{Mark, mark_frame};
 pub use snapshots::Snapshots;
-pub use stands::{Standing, standing_of};
+pub use stands::{Known, Standing};

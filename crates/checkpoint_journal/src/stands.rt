@@ -1,9 +1,9 @@
-// What the frames of a journal say of it.
-ghost use Rattle.std.specs.Prelude.{◌≡◌, IfOk};
-ghost use Rattle.checkpoint_journal.specs.Generations.{generation, has_seal, is_sealed, marks_of};
+// What the frames of a journal say of it, one after another.
+ghost use Rattle.std.specs.Prelude.{◌≡◌, [], ◌∷◌, ◌++◌, List, ℕ, IfOk};
+ghost use Rattle.checkpoint_journal.specs.Standings.{IsKnown, StandsSo, known_behind};
 
 use crate::mark::{Mark, mark_frame};
-use share_model::{Blob, NoMemory};
+use share_model::NoMemory;
 use std::alloc::Global;
 
 /// Whether a journal is sealed, and its generation.
@@ -13,39 +13,68 @@ pub struct Standing {
     pub generation: u64,
 }
 
-// Whether snapshots or nothing stand before a seal.
-fn has_seal(alloc: Global, frames: &[Blob]) -> Result<bool, NoMemory>
-    ensures { IfOk result (λ is. is ≡ has_seal (marks_of frames.now)) }
-{
-    let mut rest = frames;
-    while let Some((frame, others)) = rest.split_first() {
-        match mark_frame(alloc, frame.as_slice())? {
-            Mark::Snapshot => rest = others,
-            Mark::Seal => return Ok(true),
-            Mark::Head { .. } => return Ok(false),
-            Mark::Other => return Ok(false),
-        }
-    }
-    Ok(false)
+/// What is known of a journal by its first frames.
+#[derive(Clone, Copy)]
+pub enum Known {
+    /// There is none.
+    Nothing,
+    /// A head of this generation, and snapshots behind it or nothing.
+    Begun { generation: u64 },
+    /// How it stands, whatever frames follow.
+    Settled { standing: Standing },
 }
 
-/// What the frames of a journal say of it. It reads the first frame, and behind a head those up to the seal.
-pub fn standing_of(alloc: Global, frames: &[Blob]) -> Result<Standing, NoMemory>
-    ensures sealed { IfOk result (λ s. s.sealed ≡ is_sealed (marks_of frames.now)) }
-    ensures generation { IfOk result (λ s. s.generation ≡ generation (marks_of frames.now)) }
+// A journal without a head.
+const HEADLESS: Standing = Standing {
+    sealed: true,
+    generation: 0,
+};
+
+// What is known with one frame more.
+fn known_behind(known: Known, mark: Mark) -> Known
+    ensures { result ≡ known_behind known mark }
 {
-    let Some((first, others)) = frames.split_first() else {
-        return Ok(Standing {
-            sealed: true,
-            generation: 0,
-        });
-    };
-    let Mark::Head { generation } = mark_frame(alloc, first.as_slice())? else {
-        return Ok(Standing {
-            sealed: true,
-            generation: 0,
-        });
-    };
-    let sealed = has_seal(alloc, others)?;
-    Ok(Standing { sealed, generation })
+    match known {
+        Known::Nothing => match mark {
+            Mark::Head { generation } => Known::Begun { generation },
+            _ => Known::Settled { standing: HEADLESS },
+        },
+        Known::Begun { generation } => match mark {
+            Mark::Snapshot => known,
+            _ => Known::Settled {
+                standing: Standing {
+                    sealed: matches!(mark, Mark::Seal),
+                    generation,
+                },
+            },
+        },
+        Known::Settled { .. } => known,
+    }
+}
+
+impl Known {
+    /// What is known with one frame more. It reads the frame, and takes memory for it, where that may change something:
+    /// the first one, and behind a head those up to the seal.
+    pub fn with_frame(self, alloc: Global, frame: &[u8]) -> Result<Known, NoMemory>
+        ensures { IfOk result (λ known. (frames : List (List ℕ)) → IsKnown frames self → IsKnown (frames ++ frame.now ∷ []) known) }
+    {
+        if let Known::Settled { .. } = self {
+            return Ok(self);
+        }
+        Ok(known_behind(self, mark_frame(alloc, frame)?))
+    }
+
+    /// How a journal of these frames stands.
+    pub fn standing(self) -> Standing
+        ensures { (frames : List (List ℕ)) → IsKnown frames self → StandsSo frames result }
+    {
+        match self {
+            Known::Nothing => HEADLESS,
+            Known::Begun { generation } => Standing {
+                sealed: false,
+                generation,
+            },
+            Known::Settled { standing } => standing,
+        }
+    }
 }

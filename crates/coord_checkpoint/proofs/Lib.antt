@@ -1,3 +1,13 @@
--- Keeping: from the journal on the first disk to the frames of the store. NoFrames: text of no frames, by its first byte.
-pub mod NoFrames
-pub mod Keeping
+-- Pairs: two contents together. Sides: a store by its live journal and the other one. Ends: where a journal ends.
+-- Trying: a checkpoint that is tried. Made, Beside: a write behind a checkpoint, or without one. Using: a write, for one who keeps something of the
+-- frames. Noted: frames that are handed over. Opened, Arming: a store that is opened, or armed.
+pub mod Pairs
+pub mod Ends
+pub mod Sides
+pub mod Made
+pub mod Trying
+pub mod Beside
+pub mod Using
+pub mod Noted
+pub mod Opened
+pub mod Arming

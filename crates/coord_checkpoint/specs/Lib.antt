@@ -1,2 +1,5 @@
 pub mod Disks
-pub mod Lists
+pub mod Stores
+pub mod Writes
+pub mod Steps
+pub mod Openings

@@ -7,7 +7,6 @@ use Rattle.edge_io.specs.Armed.{StarvesUnarmed}
 use Rattle.edge_io.specs.Causes.{Rose}
 use Rattle.edge_io.specs.Moments.{LeavesPairs}
 use Rattle.flex_fields.specs.declared.fault.NoMemory.{NoMemory as want}
-use Rattle.gate_journal.specs.Journals.{IsQuiet}
 use Rattle.share_model.specs.ForeignRules.{code_alone}
 use Rattle.share_model.specs.ForeignRules.{ShareStates, Does}
 use Rattle.share_model.specs.Pending.{WithPending}
@@ -18,7 +17,7 @@ use Rattle.share_model.specs.declared.foreign.ForeignAnswer.{ForeignAnswer}
 use Rattle.share_model.specs.declared.foreign.ForeignOp.{ForeignOp}
 use Rattle.coord_checkpoint.specs.Disks.{HasFailed}
 use Rattle.share_coord.specs.Parts.{StoreParts}
-use Rattle.share_coord.specs.Stored.{Entries, AreStored}
+use Rattle.share_coord.specs.Stored.{Entries}
 use Rattle.share_coord.specs.Calls.{Causes}
 use Rattle.share_coord.specs.Holding.{Holds, IsWithin, WritesOnce}
 use Rattle.share_coord.specs.declared.fault.CoordFault.{CoordFault}
@@ -27,9 +26,8 @@ use Rattle.share_coord.specs.Recorded.{StoresOne}
 use Rattle.share_coord.specs.States.{states_of, AreStates}
 use Rattle.state_records.specs.Spelling.{record_bytes}
 use Rattle.foreign_coord.specs.Codes.{Tells, TellsFault, code_in}
-use Rattle.foreign_coord.specs.Once.{ActsOnce, Carried, FailsToPut, PutsRecord}
+use Rattle.foreign_coord.specs.Once.{ActsOnce, Carried, FailsToPut, HasFailedNone, HasRisen, PutsRecord}
 use Rattle.foreign_coord.specs.Shards.{ForeignShardState, StepsForeign, Grants, HasNoRoom, Carries, IsFound, IsRecordOf, writes}
-use Rattle.share_coord.proofs.Ends.{later_once}
 use Rattle.share_coord.proofs.Keys.{clash}
 use Rattle.share_coord.proofs.Once.{held_still}
 use Rattle.foreign_coord.proofs.Rules.{IsNumeric, IsOther, other_code, none_code}
@@ -51,9 +49,9 @@ module _ {D : Type 0} (seen : D → DiskView) (store : StoreParts D) where
       subst P is (f c.pending c.holds)
 
 -- a store with the same states carries them still
-pub carries_on : {D : Type 0} (seen : D → DiskView) (old new : StoreParts D) (pending : Option Entries) → new.entries ≡ old.entries
+pub carries_on : {D : Type 0} (seen : D → DiskView) (old new : StoreParts D) (pending : Option Entries) → states_of new.entries ≡ states_of old.entries
     → Holds seen new pending → Carries seen new (shard_of old pending)
-carries_on seen old new pending same holds = record { pending = pending; holds = holds; states = ap states_of (sym same); pending_is = refl }
+carries_on seen old new pending same holds = record { pending = pending; holds = holds; states = sym same; pending_is = refl }
 
 -- a store that is as it was carries what it carried
 pub carries_still : {D : Type 0} (seen : D → DiskView) (old new : StoreParts D) → new ≡ old → (shard : ForeignShardState) → Carries seen old shard
@@ -62,23 +60,23 @@ carries_still {D} seen old new same shard c = subst (λ (s : StoreParts D). Carr
 
 -- ---- moments
 
-found_with : (a b : List ℕ) (entries : Entries) (pending : Option Entries) → WithPending (AreStored a b) entries pending
-    → WithPending (AreStates a b) (states_of entries) (option_map states_of pending)
-found_with a b entries None h = record { entries = entries; stored = h; is = refl }
-found_with a b entries (Some lost) h = ⊎_elim (λ s. inl (record { entries = entries; stored = s; is = refl }))
-    (λ s. inr (record { entries = lost; stored = s; is = refl })) h
-
 found_in : (op : ForeignOp) (Written : Entries → Type 0) (entries : Entries) (pending : Option Entries) (a b : List ℕ)
     → ((es : Entries) → Written es → Grants (states_of entries) op (states_of es)) → IsWithin Written entries pending a b
     → IsFound (record { states = states_of entries; pending = option_map states_of pending }) op a b
-found_in op Written entries pending a b grants h = ⊎_elim (λ w. inl (found_with a b entries pending w))
-    (λ w. inr (states_of w.0, grants w.0 w.1, record { entries = w.0; stored = w.2; is = refl })) h
+found_in op Written entries pending a b grants h = ⊎_elim (λ w. inl w) (λ w. inr (states_of w.0, grants w.0 w.1, w.2)) h
 
 -- ---- answers
 
 -- unless it tells a store fault, no device call failed
 abbrev Calm : {D : Type 0} → (D → DiskView) → StoreParts D → StoreParts D → ForeignAnswer → Type 0
-Calm seen old new answer = answer.code ≢ KAFKA_STORAGE_ERROR → IsQuiet seen old.journal.live.disk new.journal.live.disk
+Calm seen old new answer = answer.code ≢ KAFKA_STORAGE_ERROR → HasFailedNone seen old new
+
+-- a store that is as it was met no failed call
+quiet_still : {D : Type 0} (seen : D → DiskView) (old new : StoreParts D) → new ≡ old → HasFailedNone seen old new
+quiet_still {D} seen old new same = inl (
+  λ told. ap (λ (s : StoreParts D). (seen s.journal.first.disk).faults) same,
+  λ told. ap (λ (s : StoreParts D). (seen s.journal.second.disk).faults) same,
+)
 
 answered : (P : ForeignAnswer → Type 0) (answer : ForeignAnswer) (result : Result ForeignAnswer want) → result ≡ Ok answer → P answer → IfOk result P
 answered P answer result is p = subst (λ (r : Result ForeignAnswer want). IfOk r P) (sym is) p
@@ -121,7 +119,8 @@ module _ {D : Type 0} (seen : D → DiskView)
     (op : ForeignOp) (old new : StoreParts D) where
   abbrev Sound : ForeignAnswer → Type 0
   Sound answer = answer.code ≡ KAFKA_STORAGE_ERROR →
-      StarvesUnarmed seen old.journal.live.disk new.journal.live.disk ⊎ HasNoRoom old.journal.live.end (states_of old.entries) op
+      StarvesUnarmed seen old.journal.first.disk new.journal.first.disk
+      ⊎ (StarvesUnarmed seen old.journal.second.disk new.journal.second.disk ⊎ HasNoRoom old.journal.end (states_of old.entries) op)
 
   abbrev Unwritten : ForeignAnswer → Type 0
   Unwritten answer = writes (states_of old.entries) op answer ≡ false → answer.code ≢ KAFKA_STORAGE_ERROR → new ≡ old
@@ -134,7 +133,7 @@ module _ {D : Type 0} (seen : D → DiskView)
 
   abbrev Leads : ForeignAnswer → ForeignShardState → Type 0
   Leads answer s = (t : ForeignShardState) × (fault : Option StoreFault) × Carries seen new t
-      × StepsForeign (Rose (seen old.journal.live.disk).faults (seen new.journal.live.disk).faults) old.journal.live.end s op answer fault t
+      × StepsForeign (HasRisen seen old new) old.journal.end s op answer fault t
 
 module _ {D T : Type 0} (seen : D → DiskView) (op : ForeignOp) (old new : StoreParts D) (Written : Entries → Type 0)
     (grants : (es : Entries) → Written es → Grants (states_of old.entries) op (states_of es)) where
@@ -164,7 +163,7 @@ module _ {D T : Type 0} (seen : D → DiskView) (op : ForeignOp) (old new : Stor
   ))
 
   full_by : (end : ℕ) → Once (Err (Store (Full end))) → Puts (Err (Store (Full end)))
-      → (end ≡ old.journal.live.end) × HasNoRoom old.journal.live.end (states_of old.entries) op
+      → (end ≡ old.journal.end) × HasNoRoom old.journal.end (states_of old.entries) op
   full_by end once puts =
       let f = once.full end refl in
       let p = puts.full end refl in (
@@ -184,19 +183,20 @@ module _ {D T : Type 0} (seen : D → DiskView) (op : ForeignOp) (old new : Stor
   stored_by Device once puts =
       let failed = once.device refl in
       let lost = failed.1 in
+      let rose : HasRisen seen old new = ⊎_elim (λ h. inl h.0) (λ h. inr h.0) failed.0 in
       carried seen old (Leads seen op old new (code_alone KAFKA_STORAGE_ERROR)) (λ pending held.
       let granted : (l : ShareStates) × Grants (states_of old.entries) op l = (states_of lost.0, grants lost.0 lost.1) in
       ⊎_elim (λ h. (
         shard_of old pending,
         Some Device,
         carries_on seen old new pending once.same h,
-        (refl, failed.0.0, record { granted = granted; same = refl; pending = inl refl }),
+        (refl, rose, record { granted = granted; same = refl; pending = inl refl }),
       ))
       (λ l. (
         shard_of old (Some l.0),
         Some Device,
         carries_on seen old new (Some l.0) once.same l.2,
-        (refl, failed.0.0, record { granted = granted; same = refl; pending = inr (states_of l.0, grants l.0 l.1, refl) }),
+        (refl, rose, record { granted = granted; same = refl; pending = inr (states_of l.0, grants l.0 l.1, refl) }),
       )) (once.failed pending held))
   stored_by (Full end) once puts =
       let f = full_by end once puts in
@@ -208,19 +208,19 @@ module _ {D T : Type 0} (seen : D → DiskView) (op : ForeignOp) (old new : Stor
       ))
 
   sound_by : (fault : StoreFault) → Once (Err (Store fault)) → Puts (Err (Store fault)) → Sound seen op old new (code_alone KAFKA_STORAGE_ERROR)
-  sound_by Device once puts is = inl (once.device refl).0.1
-  sound_by (Full end) once puts is = inr (full_by end once puts).1
+  sound_by Device once puts is = ⊎_elim (λ h. inl h.1) (λ h. inr (inl h.1)) (once.device refl).0
+  sound_by (Full end) once puts is = inr (inr (full_by end once puts).1)
 
   unstored_by : (fault : StoreFault) → Puts (Err (Store fault)) → FailsToPut seen op old new
-  unstored_by Device puts = let p = puts.pending refl in (p.0, p.1, inl (p.2, p.3))
+  unstored_by Device puts = let p = puts.pending refl in (p.0, p.1, inl p.2)
   unstored_by (Full end) puts =
       let p = puts.full end refl in
       (p.1.0, p.1.1, inr (subst (λ (n : ℕ). 2 ^ 62 < n + (length (record_bytes p.1.0) + 5)) p.0 p.1.2))
 
   moments_by : (done : Result T CoordFault) → Once done → (s : ForeignShardState) → Carries seen old s →
-      LeavesPairs seen old.journal.live.disk new.journal.live.disk old.journal.idle new.journal.idle (IsFound s op)
+      LeavesPairs seen old.journal.first.disk new.journal.first.disk old.journal.second.disk new.journal.second.disk (IsFound s op)
   moments_by done once = carried seen old
-      (λ s. LeavesPairs seen old.journal.live.disk new.journal.live.disk old.journal.idle new.journal.idle (IsFound s op))
+      (λ s. LeavesPairs seen old.journal.first.disk new.journal.first.disk old.journal.second.disk new.journal.second.disk (IsFound s op))
       (λ pending held.
       let pairs = once.any_moment pending held in
       record {
@@ -229,21 +229,17 @@ module _ {D T : Type 0} (seen : D → DiskView) (op : ForeignOp) (old new : Stor
         each = λ a b left right. found_in op Written old.entries pending a b grants (pairs.each a b left right);
       })
 
-  ends_by : (done : Result T CoordFault) → Once done → (s : ForeignShardState) → Carries seen old s → old.journal.live.end ≤ new.journal.live.end
-  ends_by done once s c = later_once seen (HasFailed seen) Written old new done once c.pending c.holds
-
   -- a refusal that isn't of the store
   plainly : (e : CoordFault) → NotDevice e → IsOther e → (result : Result ForeignAnswer want) → result ≡ Ok (code_alone (code_in e)) → Once (Err e)
       → IsRefusedBy (states_of old.entries) op e → ActsOnce seen op old new result
   plainly e apart other result is once by = record {
     ok = answered (Carried seen op old new) _ result is (refused_by e apart by once);
     memory = told _ result (new ≡ old) is;
-    quiet = answered (Calm seen old new) _ result is (λ _ _. ap (λ (s : StoreParts D). (seen s.journal.live.disk).faults) (once.unchanged (apart_device e apart)));
+    quiet = answered (Calm seen old new) _ result is (λ _. quiet_still seen old new (once.unchanged (apart_device e apart)));
     sound = answered (Sound seen op old new) _ result is (λ at. absurd (other_code e other at));
     unwritten = answered (Unwritten seen op old new) _ result is (λ not other_code. once.unchanged (apart_device e apart));
     stored = answered (Stored seen op old new) _ result is (λ wrote. absurd (clash_written wrote by.unwritten));
     unstored = answered (Unstored seen op old new) _ result is (λ at. absurd (other_code e other at));
-    ends = ends_by (Err e) once;
     any_moment = moments_by (Err e) once;
   }
 
@@ -263,7 +259,6 @@ module _ {D T : Type 0} (seen : D → DiskView) (op : ForeignOp) (old new : Stor
     unwritten = answered (Unwritten seen op old new) _ result is (λ not other. absurd (other refl));
     stored = answered (Stored seen op old new) _ result is (λ wrote other. absurd (other refl));
     unstored = answered (Unstored seen op old new) _ result is (λ at. unstored_by fault puts);
-    ends = ends_by (Err (Store fault)) once;
     any_moment = moments_by (Err (Store fault)) once;
   }
   by_fault NoMemory result is once puts f many = record {
@@ -274,7 +269,6 @@ module _ {D T : Type 0} (seen : D → DiskView) (op : ForeignOp) (old new : Stor
     unwritten = none_told (Unwritten seen op old new) result is;
     stored = none_told (Stored seen op old new) result is;
     unstored = none_told (Unstored seen op old new) result is;
-    ends = ends_by (Err NoMemory) once;
     any_moment = moments_by (Err NoMemory) once;
   }
 
@@ -289,9 +283,8 @@ module _ {D T : Type 0} (seen : D → DiskView) (op : ForeignOp) (old new : Stor
     quiet = answered (Calm seen old new) _ result is (λ _. once.quiet);
     sound = answered (Sound seen op old new) _ result is (λ at. absurd (none_code at));
     unwritten = answered (Unwritten seen op old new) _ result is (λ not other. absurd (clash_written (grants new.entries once.written).1 not));
-    stored = answered (Stored seen op old new) _ result is (λ _ _. puts.stored);
+    stored = answered (Stored seen op old new) _ result is (λ _ _. (puts.stored, puts.room));
     unstored = answered (Unstored seen op old new) _ result is (λ at. absurd (none_code at));
-    ends = ends_by (Ok x) once;
     any_moment = moments_by (Ok x) once;
   }
   acts (Err e) result is once puts refused many = by_fault e result is once puts (refused e refl) (λ n at. many e n refl at)
@@ -304,7 +297,7 @@ pub idle : {D : Type 0} (seen : D → DiskView)
 idle seen only_now op store result does = record {
   ok = IfOk-weaker result _ _ (λ answer h. carried seen store
       (λ s. (t : ForeignShardState) × (fault : Option StoreFault) × Carries seen store t
-      × StepsForeign (Rose (seen store.journal.live.disk).faults (seen store.journal.live.disk).faults) store.journal.live.end s op answer fault t)
+      × StepsForeign (HasRisen seen store store) store.journal.end s op answer fault t)
       (λ pending held. (
         shard_of store pending,
         None,
@@ -312,18 +305,17 @@ idle seen only_now op store result does = record {
         record { does = h.0; pending = sym (ap (λ (b : Bool). if b then None else option_map states_of pending) h.1) },
       ))) does;
   memory = on_err result (store ≡ store) refl;
-  quiet = IfOk-weaker result _ _ (λ answer h other told. refl) does;
+  quiet = IfOk-weaker result _ _ (λ answer h other. quiet_still seen store store refl) does;
   sound = IfOk-weaker result _ _ (λ answer h at. absurd (h.2 at)) does;
   unwritten = IfOk-weaker result _ _ (λ answer h not other. refl) does;
   stored = IfOk-weaker result _ _ (λ answer h wrote other. absurd (clash_written wrote h.1)) does;
   unstored = IfOk-weaker result _ _ (λ answer h at. absurd (h.2 at)) does;
-  ends = λ s c. omega arith;
   any_moment = carried seen store
-      (λ s. LeavesPairs seen store.journal.live.disk store.journal.live.disk store.journal.idle store.journal.idle (IsFound s op))
+      (λ s. LeavesPairs seen store.journal.first.disk store.journal.first.disk store.journal.second.disk store.journal.second.disk (IsFound s op))
       (λ pending held. record {
         later_a = omega arith;
         later_b = omega arith;
-        each = λ a b left right. inl (found_with a b store.entries pending (held.images a b (only_now store.journal.live.disk a left) (only_now store.journal.idle b right)));
+        each = λ a b left right. inl (held.images a b (only_now store.journal.first.disk a left) (only_now store.journal.second.disk b right));
       });
 }
 

@@ -19,7 +19,7 @@ use Rattle.share_coord.specs.Parts.{StoreParts}
 use Rattle.share_coord.specs.Stored.{kept_at}
 use Rattle.share_coord.specs.Calls.{Causes, IsInitialised, IsWritten, IsTooMany, IsForgotten, init_refusal, write_refusal}
 use Rattle.share_coord.specs.Holding.{WritesOnce}
-use Rattle.share_coord.specs.Recorded.{IsWriteRecord, StoresOne, init_record}
+use Rattle.share_coord.specs.Recorded.{IsInitRecord, IsWriteRecord, StoresOne}
 use Rattle.state_records.specs.declared.record.StateRecord.TheVariants.{Removal}
 use Rattle.share_coord.specs.declared.fault.CoordFault.{CoordFault}
 use Rattle.share_coord.specs.declared.fault.CoordFault.TheVariants.{Invalid, Unknown, FencedLeader, FencedState, TooMany, Store, NoMemory}
@@ -33,7 +33,7 @@ use Rattle.foreign_coord.specs.Once.{ActsOnce}
 use Rattle.foreign_coord.specs.Shards.{IsRecordOf, is_granted}
 use Rattle.foreign_coord.proofs.Acting.{acts, idle, err_at, cause_some, cause_many}
 use Rattle.foreign_coord.proofs.Rules.{IsNumeric, init_granted, init_refused, write_granted, write_refused, write_many, none_code, other_code, read_code}
-use Rattle.foreign_coord.proofs.States.{view_of, state_seen, without_seen, without_none}
+use Rattle.foreign_coord.proofs.States.{view_of, state_seen, without_based, without_seen, without_none}
 use Rattle.edge_io.specs.Views.{DiskView}
 
 -- a refusal by numbers isn't code 0
@@ -57,7 +57,7 @@ module _ {D : Type 0} (seen : D → DiskView)
   init_by : (done : Result (Unit {0}) CoordFault) (state start : ℤ) → Tells done result
       → IfErr done (Causes (init_refusal (kept_at shown.entries key) state start) (λ _. ⊥))
       → WritesOnce seen (HasFailed seen) (IsInitialised shown.entries key state start) shown new done
-      → StoresOne seen (λ one. one ≡ init_record shown.entries key state start) shown.journal new.journal done
+      → StoresOne seen (IsInitRecord shown.entries key state start) shown.journal new.journal done
       → ActsOnce seen (Init key state start) shown new result
   init_by done state start tells causes once puts =
       let Caused : CoordFault → Type 0 = Causes (init_refusal (kept_at shown.entries key) state start) (λ _. ⊥) in
@@ -73,7 +73,7 @@ module _ {D : Type 0} (seen : D → DiskView)
   pub init_acts : (done : Result (Unit {0}) CoordFault) (state start : ℤ) → FitsSigned w32 state → FitsSigned w64 start → Tells done result
       → IfErr done (Causes (init_refusal (kept_at shown.entries key) (to_z w32 (of_z w32 state)) (to_z w64 (of_z w64 start))) (λ _. ⊥))
       → WritesOnce seen (HasFailed seen) (IsInitialised shown.entries key (to_z w32 (of_z w32 state)) (to_z w64 (of_z w64 start))) shown new done
-      → StoresOne seen (λ one. one ≡ init_record shown.entries key (to_z w32 (of_z w32 state)) (to_z w64 (of_z w64 start))) shown.journal new.journal done
+      → StoresOne seen (IsInitRecord shown.entries key (to_z w32 (of_z w32 state)) (to_z w64 (of_z w64 start))) shown.journal new.journal done
       → ActsOnce seen (Init key state start) now new result
   init_acts done state start f g tells causes once puts =
       subst (λ (p : StoreParts D). ActsOnce seen (Init key state start) p new result) same
@@ -131,7 +131,7 @@ module _ {D : Type 0} (seen : D → DiskView)
       let Caused : CoordFault → Type 0 = Causes None (λ _. ⊥) in
       acts seen (Delete key) shown new (IsForgotten shown.entries key)
       (λ es is. (
-        (refl, ap states_of is.1 ∙ without_seen shown.entries key),
+        (refl, ap states_of is.1.1 ∙ without_based is.1.0 shown.entries key),
         there_by (kept_at shown.entries key) (share_state_at (states_of shown.entries) key) (state_seen shown.entries key) is.0.0 is.0.1,
       )) done result tells once puts
       (λ e is numeric. absurd (some_none e (sym (cause_some None (λ _. ⊥) e (err_at done e Caused is causes) numeric))))

@@ -3,19 +3,20 @@ use Rattle.std.proofs.Common.{◌≡◌, ◌≢◌, inl, inr, ◌∙◌, refl, s
 use Rattle.std.specs.Option.{option_map}
 use Rattle.share_model.specs.ForeignRules.{code_alone}
 use Rattle.share_model.specs.ForeignRules.{Initialises, Writes, read_known, read_share_state}
-use Rattle.share_model.specs.Keys.{KeyParts}
+use Rattle.std.specs.BTreeMap.{insert_entry}
+use Rattle.share_model.specs.Keys.{KeyParts, key_cmp}
 use Rattle.share_model.specs.ErrorCodes.{NONE, INVALID_REQUEST, FENCED_LEADER_EPOCH, KAFKA_STORAGE_ERROR}
 use Rattle.share_model.specs.declared.fault.Code.{Code}
 use Rattle.share_model.specs.declared.foreign.ForeignAnswer.{ForeignAnswer}
 use Rattle.share_model.specs.declared.run.Run.{Run}
-use Rattle.share_model.specs.ShareStates.{ShareState}
+use Rattle.share_model.specs.ShareStates.{ShareState, start_after}
 use Rattle.share_coord.specs.Stored.{Entries, kept_at}
 use Rattle.share_coord.specs.Calls.{IsInitialised, IsWritten, IsTooMany, init_refusal, write_refusal}
 use Rattle.share_coord.specs.declared.fault.CoordFault.{CoordFault}
 use Rattle.share_coord.specs.declared.fault.CoordFault.TheVariants.{Invalid, Unknown, FencedLeader, FencedState, TooMany, Store, NoMemory}
 use Rattle.share_coord.specs.States.{states_of}
 use Rattle.foreign_coord.specs.Codes.{code_in}
-use Rattle.foreign_coord.proofs.States.{view_of, state_seen, with_seen, code_or, init_code_is, write_code_is}
+use Rattle.foreign_coord.proofs.States.{kept_view, view_of, state_seen, with_based, code_or, init_code_is, write_code_is}
 
 -- a refusal by numbers
 abbrev pub IsNumeric : CoordFault → Type 0
@@ -85,7 +86,7 @@ module _ (old : Entries) (key : KeyParts) (state start : ℤ) where
   pub init_granted : (new : Entries) → IsInitialised old key state start new → Initialises (states_of old) key state start (code_alone NONE) (states_of new)
   init_granted new is =
       let code = init_code_is old key state start ∙ ap code_or is.granted in
-      (ap code_alone (sym code), inr (code, ap states_of is.is ∙ with_seen old key _))
+      (ap code_alone (sym code), inr (code, ap states_of is.is ∙ with_based is.checkpointed old key _))
 
   pub init_refused : (e : CoordFault) → init_refusal (kept_at old key) state start ≡ Some e → IsNumeric e
       → Initialises (states_of old) key state start (code_alone (code_in e)) (states_of old)
@@ -110,7 +111,9 @@ module _ (old : Entries) (key : KeyParts) (state leader start : ℤ) (runs : Lis
             are_laid = is.are_laid;
             few_written = is.few_written;
             few = is.few;
-            is = ap states_of is.is ∙ with_seen old key _;
+            is = ap states_of is.is ∙ (with_based is.checkpointed old key _
+                ∙ ap (λ (v : ShareState). insert_entry key_cmp (states_of old) key
+                (record { state_epoch = state; leader_epoch = leader; start = start_after v.start start; runs = is.laid })) (kept_view is.checkpointed is.kept));
           },
         ),
       )

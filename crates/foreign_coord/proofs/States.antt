@@ -13,11 +13,12 @@ use Rattle.share_model.specs.ShareStates.{ShareState, is_writable}
 use Rattle.share_model.specs.ErrorCodes.{NONE, INVALID_REQUEST, FENCED_LEADER_EPOCH, FENCED_STATE_EPOCH}
 use Rattle.share_model.specs.declared.fault.Code.{Code}
 use Rattle.share_model.specs.declared.run.Run.{Run}
-use Rattle.share_coord.specs.Stored.{Entries, kept_at, with_kept, without_key}
+use Rattle.share_coord.specs.Stored.{Entries, based, based_kept, kept_at, with_kept, without_key}
 use Rattle.share_coord.specs.Calls.{fenced_state, fenced_init, fenced_write, init_refusal, write_refusal}
 use Rattle.share_coord.specs.declared.fault.CoordFault.{CoordFault}
 use Rattle.share_coord.specs.declared.fault.CoordFault.TheVariants.{Invalid, FencedLeader, FencedState}
 use Rattle.share_coord.specs.declared.view.Kept.{Kept}
+use Rattle.share_coord.proofs.Held.{states_based}
 use Rattle.share_coord.proofs.Keys.{some_none}
 use Rattle.share_coord.specs.States.{states_of}
 use Rattle.foreign_coord.specs.Codes.{code_in}
@@ -56,6 +57,17 @@ without_seen (e ∷ es) key = by_test (is_at (key_cmp key) e.0) es (e ∷ withou
 kept_none : (b : Bool) (x : Kept) (rest : Option Kept) (e : KeyParts × Kept) (es fs : Entries) → cond b (Some x) rest ≡ None → (rest ≡ None → fs ≡ es) → cond b es (e ∷ fs) ≡ e ∷ es
 kept_none true x rest e es fs none f = absurd (some_none x none)
 kept_none false x rest e es fs none f = ap (λ (l : Entries). e ∷ l) (f none)
+
+-- as a checkpoint leaves it, or as it was
+pub with_based : (c : Bool) (es : Entries) (key : KeyParts) (kept : Kept) → states_of (with_kept (based c es) key kept) ≡ insert_entry key_cmp (states_of es) key kept.view
+with_based c es key kept = with_seen (based c es) key kept ∙ ap (λ (l : ShareStates). insert_entry key_cmp l key kept.view) (states_based c es)
+
+pub without_based : (c : Bool) (es : Entries) (key : KeyParts) → states_of (without_key (based c es) key) ≡ remove_entry (is_at (key_cmp key)) (states_of es)
+without_based c es key = without_seen (based c es) key ∙ ap (λ (l : ShareStates). remove_entry (is_at (key_cmp key)) l) (states_based c es)
+
+pub kept_view : (c : Bool) (kept : Kept) → (based_kept c kept).view ≡ kept.view
+kept_view true kept = refl
+kept_view false kept = refl
 
 pub without_none : (es : Entries) (key : KeyParts) → kept_at es key ≡ None → without_key es key ≡ es
 without_none [] key none = refl

@@ -21,7 +21,7 @@ use Rattle.state_records.specs.declared.record.StateRecord.{StateRecord}
 use Rattle.state_records.specs.declared.record.StateRecord.TheVariants.{Removal}
 use Rattle.share_coord.specs.Holding.{Holds}
 use Rattle.share_coord.specs.Parts.{StoreParts}
-use Rattle.share_coord.specs.Recorded.{IsWriteRecord, init_record}
+use Rattle.share_coord.specs.Recorded.{IsInitRecord, IsWriteRecord}
 use Rattle.share_coord.specs.Stored.{Entries}
 use Rattle.share_coord.specs.States.{states_of, AreStates}
 use Rattle.edge_io.specs.Views.{DiskView}
@@ -60,7 +60,7 @@ pub record IsUnstored (op : ForeignOp) (old new : ForeignShardState) : Type 0 wh
 
 -- the one record that a call stores where it is granted and writes
 abbrev pub IsRecordOf : Entries → ForeignOp → StateRecord → Type 0
-IsRecordOf old (Init key state_epoch start) one = one ≡ init_record old key state_epoch start
+IsRecordOf old (Init key state_epoch start) one = IsInitRecord old key state_epoch start one
 IsRecordOf old (Read key leader_epoch) one = ⊥
 IsRecordOf old (Write key state_epoch leader_epoch start batches) one =
     (runs : List Run) × (runs_of batches ≡ Some runs) × IsWriteRecord old key state_epoch leader_epoch start runs one
@@ -76,7 +76,7 @@ pub record HasNoRoom (end : ℕ) (states : ShareStates) (op : ForeignOp) : Type 
   pub is_one : IsRecordOf before op one
   pub past : 2 ^ 62 < end + (length (record_bytes one) + 5)
 
--- A step of the shard. `rose` says that the count of faults of its first disk rose, `end` is where its journal ends; `fault` is what
+-- A step of the shard. `rose` says that the count of faults of one of its disks rose, `end` is where its live journal ends; `fault` is what
 -- the store met.
 abbrev pub StepsForeign : (rose : Type 0) (end : ℕ) → ForeignShardState → ForeignOp → ForeignAnswer → Option StoreFault → ForeignShardState → Type 0
 StepsForeign rose end old op answer None new = IsDone op answer old new

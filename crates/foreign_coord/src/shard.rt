@@ -3,9 +3,7 @@ ghost use Rattle.std.specs.Option.{option_map, option_copied};
 ghost use Rattle.std.specs.Map.{keys_of};
 ghost use Rattle.std.specs.declared.option.Option.{Option};
 ghost use Rattle.edge_io.specs.Armed.{ArmsAlone, RunsOn, StarvesUnarmed};
-ghost use Rattle.edge_io.specs.Causes.{Rose};
 ghost use Rattle.edge_io.specs.Moments.{LeavesPairs};
-ghost use Rattle.gate_journal.specs.Journals.{IsQuiet};
 ghost use Rattle.share_model.specs.ForeignRules.{read_share_state};
 ghost use Rattle.share_model.specs.declared.fault.StoreFault.{StoreFault};
 ghost use Rattle.share_model.specs.declared.foreign.ForeignOp.TheVariants.{Init, Read, Write as write_call, Delete};
@@ -14,7 +12,7 @@ ghost use Rattle.share_coord.specs.Stored.{Entries, kept_at};
 ghost use Rattle.share_coord.specs.Holding.{Holds};
 ghost use Rattle.share_coord.specs.Opening.{IsOpened, IsNotOpened};
 ghost use Rattle.share_coord.specs.States.{states_of};
-ghost use Rattle.foreign_coord.specs.Once.{ActsOnce, FailsToPut, PutsRecord};
+ghost use Rattle.foreign_coord.specs.Once.{HasFailedNone, HasRisen, ActsOnce, FailsToPut, PutsRecord};
 ghost use Rattle.state_records.specs.States.{AreStoredRuns};
 ghost use Rattle.foreign_coord.specs.Shards.{ForeignShardState, StepsForeign, HasNoRoom, Carries, IsFound, writes};
 
@@ -79,7 +77,7 @@ impl<D: Disk> ForeignShard<D> {
         ensures carries { IfOk result (λ c. Carries D.seen c (record { states = states_of c.entries; pending = None })) }
         ensures refused { IfErr result (IsNotOpened D.seen a b) }
         ensures both { MatchResult result
-            (λ c. RunsBoth D.seen a b c.journal.live.disk c.journal.idle)
+            (λ c. RunsBoth D.seen a b c.journal.first.disk c.journal.second.disk)
             (λ e. RunsBoth D.seen a b e.0 e.1) }
     {
         match Coord::open(alloc, a, b) {
@@ -91,8 +89,7 @@ impl<D: Disk> ForeignShard<D> {
     fn init(&mut self, key: &Key, state_epoch: i32, start: i64) -> Result<ForeignAnswer, NoMemory>
         ensures once { ActsOnce D.seen
             (Init key.now state_epoch start) self.old self.new result }
-        ensures runs { RunsOn D.seen self.old.journal.live.disk self.new.journal.live.disk }
-        ensures idle { self.new.journal.idle ≡ self.old.journal.idle }
+        ensures runs { RunsOn D.seen self.old.journal.first.disk self.new.journal.first.disk × RunsOn D.seen self.old.journal.second.disk self.new.journal.second.disk }
         ensures ranges { IfOk result (λ answer. AreStoredRuns answer.runs) }
     {
         let done = self.coord.init(key, state_epoch, start);
@@ -102,8 +99,7 @@ impl<D: Disk> ForeignShard<D> {
     fn read(&mut self, key: &Key, leader_epoch: i32) -> Result<ForeignAnswer, NoMemory>
         ensures once { ActsOnce D.seen
             (Read key.now leader_epoch) self.old self.new result }
-        ensures runs { RunsOn D.seen self.old.journal.live.disk self.new.journal.live.disk }
-        ensures idle { self.new.journal.idle ≡ self.old.journal.idle }
+        ensures runs { RunsOn D.seen self.old.journal.first.disk self.new.journal.first.disk × RunsOn D.seen self.old.journal.second.disk self.new.journal.second.disk }
         ensures ranges { IfOk result (λ answer. AreStoredRuns answer.runs) }
     {
         read(self.alloc, self.coord.look(key), leader_epoch)
@@ -119,8 +115,7 @@ impl<D: Disk> ForeignShard<D> {
     ) -> Result<ForeignAnswer, NoMemory>
         ensures once { ActsOnce D.seen
             (write_call key.now state_epoch leader_epoch start batches.now) self.old self.new result }
-        ensures runs { RunsOn D.seen self.old.journal.live.disk self.new.journal.live.disk }
-        ensures idle { self.new.journal.idle ≡ self.old.journal.idle }
+        ensures runs { RunsOn D.seen self.old.journal.first.disk self.new.journal.first.disk × RunsOn D.seen self.old.journal.second.disk self.new.journal.second.disk }
         ensures ranges { IfOk result (λ answer. AreStoredRuns answer.runs) }
     {
         let Some(runs) = runs_of(self.alloc, batches.as_slice())? else {
@@ -135,8 +130,7 @@ impl<D: Disk> ForeignShard<D> {
     fn delete(&mut self, key: &Key) -> Result<ForeignAnswer, NoMemory>
         ensures once { ActsOnce D.seen
             (Delete key.now) self.old self.new result }
-        ensures runs { RunsOn D.seen self.old.journal.live.disk self.new.journal.live.disk }
-        ensures idle { self.new.journal.idle ≡ self.old.journal.idle }
+        ensures runs { RunsOn D.seen self.old.journal.first.disk self.new.journal.first.disk × RunsOn D.seen self.old.journal.second.disk self.new.journal.second.disk }
         ensures ranges { IfOk result (λ answer. AreStoredRuns answer.runs) }
     {
         match self.coord.remove(key) {
@@ -147,8 +141,7 @@ impl<D: Disk> ForeignShard<D> {
 
     fn dispatch(&mut self, op: &ForeignOp) -> Result<ForeignAnswer, NoMemory>
         ensures once { ActsOnce D.seen op.now self.old self.new result }
-        ensures runs { RunsOn D.seen self.old.journal.live.disk self.new.journal.live.disk }
-        ensures idle { self.new.journal.idle ≡ self.old.journal.idle }
+        ensures runs { RunsOn D.seen self.old.journal.first.disk self.new.journal.first.disk × RunsOn D.seen self.old.journal.second.disk self.new.journal.second.disk }
         ensures ranges { IfOk result (λ answer. AreStoredRuns answer.runs) }
     {
         match op {
@@ -178,17 +171,17 @@ impl<D: Disk> ForeignShard<D> {
         // Where it answers, a step of the shard was made; where it finds no memory, nothing has changed.
         ensures ok { IfOk result (λ answer. (old : ForeignShardState) → Carries D.seen self.old old → (new : ForeignShardState) × (fault : Option StoreFault)
             × Carries D.seen self.new new
-            × StepsForeign (Rose (D.seen self.old.journal.live.disk).faults (D.seen self.new.journal.live.disk).faults) self.old.journal.live.end old op.now answer fault new) }
+            × StepsForeign (HasRisen D.seen self.old self.new) self.old.journal.end old op.now answer fault new) }
         ensures memory { OnErr result (self.new ≡ self.old) }
 
         // With nothing armed, a store fault comes only of a full journal, or where the disk finds no memory.
         ensures sound { IfOk result (λ answer. answer.code ≡ Code.KAFKA_STORAGE_ERROR →
-            StarvesUnarmed D.seen self.old.journal.live.disk self.new.journal.live.disk
-            ⊎ HasNoRoom self.old.journal.live.end (states_of self.old.entries) op.now) }
+            StarvesUnarmed D.seen self.old.journal.first.disk self.new.journal.first.disk
+            ⊎ (StarvesUnarmed D.seen self.old.journal.second.disk self.new.journal.second.disk
+            ⊎ HasNoRoom self.old.journal.end (states_of self.old.entries) op.now)) }
 
-        // Unless it is answered with a store fault, no device call failed.
-        ensures quiet { IfOk result (λ answer. answer.code ≢ Code.KAFKA_STORAGE_ERROR →
-            IsQuiet D.seen self.old.journal.live.disk self.new.journal.live.disk) }
+        // Unless it is answered with a store fault, no device call failed but those of a checkpoint.
+        ensures quiet { IfOk result (λ answer. answer.code ≢ Code.KAFKA_STORAGE_ERROR → HasFailedNone D.seen self.old self.new) }
 
         // The record of the call, and no other, is stored. Where it couldn't be, it may be pending, or had no room.
         ensures stored { IfOk result (λ answer. writes (states_of self.old.entries) op.now answer ≡ true →
@@ -196,16 +189,14 @@ impl<D: Disk> ForeignShard<D> {
         ensures unstored { IfOk result (λ answer. answer.code ≡ Code.KAFKA_STORAGE_ERROR →
             FailsToPut D.seen op.now self.old self.new) }
 
-        // A call that writes no record changes nothing. The journal never ends before where it did.
+        // A call that writes no record changes nothing.
         ensures unwritten { IfOk result (λ answer. writes (states_of self.old.entries) op.now answer ≡ false → answer.code ≢ Code.KAFKA_STORAGE_ERROR →
             self.new ≡ self.old) }
-        ensures ends { (old : ForeignShardState) → Carries D.seen self.old old → self.old.journal.live.end ≤ self.new.journal.live.end }
 
         // At each moment since it began, a crash leaves what stood at entry, or what it leaves where it is granted.
         ensures any_moment { (old : ForeignShardState) → Carries D.seen self.old old → LeavesPairs D.seen
-            self.old.journal.live.disk self.new.journal.live.disk self.old.journal.idle self.new.journal.idle (IsFound old op.now) }
-        ensures runs { RunsOn D.seen self.old.journal.live.disk self.new.journal.live.disk }
-        ensures idle { self.new.journal.idle ≡ self.old.journal.idle }
+            self.old.journal.first.disk self.new.journal.first.disk self.old.journal.second.disk self.new.journal.second.disk (IsFound old op.now) }
+        ensures runs { RunsOn D.seen self.old.journal.first.disk self.new.journal.first.disk × RunsOn D.seen self.old.journal.second.disk self.new.journal.second.disk }
         ensures ranges { IfOk result (λ answer. AreStoredRuns answer.runs) }
     {
         self.dispatch(op)
@@ -235,7 +226,7 @@ impl<D: Disk> ForeignShard<D> {
 
     /// Whether a call of one of its disks has failed for want of memory.
     pub fn starved(&self) -> bool
-        ensures { (result ≡ true) ↔ (((D.seen self.now.journal.live.disk).starved ≡ true) ⊎ ((D.seen self.now.journal.idle).starved ≡ true)) }
+        ensures { (result ≡ true) ↔ (((D.seen self.now.journal.first.disk).starved ≡ true) ⊎ ((D.seen self.now.journal.second.disk).starved ≡ true)) }
     {
         self.coord.starved()
     }
@@ -244,12 +235,12 @@ impl<D: Disk> ForeignShard<D> {
     pub fn arm(&mut self, disk: DiskPlace, after: u64, mode: FaultMode)
         ensures log { disk ≡ DiskPlace.Log → self.new ≡ self.old }
         ensures first { disk ≡ DiskPlace.StateA →
-            ArmsAlone D.seen after mode self.old.journal.live.disk self.new.journal.live.disk
-            × (self.new.journal.idle ≡ self.old.journal.idle) }
+            ArmsAlone D.seen after mode self.old.journal.first.disk self.new.journal.first.disk
+            × (self.new.journal.second ≡ self.old.journal.second) }
         ensures second { disk ≡ DiskPlace.StateB →
-            ArmsAlone D.seen after mode self.old.journal.idle self.new.journal.idle
-            × (self.new.journal.live ≡ self.old.journal.live) }
-        ensures end { self.new.journal.live.end ≡ self.old.journal.live.end }
+            ArmsAlone D.seen after mode self.old.journal.second.disk self.new.journal.second.disk
+            × (self.new.journal.first ≡ self.old.journal.first) }
+        ensures end { self.new.journal.end ≡ self.old.journal.end }
         ensures states { self.new.entries ≡ self.old.entries }
         ensures holds { (pending : Option Entries) → Holds D.seen self.old pending → Holds D.seen self.new pending }
         ensures stays { (shard : ForeignShardState) → Carries D.seen self.old shard → Carries D.seen self.new shard }
@@ -259,7 +250,7 @@ impl<D: Disk> ForeignShard<D> {
 
     /// Gives the disks back, `a` first.
     pub fn into_disks(self) -> (D, D)
-        ensures { (result.0 ≡ self.journal.live.disk) × (result.1 ≡ self.journal.idle) }
+        ensures { (result.0 ≡ self.journal.first.disk) × (result.1 ≡ self.journal.second.disk) }
     {
         let ForeignShard { coord, .. } = self;
         coord.into_disks()

@@ -3,7 +3,8 @@ use Rattle.std.proofs.Common.{◌≡◌, ◌<◌, ◌≤◌, ◌+◌, ◌^◌, r
 use Rattle.std.specs.declared.cmp.Ordering.{Ordering}
 use Rattle.std.specs.declared.cmp.Ordering.TheVariants.{Less, Equal, Greater}
 use Rattle.std.specs.Ordering.{is_eq, is_lt, match_ordering, ordering_reverse}
-use Rattle.std.specs.Option.{IsSome}
+use Rattle.std.specs.Option.{IsSome, option_map}
+use Rattle.std.proofs.lemmas.Map.Made.{lookup-map_values}
 use Rattle.std.specs.Cmp.{IsTotalOrder}
 use Rattle.std.specs.Cmp.Rules.{comparing}
 use Rattle.std.specs.List.{AllByRecursion}
@@ -11,11 +12,11 @@ use Rattle.std.specs.BTreeMap.{is_at}
 use Rattle.share_model.specs.Keys.{KeyParts, key_cmp}
 use Rattle.state_records.specs.declared.record.StateRecord.{StateRecord}
 use Rattle.state_records.specs.declared.record.StateRecord.TheVariants.{Snapshot, Update, Removal, Head, Seal}
-use Rattle.share_coord.specs.Stored.{Entries, Follows, AreAccepted, kept_at, with_kept, without_key, next_snapshot}
+use Rattle.share_coord.specs.Stored.{Entries, Follows, AreAccepted, based, based_kept, kept_at, renewed, renewed_kept, with_kept, without_key, next_snapshot}
 use Rattle.share_coord.specs.Calls.{IsForgotten}
 use Rattle.share_coord.specs.declared.view.Kept.{Kept}
 
-keys_total : IsTotalOrder key_cmp
+pub keys_total : IsTotalOrder key_cmp
 keys_total = search (comparing, rules) depth 9
 
 pub clash : true ≡ false → ⊥
@@ -143,8 +144,23 @@ pub known_by : (o : Option Kept) → IsSome o → (kept : Kept) × (o ≡ Some k
 known_by None h = absurd (clash (sym h))
 known_by (Some kept) h = (kept, refl)
 
-pub removes : (es : Entries) (key : KeyParts) → IsSome (kept_at es key) → Follows es (Removal key) (without_key es key)
-removes es key there = let known = known_by (kept_at es key) there in record { kept = known.0; known = known.1; is = refl }
+-- ---- as a checkpoint leaves it, or as it was
 
-pub forgets : (es : Entries) (key : KeyParts) → IsSome (kept_at es key) → IsForgotten es key (without_key es key)
-forgets es key there = (known_by (kept_at es key) there, refl)
+pub kept_renewed : (es : Entries) (key : KeyParts) → kept_at (renewed es) key ≡ option_map renewed_kept (kept_at es key)
+kept_renewed es key = lookup-map_values renewed_kept (is_at (key_cmp key)) es
+
+pub kept_based : (c : Bool) (es : Entries) (key : KeyParts) (kept : Kept) → kept_at es key ≡ Some kept → kept_at (based c es) key ≡ Some (based_kept c kept)
+kept_based false es key kept is = is
+kept_based true es key kept is = kept_renewed es key ∙ ap (option_map renewed_kept) is
+
+pub none_based : (c : Bool) (es : Entries) (key : KeyParts) → kept_at es key ≡ None → kept_at (based c es) key ≡ None
+none_based false es key is = is
+none_based true es key is = kept_renewed es key ∙ ap (option_map renewed_kept) is
+
+pub removes : (c : Bool) (es : Entries) (key : KeyParts) → IsSome (kept_at es key) → Follows (based c es) (Removal key) (without_key (based c es) key)
+removes c es key there =
+    let known = known_by (kept_at es key) there in
+    record { kept = based_kept c known.0; known = kept_based c es key known.0 known.1; is = refl }
+
+pub forgets : (c : Bool) (es : Entries) (key : KeyParts) → IsSome (kept_at es key) → IsForgotten es key (without_key (based c es) key)
+forgets c es key there = (known_by (kept_at es key) there, (c, refl))

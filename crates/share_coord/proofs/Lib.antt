@@ -1,4 +1,3 @@
-pub mod Ends
 pub mod Faults
 pub mod Held
 pub mod Keys
@@ -12,3 +11,12 @@ pub mod Spans
 pub mod Storing
 pub mod Taken
 pub mod Written
+pub mod Renewing
+pub mod Walking
+pub mod Putting
+pub mod Handing
+pub mod Planning
+pub mod Basing
+pub mod Starting
+pub mod Removing
+pub mod Replaying

@@ -1,26 +1,29 @@
--- A call that writes one record: what it leaves where that was done, and where it was refused.
-use Rattle.std.proofs.Common.{◌≡◌, ◌≢◌, ◌⊎◌, ◌<◌, ◌+◌, ◌^◌, inl, inr, ⊎_elim, refl, sym, ap, ◌∙◌, subst, arith, ℕ, List, [], ◌∷◌, ◌++◌, length}
-use Rattle.std.proofs.Common.{Option, Some, None, Result, Ok, Err}
+-- A call that writes once, from what the record that it puts leaves.
+use Rattle.std.proofs.Common.{◌≡◌, ◌≢◌, ◌⊎◌, ◌<◌, ◌≤◌, ◌+◌, ◌^◌, inl, inr, ⊎_elim, refl, sym, ap, ◌∙◌, subst, arith, ℕ, List, [], ◌∷◌, ◌++◌, length}
+use Rattle.std.proofs.Common.{Bool, true, false, Option, Some, None, Result, Ok, Err, OnOk, OnErr, IfErr}
 use Rattle.std.proofs.lemmas.Result.{on_ok_weaker, on_err_weaker}
+use Rattle.std.specs.List.Sorted.{IsStrictlySortedBy}
+use Rattle.std.specs.Map.{keys_of}
 use Rattle.edge_io.specs.Moments.{LeavesPairs}
+use Rattle.edge_io.specs.Views.{DiskView}
+use Rattle.gate_journal.specs.Frames.{IsFrame}
+use Rattle.share_model.specs.Keys.{key_cmp}
 use Rattle.share_model.specs.declared.fault.StoreFault.{StoreFault}
 use Rattle.share_model.specs.declared.fault.StoreFault.TheVariants.{Device, Full}
-use Rattle.share_model.specs.Pending.{WithPending}
-use Rattle.coord_checkpoint.specs.Lists.{IsListed, Keeps, and_pending}
-use Rattle.coord_checkpoint.specs.declared.journal.StateJournal.{StateJournal}
-use Rattle.gate_journal.specs.Frames.{IsFrame}
-use Rattle.gate_journal.specs.Journals.{IsQuiet}
+use Rattle.coord_checkpoint.specs.Disks.{HasFailed}
+use Rattle.coord_checkpoint.specs.Stores.{StoreParts as JournalParts}
 use Rattle.state_records.specs.Spelling.{IsRecord, record_bytes}
 use Rattle.state_records.specs.declared.record.StateRecord.{StateRecord}
 use Rattle.share_coord.specs.Parts.{StoreParts}
-use Rattle.share_coord.specs.Stored.{Entries, Follows}
+use Rattle.share_coord.specs.Putting.{IsPut, Puts}
+use Rattle.share_coord.specs.Recorded.{IsBased, IsPending, IsStored, StoresOne}
+use Rattle.share_coord.specs.Stored.{Entries, Follows, based, snapshot_frames}
+use Rattle.share_coord.specs.Calls.{Causes}
 use Rattle.share_coord.specs.Holding.{Holds, IsHeld, WritesOnce}
 use Rattle.share_coord.specs.declared.fault.CoordFault.{CoordFault}
 use Rattle.share_coord.specs.declared.fault.CoordFault.TheVariants.{Store, NoMemory}
-use Rattle.share_coord.proofs.Ends.{later_end, same_end}
 use Rattle.share_coord.proofs.Faults.{ok_is_no_err, err_of}
-use Rattle.share_coord.proofs.Held.{accepts, done, lost, moments}
-use Rattle.edge_io.specs.Views.{DiskView}
+use Rattle.share_coord.proofs.Held.{accepts, done, lost, moments, states_based}
 
 -- what does nothing, and refuses by its numbers or for want of memory
 pub untouched : {D T : Type 0} (seen : D → DiskView) (Failed : D → D → Type 0)
@@ -36,81 +39,79 @@ untouched seen Failed only_now Written store e other = record {
   failed = λ pending held. inl held;
   device = λ is. absurd (other Device (err_of e _ is));
   full = λ end is. absurd (other (Full end) (err_of e _ is));
-  ends = λ pending held. refl;
   any_moment = λ pending held. record {
     later_a = omega arith;
     later_b = omega arith;
-    each = λ a b left right. inl (held.images a b (only_now store.journal.live.disk a left) (only_now store.journal.idle b right));
+    each = λ a b left right. inl (held.images a b (only_now store.journal.first.disk a left) (only_now store.journal.second.disk b right));
   };
 }
 
-module _ {D T : Type 0} (seen : D → DiskView) (Failed : D → D → Type 0)
-    (Written : Entries → Type 0) (record_is : StateRecord) (old new : StateJournal D) (entries next : Entries)
-    (follows : Follows entries record_is next) (is : Written next)
-    (run : (frames : List (List ℕ)) (pending : Option (List ℕ)) → Keeps seen old frames pending
-    → LeavesPairs seen old.live.disk new.live.disk old.idle new.idle
-    (λ a b. WithPending (IsListed a b) frames (and_pending frames pending) ⊎ (IsRecord record_is × IsListed a b (frames ++ record_bytes record_is ∷ [])))) where
-  pub stored : (x : T) → IsRecord record_is → IsQuiet seen old.live.disk new.live.disk
-      → ((frames : List (List ℕ)) (pending : Option (List ℕ)) → Keeps seen old frames pending
-      → Keeps seen new (frames ++ record_bytes record_is ∷ []) None × (length frames < 2 ^ 62))
-      → WritesOnce seen Failed Written (record { journal = old; entries = entries }) (record { journal = new; entries = next }) (Ok x)
-  stored x valid quiet keeps = record {
-    quiet = quiet;
-    written = is;
-    kept = done seen record_is old new entries next valid follows keeps;
+pub on_err_at : {T E : Type 0} (r : Result T E) (e : E) (P : Type 0) → r ≡ Err e → OnErr r P → P
+on_err_at {T} {E} r e P is h = subst (λ (q : Result T E). OnErr q P) is h
+
+pub on_ok_at : {T E : Type 0} (r : Result T E) (x : T) (P : Type 0) → r ≡ Ok x → OnOk r P → P
+on_ok_at {T} {E} r x P is h = subst (λ (q : Result T E). OnOk q P) is h
+
+pub if_err_at : {T E : Type 0} (r : Result T E) (e : E) (P : E → Type 0) → r ≡ Err e → IfErr r P → P e
+if_err_at {T} {E} r e P is h = subst (λ (q : Result T E). IfErr q P) is h
+
+module _ {D : Type 0} (seen : D → DiskView) (plain : StateRecord) (fresh : Option StateRecord) (old new : JournalParts D) (entries : Entries)
+    (sorted : IsStrictlySortedBy key_cmp (keys_of entries)) (next : Bool → Entries)
+    (follows : (c : Bool) (one : StateRecord) → IsPut plain fresh c one → Follows (based c entries) one (next c))
+    (Written : Entries → Type 0) (is : (c : Bool) (one : StateRecord) → IsPut plain fresh c one → Written (next c))
+    (fits : IsFrame (record_bytes plain)) (held : IsHeld seen (record { journal = old; entries = entries })) (c : Bool) (r : Result (Unit {0}) CoordFault)
+    (puts : Puts seen (snapshot_frames entries) plain fresh old new c r) where
+  stored : {T : Type 0} (x : T) → r ≡ Ok tt → WritesOnce seen (HasFailed seen) Written (record { journal = old; entries = entries }) (record { journal = new; entries = next c }) (Ok x)
+  stored x at = record {
+    quiet = on_ok_at r tt _ at puts.quiet;
+    written = is c puts.chosen puts.is;
+    kept = done seen plain fresh old new entries sorted next follows c (on_ok_at r tt _ at puts.kept);
     same = tt;
     unchanged = tt;
     failed = tt;
     device = λ e. absurd (ok_is_no_err x _ e);
     full = λ end e. absurd (ok_is_no_err x _ e);
-    ends = λ pending held.
-        later_end seen old.live new.live held.frames held.unwritten None (record_bytes record_is) held.keeps.stands
-        (keeps held.frames held.unwritten held.keeps).0.stands;
-    any_moment = moments seen record_is old new entries next Written follows is old.live.disk new.live.disk old.idle new.idle run;
+    any_moment = moments seen plain fresh old new entries sorted next follows Written is puts.any_moment;
   }
 
-  pub stored_at : (x : T) (es : Entries) → es ≡ next → IsRecord record_is → IsQuiet seen old.live.disk new.live.disk
-      → ((frames : List (List ℕ)) (pending : Option (List ℕ)) → Keeps seen old frames pending
-      → Keeps seen new (frames ++ record_bytes record_is ∷ []) None × (length frames < 2 ^ 62))
-      → WritesOnce seen Failed Written (record { journal = old; entries = entries }) (record { journal = new; entries = es }) (Ok x)
-  stored_at x es same valid quiet keeps =
-      subst (λ (l : Entries). WritesOnce seen Failed Written (record { journal = old; entries = entries }) (record { journal = new; entries = l }) (Ok x))
-      (sym same) (stored x valid quiet keeps)
+  pub stored_at : {T : Type 0} (x : T) (es : Entries) → es ≡ next c → r ≡ Ok tt
+      → WritesOnce seen (HasFailed seen) Written (record { journal = old; entries = entries }) (record { journal = new; entries = es }) (Ok x)
+  stored_at x es same at =
+      subst (λ (l : Entries). WritesOnce seen (HasFailed seen) Written (record { journal = old; entries = entries }) (record { journal = new; entries = l }) (Ok x))
+      (sym same) (stored x at)
 
-  pub refused : (r : Result (Unit {0}) CoordFault) (e : CoordFault) → r ≡ Err e
-      → IsFrame (record_bytes record_is) → ((e ≡ NoMemory) ⊎ ((fault : StoreFault) × (e ≡ Store fault)))
-      → ((frames : List (List ℕ)) (pending : Option (List ℕ)) → Keeps seen old frames pending
-      → Keeps seen new frames pending ⊎ (IsRecord record_is × Keeps seen new frames (Some (record_bytes record_is))))
-      → (r ≡ Err (Store Device) → Failed old.live.disk new.live.disk)
-      → ((end : ℕ) → r ≡ Err (Store (Full end)) → (end ≡ old.live.end) × IsRecord record_is
-      × (2 ^ 62 < end + (length (record_bytes record_is) + 5)) × (new ≡ old))
-      → (r ≡ Err NoMemory → new ≡ old)
-      → WritesOnce {T = T} seen Failed Written (record { journal = old; entries = entries }) (record { journal = new; entries = entries }) (Err e)
-  refused r e from fits causes keeps device full memory = record {
+  same_store : (e : CoordFault) → r ≡ Err e → e ≢ Store Device → (new ≡ old) × (c ≡ false)
+  same_store e at other = by_cause (if_err_at r e (λ f. (f ≡ NoMemory) ⊎ ((fault : StoreFault) × (f ≡ Store fault))) at puts.causes)
+    where
+      by_fault : (fault : StoreFault) → e ≡ Store fault → (new ≡ old) × (c ≡ false)
+      by_fault Device here = absurd (other here)
+      by_fault (Full end) here = let f = puts.full held.1.frames held.1.sealing held.1.unwritten held.1.keeps end (at ∙ ap Err here) in (f.3, f.4)
+
+      by_cause : (e ≡ NoMemory) ⊎ ((fault : StoreFault) × (e ≡ Store fault)) → (new ≡ old) × (c ≡ false)
+      by_cause (inl here) = puts.memory (at ∙ ap Err here)
+      by_cause (inr here) = by_fault here.0 here.1
+
+  refused : {T : Type 0} (e : CoordFault) → r ≡ Err e
+      → WritesOnce {T = T} seen (HasFailed seen) Written (record { journal = old; entries = entries }) (record { journal = new; entries = based c entries }) (Err e)
+  refused e at = record {
     quiet = tt;
     written = tt;
     kept = tt;
-    same = refl;
-    unchanged = λ other. let same = by_cause causes other in λ i. record { journal = same i; entries = entries };
-    failed = lost seen record_is old new entries next Written follows is keeps;
-    device = λ at. (device (from ∙ ap Err (err_of e _ at)), (next, is));
-    full = λ end at.
-        let f = full end (from ∙ ap Err (err_of e _ at)) in
-        (f.0, (record_bytes record_is, next, is, accepts seen record_is old new entries next f.1 follows, fits, f.2));
-    ends = λ pending held. ⊎_elim
-        (λ k. same_end seen old.live new.live held.frames held.unwritten held.unwritten held.keeps.stands k.stands)
-        (λ k. same_end seen old.live new.live held.frames held.unwritten (Some (record_bytes record_is)) held.keeps.stands k.1.stands)
-        (keeps held.frames held.unwritten held.keeps);
-    any_moment = moments seen record_is old new entries next Written follows is old.live.disk new.live.disk old.idle new.idle run;
+    same = states_based c entries;
+    unchanged = λ other. let s = same_store e at other in λ i. record { journal = s.0 i; entries = ap (λ (b : Bool). based b entries) s.1 i };
+    failed = lost seen plain fresh old new entries sorted next follows Written is c (on_err_at r e _ at puts.failed);
+    device = λ here. (puts.device (at ∙ ap Err (err_of e _ here)), (next c, is c puts.chosen puts.is));
+    full = λ end here.
+        let f = puts.full held.1.frames held.1.sealing held.1.unwritten held.1.keeps end (at ∙ ap Err (err_of e _ here)) in
+        (f.0, (record_bytes plain, next false, is false plain refl, accepts seen plain fresh old new entries sorted next follows false plain refl f.1, fits, f.2));
+    any_moment = moments seen plain fresh old new entries sorted next follows Written is puts.any_moment;
   }
-    where
-      by_fault : (fault : StoreFault) → e ≡ Store fault → e ≢ Store Device → new ≡ old
-      by_fault Device at other = absurd (other at)
-      by_fault (Full end) at other = (full end (from ∙ ap Err at)).3
 
-      by_cause : (e ≡ NoMemory) ⊎ ((fault : StoreFault) × (e ≡ Store fault)) → e ≢ Store Device → new ≡ old
-      by_cause (inl at) other = memory (from ∙ ap Err at)
-      by_cause (inr at) other = by_fault at.0 at.1 other
+  pub refused_at : {T : Type 0} (e : CoordFault) (es : Entries) → es ≡ based c entries → r ≡ Err e
+      → WritesOnce {T = T} seen (HasFailed seen) Written (record { journal = old; entries = entries }) (record { journal = new; entries = es }) (Err e)
+  refused_at {T} e es same at =
+      subst (λ (l : Entries). WritesOnce {T = T} seen (HasFailed seen) Written (record { journal = old; entries = entries }) (record { journal = new; entries = l }) (Err e))
+      (sym same) (refused e at)
 
 module _ {D T : Type 0} (seen : D → DiskView) (Failed : D → D → Type 0)
     (Written : Entries → Type 0) (old new : StoreParts D) where
@@ -118,6 +119,15 @@ module _ {D T : Type 0} (seen : D → DiskView) (Failed : D → D → Type 0)
   pub same_entries : (es : Entries) (r : Result T CoordFault) → es ≡ new.entries → WritesOnce seen Failed Written old new r
       → WritesOnce seen Failed Written old (record { journal = new.journal; entries = es }) r
   same_entries es r same once = subst (λ (l : Entries). WritesOnce seen Failed Written old (record { journal = new.journal; entries = l }) r) (sym same) once
+
+-- a refusal of what was put is none by numbers
+pub put_causes : (r : Result (Unit {0}) CoordFault) (e : CoordFault) → r ≡ Err e → IfErr r (λ f. (f ≡ NoMemory) ⊎ ((fault : StoreFault) × (f ≡ Store fault)))
+    → Causes None (λ _. ⊥) e
+put_causes r e at causes = by (if_err_at r e (λ f. (f ≡ NoMemory) ⊎ ((fault : StoreFault) × (f ≡ Store fault))) at causes)
+  where
+    by : (e ≡ NoMemory) ⊎ ((fault : StoreFault) × (e ≡ Store fault)) → Causes None (λ _. ⊥) e
+    by (inl is) = subst (Causes None (λ _. ⊥)) (sym is) refl
+    by (inr h) = subst (Causes None (λ _. ⊥)) (sym h.1) refl
 
 -- what may be written is said otherwise
 pub rewritten : {D T : Type 0} (seen : D → DiskView) (Failed : D → D → Type 0)
@@ -132,7 +142,6 @@ rewritten seen Failed P Q old new r f once = record {
   failed = on_err_weaker r (λ h pending held. ⊎_elim (λ x. inl x) (λ x. inr (x.0, f x.0 x.1, x.2)) (h pending held)) once.failed;
   device = λ at. let x = once.device at in (x.0, (x.1.0, f x.1.0 x.1.1));
   full = λ end at. let x = once.full end at in (x.0, (x.1.0, x.1.1, f x.1.1 x.1.2, x.1.3, x.1.4, x.1.5));
-  ends = once.ends;
   any_moment = λ pending held. let run = once.any_moment pending held in record {
     later_a = run.later_a;
     later_b = run.later_b;

@@ -1,8 +1,5 @@
 -- Contents stand for one map of states, and a content with a refused frame for none.
-use Rattle.std.proofs.Common.{◌≡◌, inl, inr, ◌<◌, ◌≤◌, ◌-◌, ◌^◌, refl, sym, ap, ◌∙◌, subst, arith, ℕ, List, [], ◌∷◌, ◌++◌, length, length-append, Bool, true, false}
-use Rattle.std.specs.Prelude.{min}
-use Rattle.gate_journal.specs.Frames.{StandsFor, blocks, behind_gate}
-use Rattle.coord_checkpoint.specs.Lists.{IsListed, IsUnlisted}
+use Rattle.std.proofs.Common.{◌≡◌, ◌⊎◌, inl, inr, Some, None, if◌then◌else◌, ◌<◌, ◌^◌, sym, ap, ◌∙◌, subst, arith, ℕ, List, [], ◌∷◌, ◌++◌, length, Bool, true, false}
 use Rattle.coord_checkpoint.specs.declared.fault.CoordOpen.{CoordOpen}
 use Rattle.coord_checkpoint.specs.declared.fault.CoordOpen.TheVariants.{Damaged, Device, NoMemory}
 use Rattle.share_model.specs.ShareStates.{AreLaid, start_after}
@@ -10,10 +7,15 @@ use Rattle.share_model.specs.declared.run.Run.{Run}
 use Rattle.state_records.specs.declared.record.StateRecord.{StateRecord}
 use Rattle.state_records.specs.declared.record.StateRecord.TheVariants.{Snapshot, Update, Removal, Head, Seal}
 use Rattle.state_records.proofs.Whole.{one_record}
-use Rattle.share_coord.specs.Stored.{Entries, Follows, Accepts, AreAccepted, IsRefused, AreDamaged, with_kept, snapshot_of, update_of}
+use Rattle.share_coord.specs.Stored.{Entries, Follows, Accepts, AreAccepted, AreTaken, IsRefused, IsRefusedOn, AreDamaged, kept_at, next_snapshot, records_from, walk_of, with_kept, snapshot_of, update_of}
 use Rattle.share_coord.specs.declared.view.Kept.{Kept}
 use Rattle.share_coord.proofs.Spans.{laid_once}
-use Rattle.share_coord.proofs.Keys.{some_is}
+use Rattle.share_coord.specs.declared.walk.Walk.{Walk}
+use Rattle.share_coord.specs.declared.walk.Walk.TheVariants.{First}
+use Rattle.share_model.specs.Keys.{KeyParts}
+use Rattle.share_coord.proofs.Keys.{next_few, some_is, some_none}
+use Rattle.share_coord.proofs.Taken.{push_before}
+use Rattle.share_coord.proofs.Walking.{front_taken, records_few}
 
 follows_once : (old : Entries) (r : StateRecord) (m n : Entries) → Follows old r m → Follows old r n → m ≡ n
 follows_once old (Snapshot state) m n p q =
@@ -39,37 +41,30 @@ accepted_once old [] m n p q = p ∙ sym q
 accepted_once old (f ∷ fs) m n p q =
     accepted_once p.0 fs m n p.2 (subst (λ (e : Entries). AreAccepted e fs n) (sym (accepts_once old f p.0 q.0 p.1 q.1)) q.2)
 
-split : (old : Entries) (before : List (List ℕ)) (frame : List ℕ) (behind : List (List ℕ)) (new : Entries) → AreAccepted old (before ++ frame ∷ behind) new
-    → (mid : Entries) × (next : Entries) × AreAccepted old before mid × Accepts mid frame next
-split old [] frame behind new a = (old, a.0, refl, a.1)
-split old (f ∷ fs) frame behind new a = let s = split a.0 fs frame behind new a.2 in (s.0, s.1, (a.0, a.1, s.2), s.3)
+pub taken_once : (frames : List (List ℕ)) (m n : Entries) → AreTaken frames m → AreTaken frames n → m ≡ n
+taken_once frames m n p q = accepted_once [] (records_from First frames) m n p q
 
-pub refused_clash : (frames : List (List ℕ)) (place : ℕ) (entries : Entries) → IsRefused frames place → AreAccepted [] frames entries → ⊥
+-- a key has fewer snapshots than there are frames
+pub next_held : (frames : List (List ℕ)) (entries : Entries) (key : KeyParts) → AreTaken frames entries → length frames < 2 ^ 63
+    → next_snapshot (kept_at entries key) < 2 ^ 64
+next_held frames entries key taken few =
+    let le = records_few First frames in next_few (records_from First frames) entries key taken (omega (arith, le, few))
+
+-- a frame that doesn't go on from those before it
+pub next_refused : (frames : List (List ℕ)) (frame : List ℕ) (walk : Walk) (entries : Entries) → walk ≡ walk_of First frames → AreTaken frames entries
+    → ((new : Entries) → AreAccepted entries (records_from walk (frame ∷ [])) new → ⊥) → (new : Entries) → AreTaken (frames ++ frame ∷ []) new → ⊥
+next_refused frames frame walk entries is taken refused new a =
+    let s = front_taken frames (frame ∷ []) new a in
+    refused new (subst (λ (w : Walk). AreAccepted entries (records_from w (frame ∷ [])) new) (sym is)
+    (subst (λ (e : Entries). AreAccepted e (records_from (walk_of First frames) (frame ∷ [])) new) (taken_once frames s.0 entries s.1 taken) s.2))
+
+pub refused_clash : (frames : List (List ℕ)) (place : ℕ) (entries : Entries) → IsRefused frames place → AreTaken frames entries → ⊥
 refused_clash frames place entries is a =
-    let s = split [] is.before is.frame is.behind entries (subst (λ (l : List (List ℕ)). AreAccepted [] l entries) is.parts a) in
-    is.refused s.1 (subst (λ (e : Entries). Accepts e is.frame s.1) (accepted_once [] is.before s.0 is.entries s.2 is.accepted) s.3)
+    let parts = is.parts ∙ sym (push_before is.before is.frame is.behind) in
+    let s = front_taken (is.before ++ is.frame ∷ []) is.behind entries (subst (λ (l : List (List ℕ)). AreTaken l entries) parts a) in
+    is.refused s.0 s.1
 
--- ---- places
-
-blocks_front : (before : List (List ℕ)) (behind : List (List ℕ)) → length (blocks before) ≤ length (blocks (before ++ behind))
-blocks_front [] behind = omega arith
-blocks_front (f ∷ fs) behind =
-    omega (arith, blocks_front fs behind, length-append (behind_gate f) (blocks fs), length-append (behind_gate f) (blocks (fs ++ behind)))
-
-stands_size : (c : List ℕ) (frames : List (List ℕ)) → StandsFor c frames → length (blocks frames) ≤ length c
-stands_size c frames (inl h) = let none = ap (λ (l : List (List ℕ)). length (blocks l)) h.1 in omega (arith, none)
-stands_size c frames (inr h) =
-    let whole = ap (λ (l : List ℕ). length l) h.3 in omega (arith, whole, length-append (blocks frames) (h.0 ∷ h.1))
-
-pub true_place : (c : List ℕ) (frames : List (List ℕ)) (place told size : ℕ) → StandsFor c frames → IsRefused frames place → told ≡ min place (2 ^ 64 - 1)
-    → size ≡ length c → size < 2 ^ 64 → told ≡ place
-true_place c frames place told size stands is e s lt =
-    let parts = ap (λ (l : List (List ℕ)). length (blocks l)) is.parts in
-    omega (arith, e, s, lt, is.at, parts, blocks_front is.before (is.frame ∷ is.behind), stands_size c frames stands)
-
-pub unlisted_damaged : (x y : List ℕ) (second : Bool) (place : ℕ) → IsUnlisted x y second place → AreDamaged x y second place
-unlisted_damaged x y false place h = inl h
-unlisted_damaged x y true place h = h
+-- ---- what a refusal names
 
 which : CoordOpen → Bool
 which (Damaged second place) = second
@@ -81,13 +76,12 @@ where_at (Damaged second place) = place
 where_at (Device second) = 0
 where_at NoMemory = 0
 
--- on the first disk
-pub refused_damaged : (x y : List ℕ) (frames : List (List ℕ)) (told : ℕ) (second : Bool) (place : ℕ) → IsListed x y frames → IsRefused frames told
-    → ◌≡◌ {A = CoordOpen} (Damaged false told) (Damaged second place) → AreDamaged x y second place
+-- on the live disk
+pub refused_damaged : (x y : List ℕ) (on_second : Bool) (told : ℕ) (second : Bool) (place : ℕ) → IsRefusedOn x y on_second told
+    → ◌≡◌ {A = CoordOpen} (Damaged on_second told) (Damaged second place) → AreDamaged x y second place
 unfolding which where_at
-refused_damaged x y frames told second place listed is e =
-    subst (λ (b : Bool). AreDamaged x y b place) (ap which e)
-    (inr (frames, listed, subst (λ (n : ℕ). IsRefused frames n) (ap where_at e) is))
+refused_damaged x y on_second told second place is e =
+    inr (subst (λ (b : Bool). IsRefusedOn x y b place) (ap which e) (subst (λ (n : ℕ). IsRefusedOn x y on_second n) (ap where_at e) is))
 
 is_damaged : CoordOpen → Type 0
 is_damaged (Damaged second place) = Unit {0}
@@ -97,3 +91,11 @@ is_damaged NoMemory = ⊥
 pub no_device : (second other : Bool) (place : ℕ) → Damaged second place ≡ Device other → ⊥
 unfolding is_damaged
 no_device second other place is = subst is_damaged is tt
+
+-- ---- the live disk
+
+pub live_one : (b sealed : Bool) (ones twos frames : List (List ℕ)) → (if b then Some twos else if sealed then Some ones else None) ≡ Some frames
+    → (frames ≡ ones) ⊎ (frames ≡ twos)
+live_one true sealed ones twos frames is = inr (sym (some_is twos frames is))
+live_one false true ones twos frames is = inl (sym (some_is ones frames is))
+live_one false false ones twos frames is = absurd (some_none frames (sym is))

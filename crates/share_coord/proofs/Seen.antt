@@ -4,13 +4,12 @@ use Rattle.std.specs.Option.{IsSome}
 use Rattle.std.proofs.lemmas.Int.{to_z-of_z}
 use Rattle.share_model.specs.Keys.{KeyParts}
 use Rattle.share_model.specs.declared.run.Run.{Run}
-use Rattle.coord_checkpoint.specs.Lists.{Keeps}
-use Rattle.coord_checkpoint.specs.declared.journal.StateJournal.{StateJournal}
+use Rattle.coord_checkpoint.specs.Stores.{Keeps, StoreParts as JournalParts}
 use Rattle.share_coord.specs.Parts.{StoreParts}
 use Rattle.share_coord.specs.Stored.{Entries, kept_at}
 use Rattle.share_coord.specs.Calls.{IsInitialised, IsWritten, IsForgotten}
 use Rattle.share_coord.specs.Holding.{Holds, WritesOnce}
-use Rattle.share_coord.specs.Recorded.{IsWriteRecord, StoresOne, init_record}
+use Rattle.share_coord.specs.Recorded.{IsInitRecord, IsWriteRecord, StoresOne}
 use Rattle.state_records.specs.declared.record.StateRecord.TheVariants.{Removal}
 use Rattle.share_coord.specs.declared.fault.CoordFault.{CoordFault}
 use Rattle.share_coord.specs.declared.view.Kept.{Kept}
@@ -47,12 +46,12 @@ module _ {D T : Type 0} (seen : D → DiskView) (Failed : D → D → Type 0)
 -- and the record that it stores
 module _ {D T : Type 0} (seen : D → DiskView) (shown now new : StoreParts D) (r : Result T CoordFault) (key : KeyParts) (same : shown ≡ now) where
   pub stored_init : (state start : ℤ) → FitsSigned w32 state → FitsSigned w64 start
-      → StoresOne seen (λ one. one ≡ init_record shown.entries key (to_z w32 (of_z w32 state)) (to_z w64 (of_z w64 start))) shown.journal new.journal r
-      → StoresOne seen (λ one. one ≡ init_record now.entries key state start) now.journal new.journal r
+      → StoresOne seen (IsInitRecord shown.entries key (to_z w32 (of_z w32 state)) (to_z w64 (of_z w64 start))) shown.journal new.journal r
+      → StoresOne seen (IsInitRecord now.entries key state start) now.journal new.journal r
   stored_init state start f g h =
-      subst (λ (p : StoreParts D). StoresOne seen (λ one. one ≡ init_record p.entries key state start) p.journal new.journal r) same
-      (subst (λ (z : ℤ). StoresOne seen (λ one. one ≡ init_record shown.entries key state z) shown.journal new.journal r) (to_z-of_z w64 start g)
-      (subst (λ (z : ℤ). StoresOne seen (λ one. one ≡ init_record shown.entries key z (to_z w64 (of_z w64 start))) shown.journal new.journal r)
+      subst (λ (p : StoreParts D). StoresOne seen (IsInitRecord p.entries key state start) p.journal new.journal r) same
+      (subst (λ (z : ℤ). StoresOne seen (IsInitRecord shown.entries key state z) shown.journal new.journal r) (to_z-of_z w64 start g)
+      (subst (λ (z : ℤ). StoresOne seen (IsInitRecord shown.entries key z (to_z w64 (of_z w64 start))) shown.journal new.journal r)
       (to_z-of_z w32 state f) h))
 
   pub stored_write : (state leader start : ℤ) (runs : List Run) → FitsSigned w32 state → FitsSigned w32 leader → FitsSigned w64 start
@@ -75,8 +74,8 @@ either_there None = inl refl
 either_there (Some kept) = inr refl
 
 -- a fault was armed
-pub rearmed : {D : Type 0} (seen : D → DiskView) (old new : StateJournal D) (entries : Entries)
-    → ((frames : List (List ℕ)) (pending : Option (List ℕ)) → Keeps seen old frames pending → Keeps seen new frames pending)
+pub rearmed : {D : Type 0} (seen : D → DiskView) (old new : JournalParts D) (entries : Entries)
+    → ((frames : List (List ℕ)) (sealing : Option (List (List ℕ))) (pending : Option (List ℕ)) → Keeps seen old frames sealing pending → Keeps seen new frames sealing pending)
     → (pending : Option Entries) → Holds seen (record { journal = old; entries = entries }) pending → Holds seen (record { journal = new; entries = entries }) pending
 rearmed seen old new entries stays pending held =
-    holds_by seen new entries held.frames held.unwritten pending (stays held.frames held.unwritten held.keeps) held.accepted held.few held.leaves
+    holds_by seen new entries held.frames held.sealing held.unwritten pending (stays held.frames held.sealing held.unwritten held.keeps) held.taken held.few held.leaves held.sealed

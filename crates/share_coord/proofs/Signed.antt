@@ -5,17 +5,16 @@ use Rattle.std.proofs.lemmas.Bool.Decides.{nat_tests}
 use Rattle.std.specs.List.{list_all}
 use Rattle.share_model.specs.Keys.{KeyParts}
 use Rattle.share_model.specs.declared.run.Run.{Run}
-use Rattle.state_records.specs.States.{IsEpoch, IsStart, StateParts}
+use Rattle.state_records.specs.States.{IsEpoch, IsStart}
 use Rattle.state_records.specs.declared.record.StateRecord.{StateRecord}
-use Rattle.state_records.specs.declared.record.StateRecord.TheVariants.{Snapshot}
-use Rattle.share_coord.specs.Stored.{Entries, Follows, IsSnapshotted, kept_at, snapshot_of, with_kept, next_snapshot}
-use Rattle.share_model.specs.ShareStates.{AreLaid, is_writable}
-use Rattle.share_coord.specs.Calls.{fenced_write, init_refusal, write_refusal, initialised, IsInitialised, IsWritten}
+use Rattle.share_coord.specs.Stored.{Entries}
+use Rattle.share_coord.specs.Recorded.{IsInitRecord}
+use Rattle.share_model.specs.ShareStates.{is_writable}
+use Rattle.share_coord.specs.Calls.{fenced_write, init_refusal, write_refusal, IsInitialised, IsWritten}
 use Rattle.share_coord.specs.declared.fault.CoordFault.{CoordFault}
 use Rattle.share_coord.specs.declared.fault.CoordFault.TheVariants.{Invalid}
 use Rattle.share_coord.specs.declared.view.Kept.{Kept}
 use Rattle.share_coord.proofs.Keys.{clash, some_none}
-use Rattle.share_coord.proofs.Spans.{nothing_laid}
 
 pub epoch_fits : (z : ℤ) → FitsSigned w32 z → int_lt z (pos 0) ≡ false → IsEpoch (to_z w32 (of_z w32 z))
 epoch_fits z fits e = subst IsEpoch (sym (to_z-of_z w32 z fits)) (go z fits e)
@@ -69,22 +68,17 @@ written_as old key state leader start runs new es f g h is e =
     (subst (λ (z : ℤ). IsWritten old key state z (to_z w64 (of_z w64 start)) runs new) (to_z-of_z w32 leader g)
     (subst (λ (z : ℤ). IsWritten old key z (to_z w32 (of_z w32 leader)) (to_z w64 (of_z w64 start)) runs new) (to_z-of_z w32 state f) is)))
 
-initial : ℤ → ℤ → ℤ → List Run → ℕ → Kept
-initial state leader start runs n = record {
-  view = record { state_epoch = state; leader_epoch = leader; start = start; runs = runs };
-  snapshot = n;
-  updates = 0;
-}
+pub init_as : (old : Entries) (key : KeyParts) (state start : ℤ) (es : Entries) → FitsSigned w32 state → FitsSigned w64 start
+    → IsInitialised old key (to_z w32 (of_z w32 state)) (to_z w64 (of_z w64 start)) es → IsInitialised old key state start es
+init_as old key state start es f g is =
+    subst (λ (z : ℤ). IsInitialised old key state z es) (to_z-of_z w64 start g)
+    (subst (λ (z : ℤ). IsInitialised old key z (to_z w64 (of_z w64 start)) es) (to_z-of_z w32 state f) is)
 
-initialised_by : (old : Entries) (key : KeyParts) (state start : ℤ) (runs : List Run) (n : ℕ) (kept : Kept) (es : Entries)
-    → FitsSigned w32 state → FitsSigned w64 start → runs ≡ [] → n ≡ next_snapshot (kept_at old key)
-    → kept ≡ record { view = record { state_epoch = to_z w32 (of_z w32 state); leader_epoch = pos 0; start = to_z w64 (of_z w64 start); runs = runs }; snapshot = n; updates = 0 }
-    → es ≡ with_kept old key kept → es ≡ initialised old key state start
-unfolding initial
-initialised_by old key state start runs n kept es f g none next is e =
-    e ∙ ap (with_kept old key) (is ∙ (ap (λ (z : ℤ). initial z (pos 0) (to_z w64 (of_z w64 start)) runs n) (to_z-of_z w32 state f)
-    ∙ (ap (λ (z : ℤ). initial state (pos 0) z runs n) (to_z-of_z w64 start g)
-    ∙ (ap (λ (r : List Run). initial state (pos 0) start r n) none ∙ ap (λ (m : ℕ). initial state (pos 0) start [] m) next))))
+pub init_record_as : (old : Entries) (key : KeyParts) (state start : ℤ) (one : StateRecord) → FitsSigned w32 state → FitsSigned w64 start
+    → IsInitRecord old key (to_z w32 (of_z w32 state)) (to_z w64 (of_z w64 start)) one → IsInitRecord old key state start one
+init_record_as old key state start one f g is =
+    subst (λ (z : ℤ). IsInitRecord old key state z one) (to_z-of_z w64 start g)
+    (subst (λ (z : ℤ). IsInitRecord old key z (to_z w64 (of_z w64 start)) one) (to_z-of_z w32 state f) is)
 
 -- the refusal is that of the numbers as they came
 pub init_refusal_as : (known : Option Kept) (state start : ℤ) → FitsSigned w32 state → FitsSigned w64 start
@@ -99,27 +93,3 @@ refusal_as known state leader start runs f g h = sym
     (ap (λ (z : ℤ). write_refusal known z (to_z w32 (of_z w32 leader)) (to_z w64 (of_z w64 start)) runs) (to_z-of_z w32 state f)
     ∙ (ap (λ (z : ℤ). write_refusal known state z (to_z w64 (of_z w64 start)) runs) (to_z-of_z w32 leader g)
     ∙ ap (λ (z : ℤ). write_refusal known state leader z runs) (to_z-of_z w64 start h)))
-
--- an initialisation of numbers that are not refused
-pub initialised_as : (old : Entries) (key : KeyParts) (state start : ℤ) (runs : List Run) (n : ℕ) (kept : Kept) (es : Entries) (known : Option Kept)
-    → FitsSigned w32 state → FitsSigned w64 start → known ≡ kept_at old key → init_refusal known (to_z w32 (of_z w32 state)) (to_z w64 (of_z w64 start)) ≡ None
-    → runs ≡ [] → n ≡ next_snapshot (kept_at old key)
-    → kept ≡ record { view = record { state_epoch = to_z w32 (of_z w32 state); leader_epoch = pos 0; start = to_z w64 (of_z w64 start); runs = runs }; snapshot = n; updates = 0 }
-    → es ≡ with_kept old key kept → IsInitialised old key state start es
-initialised_as old key state start runs n kept es known f g shown granted none next is e = record {
-  granted = ap (λ (o : Option Kept). init_refusal o state start) (sym shown) ∙ (init_refusal_as known state start f g ∙ granted);
-  is = initialised_by old key state start runs n kept es f g none next is e;
-}
-
--- the snapshot of an initialisation goes on from what is there
-pub initial_follows : (old : Entries) (state : StateParts) (kept : Kept) (written : StateRecord) → state.runs ≡ []
-    → state.snapshot ≡ next_snapshot (kept_at old state.key) → written ≡ Snapshot state → kept ≡ snapshot_of state state.runs
-    → Follows old written (with_kept old state.key kept)
-initial_follows old state kept written none next is_written is =
-    let snapshotted : IsSnapshotted old state (with_kept old state.key kept) = record {
-      runs = state.runs;
-      next = next;
-      laid = subst (λ (runs : List Run). AreLaid state.start [] runs runs) (sym none) (nothing_laid state.start);
-      few = omega (arith, ap (λ (runs : List Run). length runs) none);
-      is = ap (with_kept old state.key) is;
-    } in subst (λ (w : StateRecord). Follows old w (with_kept old state.key kept)) (sym is_written) snapshotted

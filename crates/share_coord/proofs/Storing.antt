@@ -1,6 +1,6 @@
 -- Which record a call stores.
 use Rattle.std.proofs.Common.{◌≡◌, ◌≢◌, ◌⊎◌, ◌↔◌, ◌<◌, ◌≤◌, ◌+◌, ◌^◌, inl, inr, ⊎_elim, refl, sym, ap, ◌∙◌, subst, arith, ℕ, ℤ, pos, List, [], ◌∷◌, ◌++◌, length}
-use Rattle.std.proofs.Common.{Option, Some, None, Result, Ok, Err, to_z, of_z, w32, w64, FitsSigned}
+use Rattle.std.proofs.Common.{Bool, true, false, Option, Some, None, Result, Ok, Err, to_z, of_z, w32, w64, FitsSigned}
 use Rattle.std.proofs.lemmas.Bool.{cases_lt}
 use Rattle.std.proofs.lemmas.Int.{to_z-of_z}
 use Rattle.edge_io.specs.Views.{DiskView}
@@ -10,114 +10,108 @@ use Rattle.share_model.specs.declared.fault.StoreFault.{StoreFault}
 use Rattle.share_model.specs.declared.fault.StoreFault.TheVariants.{Device, Full}
 use Rattle.share_model.specs.declared.run.Run.{Run}
 use Rattle.share_model.proofs.OneList.{one_list}
-use Rattle.coord_checkpoint.specs.Lists.{Keeps}
-use Rattle.coord_checkpoint.specs.declared.journal.StateJournal.{StateJournal}
-use Rattle.state_records.specs.Spelling.{record_bytes}
+use Rattle.coord_checkpoint.specs.Stores.{IsBase, Keeps, StoreParts as JournalParts}
+use Rattle.state_records.specs.Spelling.{IsRecord, record_bytes}
 use Rattle.state_records.specs.declared.record.StateRecord.{StateRecord}
 use Rattle.state_records.specs.declared.record.StateRecord.TheVariants.{Snapshot}
-use Rattle.share_coord.specs.Stored.{Entries, kept_at, next_snapshot}
-use Rattle.share_coord.specs.Recorded.{IsWriteRecord, StoresOne, init_record, write_record}
+use Rattle.share_coord.specs.Putting.{IsPut, Puts}
+use Rattle.share_coord.specs.Stored.{Entries, based, based_kept, kept_at, next_snapshot}
+use Rattle.share_coord.specs.Recorded.{IsBased, IsInitRecord, IsWriteRecord, StoresOne, init_record, write_record}
 use Rattle.share_coord.specs.declared.fault.CoordFault.{CoordFault}
 use Rattle.share_coord.specs.declared.fault.CoordFault.TheVariants.{Store}
 use Rattle.share_coord.specs.declared.view.Kept.{Kept}
-use Rattle.share_coord.proofs.Faults.{same_fault, ok_is_no_err, err_of}
+use Rattle.share_coord.proofs.Faults.{ok_is_no_err, err_of}
+use Rattle.share_coord.proofs.Once.{on_err_at, on_ok_at}
 use Rattle.share_coord.proofs.Keys.{some_is}
 use Rattle.share_coord.proofs.Spans.{laid_once}
 
 -- what is refused before it writes stores none
-pub unstored : {D T : Type 0} (seen : D → DiskView) (Is : StateRecord → Type 0) (journal : StateJournal D) (e : CoordFault)
+pub unstored : {D T : Type 0} (seen : D → DiskView) (Is : StateRecord → Type 0) (journal : JournalParts D) (e : CoordFault)
     → ((fault : StoreFault) → e ≢ Store fault) → StoresOne {T = T} seen Is journal journal (Err e)
 unstored seen Is journal e other = record {
   stored = tt;
   pending = λ is. absurd (other Device (err_of e _ is));
   full = λ end is. absurd (other (Full end) (err_of e _ is));
+  room = tt;
 }
 
 -- ---- the record is told otherwise
 
-module _ {D : Type 0} (seen : D → DiskView) (P Q : StateRecord → Type 0) (old new : StateJournal D) (f : (one : StateRecord) → P one → Q one) where
+module _ {D : Type 0} (seen : D → DiskView) (P Q : StateRecord → Type 0) (old new : JournalParts D) (f : (one : StateRecord) → P one → Q one) where
   pub as_ok : {S T : Type 0} (x : S) (y : T) → StoresOne {T = S} seen P old new (Ok x) → StoresOne {T = T} seen Q old new (Ok y)
   as_ok x y h = record {
-    stored = (h.stored.0, f h.stored.0 h.stored.1, h.stored.2, h.stored.3);
+    stored = (h.stored.0, f h.stored.0 h.stored.1, h.stored.2);
     pending = λ is. absurd (ok_is_no_err y _ is);
     full = λ end is. absurd (ok_is_no_err y _ is);
+    room = (h.room.0, f h.room.0 h.room.1, h.room.2);
   }
 
   pub as_err : {S T : Type 0} (e : CoordFault) → StoresOne {T = S} seen P old new (Err e) → StoresOne {T = T} seen Q old new (Err e)
   as_err e h = record {
     stored = tt;
-    pending = λ is. let x = h.pending (ap Err (err_of e _ is)) in (x.0, f x.0 x.1, x.2, x.3);
+    pending = λ is. let x = h.pending (ap Err (err_of e _ is)) in (x.0, f x.0 x.1, x.2);
     full = λ end is. let x = h.full end (ap Err (err_of e _ is)) in (x.0, (x.1.0, f x.1.0 x.1.1, x.1.2));
+    room = tt;
   }
 
   pub as_this : {T : Type 0} (r : Result T CoordFault) → StoresOne seen P old new r → StoresOne seen Q old new r
   as_this (Ok x) h = as_ok x x h
   as_this (Err e) h = as_err e h
 
--- ---- one append
+-- ---- from what the record that was put left
 
-no_full : (end : ℕ) → ◌≡◌ {A = Result ℕ StoreFault} (Err Device) (Err (Full end)) → ⊥
-no_full end is = let never : ⊥ = cc in never
+module _ {D : Type 0} (seen : D → DiskView) (snapshots : List (List ℕ)) (plain : StateRecord) (fresh : Option StateRecord) (old new : JournalParts D)
+    (c : Bool) (r : Result (Unit {0}) CoordFault) (puts : Puts seen snapshots plain fresh old new c r)
+    (all : List (List ℕ)) (seals : Option (List (List ℕ))) (waits : Option (List ℕ)) (keeps : Keeps seen old all seals waits)
+    (Is : StateRecord → Type 0) (is : (b : Bool) (one : StateRecord) → IsPut plain fresh b one → Is one) where
+  one_put : (b : Bool) (one two : StateRecord) → IsPut plain fresh b one → IsPut plain fresh b two → one ≡ two
+  one_put false one two p q = p ∙ sym q
+  one_put true one two p q = some_is one two (sym p ∙ q)
 
-module _ {D : Type 0} (seen : D → DiskView) (old new : StateJournal D) (one : StateRecord) (bytes : List ℕ) (n : ℕ)
-    (is : bytes ≡ record_bytes one) (size : n ≡ length (record_bytes one) + 5) (r : Result ℕ StoreFault)
-    (full : (end : ℕ) → (r ≡ Err (Full end)) ↔ ((end ≡ old.live.end) × (2 ^ 62 < old.live.end + n))) where
-  room : ((end : ℕ) → r ≢ Err (Full end)) → old.live.end + n ≤ 2 ^ 62
-  room other = ⊎_elim (λ lt. absurd (other old.live.end ((full old.live.end).1 (refl, lt)))) (λ le. le) (cases_lt (2 ^ 62) (old.live.end + n))
+  based_by : (b : Bool) (frames base : List (List ℕ)) → IsBase frames snapshots b base → IsBased frames base
+  based_by false frames base from = inl from
+  based_by true frames base from = inr (snapshots, from)
 
-  pub put_ok : (k : ℕ) → r ≡ Ok k
-      → ((frames : List (List ℕ)) (pending : Option (List ℕ)) → Keeps seen old frames pending → Keeps seen new (frames ++ bytes ∷ []) None)
-      → StoresOne {T = Unit {0}} seen (λ o. o ≡ one) old new (Ok tt)
-  put_ok k at keeps = record {
+  pub stores_ok : {T : Type 0} (x : T) → r ≡ Ok tt → StoresOne seen Is old new (Ok x)
+  stores_ok x at = record {
     stored = (
-      one,
-      refl,
-      omega (arith, room (λ end e. ok_is_no_err k _ (sym at ∙ e)), size),
-      λ frames pending h. subst (λ (f : List ℕ). Keeps seen new (frames ++ f ∷ []) None) is (keeps frames pending h),
+      puts.chosen,
+      is c puts.chosen puts.is,
+      λ frames sealing pending kept.
+          let h = on_ok_at r tt _ at puts.kept frames sealing pending kept in (
+            h.base,
+            based_by c frames h.base h.from,
+            subst (λ (o : StateRecord). Keeps seen new (h.base ++ record_bytes o ∷ []) None None) (one_put c h.one puts.chosen h.is puts.is) h.keeps,
+          ),
     );
-    pending = λ e. absurd (ok_is_no_err tt _ e);
-    full = λ end e. absurd (ok_is_no_err tt _ e);
+    pending = λ e. absurd (ok_is_no_err x _ e);
+    full = λ end e. absurd (ok_is_no_err x _ e);
+    room = (plain, is false plain refl, on_ok_at r tt _ at puts.room all seals waits keeps);
   }
 
-  pub put_err : (fault : StoreFault) → r ≡ Err fault
-      → ((frames : List (List ℕ)) (pending : Option (List ℕ)) → Keeps seen old frames pending
-      → Keeps seen new frames pending ⊎ Keeps seen new frames (Some bytes))
-      → StoresOne {T = Unit {0}} seen (λ o. o ≡ one) old new (Err (Store fault))
-  put_err fault at keeps = record {
+  waits_by : (waits pending : Option (List ℕ)) → (waits ≡ None) ⊎ (((c ≡ false) × (waits ≡ pending))
+      ⊎ ((one : StateRecord) × IsPut plain fresh c one × IsRecord one × (waits ≡ Some (record_bytes one))))
+      → (waits ≡ pending) ⊎ ((waits ≡ None) ⊎ (waits ≡ Some (record_bytes puts.chosen)))
+  waits_by waits pending (inl none) = inr (inl none)
+  waits_by waits pending (inr (inl was)) = inl was.1
+  waits_by waits pending (inr (inr h)) = inr (inr (h.3 ∙ ap (λ (o : StateRecord). Some (record_bytes o)) (one_put c h.0 puts.chosen h.1 puts.is)))
+
+  pub stores_err : {T : Type 0} (e : CoordFault) → r ≡ Err e → StoresOne {T = T} seen Is old new (Err e)
+  stores_err e at = record {
     stored = tt;
-    pending = λ e.
-        let device : fault ≡ Device = same_fault fault Device e in (
-          one,
-          refl,
-          omega (arith, room (λ end f. no_full end (sym (at ∙ ap Err device) ∙ f)), size),
-          λ frames pending h. ⊎_elim (λ k. inl k) (λ k. inr (subst (λ (f : List ℕ). Keeps seen new frames (Some f)) is k)) (keeps frames pending h),
-        );
-    full = λ end e.
-        let bounds = (full end).0 (at ∙ ap Err (same_fault fault (Full end) e)) in
-        (bounds.0, (one, refl, omega (arith, bounds.0, bounds.1, size)));
+    pending = λ here. (
+      puts.chosen,
+      is c puts.chosen puts.is,
+      λ frames sealing pending kept.
+          let h = on_err_at r e _ at puts.failed frames sealing pending kept in
+          (h.base, h.seals, h.waits, based_by c frames h.base h.from, waits_by h.waits pending h.which, h.keeps),
+    );
+    full = λ end here.
+        let f = puts.full all seals waits keeps end (at ∙ ap Err (err_of e _ here)) in (f.0, (plain, is false plain refl, f.2));
+    room = tt;
   }
 
 -- ---- the numbers as they came
-
-abbrev first_of : KeyParts → ℕ → ℤ → ℤ → List Run → StateRecord
-first_of key n state start runs =
-    Snapshot (record { key = key; snapshot = n; state_epoch = state; leader_epoch = pos 0; start = start; runs = runs })
-
-pub init_stored : (old : Entries) (key : KeyParts) (state start : ℤ) (runs : List Run) (n : ℕ) (one : StateRecord)
-    → FitsSigned w32 state → FitsSigned w64 start → runs ≡ [] → n ≡ next_snapshot (kept_at old key)
-    → one ≡ Snapshot (record {
-      key = key;
-      snapshot = n;
-      state_epoch = to_z w32 (of_z w32 state);
-      leader_epoch = pos 0;
-      start = to_z w64 (of_z w64 start);
-      runs = runs;
-    })
-    → one ≡ init_record old key state start
-init_stored old key state start runs n one f g none next is =
-    is ∙ (ap (λ (z : ℤ). first_of key n z (to_z w64 (of_z w64 start)) runs) (to_z-of_z w32 state f)
-    ∙ (ap (λ (z : ℤ). first_of key n state z runs) (to_z-of_z w64 start g)
-    ∙ (ap (λ (l : List Run). first_of key n state start l) none ∙ ap (λ (m : ℕ). first_of key m state start []) next)))
 
 pub write_stored : (old : Entries) (key : KeyParts) (state leader start : ℤ) (runs : List Run) (one : StateRecord)
     → FitsSigned w32 state → FitsSigned w32 leader → FitsSigned w64 start
@@ -131,8 +125,8 @@ write_stored old key state leader start runs one f g h is =
 -- ---- a write has one record
 
 pub one_write : (old : Entries) (key : KeyParts) (state leader start : ℤ) (runs : List Run) (a b : StateRecord)
-    → IsWriteRecord old key state leader start runs a → IsWriteRecord old key state leader start runs b → a ≡ b
-one_write old key state leader start runs a b p q =
+    → (p : IsWriteRecord old key state leader start runs a) (q : IsWriteRecord old key state leader start runs b) → p.checkpointed ≡ q.checkpointed → a ≡ b
+one_write old key state leader start runs a b p q behind =
     let kept : p.kept ≡ q.kept = some_is p.kept q.kept (sym p.known ∙ q.known) in
     let written : p.written ≡ q.written = one_list p.written q.written p.are_written.canonical q.are_written.canonical
     (λ o. p.are_written.rows o ∙ sym (q.are_written.rows o)) in
@@ -140,6 +134,7 @@ one_write old key state leader start runs a b p q =
     subst (λ (k : Kept). AreLaid (start_after k.view.start start) k.view.runs p.written q.laid) (sym kept)
     (subst (λ (w : List Run). AreLaid (start_after q.kept.view.start start) q.kept.view.runs w q.laid) (sym written) q.are_laid) in
     let laid : p.laid ≡ q.laid = laid_once (start_after p.kept.view.start start) p.kept.view.runs p.written p.laid q.laid p.are_laid also in
-    p.is ∙ (ap (λ (k : Kept). write_record key k state leader start p.written p.laid) kept
-    ∙ (ap (λ (w : List Run). write_record key q.kept state leader start w p.laid) written
-    ∙ ap (λ (l : List Run). write_record key q.kept state leader start q.written l) laid)) ∙ sym q.is
+    p.is ∙ (ap (λ (k : Kept). write_record key (based_kept p.checkpointed k) state leader start p.written p.laid) kept
+    ∙ (ap (λ (c : Bool). write_record key (based_kept c q.kept) state leader start p.written p.laid) behind
+    ∙ (ap (λ (w : List Run). write_record key (based_kept q.checkpointed q.kept) state leader start w p.laid) written
+    ∙ ap (λ (l : List Run). write_record key (based_kept q.checkpointed q.kept) state leader start q.written l) laid))) ∙ sym q.is

@@ -1,20 +1,14 @@
 -- The records that opening takes, one after another.
-use Rattle.std.proofs.Common.{◌≡◌, suc, ◌<◌, ◌≤◌, ◌+◌, ◌-◌, ◌^◌, refl, sym, ap, ◌∙◌, subst, arith, ℕ, ℤ, pos, negsuc, List, [], ◌∷◌, ◌++◌, length, length-append, take, drop, Option, Some, None, if◌then◌else◌, to_z, of_z, w32, w64}
-use Rattle.std.specs.Prelude.{min, get_or}
-use Rattle.std.proofs.lemmas.List.{take-append-drop}
-use Rattle.std.proofs.Math.Seq.{take-suc}
-use Rattle.gate_journal.specs.Frames.{blocks, behind_gate}
+use Rattle.std.proofs.Common.{◌≡◌, ◌<◌, ◌≤◌, ◌+◌, refl, sym, ap, ◌∙◌, subst, arith, ℕ, ℤ, pos, negsuc, List, [], ◌∷◌, ◌++◌, length, Option, Some, None, if◌then◌else◌, to_z, of_z, w32, w64}
+use Rattle.std.specs.Prelude.{min}
 use Rattle.share_model.specs.Runs.{IsCanonical, row_at}
 use Rattle.share_model.specs.ShareStates.{ShareState, AreLaid, start_after, is_below}
 use Rattle.share_model.specs.declared.run.Run.{Run}
 use Rattle.state_records.specs.States.{StateParts, IsEpoch, IsStart, AreStoredRuns}
 use Rattle.state_records.proofs.Signed.{epoch_same, start_same}
 use Rattle.share_coord.specs.Views.{IsKeptState}
-use Rattle.share_coord.specs.Stored.{Entries, Accepts, AreAccepted, IsSnapshotted, IsUpdated, kept_at, with_kept, next_snapshot}
+use Rattle.share_coord.specs.Stored.{Entries, IsSnapshotted, IsUpdated, kept_at, with_kept, next_snapshot}
 use Rattle.share_coord.specs.declared.view.Kept.{Kept}
-use Rattle.share_coord.specs.declared.replay.ReplayFault.{ReplayFault}
-use Rattle.share_coord.specs.declared.replay.ReplayFault.TheVariants.{Refused, NoMemory}
-use Rattle.share_coord.proofs.Held.{accepted_then}
 use Rattle.share_coord.proofs.Spans.{cut_laid, laid_once}
 
 made : ℤ → ℤ → ℤ → List Run → ℕ → ℕ → Kept
@@ -137,40 +131,6 @@ too_many_update old state kept rows known laid many new is =
 
 -- ---- frames in their order
 
-pub blocks_then : (frames : List (List ℕ)) (frame : List ℕ) → length (blocks (frames ++ frame ∷ [])) ≡ length (blocks frames) + (5 + length frame)
-blocks_then [] frame = omega (arith, length-append frame [])
-blocks_then (f ∷ fs) frame = omega (arith, blocks_then fs frame, length-append (behind_gate f) (blocks (fs ++ frame ∷ [])), length-append (behind_gate f) (blocks fs))
-
-pub one_taken : (frames before : List (List ℕ)) (frame : List ℕ) (old new : Entries) → frames ≡ before ++ frame ∷ [] → AreAccepted [] before old → Accepts old frame new
-    → AreAccepted [] frames new
-one_taken frames before frame old new is a one = subst (λ (l : List (List ℕ)). AreAccepted [] l new) (sym is) (accepted_then [] old new before frame a one)
-
-pub one_place : (frames before : List (List ℕ)) (frame : List ℕ) (place after : ℕ) → frames ≡ before ++ frame ∷ [] → place ≡ min (length (blocks before)) (2 ^ 64 - 1)
-    → after ≡ min (min (place + 5) (2 ^ 64 - 1) + length frame) (2 ^ 64 - 1) → after ≡ min (length (blocks frames)) (2 ^ 64 - 1)
-one_place frames before frame place after is at e =
-    let size : length (blocks frames) ≡ length (blocks before) + (5 + length frame) = ap (λ (l : List (List ℕ)). length (blocks l)) is ∙ blocks_then before frame in
-    omega (arith, size, at, e)
-
-push_before : (xs : List (List ℕ)) (x : List ℕ) (ys : List (List ℕ)) → (xs ++ x ∷ []) ++ ys ≡ xs ++ (x ∷ ys)
+pub push_before : (xs : List (List ℕ)) (x : List ℕ) (ys : List (List ℕ)) → (xs ++ x ∷ []) ++ ys ≡ xs ++ (x ∷ ys)
 push_before [] x ys = refl
 push_before (z ∷ xs) x ys = ap (λ (l : List (List ℕ)). z ∷ l) (push_before xs x ys)
-
--- the frames up to the next one, and all of them around it
-pub next_front : (frames : List (List ℕ)) (i : ℕ) (item frame : List ℕ) → i < length frames → item ≡ get_or frames i item → frame ≡ item
-    → take (i + 1) frames ≡ take i frames ++ frame ∷ []
-next_front frames i item frame lt is same =
-    let one : i + 1 ≡ suc i = omega arith in
-    ap (λ (n : ℕ). take n frames) one ∙ take-suc frames i item lt ∙ ap (λ (f : List ℕ). take i frames ++ f ∷ []) (sym is ∙ sym same)
-
-pub next_parts : (frames : List (List ℕ)) (i : ℕ) (item frame : List ℕ) → i < length frames → item ≡ get_or frames i item → frame ≡ item
-    → frames ≡ take i frames ++ (frame ∷ drop (i + 1) frames)
-next_parts frames i item frame lt is same = sym (take-append-drop (i + 1) frames)
-    ∙ (ap (λ (l : List (List ℕ)). l ++ drop (i + 1) frames) (next_front frames i item frame lt is same) ∙ push_before (take i frames) frame (drop (i + 1) frames))
-
-place_in : ReplayFault → ℕ
-place_in (Refused place) = place
-place_in NoMemory = 0
-
-pub same_place : (p q : ℕ) → ◌≡◌ {A = ReplayFault} (Refused p) (Refused q) → p ≡ q
-unfolding place_in
-same_place p q e = ap place_in e

@@ -1,13 +1,13 @@
 -- What the calls on a store refuse, and what they leave (KIP-932, the share-group state calls; the limit on runs is this
 -- project's own).
 -- For example a write with leader epoch 3 on a key with 4 is fenced, and told 4.
-use Rattle.std.specs.Prelude.{◌≡◌, ◌≤◌, ◌<◌, ◌+◌, ℕ, ℤ, pos, negsuc, max, List, [], length, Some, None, int_lt, nat_lt, ◌||◌, not, if◌then◌else◌}
+use Rattle.std.specs.Prelude.{◌≡◌, ◌≤◌, ◌<◌, ◌+◌, ℕ, ℤ, pos, negsuc, max, List, [], length, Some, None, Bool, int_lt, nat_lt, ◌||◌, not, if◌then◌else◌}
 use Rattle.std.specs.List.{list_all}
 use Rattle.std.specs.declared.option.Option.{Option}
 use Rattle.share_model.specs.Keys.{KeyParts}
 use Rattle.share_model.specs.ShareStates.{AreWritten, AreLaid, start_after, is_writable}
 use Rattle.share_model.specs.declared.run.Run.{Run}
-use Rattle.share_coord.specs.Stored.{Entries, kept_at, with_kept, without_key, next_snapshot}
+use Rattle.share_coord.specs.Stored.{Entries, based, based_kept, kept_at, with_kept, without_key, next_snapshot}
 use Rattle.share_coord.specs.declared.fault.CoordFault.{CoordFault}
 use Rattle.share_coord.specs.declared.fault.CoordFault.TheVariants.{Invalid, Unknown, FencedLeader, FencedState, TooMany, Store, NoMemory}
 use Rattle.share_coord.specs.declared.view.Kept.{Kept}
@@ -42,7 +42,7 @@ write_refusal known state_epoch leader_epoch start runs =
     if (int_lt state_epoch (pos 0) || int_lt leader_epoch (pos 0)) || (int_lt start (negsuc 0) || not (list_all is_writable runs))
     then Some Invalid else fenced_write known state_epoch leader_epoch
 
--- ---- what they leave
+-- ---- what they leave, where no checkpoint was made before, or behind one
 
 abbrev pub initialised : Entries → KeyParts → ℤ → ℤ → Entries
 initialised old key state_epoch start = with_kept old key (record {
@@ -54,7 +54,8 @@ initialised old key state_epoch start = with_kept old key (record {
 -- an initialisation that isn't refused
 pub record IsInitialised (old : Entries) (key : KeyParts) (state_epoch start : ℤ) (new : Entries) : Type 0 where
   pub granted : init_refusal (kept_at old key) state_epoch start ≡ None
-  pub is : new ≡ initialised old key state_epoch start
+  pub checkpointed : Bool
+  pub is : new ≡ initialised (based checkpointed old) key state_epoch start
 
 -- A write is stored as an update, and as a snapshot where its key has 500 updates since its last one.
 abbrev pub written_of : Kept → ℤ → ℤ → ℤ → List Run → Kept
@@ -67,6 +68,7 @@ written_of kept state_epoch leader_epoch start runs = record {
 -- A write that isn't refused: both epochs and the start are set, and these runs are laid over the key's.
 pub record IsWritten (old : Entries) (key : KeyParts) (state_epoch leader_epoch start : ℤ) (runs : List Run) (new : Entries) : Type 0 where
   pub granted : write_refusal (kept_at old key) state_epoch leader_epoch start runs ≡ None
+  pub checkpointed : Bool
   pub kept : Kept
   pub written : List Run
   pub laid : List Run
@@ -75,7 +77,7 @@ pub record IsWritten (old : Entries) (key : KeyParts) (state_epoch leader_epoch 
   pub are_laid : AreLaid (start_after kept.view.start start) kept.view.runs written laid
   pub few_written : length written ≤ 1000000
   pub few : length laid ≤ 1000000
-  pub is : new ≡ with_kept old key (written_of kept state_epoch leader_epoch start laid)
+  pub is : new ≡ with_kept (based checkpointed old) key (written_of (based_kept checkpointed kept) state_epoch leader_epoch start laid)
 
 -- The rows written, or those that the key would have, are more than 1000000 runs; this is the greater of both numbers.
 pub record IsTooMany (old : Entries) (key : KeyParts) (start : ℤ) (runs : List Run) (count : ℕ) : Type 0 where
@@ -90,7 +92,7 @@ pub record IsTooMany (old : Entries) (key : KeyParts) (start : ℤ) (runs : List
 
 -- the key is there, and gone afterwards
 abbrev pub IsForgotten : Entries → KeyParts → Entries → Type 0
-IsForgotten old key new = ((kept : Kept) × (kept_at old key ≡ Some kept)) × (new ≡ without_key old key)
+IsForgotten old key new = ((kept : Kept) × (kept_at old key ≡ Some kept)) × ((checkpointed : Bool) × (new ≡ without_key (based checkpointed old) key))
 
 -- ---- what a refusal tells
 

@@ -5,4 +5,7 @@ pub mod States
 pub mod Calls
 pub mod Holding
 pub mod Recorded
+pub mod Putting
+pub mod Planning
 pub mod Opening
+pub mod Replaying

@@ -1,6 +1,6 @@
 -- What a store is that was opened, and why none was. This project's own.
--- For example two empty disks are opened as a store of no keys; a first disk of `01 00000001 61 00`, whose frame is no record, is
--- damaged at byte 0, and both disks come back.
+-- For example two empty disks are opened as a store of no keys; a first disk of `01 00000001 61 00` beside an empty second one, whose
+-- frame is no record, is damaged at byte 0, and both disks come back.
 use Rattle.std.specs.Prelude.{◌≡◌, ◌≢◌, ℕ, List, Some, None, Bool, true, false}
 use Rattle.coord_checkpoint.specs.Disks.{HasFailed}
 use Rattle.gate_journal.specs.Frames.{IsDamaged}

@@ -1,12 +1,12 @@
 -- Which record a call stores, and what stands of it on the disks. This project's own.
 -- Worked example: a key has start 7, and a row at 8. A write of a row at 9 with start 7 stores an update with start 7
 -- and the one run from 9 to 9, and with start -1 the same with -1. Where the key has 500 updates since its last
--- snapshot, either stores a snapshot with start 7 and the rows at 8 and 9.
+-- snapshot, either stores a snapshot with start 7 and the rows at 8 and 9. Behind a checkpoint the key has no update since.
 use Rattle.std.specs.Prelude.{◌≡◌, ◌⊎◌, ◌<◌, ◌≤◌, ◌+◌, ◌^◌, ℕ, ℤ, pos, List, [], ◌∷◌, ◌++◌, length}
-use Rattle.std.specs.Prelude.{nat_lt, if◌then◌else◌, Some, None, Result, Err, OnOk}
+use Rattle.std.specs.Prelude.{nat_lt, if◌then◌else◌, Some, None, Bool, Result, Err, OnOk}
 use Rattle.std.specs.declared.option.Option.{Option}
-use Rattle.coord_checkpoint.specs.Lists.{Keeps}
-use Rattle.coord_checkpoint.specs.declared.journal.StateJournal.{StateJournal}
+use Rattle.coord_checkpoint.specs.Stores.{Keeps, StoreParts as JournalParts}
+use Rattle.checkpoint_journal.specs.Checkpoints.{IsCheckpoint}
 use Rattle.edge_io.specs.Views.{DiskView}
 use Rattle.share_model.specs.Keys.{KeyParts}
 use Rattle.share_model.specs.ShareStates.{AreWritten, AreLaid, start_after}
@@ -15,7 +15,7 @@ use Rattle.share_model.specs.declared.run.Run.{Run}
 use Rattle.state_records.specs.Spelling.{record_bytes}
 use Rattle.state_records.specs.declared.record.StateRecord.{StateRecord}
 use Rattle.state_records.specs.declared.record.StateRecord.TheVariants.{Snapshot, Update}
-use Rattle.share_coord.specs.Stored.{Entries, kept_at, next_snapshot}
+use Rattle.share_coord.specs.Stored.{Entries, based, based_kept, kept_at, next_snapshot}
 use Rattle.share_coord.specs.declared.fault.CoordFault.{CoordFault}
 use Rattle.share_coord.specs.declared.fault.CoordFault.TheVariants.{Store as store_fault}
 use Rattle.share_coord.specs.declared.view.Kept.{Kept}
@@ -54,16 +54,21 @@ write_record key kept state_epoch leader_epoch start written laid = if nat_lt ke
       runs = laid;
     })
 
--- the record of a write, of which there is one
+-- the record of an initialisation, where no checkpoint was made before it, or behind one
+abbrev pub IsInitRecord : Entries → KeyParts → ℤ → ℤ → StateRecord → Type 0
+IsInitRecord old key state_epoch start one = (checkpointed : Bool) × (one ≡ init_record (based checkpointed old) key state_epoch start)
+
+-- the record of a write, of which there is one where no checkpoint was made before it, and one behind one
 pub record IsWriteRecord (old : Entries) (key : KeyParts) (state_epoch leader_epoch start : ℤ) (runs : List Run)
     (one : StateRecord) : Type 0 where
+  pub checkpointed : Bool
   pub kept : Kept
   pub written : List Run
   pub laid : List Run
   pub known : kept_at old key ≡ Some kept
   pub are_written : AreWritten runs written
   pub are_laid : AreLaid (start_after kept.view.start start) kept.view.runs written laid
-  pub is : one ≡ write_record key kept state_epoch leader_epoch start written laid
+  pub is : one ≡ write_record key (based_kept checkpointed kept) state_epoch leader_epoch start written laid
 
 -- ---- what stands of it
 
@@ -72,22 +77,28 @@ pub record IsWriteRecord (old : Entries) (key : KeyParts) (state_epoch leader_ep
 abbrev pub HasRoomFor : ℕ → StateRecord → Type 0
 HasRoomFor end one = end + (length (record_bytes one) + 5) ≤ 2 ^ 62
 
--- the frame of the record stands behind those that were there, and nothing is pending
-abbrev pub IsStored : {D : Type 0} → (D → DiskView) → StateJournal D → StateJournal D → StateRecord → Type 0
-IsStored seen old new one = (frames : List (List ℕ)) (pending : Option (List ℕ)) → Keeps seen old frames pending →
-    Keeps seen new (frames ++ record_bytes one ∷ []) None
+-- the frames that were there; or those of a checkpoint in their place
+abbrev pub IsBased : List (List ℕ) → List (List ℕ) → Type 0
+IsBased frames base = (base ≡ frames) ⊎ ((snapshots : List (List ℕ)) × IsCheckpoint snapshots base)
 
--- the frames are those that were there, and what is pending is the frame from before or that of the record
-abbrev pub IsPending : {D : Type 0} → (D → DiskView) → StateJournal D → StateJournal D → StateRecord → Type 0
-IsPending seen old new one = (frames : List (List ℕ)) (pending : Option (List ℕ)) → Keeps seen old frames pending →
-    Keeps seen new frames pending ⊎ Keeps seen new frames (Some (record_bytes one))
+-- the frame of the record stands behind those that were there, or behind those of a checkpoint, and nothing is pending
+abbrev pub IsStored : {D : Type 0} → (D → DiskView) → JournalParts D → JournalParts D → StateRecord → Type 0
+IsStored seen old new one = (frames : List (List ℕ)) (sealing : Option (List (List ℕ))) (pending : Option (List ℕ)) →
+    Keeps seen old frames sealing pending → (base : List (List ℕ)) × IsBased frames base × Keeps seen new (base ++ record_bytes one ∷ []) None None
 
--- A call that stores one record, which `Is` tells: its frame, and no other, is stored, may be pending after a device
--- fault, or has no room. So the call is refused as full where this frame has no room, and nowhere else.
-pub record StoresOne {D T : Type 0} (seen : D → DiskView) (Is : StateRecord → Type 0) (old new : StateJournal D)
+-- the frames are those that were there, or those of a checkpoint, and what is pending is the frame from before, that of the record, or none
+abbrev pub IsPending : {D : Type 0} → (D → DiskView) → JournalParts D → JournalParts D → StateRecord → Type 0
+IsPending seen old new one = (frames : List (List ℕ)) (sealing : Option (List (List ℕ))) (pending : Option (List ℕ)) →
+    Keeps seen old frames sealing pending →
+    (base : List (List ℕ)) × (seals : Option (List (List ℕ))) × (waits : Option (List ℕ)) × IsBased frames base
+    × ((waits ≡ pending) ⊎ ((waits ≡ None) ⊎ (waits ≡ Some (record_bytes one)))) × Keeps seen new base seals waits
+
+-- A call that stores one record, which `Is` tells: its frame, and no other but those of a checkpoint before it, is stored, may be
+-- pending after a device fault, or has no room. So the call is refused as full where this frame has no room, and nowhere else.
+pub record StoresOne {D T : Type 0} (seen : D → DiskView) (Is : StateRecord → Type 0) (old new : JournalParts D)
     (result : Result T CoordFault) : Type 0 where
-  pub stored : OnOk result ((one : StateRecord) × Is one × HasRoomFor old.live.end one × IsStored seen old new one)
-  pub pending : result ≡ Err (store_fault Device) →
-      (one : StateRecord) × Is one × HasRoomFor old.live.end one × IsPending seen old new one
+  pub stored : OnOk result ((one : StateRecord) × Is one × IsStored seen old new one)
+  pub pending : result ≡ Err (store_fault Device) → (one : StateRecord) × Is one × IsPending seen old new one
   pub full : (end : ℕ) → result ≡ Err (store_fault (Full end)) →
-      (end ≡ old.live.end) × ((one : StateRecord) × Is one × (2 ^ 62 < end + (length (record_bytes one) + 5)))
+      (end ≡ old.end) × ((one : StateRecord) × Is one × (2 ^ 62 < end + (length (record_bytes one) + 5)))
+  pub room : OnOk result ((one : StateRecord) × Is one × HasRoomFor old.end one)

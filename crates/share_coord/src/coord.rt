@@ -10,12 +10,12 @@ ghost use Rattle.share_coord.specs.Stored.{Entries, kept_at};
 ghost use Rattle.share_coord.specs.Calls.{Causes, IsInitialised, IsWritten, IsTooMany, IsForgotten, init_refusal, write_refusal};
 ghost use Rattle.share_coord.specs.Holding.{Holds, WritesOnce};
 ghost use Rattle.share_coord.specs.Opening.{IsOpened, IsNotOpened};
-ghost use Rattle.share_coord.specs.Recorded.{IsWriteRecord, StoresOne, init_record};
+ghost use Rattle.share_coord.specs.Recorded.{IsInitRecord, IsWriteRecord, StoresOne};
 ghost use Rattle.share_coord.specs.States.{states_of};
 ghost use Rattle.state_records.specs.declared.record.StateRecord.TheVariants.{Removal};
 
 use crate::fault::CoordFault;
-use crate::replay::{ReplayFault, replay};
+use crate::replay::Replay;
 use crate::states::States;
 use crate::store::Store;
 use crate::view::StateView;
@@ -32,6 +32,11 @@ use std::marker::Model;
 /// makes the device calls of one append, and changes the states in memory once these are done. Where a device call
 /// fails the states are as before, and the record is *pending*: a crash may leave it or not, until a later call is
 /// answered Ok.
+///
+/// Before a call that stores a record a checkpoint of all keys is tried where the journal has many more records than
+/// there are keys. It drops the older records. One that fails, for want of memory too, refuses nothing, and the next
+/// call tries again; but where its last frame may still land, a call is answered `Device` as long as that can't be
+/// ruled out.
 #[derive(Drop)]
 pub struct Coord<D: Disk> {
     store: Store<D>,
@@ -51,21 +56,22 @@ impl<D: Disk> Model for Coord<D> {
 impl<D: Disk> Coord<D> {
     /// Opens the states of two disks, which come back at an `Err`.
     ///
-    /// It syncs each disk before it reads it, repairs the end of the journal on `a`, and leaves the content of `b` as
-    /// it is, in which no frame may stand. It is linear in the journal.
+    /// It syncs each disk before it reads it, and repairs the end of its journal. The states are those of the live one
+    /// of both journals. It is linear in them. Each frame is done as it is read: so it takes the memory of one frame and
+    /// of the states of both journals, which are two maps at the most, however long the journals are.
     pub fn open(alloc: Global, a: D, b: D) -> Result<Coord<D>, (D, D, CoordOpen)>
         ensures opened { IfOk result (IsOpened D.seen a b) }
         ensures refused { IfErr result (IsNotOpened D.seen a b) }
         ensures both { MatchResult result
-            (λ c. RunsBoth D.seen a b c.journal.live.disk c.journal.idle)
+            (λ c. RunsBoth D.seen a b c.journal.first.disk c.journal.second.disk)
             (λ e. RunsBoth D.seen a b e.0 e.1) }
     {
-        let _len = a.len(); // places are those of a u64
-        let (journal, frames) = match coord_checkpoint::open(alloc, a, b) {
+        let (ones, twos) = (Replay::new(alloc), Replay::new(alloc));
+        let (journal, replay) = match coord_checkpoint::open(alloc, a, b, ones, twos) {
             Ok(opened) => opened,
             Err(refused) => return Err(refused),
         };
-        match replay(alloc, &frames) {
+        match replay.finish() {
             Ok(map) => Ok(Coord {
                 store: Store {
                     journal,
@@ -73,19 +79,10 @@ impl<D: Disk> Coord<D> {
                     alloc,
                 },
             }),
-            Err(fault) => {
+            Err(place) => {
+                let second = journal.on_second();
                 let (a, b) = journal.into_disks();
-                match fault {
-                    ReplayFault::Refused { place } => Err((
-                        a,
-                        b,
-                        CoordOpen::Damaged {
-                            second: false,
-                            place,
-                        },
-                    )),
-                    ReplayFault::NoMemory => Err((a, b, CoordOpen::NoMemory)),
-                }
+                Err((a, b, CoordOpen::Damaged { second, place }))
             }
         }
     }
@@ -99,10 +96,9 @@ impl<D: Disk> Coord<D> {
         ensures causes { IfErr result (Causes (init_refusal (kept_at self.old.entries key.now) state_epoch start) (λ _. ⊥)) }
         ensures once { WritesOnce D.seen (HasFailed D.seen)
             (IsInitialised self.old.entries key.now state_epoch start) self.old self.new result }
-        ensures stored { StoresOne D.seen (λ one. one ≡ init_record self.old.entries key.now state_epoch start)
+        ensures stored { StoresOne D.seen (IsInitRecord self.old.entries key.now state_epoch start)
             self.old.journal self.new.journal result }
-        ensures runs { RunsOn D.seen self.old.journal.live.disk self.new.journal.live.disk }
-        ensures idle { self.new.journal.idle ≡ self.old.journal.idle }
+        ensures runs { RunsOn D.seen self.old.journal.first.disk self.new.journal.first.disk × RunsOn D.seen self.old.journal.second.disk self.new.journal.second.disk }
     {
         self.store.init(key, state_epoch, start)
     }
@@ -131,8 +127,7 @@ impl<D: Disk> Coord<D> {
         ensures stored { StoresOne D.seen
             (IsWriteRecord self.old.entries key.now state_epoch leader_epoch start runs.now)
             self.old.journal self.new.journal result }
-        ensures runs { RunsOn D.seen self.old.journal.live.disk self.new.journal.live.disk }
-        ensures idle { self.new.journal.idle ≡ self.old.journal.idle }
+        ensures runs { RunsOn D.seen self.old.journal.first.disk self.new.journal.first.disk × RunsOn D.seen self.old.journal.second.disk self.new.journal.second.disk }
     {
         self.store
             .write(key, state_epoch, leader_epoch, start, runs)
@@ -147,8 +142,7 @@ impl<D: Disk> Coord<D> {
             WritesOnce D.seen (HasFailed D.seen) (IsForgotten self.old.entries key.now) self.old self.new result }
         ensures stored { IsSome (kept_at self.old.entries key.now) →
             StoresOne D.seen (λ one. one ≡ Removal key.now) self.old.journal self.new.journal result }
-        ensures runs { RunsOn D.seen self.old.journal.live.disk self.new.journal.live.disk }
-        ensures idle { self.new.journal.idle ≡ self.old.journal.idle }
+        ensures runs { RunsOn D.seen self.old.journal.first.disk self.new.journal.first.disk × RunsOn D.seen self.old.journal.second.disk self.new.journal.second.disk }
     {
         self.store.remove(key)
     }
@@ -184,7 +178,7 @@ impl<D: Disk> Coord<D> {
 
     /// Whether a call of one of its disks has failed for want of memory.
     pub fn starved(&self) -> bool
-        ensures { (result ≡ true) ↔ (((D.seen self.now.journal.live.disk).starved ≡ true) ⊎ ((D.seen self.now.journal.idle).starved ≡ true)) }
+        ensures { (result ≡ true) ↔ (((D.seen self.now.journal.first.disk).starved ≡ true) ⊎ ((D.seen self.now.journal.second.disk).starved ≡ true)) }
     {
         self.store.journal.starved()
     }
@@ -193,12 +187,12 @@ impl<D: Disk> Coord<D> {
     pub fn arm(&mut self, disk: DiskPlace, after: u64, mode: FaultMode)
         ensures log { disk ≡ DiskPlace.Log → self.new ≡ self.old }
         ensures first { disk ≡ DiskPlace.StateA →
-            ArmsAlone D.seen after mode self.old.journal.live.disk self.new.journal.live.disk
-            × (self.new.journal.idle ≡ self.old.journal.idle) }
+            ArmsAlone D.seen after mode self.old.journal.first.disk self.new.journal.first.disk
+            × (self.new.journal.second ≡ self.old.journal.second) }
         ensures second { disk ≡ DiskPlace.StateB →
-            ArmsAlone D.seen after mode self.old.journal.idle self.new.journal.idle
-            × (self.new.journal.live ≡ self.old.journal.live) }
-        ensures end { self.new.journal.live.end ≡ self.old.journal.live.end }
+            ArmsAlone D.seen after mode self.old.journal.second.disk self.new.journal.second.disk
+            × (self.new.journal.first ≡ self.old.journal.first) }
+        ensures end { self.new.journal.end ≡ self.old.journal.end }
         ensures states { self.new.entries ≡ self.old.entries }
         ensures stays { (pending : Option Entries) → Holds D.seen self.old pending → Holds D.seen self.new pending }
     {
@@ -207,7 +201,7 @@ impl<D: Disk> Coord<D> {
 
     /// Gives the disks back, `a` first.
     pub fn into_disks(self) -> (D, D)
-        ensures { (result.0 ≡ self.journal.live.disk) × (result.1 ≡ self.journal.idle) }
+        ensures { (result.0 ≡ self.journal.first.disk) × (result.1 ≡ self.journal.second.disk) }
     {
         let Coord { store } = self;
         let Store { journal, .. } = store;

@@ -6,10 +6,11 @@ ghost use Rattle.state_records.specs.declared.record.StateRecord.{StateRecord};
 ghost use Rattle.share_coord.specs.Recorded.{IsWriteRecord};
 ghost use Rattle.share_coord.specs.Stored.{Entries};
 
-/// A write stores one record and no other, so whether it has room is told by that record alone.
+/// A write stores one record and no other where no checkpoint was made before it, and one behind one, so whether it has
+/// room is told by that record alone.
 pub fn a_write_stores_one_record()
     ensures { (old : Entries) (key : KeyParts) (state_epoch leader_epoch start : ℤ) (runs : List Run)
         (a b : StateRecord) →
-        IsWriteRecord old key state_epoch leader_epoch start runs a →
-        IsWriteRecord old key state_epoch leader_epoch start runs b → a ≡ b }
+        (p : IsWriteRecord old key state_epoch leader_epoch start runs a)
+        (q : IsWriteRecord old key state_epoch leader_epoch start runs b) → p.checkpointed ≡ q.checkpointed → a ≡ b }
 {}

@@ -9,9 +9,11 @@ mod records;
 mod refusals;
 mod replay;
 mod rows;
+mod snapshots;
 mod states;
 mod store;
 mod view;
+mod walk;
 
 pub use coord::Coord;
 pub use coord_checkpoint::CoordOpen;

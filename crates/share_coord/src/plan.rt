@@ -1,14 +1,12 @@
 // What a write leaves of its key, and the record that says so.
-ghost use Rattle.std.specs.Prelude.{◌≡◌, ◌≢◌, ◌⊎◌, ◌<◌, ◌≤◌, ◌+◌, ◌^◌, ℕ, List, length, true, Some, None, IfOk, IfErr};
+ghost use Rattle.std.specs.Prelude.{◌≡◌, ◌≢◌, ◌⊎◌, ◌<◌, ◌≤◌, ◌+◌, ◌^◌, ℕ, List, length, true, Some, None, IfOk, IfErr, IfSome, []};
 ghost use Rattle.std.specs.List.{list_all};
-ghost use Rattle.gate_journal.specs.Frames.{IsFrame};
 ghost use Rattle.share_model.specs.ShareStates.{is_writable, start_after};
-ghost use Rattle.state_records.specs.Spelling.{record_bytes};
 ghost use Rattle.state_records.specs.States.{IsKey, IsEpoch, IsStart, AreStoredRuns};
 ghost use Rattle.state_records.specs.declared.record.StateRecord.TheVariants.{Snapshot as snapshot_record, Update as update_record};
-ghost use Rattle.share_coord.specs.Stored.{Entries, Follows, kept_at, with_kept};
-ghost use Rattle.share_coord.specs.Calls.{IsWritten, IsTooMany, write_refusal};
-ghost use Rattle.share_coord.specs.Recorded.{IsWriteRecord};
+ghost use Rattle.share_coord.specs.Stored.{Entries, kept_at};
+ghost use Rattle.share_coord.specs.Calls.{IsTooMany};
+ghost use Rattle.share_coord.specs.Planning.{IsPlanned};
 
 use crate::fault::CoordFault;
 use crate::rows::{laid, start_after, written};
@@ -31,11 +29,26 @@ pub(crate) struct Numbers {
     pub start: i64,
 }
 
-// What is kept of a key, and the record that makes it so.
+// What is kept of a key, and the record that makes it so where no checkpoint is made before it.
 #[derive(Drop)]
 pub(crate) struct Change {
     pub kept: Kept,
     pub written: StateRecord,
+}
+
+// The record behind a checkpoint, and what the key's numbers are then.
+#[derive(Drop)]
+pub(crate) struct Fresh {
+    pub written: StateRecord,
+    pub snapshot: u64,
+    pub updates: u16,
+}
+
+// A change, and where a checkpoint is tried the record behind it.
+#[derive(Drop)]
+pub(crate) struct Changes {
+    pub change: Change,
+    pub fresh: Option<Fresh>,
 }
 
 fn sixteen(bytes: [u8; 16]) -> usize
@@ -63,10 +76,10 @@ pub(crate) fn key_fits(key: &Key)
 fn update(numbers: &Numbers, kept: &Kept, start: i64, over: Runs, rows: Runs) -> Change
     requires ranges { IsEpoch numbers.now.state_epoch × IsEpoch numbers.now.leader_epoch × IsStart numbers.now.start }
     requires start { IsStart start }
-    requires over { AreStoredRuns over }
-    requires few { length over ≤ 1000000 }
-    requires rows { AreStoredRuns rows }
-    requires few_rows { length rows ≤ 1000000 }
+    requires over { AreStoredRuns over.list }
+    requires few { length over.list ≤ 1000000 }
+    requires rows { AreStoredRuns rows.list }
+    requires few_rows { length rows.list ≤ 1000000 }
     requires updates { kept.now.updates < 500 }
     ensures written { result.written ≡ update_record (record {
       key = numbers.now.key;
@@ -74,10 +87,10 @@ fn update(numbers: &Numbers, kept: &Kept, start: i64, over: Runs, rows: Runs) ->
       state_epoch = numbers.now.state_epoch;
       leader_epoch = numbers.now.leader_epoch;
       start = numbers.now.start;
-      runs = over;
+      runs = over.list;
     }) }
     ensures kept { result.kept ≡ record {
-      view = record { state_epoch = numbers.now.state_epoch; leader_epoch = numbers.now.leader_epoch; start = start; runs = rows };
+      view = record { state_epoch = numbers.now.state_epoch; leader_epoch = numbers.now.leader_epoch; start = start; runs = rows.list };
       snapshot = kept.now.snapshot;
       updates = kept.now.updates + 1;
     } }
@@ -114,18 +127,18 @@ pub(crate) fn snapshot(
 ) -> Result<Change, NoMemory>
     requires ranges { IsEpoch numbers.now.state_epoch × IsEpoch numbers.now.leader_epoch }
     requires start { IsStart start }
-    requires rows { AreStoredRuns rows }
-    requires few_rows { length rows ≤ 1000000 }
+    requires rows { AreStoredRuns rows.list }
+    requires few_rows { length rows.list ≤ 1000000 }
     ensures written { IfOk result (λ c. c.written ≡ snapshot_record (record {
       key = numbers.now.key;
       snapshot = snapshot;
       state_epoch = numbers.now.state_epoch;
       leader_epoch = numbers.now.leader_epoch;
       start = start;
-      runs = rows;
+      runs = rows.list;
     })) }
     ensures kept { IfOk result (λ c. c.kept ≡ record {
-      view = record { state_epoch = numbers.now.state_epoch; leader_epoch = numbers.now.leader_epoch; start = start; runs = rows };
+      view = record { state_epoch = numbers.now.state_epoch; leader_epoch = numbers.now.leader_epoch; start = start; runs = rows.list };
       snapshot = snapshot;
       updates = 0;
     }) }
@@ -153,25 +166,102 @@ pub(crate) fn snapshot(
     })
 }
 
-// The change of a write whose numbers are not refused.
+// Behind a checkpoint a write is always stored as an update.
+fn fresh_update(alloc: Global, numbers: &Numbers, over: &Runs) -> Result<Fresh, NoMemory>
+    requires ranges { IsEpoch numbers.now.state_epoch × IsEpoch numbers.now.leader_epoch × IsStart numbers.now.start }
+    requires over { AreStoredRuns over.now.list }
+    requires few { length over.now.list ≤ 1000000 }
+    ensures written { IfOk result (λ f. f.written ≡ update_record (record {
+      key = numbers.now.key;
+      snapshot = 0;
+      state_epoch = numbers.now.state_epoch;
+      leader_epoch = numbers.now.leader_epoch;
+      start = numbers.now.start;
+      runs = over.now.list;
+    })) }
+    ensures numbers { IfOk result (λ f. (f.snapshot ≡ 0) × (f.updates ≡ 1)) }
+{
+    let copy = over.list().to_vec(alloc)?;
+    Ok(Fresh {
+        written: StateRecord::Update(KeyState {
+            key: numbers.key,
+            snapshot: 0,
+            state_epoch: numbers.state_epoch,
+            leader_epoch: numbers.leader_epoch,
+            start: numbers.start,
+            runs: Items::new(copy),
+        }),
+        snapshot: 0,
+        updates: 1,
+    })
+}
+
+// The record behind a checkpoint, where one is tried.
+fn fresh_where(
+    alloc: Global,
+    numbers: &Numbers,
+    over: &Runs,
+    tries: bool,
+) -> Result<Option<Fresh>, NoMemory>
+    requires ranges { IsEpoch numbers.now.state_epoch × IsEpoch numbers.now.leader_epoch × IsStart numbers.now.start }
+    requires over { AreStoredRuns over.now.list }
+    requires few { length over.now.list ≤ 1000000 }
+    ensures { IfOk result (λ o. IfSome o (λ f. (f.written ≡ update_record (record {
+      key = numbers.now.key;
+      snapshot = 0;
+      state_epoch = numbers.now.state_epoch;
+      leader_epoch = numbers.now.leader_epoch;
+      start = numbers.now.start;
+      runs = over.now.list;
+    })) × (f.snapshot ≡ 0) × (f.updates ≡ 1))) }
+{
+    if !tries {
+        return Ok(None);
+    }
+    let fresh = fresh_update(alloc, numbers, over)?;
+    Ok(Some(fresh))
+}
+
+// Behind a checkpoint an initialisation is the first snapshot of its key, or the second.
+pub(crate) fn fresh_snapshot(alloc: Global, numbers: &Numbers, snapshot: u64) -> Fresh
+    requires { IsEpoch numbers.now.state_epoch × IsEpoch numbers.now.leader_epoch × IsStart numbers.now.start }
+    ensures written { result.written ≡ snapshot_record (record {
+      key = numbers.now.key;
+      snapshot = snapshot;
+      state_epoch = numbers.now.state_epoch;
+      leader_epoch = numbers.now.leader_epoch;
+      start = numbers.now.start;
+      runs = [];
+    }) }
+    ensures numbers { (result.snapshot ≡ snapshot) × (result.updates ≡ 0) }
+{
+    Fresh {
+        written: StateRecord::Snapshot(KeyState {
+            key: numbers.key,
+            snapshot,
+            state_epoch: numbers.state_epoch,
+            leader_epoch: numbers.leader_epoch,
+            start: numbers.start,
+            runs: Items::new(Vec::new(alloc)),
+        }),
+        snapshot,
+        updates: 0,
+    }
+}
+
+// The change of a write whose numbers are not refused; with the record behind a checkpoint where one is tried.
 pub(crate) fn planned(
     alloc: Global,
     numbers: &Numbers,
     kept: &Kept,
     runs: &[Run],
-) -> Result<Change, CoordFault>
+    tries: bool,
+) -> Result<Changes, CoordFault>
     requires ranges { IsEpoch numbers.now.state_epoch × IsEpoch numbers.now.leader_epoch × IsStart numbers.now.start }
     requires runs { list_all is_writable runs.now ≡ true }
     requires snapshot { kept.now.snapshot + 1 < 2 ^ 64 }
-    ensures written { IfOk result (λ c. (old : Entries) → kept_at old numbers.now.key ≡ Some kept.now →
-        write_refusal (kept_at old numbers.now.key) numbers.now.state_epoch numbers.now.leader_epoch numbers.now.start runs.now ≡ None →
-        IsWritten old numbers.now.key numbers.now.state_epoch numbers.now.leader_epoch numbers.now.start runs.now (with_kept old numbers.now.key c.kept)) }
-    ensures follows { IfOk result (λ c. (old : Entries) → kept_at old numbers.now.key ≡ Some kept.now →
-        Follows old c.written (with_kept old numbers.now.key c.kept)) }
-    ensures one { IfOk result (λ c. (old : Entries) → kept_at old numbers.now.key ≡ Some kept.now →
-        IsWriteRecord old numbers.now.key numbers.now.state_epoch numbers.now.leader_epoch numbers.now.start
-        runs.now c.written) }
-    ensures frame { IfOk result (λ c. IsFrame (record_bytes c.written)) }
+    ensures plan { IfOk result (λ p. IsPlanned numbers.now.key kept.now numbers.now.state_epoch numbers.now.leader_epoch numbers.now.start
+        runs.now p.change.written p.change.kept p.fresh) }
     ensures many { IfErr result (λ e. (n : ℕ) → e ≡ CoordFault.TooMany n → (old : Entries) → kept_at old numbers.now.key ≡ Some kept.now →
         IsTooMany old numbers.now.key numbers.now.start runs.now n) }
     ensures causes { IfErr result (λ e. (e ≡ CoordFault.NoMemory) ⊎ ((n : ℕ) × (e ≡ CoordFault.TooMany n))) }
@@ -189,11 +279,17 @@ pub(crate) fn planned(
     if count > MAX_RUNS {
         return Err(CoordFault::TooMany { runs: count as u64 });
     }
+    let Ok(fresh) = fresh_where(alloc, numbers, &over, tries) else {
+        return Err(CoordFault::NoMemory);
+    };
     if kept.updates < 500 {
-        return Ok(update(numbers, kept, start, over, rows));
+        return Ok(Changes {
+            change: update(numbers, kept, start, over, rows),
+            fresh,
+        });
     }
     match snapshot(alloc, numbers, kept.snapshot + 1, start, rows) {
-        Ok(change) => Ok(change),
+        Ok(change) => Ok(Changes { change, fresh }),
         Err(_) => Err(CoordFault::NoMemory),
     }
 }

@@ -1,26 +1,24 @@
 // The states that the frames of a journal stand for.
-ghost use Rattle.std.specs.Prelude.{◌≡◌, ◌↔◌, ◌+◌, ◌-◌, ◌^◌, min, List, ℕ, [], true, false, length, Ok, IfOk, IfErr};
+ghost use Rattle.std.specs.Prelude.{◌≡◌, ◌↔◌, ◌+◌, ◌-◌, min, List, ℕ, [], ◌∷◌, true, false, length, None, Ok, IfOk, IfErr, OnErr, IfSome};
 ghost use Rattle.std.specs.Option.{option_copied};
-ghost use Rattle.gate_journal.specs.Frames.{blocks};
-ghost use Rattle.state_records.specs.Spelling.{IsRecord};
-ghost use Rattle.share_coord.specs.Stored.{Entries, IsSnapshotted, IsUpdated, IsRefused, Follows, Accepts, AreAccepted, next_snapshot};
+ghost use Rattle.checkpoint_journal.specs.Generations.{mark_of, mark_read};
+ghost use Rattle.coord_checkpoint.specs.Openings.{frames_in};
+ghost use Rattle.share_coord.specs.Replaying.{HasRefused};
+ghost use Rattle.share_coord.specs.Stored.{Entries, IsSnapshotted, IsUpdated, Follows, AreAccepted, AreTaken, is_passed, next_snapshot, records_from, walked};
 
 use crate::rows::{cut_at, laid, start_after};
 use crate::view::{Kept, StateView};
+use crate::walk::Walk;
+use coord_checkpoint::StateVisit;
+use gate_journal::SeenFrames;
 use offset_runs::Runs;
-use share_model::{Blob, Key, NoMemory};
+use share_model::{Key, NoMemory};
 use state_records::{KeyState, RecordFault, StateRecord, read_record};
 use std::alloc::Global;
 use std::collections::BTreeMap;
+use std::marker::Model;
 
 const MAX_RUNS: usize = 1000000;
-
-// Why frames stand for no states: the frame behind the gate at this place; or there was no memory.
-#[derive(Clone, Copy)]
-pub(crate) enum ReplayFault {
-    Refused { place: u64 },
-    NoMemory,
-}
 
 // Whether a snapshot has the epoch that the next one of its key has.
 fn is_next(known: Option<&Kept>, snapshot: u64) -> bool
@@ -35,6 +33,7 @@ fn is_next(known: Option<&Kept>, snapshot: u64) -> bool
 fn take_snapshot(map: &mut BTreeMap<Key, Kept>, state: KeyState) -> Result<bool, NoMemory>
     ensures taken { result ≡ Ok true → IsSnapshotted map.old.entries state map.new.entries }
     ensures refused { result ≡ Ok false → (new : Entries) → IsSnapshotted map.old.entries state new → ⊥ }
+    ensures kept { OnErr result (map.new.entries ≡ map.old.entries) }
 {
     if !is_next(map.get(&state.key), state.snapshot) {
         return Ok(false);
@@ -82,6 +81,7 @@ fn take_update(
 ) -> Result<bool, NoMemory>
     ensures taken { result ≡ Ok true → IsUpdated map.old.entries state map.new.entries }
     ensures refused { result ≡ Ok false → (new : Entries) → IsUpdated map.old.entries state new → ⊥ }
+    ensures kept { OnErr result (map.new.entries ≡ map.old.entries) }
 {
     let Some(kept) = map.get(&state.key) else {
         return Ok(false);
@@ -127,6 +127,7 @@ fn take_record(
 ) -> Result<bool, NoMemory>
     ensures taken { result ≡ Ok true → Follows map.old.entries written map.new.entries }
     ensures refused { result ≡ Ok false → (new : Entries) → Follows map.old.entries written new → ⊥ }
+    ensures kept { OnErr result (map.new.entries ≡ map.old.entries) }
 {
     match written {
         StateRecord::Snapshot(state) => take_snapshot(map, state),
@@ -136,34 +137,120 @@ fn take_record(
     }
 }
 
-// Does the record of a frame.
-fn take_frame(alloc: Global, map: &mut BTreeMap<Key, Kept>, frame: &[u8]) -> Result<bool, NoMemory>
-    ensures taken { result ≡ Ok true → Accepts map.old.entries frame.now map.new.entries }
-    ensures refused { result ≡ Ok false → (new : Entries) → Accepts map.old.entries frame.now new → ⊥ }
+// Whether a record is passed over, and where the walk stands behind it.
+fn step(walk: Walk, written: &StateRecord) -> (bool, Walk)
+    ensures passed { result.0 ≡ is_passed walk (mark_read (Ok written.now)) }
+    ensures walk { result.1 ≡ walked walk (mark_read (Ok written.now)) }
 {
-    match read_record(alloc, frame) {
-        Ok(written) => take_record(alloc, map, written),
-        Err(RecordFault::BadState { .. }) => Ok(false),
-        Err(RecordFault::NoMemory) => Err(NoMemory),
+    match walk {
+        Walk::First => match written {
+            StateRecord::Head { .. } => (true, Walk::Snapshots),
+            _ => (false, Walk::Records),
+        },
+        Walk::Snapshots => match written {
+            StateRecord::Seal => (true, Walk::Records),
+            StateRecord::Snapshot(_) => (false, Walk::Snapshots),
+            _ => (false, Walk::Records),
+        },
+        Walk::Records => (false, Walk::Records),
     }
 }
 
-// The states that frames stand for, one after another.
-pub(crate) fn replay(alloc: Global, frames: &[Blob]) -> Result<BTreeMap<Key, Kept>, ReplayFault>
-    ensures accepted { IfOk result (λ map. AreAccepted [] frames.now map.entries) }
-    ensures refused { IfErr result (λ e. (place : ℕ) → e ≡ ReplayFault.Refused place →
-        (true_place : ℕ) × IsRefused frames.now true_place × (place ≡ min true_place (2 ^ 64 - 1))) }
+// Takes a frame, and answers where the walk stands behind it. `None` where it doesn't go on from those before it.
+fn take_frame(
+    alloc: Global,
+    map: &mut BTreeMap<Key, Kept>,
+    walk: Walk,
+    frame: &[u8],
+) -> Result<Option<Walk>, NoMemory>
+    ensures taken { IfOk result (λ next. IfSome next (λ w. (w ≡ walked walk (mark_of frame.now))
+        × AreAccepted map.old.entries (records_from walk (frame.now ∷ [])) map.new.entries)) }
+    ensures refused { result ≡ Ok None → (new : Entries) → AreAccepted map.old.entries (records_from walk (frame.now ∷ [])) new → ⊥ }
+    ensures kept { OnErr result (map.new.entries ≡ map.old.entries) }
 {
-    let mut map = BTreeMap::new(alloc);
-    let mut place: u64 = 0;
-    for frame in frames {
-        let frame = frame.as_slice();
-        match take_frame(alloc, &mut map, frame) {
-            Ok(true) => {}
-            Ok(false) => return Err(ReplayFault::Refused { place }),
-            Err(_) => return Err(ReplayFault::NoMemory),
-        }
-        place = place.saturating_add(5).saturating_add(frame.len() as u64);
+    let written = match read_record(alloc, frame) {
+        Ok(written) => written,
+        Err(RecordFault::BadState { .. }) => return Ok(None),
+        Err(RecordFault::NoMemory) => return Err(NoMemory),
+    };
+    let (passed, next) = step(walk, &written);
+    if passed {
+        return Ok(Some(next));
     }
-    Ok(map)
+    match take_record(alloc, map, written) {
+        Ok(true) => Ok(Some(next)),
+        Ok(false) => Ok(None),
+        Err(fault) => Err(fault),
+    }
+}
+
+/// The states that the frames which were handed over stand for; or the first of these frames that doesn't go on from those
+/// before it. A contract sees the frames, each with its place.
+#[derive(Drop)]
+pub(crate) struct Replay {
+    alloc: Global,
+    map: BTreeMap<Key, Kept>,
+    walk: Walk,
+    refused: Option<u64>,
+    seen: SeenFrames,
+}
+
+impl Model for Replay {
+    ghost use Rattle.std.specs.Prelude.{List, ℕ};
+    ghost use Rattle.share_coord.specs.Replaying.{Replays};
+
+    ghost Value = { List (ℕ × List ℕ) };
+
+    ghost view = { λ r. r.seen.frames };
+
+    ghost invariant = { λ r. Replays r.seen.frames r.map.entries r.walk r.refused };
+}
+
+impl Replay {
+    /// A replay of no frames.
+    pub fn new(alloc: Global) -> Replay
+        ensures { result ≡ [] }
+    {
+        Replay {
+            alloc,
+            map: BTreeMap::new(alloc),
+            walk: Walk::First,
+            refused: None,
+            seen: SeenFrames::new(),
+        }
+    }
+
+    /// The states; or the place of the first frame that doesn't go on from those before it.
+    pub fn finish(self) -> Result<BTreeMap<Key, Kept>, u64>
+        ensures taken { IfOk result (λ map. AreTaken (frames_in self) map.entries) }
+        ensures refused { IfErr result (HasRefused self) }
+    {
+        let Replay { map, refused, .. } = self;
+        match refused {
+            None => Ok(map),
+            Some(place) => Err(place),
+        }
+    }
+}
+
+impl StateVisit for Replay {
+    ghost use Rattle.std.specs.Prelude.{List, ℕ};
+
+    ghost seen = { λ (frames : List (ℕ × List ℕ)). frames };
+
+    fn frame(&mut self, place: u64, bytes: &[u8]) -> Result<(), NoMemory> {
+        let seen = self.seen.with(&place, bytes);
+        if let Some(_) = self.refused {
+            self.seen = seen;
+            return Ok(());
+        }
+        let Some(next) = take_frame(self.alloc, &mut self.map, self.walk, bytes)? else {
+            self.refused = Some(place);
+            self.seen = seen;
+            return Ok(());
+        };
+        self.walk = next;
+        self.seen = seen;
+        Ok(())
+    }
 }

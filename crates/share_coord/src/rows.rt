@@ -13,14 +13,14 @@ const FEW: usize = 32;
 
 // The list of runs is canonical.
 fn canonical(runs: &Runs)
-    ensures { IsCanonical runs.now }
+    ensures { IsCanonical runs.now.list }
 {
     let _list = runs.list();
 }
 
 #[tactic(auto, using(crate::proofs::Written::or_none, crate::proofs::Written::puts_next))]
 fn put_all(alloc: Global, runs: &[Run]) -> Result<Runs, NoMemory>
-    ensures { IfOk result (λ written. AreWritten runs.now written) }
+    ensures { IfOk result (λ written. AreWritten runs.now written.list) }
 {
     let mut out = Runs::new(alloc);
     for run in runs {
@@ -32,7 +32,7 @@ fn put_all(alloc: Global, runs: &[Run]) -> Result<Runs, NoMemory>
 
 // The rows that runs write, a later one winning. Each run is moved once for each halving.
 pub(crate) fn written(alloc: Global, runs: &[Run]) -> Result<Runs, NoMemory>
-    ensures { IfOk result (λ written. AreWritten runs.now written) }
+    ensures { IfOk result (λ written. AreWritten runs.now written.list) }
 {
     if runs.len() <= FEW {
         return put_all(alloc, runs);
@@ -54,7 +54,7 @@ pub(crate) fn start_after(old: i64, given: i64) -> i64
 
 // Takes the rows below a start away.
 pub(crate) fn cut_at(runs: &mut Runs, start: i64)
-    ensures { (offset : ℕ) → row_at runs.new offset ≡ (if is_below offset start then None else row_at runs.old offset) }
+    ensures { (offset : ℕ) → row_at runs.new.list offset ≡ (if is_below offset start then None else row_at runs.old.list offset) }
 {
     if start > 0 {
         runs.cut_below(start as u64);
@@ -63,8 +63,8 @@ pub(crate) fn cut_at(runs: &mut Runs, start: i64)
 
 // These rows over those, from a start on.
 pub(crate) fn laid(alloc: Global, under: &Runs, over: &Runs, start: i64) -> Result<Runs, NoMemory>
-    requires { length under.now ≤ 1000000 }
-    ensures { IfOk result (λ laid. AreLaid start under.now over.now laid) }
+    requires { length under.now.list ≤ 1000000 }
+    ensures { IfOk result (λ laid. AreLaid start under.now.list over.now.list laid.list) }
 {
     let copy = under.list().to_vec(alloc)?;
     let mut out = Runs::from_list(Items::new(copy));

@@ -1,20 +1,25 @@
-ghost use Rattle.std.specs.Prelude.{◌≡◌, ◌≢◌, ◌<◌, ◌+◌, ◌^◌, ℕ, List, true, false, Some, None, Ok, Err, IsSome, IfOk, IfErr};
+ghost use Rattle.std.specs.Prelude.{◌≡◌, ◌≢◌, ◌<◌, ◌+◌, ◌^◌, ℕ, List, [], length, true, false, Some, None, Ok, Err, IsSome, IfOk, IfErr, IfSome, if◌then◌else◌};
 ghost use Rattle.std.specs.Option.{option_copied};
 ghost use Rattle.std.specs.declared.option.Option.{Option};
 ghost use Rattle.edge_io.specs.Armed.{RunsOn};
 ghost use Rattle.coord_checkpoint.specs.Disks.{HasFailed};
-ghost use Rattle.gate_journal.specs.Frames.{IsFrame};
-ghost use Rattle.state_records.specs.Spelling.{record_bytes};
-ghost use Rattle.share_coord.specs.Stored.{Entries, Follows, kept_at, with_kept, next_snapshot};
+ghost use Rattle.share_coord.specs.Stored.{based, kept_at, kept_left, next_snapshot, renewed, snapshot_frames};
 ghost use Rattle.share_coord.specs.Calls.{Causes, IsInitialised, IsWritten, IsTooMany, IsForgotten, init_refusal, write_refusal};
 ghost use Rattle.share_coord.specs.Holding.{IsHeld, WritesOnce, parts_of};
-ghost use Rattle.share_coord.specs.Recorded.{IsWriteRecord, StoresOne, init_record};
-ghost use Rattle.state_records.specs.declared.record.StateRecord.TheVariants.{Removal};
+ghost use Rattle.share_coord.specs.Planning.{GoesOn, IsEither, IsFirst, LeavesPlanned, fresh_kept, left_by, record_of};
+ghost use Rattle.share_coord.specs.Putting.{FitFrames, Puts};
+ghost use Rattle.share_coord.specs.Recorded.{IsInitRecord, IsWriteRecord, StoresOne};
+ghost use Rattle.share_model.specs.Keys.{key_cmp};
+ghost use Rattle.state_records.specs.States.{IsEpoch, IsStart};
+ghost use Rattle.state_records.specs.declared.record.StateRecord.TheVariants.{Removal, Snapshot as snapshot_record};
+ghost use Rattle.std.specs.List.Sorted.{IsStrictlySortedBy};
+ghost use Rattle.std.specs.Map.{keys_of};
 
 use crate::fault::CoordFault;
-use crate::plan::{Change, Numbers, key_fits, planned, snapshot};
-use crate::records::put_record;
+use crate::plan::{Change, Changes, Fresh, Numbers, fresh_snapshot, key_fits, planned, snapshot};
+use crate::records::{Put, put_behind, put_record};
 use crate::refusals::{init_refusal, write_refusal};
+use crate::snapshots::KeySnapshots;
 use crate::view::Kept;
 use coord_checkpoint::StateJournal;
 use edge_io::Disk;
@@ -43,46 +48,195 @@ fn next_snapshot(known: Option<&Kept>) -> u64
     }
 }
 
+// Whether a checkpoint is to be tried, and how many keys there are.
+#[derive(Clone, Copy)]
+struct Tried {
+    keys: u64,
+    due: bool,
+}
+
+// What is kept of a key, with the numbers that it has behind a checkpoint if one was made.
+fn numbered(mut kept: Kept, fresh: &Option<Fresh>, checkpointed: bool) -> Kept
+    ensures { result ≡ (if checkpointed then fresh_kept kept fresh.now else kept) }
+{
+    let Some(fresh) = fresh else {
+        return kept;
+    };
+    if checkpointed {
+        kept.snapshot = fresh.snapshot;
+        kept.updates = fresh.updates;
+    }
+    kept
+}
+
+// The last snapshot of each key is its first, and no update follows.
+fn renew(map: &mut BTreeMap<Key, Kept>)
+    ensures { map.new.entries ≡ renewed map.old.entries }
+{
+    map.retain(|_, kept| {
+        kept.snapshot = 0;
+        kept.updates = 0;
+        true
+    });
+}
+
+fn renew_where(map: &mut BTreeMap<Key, Kept>, checkpointed: bool)
+    ensures { map.new.entries ≡ based checkpointed map.old.entries }
+{
+    if checkpointed {
+        renew(map);
+    }
+}
+
+// Puts a record into the journal. Where one behind a checkpoint is named, a checkpoint of all keys but one is tried.
+fn put_either<D: Disk>(
+    alloc: Global,
+    journal: &mut StateJournal<D>,
+    map: &BTreeMap<Key, Kept>,
+    plain: &StateRecord,
+    fresh: &Option<Fresh>,
+    without: Option<Key>,
+    keys: u64,
+) -> Put
+    requires frames { FitFrames plain.now (record_of fresh.now) }
+    requires keys { keys ≡ length (kept_left without map.now.entries) }
+    ensures { Puts D.seen (snapshot_frames (kept_left without map.now.entries)) plain.now (record_of fresh.now)
+        journal.old journal.new result.checkpointed result.result }
+{
+    let Some(behind) = fresh else {
+        return put_record(alloc, journal, plain);
+    };
+    let snapshots = KeySnapshots::of(alloc, map, without, keys);
+    put_behind(alloc, journal, plain, &behind.written, snapshots)
+}
+
+// The record of an initialisation behind a checkpoint, where one is tried.
+fn first_where(alloc: Global, numbers: &Numbers, is_known: bool, tries: bool) -> Option<Fresh>
+    requires { IsEpoch numbers.now.state_epoch × IsEpoch numbers.now.leader_epoch × IsStart numbers.now.start }
+    ensures { IfSome result (λ f. (f.written ≡ snapshot_record (record {
+      key = numbers.now.key;
+      snapshot = if is_known then 1 else 0;
+      state_epoch = numbers.now.state_epoch;
+      leader_epoch = numbers.now.leader_epoch;
+      start = numbers.now.start;
+      runs = [];
+    })) × (f.snapshot ≡ (if is_known then 1 else 0)) × (f.updates ≡ 0)) }
+{
+    if !tries {
+        return None;
+    }
+    let snapshot = if is_known { 1 } else { 0 };
+    Some(fresh_snapshot(alloc, numbers, snapshot))
+}
+
+// The record of a removal behind a checkpoint, where one is tried.
+fn removal_where(key: &Key, tries: bool) -> Option<Fresh>
+    ensures { IfSome result (λ f. f.written ≡ Removal key.now) }
+{
+    if !tries {
+        return None;
+    }
+    Some(Fresh {
+        written: StateRecord::Removal { key: *key },
+        snapshot: 0,
+        updates: 0,
+    })
+}
+
 impl<D: Disk> Store<D> {
-    // Changes a key that is there. Its place in memory is there already.
-    fn replace(&mut self, key: &Key, change: Change) -> Result<(), CoordFault>
-        requires known { IsSome (kept_at self.old.map.entries key.now) }
-        requires frame { IsFrame (record_bytes change.written) }
-        requires follows { Follows self.old.map.entries change.written (with_kept self.old.map.entries key.now change.kept) }
-        ensures once { WritesOnce D.seen (HasFailed D.seen)
-            (λ new. new ≡ with_kept self.old.map.entries key.now change.kept) (parts_of self.old) (parts_of self.new) result }
-        ensures stored { StoresOne D.seen (λ one. one ≡ change.written) self.old.journal self.new.journal result }
-        ensures causes { IfErr result (Causes None (λ _. ⊥)) }
-        ensures runs { RunsOn D.seen self.old.journal.live.disk self.new.journal.live.disk }
-        ensures idle { self.new.journal.idle ≡ self.old.journal.idle }
+    // Whether a checkpoint is to be tried before the next write.
+    fn tries(&self) -> Tried
+        ensures keys { result.keys ≡ length self.now.map.entries }
+        ensures sorted { IsStrictlySortedBy key_cmp (keys_of self.now.map.entries) }
     {
+        let keys = self.map.len() as u64;
+        Tried {
+            keys,
+            due: self.journal.is_due(keys),
+        }
+    }
+
+    // Puts a record into the journal, behind a checkpoint of all keys but this one where one is tried. Behind a
+    // checkpoint each key's last snapshot is its first.
+    fn put(
+        &mut self,
+        plain: &StateRecord,
+        fresh: &Option<Fresh>,
+        without: Option<Key>,
+        keys: u64,
+    ) -> Put
+        requires frames { FitFrames plain.now (record_of fresh.now) }
+        requires keys { keys ≡ length (kept_left without self.old.map.entries) }
+        ensures puts { Puts D.seen (snapshot_frames (kept_left without self.old.map.entries)) plain.now (record_of fresh.now)
+            self.old.journal self.new.journal result.checkpointed result.result }
+        ensures map { self.new.map.entries ≡ based result.checkpointed self.old.map.entries }
+    {
+        let put = put_either(
+            self.alloc,
+            &mut self.journal,
+            &self.map,
+            plain,
+            fresh,
+            without,
+            keys,
+        );
+        renew_where(&mut self.map, put.checkpointed);
+        put
+    }
+
+    // Changes a key that is there. Its place in memory is there already.
+    fn replace(&mut self, key: &Key, planned: Changes, keys: u64) -> Result<(), CoordFault>
+        requires held { IsHeld D.seen (parts_of self.old) }
+        requires known { IsSome (kept_at self.old.map.entries key.now) }
+        requires frames { FitFrames planned.change.written (record_of planned.fresh) }
+        requires sorted { IsStrictlySortedBy key_cmp (keys_of self.old.map.entries) }
+        requires keys { keys ≡ length self.old.map.entries }
+        requires follows { GoesOn self.old.map.entries planned.change.written (record_of planned.fresh)
+            (left_by self.old.map.entries key.now planned.change.kept planned.fresh) }
+        ensures once { WritesOnce D.seen (HasFailed D.seen)
+            (LeavesPlanned self.old.map.entries key.now planned) (parts_of self.old) (parts_of self.new) result }
+        ensures stored { StoresOne D.seen (IsEither planned.change.written (record_of planned.fresh)) self.old.journal self.new.journal result }
+        ensures causes { IfErr result (Causes None (λ _. ⊥)) }
+        ensures runs { RunsOn D.seen self.old.journal.first.disk self.new.journal.first.disk × RunsOn D.seen self.old.journal.second.disk self.new.journal.second.disk }
+    {
+        let Changes { change, fresh } = planned;
         let Change { kept, written } = change;
-        if let Err(fault) = put_record(self.alloc, &mut self.journal, &written) {
+        let put = self.put(&written, &fresh, None, keys);
+        if let Err(fault) = put.result {
             return Err(fault);
         }
-        match self.map.insert(*key, kept) {
+        match self
+            .map
+            .insert(*key, numbered(kept, &fresh, put.checkpointed))
+        {
             Ok(_) => Ok(()),
             Err(_) => unreachable!(),
         }
     }
 
     // Adds a key that isn't there. Its place in memory is found first, and given back where the record isn't stored.
-    fn add(&mut self, key: &Key, change: Change) -> Result<(), CoordFault>
+    fn add(&mut self, key: &Key, planned: Changes, keys: u64) -> Result<(), CoordFault>
+        requires held { IsHeld D.seen (parts_of self.old) }
         requires absent { kept_at self.old.map.entries key.now ≡ None }
-        requires frame { IsFrame (record_bytes change.written) }
-        requires follows { Follows self.old.map.entries change.written (with_kept self.old.map.entries key.now change.kept) }
+        requires frames { FitFrames planned.change.written (record_of planned.fresh) }
+        requires sorted { IsStrictlySortedBy key_cmp (keys_of self.old.map.entries) }
+        requires keys { keys ≡ length self.old.map.entries }
+        requires follows { GoesOn self.old.map.entries planned.change.written (record_of planned.fresh)
+            (left_by self.old.map.entries key.now planned.change.kept planned.fresh) }
+        requires first { IsFirst planned.change.kept planned.fresh }
         ensures once { WritesOnce D.seen (HasFailed D.seen)
-            (λ new. new ≡ with_kept self.old.map.entries key.now change.kept) (parts_of self.old) (parts_of self.new) result }
-        ensures stored { StoresOne D.seen (λ one. one ≡ change.written) self.old.journal self.new.journal result }
+            (LeavesPlanned self.old.map.entries key.now planned) (parts_of self.old) (parts_of self.new) result }
+        ensures stored { StoresOne D.seen (IsEither planned.change.written (record_of planned.fresh)) self.old.journal self.new.journal result }
         ensures causes { IfErr result (Causes None (λ _. ⊥)) }
-        ensures runs { RunsOn D.seen self.old.journal.live.disk self.new.journal.live.disk }
-        ensures idle { self.new.journal.idle ≡ self.old.journal.idle }
+        ensures runs { RunsOn D.seen self.old.journal.first.disk self.new.journal.first.disk × RunsOn D.seen self.old.journal.second.disk self.new.journal.second.disk }
     {
+        let Changes { change, fresh } = planned;
         let Change { kept, written } = change;
         if let Err(_) = self.map.insert(*key, kept) {
             return Err(CoordFault::NoMemory);
         }
-        if let Err(fault) = put_record(self.alloc, &mut self.journal, &written) {
+        let put = self.put(&written, &fresh, Some(*key), keys);
+        if let Err(fault) = put.result {
             self.map.remove(key); // the states are as before
             return Err(fault);
         }
@@ -95,12 +249,12 @@ impl<D: Disk> Store<D> {
         ensures causes { IfErr result (Causes (init_refusal (kept_at self.old.map.entries key.now) state_epoch start) (λ _. ⊥)) }
         ensures once { WritesOnce D.seen (HasFailed D.seen)
             (IsInitialised self.old.map.entries key.now state_epoch start) (parts_of self.old) (parts_of self.new) result }
-        ensures stored { StoresOne D.seen (λ one. one ≡ init_record self.old.map.entries key.now state_epoch start)
+        ensures stored { StoresOne D.seen (IsInitRecord self.old.map.entries key.now state_epoch start)
             self.old.journal self.new.journal result }
-        ensures runs { RunsOn D.seen self.old.journal.live.disk self.new.journal.live.disk }
-        ensures idle { self.new.journal.idle ≡ self.old.journal.idle }
+        ensures runs { RunsOn D.seen self.old.journal.first.disk self.new.journal.first.disk × RunsOn D.seen self.old.journal.second.disk self.new.journal.second.disk }
     {
         key_fits(key);
+        let tried = self.tries();
         let known = self.map.get(key);
         if let Some(fault) = init_refusal(known, state_epoch, start) {
             return Err(fault);
@@ -116,10 +270,12 @@ impl<D: Disk> Store<D> {
         let Ok(change) = snapshot(self.alloc, &numbers, next, start, Runs::new(self.alloc)) else {
             return Err(CoordFault::NoMemory);
         };
+        let fresh = first_where(self.alloc, &numbers, is_known, tried.due);
+        let planned = Changes { change, fresh };
         if is_known {
-            self.replace(key, change)
+            self.replace(key, planned, tried.keys)
         } else {
-            self.add(key, change)
+            self.add(key, planned, tried.keys)
         }
     }
 
@@ -141,9 +297,9 @@ impl<D: Disk> Store<D> {
         ensures stored { StoresOne D.seen
             (IsWriteRecord self.old.map.entries key.now state_epoch leader_epoch start runs.now)
             self.old.journal self.new.journal result }
-        ensures runs { RunsOn D.seen self.old.journal.live.disk self.new.journal.live.disk }
-        ensures idle { self.new.journal.idle ≡ self.old.journal.idle }
+        ensures runs { RunsOn D.seen self.old.journal.first.disk self.new.journal.first.disk × RunsOn D.seen self.old.journal.second.disk self.new.journal.second.disk }
     {
+        let tried = self.tries();
         let known = self.map.get(key);
         if let Some(fault) = write_refusal(known, state_epoch, leader_epoch, start, runs) {
             return Err(fault);
@@ -157,14 +313,15 @@ impl<D: Disk> Store<D> {
             leader_epoch,
             start,
         };
-        let change = match planned(self.alloc, &numbers, kept, runs) {
-            Ok(change) => change,
+        let planned = match planned(self.alloc, &numbers, kept, runs, tried.due) {
+            Ok(planned) => planned,
             Err(fault) => return Err(fault),
         };
-        self.replace(key, change)
+        self.replace(key, planned, tried.keys)
     }
 
     pub(crate) fn remove(&mut self, key: &Key) -> Result<bool, CoordFault>
+        requires held { IsHeld D.seen (parts_of self.old) }
         ensures absent { kept_at self.old.map.entries key.now ≡ None → (result ≡ Ok false) × (self.new ≡ self.old) }
         ensures present { IsSome (kept_at self.old.map.entries key.now) → IfOk result (λ there. there ≡ true) }
         ensures causes { IfErr result (Causes None (λ _. ⊥)) }
@@ -173,15 +330,17 @@ impl<D: Disk> Store<D> {
             (IsForgotten self.old.map.entries key.now) (parts_of self.old) (parts_of self.new) result }
         ensures stored { IsSome (kept_at self.old.map.entries key.now) →
             StoresOne D.seen (λ one. one ≡ Removal key.now) self.old.journal self.new.journal result }
-        ensures runs { RunsOn D.seen self.old.journal.live.disk self.new.journal.live.disk }
-        ensures idle { self.new.journal.idle ≡ self.old.journal.idle }
+        ensures runs { RunsOn D.seen self.old.journal.first.disk self.new.journal.first.disk × RunsOn D.seen self.old.journal.second.disk self.new.journal.second.disk }
     {
         if !self.map.contains_key(key) {
             return Ok(false);
         }
         key_fits(key);
+        let tried = self.tries();
         let written = StateRecord::Removal { key: *key };
-        if let Err(fault) = put_record(self.alloc, &mut self.journal, &written) {
+        let fresh = removal_where(key, tried.due);
+        let put = self.put(&written, &fresh, None, tried.keys);
+        if let Err(fault) = put.result {
             return Err(fault);
         }
         self.map.remove(key);

@@ -21,9 +21,9 @@ impl Model for StateView {
 
     ghost Value = { ShareState };
 
-    ghost view = { λ v. record { state_epoch = v.state_epoch; leader_epoch = v.leader_epoch; start = v.start; runs = v.runs } };
+    ghost view = { λ v. record { state_epoch = v.state_epoch; leader_epoch = v.leader_epoch; start = v.start; runs = v.runs.list } };
 
-    ghost invariant = { λ v. IsKeptState (record { state_epoch = v.state_epoch; leader_epoch = v.leader_epoch; start = v.start; runs = v.runs }) };
+    ghost invariant = { λ v. IsKeptState (record { state_epoch = v.state_epoch; leader_epoch = v.leader_epoch; start = v.start; runs = v.runs.list }) };
 }
 
 impl StateView {

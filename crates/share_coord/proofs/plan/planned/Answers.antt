@@ -1,65 +1,80 @@
-use Rattle.std.proofs.Common.{rules, ◌≡◌, ◌≤◌, ap, arith, List, length}
+use Rattle.std.proofs.Common.{rules, ◌≡◌, ◌≤◌, ◌<◌, ◌+◌, ap, arith, List, length}
+use Rattle.share_model.specs.ShareStates.{AreLaid, start_after}
 use Rattle.share_model.specs.declared.run.Run.{Run}
-use Rattle.share_coord.proofs.Sizes.{update_fits, snapshot_fits}
+use Rattle.state_records.specs.declared.record.StateRecord.TheVariants.{Snapshot, Update}
+use Rattle.share_coord.proofs.Planning.{planned_snapshot, planned_update}
 use Rattle.share_coord.proofs.Spans.{written_stored, laid_stored}
 use Rattle.share_coord.proofs.plan.planned.Goals as goal
 
+pub fresh_where-requires-clause-over : goal.fresh_where-requires-clause-over
+fresh_where-requires-clause-over c = written_stored c.args.runs.now c.in-Ok.over.list c.requires.runs c.in-Ok.ensures
+
+pub fresh_where-requires-clause-few : goal.fresh_where-requires-clause-few
+fresh_where-requires-clause-few c =
+    let one : length c.list.result.now ≡ length c.in-Ok.over.list = ap (λ (l : List Run). length l) c.list.ensures.same in
+    omega (arith, one, c.max-count.ensures, c.if-count-gt-MAX_RUNS.false)
+
 pub update-requires-clause-over : goal.update-requires-clause-over
-update-requires-clause-over c = written_stored c.args.runs.now c.in-Ok.over c.requires.runs c.in-Ok.ensures
+update-requires-clause-over c = written_stored c.args.runs.now c.in-Ok.over.list c.requires.runs c.in-Ok.ensures
 
 pub update-requires-clause-rows : goal.update-requires-clause-rows
-update-requires-clause-rows c = laid_stored _ _ _ _ c.in-Ok-laid.ensures c.kept.invariant.runs (written_stored c.args.runs.now c.in-Ok.over c.requires.runs c.in-Ok.ensures)
-
-pub returns-then-kept-lt500-clause-frame : goal.returns-then-kept-lt500-clause-frame
-returns-then-kept-lt500-clause-frame c =
-    let one : length c.list.result.now ≡ length c.in-Ok.over = ap (λ (l : List Run). length l) c.list.ensures.same in
-    let few : length c.in-Ok.over ≤ 1000000 = omega (arith, one, c.max-count.ensures, c.if-count-gt-MAX_RUNS.false) in
-    update_fits _ _ c.update.ensures.written c.key_fits.ensures few
+update-requires-clause-rows c = laid_stored _ _ _ _ c.in-Ok-laid.ensures c.kept.invariant.runs (written_stored c.args.runs.now c.in-Ok.over.list c.requires.runs c.in-Ok.ensures)
 
 pub snapshot-requires-clause-rows : goal.snapshot-requires-clause-rows
-snapshot-requires-clause-rows c = laid_stored _ _ _ _ c.in-Ok-laid.ensures c.kept.invariant.runs (written_stored c.args.runs.now c.in-Ok.over c.requires.runs c.in-Ok.ensures)
+snapshot-requires-clause-rows c = laid_stored _ _ _ _ c.in-Ok-laid.ensures c.kept.invariant.runs (written_stored c.args.runs.now c.in-Ok.over.list c.requires.runs c.in-Ok.ensures)
 
-pub returns-in-Ok-snapshot-clause-frame : goal.returns-in-Ok-snapshot-clause-frame
-returns-in-Ok-snapshot-clause-frame c =
-    let two : length c.list-2.result.now ≡ length c.in-Ok-laid.rows = ap (λ (l : List Run). length l) c.list-2.ensures.same in
-    let few : length c.in-Ok-laid.rows ≤ 1000000 = omega (arith, two, c.max-count.ensures, c.if-count-gt-MAX_RUNS.false) in
-    snapshot_fits _ _ c.in-Ok-snapshot.ensures.written c.key_fits.ensures few
+pub returns-then-kept-lt500-clause-plan : goal.returns-then-kept-lt500-clause-plan
+returns-then-kept-lt500-clause-plan c =
+    let n = c.args.numbers.now in
+    let known = c.args.kept.now in
+    let over = c.in-Ok.over.list in
+    let rows = c.in-Ok-laid.rows.list in
+    let one : length c.list.result.now ≡ length over = ap (λ (l : List Run). length l) c.list.ensures.same in
+    let two : length c.list-2.result.now ≡ length rows = ap (λ (l : List Run). length l) c.list-2.ensures.same in
+    let few_over : length over ≤ 1000000 = omega (arith, one, c.max-count.ensures, c.if-count-gt-MAX_RUNS.false) in
+    let few : length rows ≤ 1000000 = omega (arith, two, c.max-count.ensures, c.if-count-gt-MAX_RUNS.false) in
+    let laid : AreLaid (start_after known.view.start n.start) known.view.runs over rows = search rules in
+    let low : known.updates < 500 = search rules in
+    let plain : c.update.result.written ≡ Update (record {
+      key = n.key;
+      snapshot = known.snapshot;
+      state_epoch = n.state_epoch;
+      leader_epoch = n.leader_epoch;
+      start = n.start;
+      runs = over;
+    }) = search rules in
+    let kept : c.update.result.kept ≡ record {
+      view = record { state_epoch = n.state_epoch; leader_epoch = n.leader_epoch; start = start_after known.view.start n.start; runs = rows };
+      snapshot = known.snapshot;
+      updates = known.updates + 1;
+    } = search rules in
+    planned_update n.key known n.state_epoch n.leader_epoch n.start c.args.runs.now over rows c.key_fits.ensures c.in-Ok.ensures laid few_over few
+    c.update.result.written c.update.result.kept c.in-Ok-fresh_where.fresh c.in-Ok-fresh_where.ensures low plain kept
 
-pub returns-in-Ok-snapshot-clause-written : goal.returns-in-Ok-snapshot-clause-written
-returns-in-Ok-snapshot-clause-written c =
-    let one : length c.list.result.now ≡ length c.in-Ok.over = ap (λ (l : List Run). length l) c.list.ensures.same in
-    let two : length c.list-2.result.now ≡ length c.in-Ok-laid.rows = ap (λ (l : List Run). length l) c.list-2.ensures.same in
-    λ old known none. record {
-      granted = none;
-      kept = c.args.kept.now;
-      written = c.in-Ok.over;
-      laid = c.in-Ok-laid.rows;
-      known = known;
-      are_written = c.in-Ok.ensures;
-      are_laid = search rules;
-      few_written = omega (arith, one, c.max-count.ensures, c.if-count-gt-MAX_RUNS.false);
-      few = omega (arith, two, c.max-count.ensures, c.if-count-gt-MAX_RUNS.false);
-      is = search rules;
-    }
-
-pub returns-then-kept-lt500-clause-one : goal.returns-then-kept-lt500-clause-one
-returns-then-kept-lt500-clause-one c = λ old known. record {
-  kept = c.args.kept.now;
-  written = c.in-Ok.over;
-  laid = c.in-Ok-laid.rows;
-  known = known;
-  are_written = c.in-Ok.ensures;
-  are_laid = search rules;
-  is = search rules;
-}
-
-pub returns-in-Ok-snapshot-clause-one : goal.returns-in-Ok-snapshot-clause-one
-returns-in-Ok-snapshot-clause-one c = λ old known. record {
-  kept = c.args.kept.now;
-  written = c.in-Ok.over;
-  laid = c.in-Ok-laid.rows;
-  known = known;
-  are_written = c.in-Ok.ensures;
-  are_laid = search rules;
-  is = search rules;
-}
+pub returns-in-Ok-snapshot-clause-plan : goal.returns-in-Ok-snapshot-clause-plan
+returns-in-Ok-snapshot-clause-plan c =
+    let n = c.args.numbers.now in
+    let known = c.args.kept.now in
+    let over = c.in-Ok.over.list in
+    let rows = c.in-Ok-laid.rows.list in
+    let one : length c.list.result.now ≡ length over = ap (λ (l : List Run). length l) c.list.ensures.same in
+    let two : length c.list-2.result.now ≡ length rows = ap (λ (l : List Run). length l) c.list-2.ensures.same in
+    let few_over : length over ≤ 1000000 = omega (arith, one, c.max-count.ensures, c.if-count-gt-MAX_RUNS.false) in
+    let few : length rows ≤ 1000000 = omega (arith, two, c.max-count.ensures, c.if-count-gt-MAX_RUNS.false) in
+    let laid : AreLaid (start_after known.view.start n.start) known.view.runs over rows = search rules in
+    let high : 500 ≤ known.updates = search rules in
+    let plain : c.in-Ok-snapshot.change.written ≡ Snapshot (record {
+      key = n.key;
+      snapshot = known.snapshot + 1;
+      state_epoch = n.state_epoch;
+      leader_epoch = n.leader_epoch;
+      start = start_after known.view.start n.start;
+      runs = rows;
+    }) = search rules in
+    let kept : c.in-Ok-snapshot.change.kept ≡ record {
+      view = record { state_epoch = n.state_epoch; leader_epoch = n.leader_epoch; start = start_after known.view.start n.start; runs = rows };
+      snapshot = known.snapshot + 1;
+      updates = 0;
+    } = search rules in
+    planned_snapshot n.key known n.state_epoch n.leader_epoch n.start c.args.runs.now over rows c.key_fits.ensures c.in-Ok.ensures laid few_over few
+    c.in-Ok-snapshot.change.written c.in-Ok-snapshot.change.kept c.in-Ok-fresh_where.fresh c.in-Ok-fresh_where.ensures high plain kept

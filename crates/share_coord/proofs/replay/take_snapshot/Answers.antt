@@ -20,9 +20,9 @@ returns-then-list-gt-MAX_RUNS-clause-refused c = λ _ new is.
       runs = c.state.inside.runs;
     } in
     let one = ap (λ (l : List Run). length l) c.list.ensures.same in
-    let many : 1000000 < length c.cut_at.new.runs = omega (arith, one, c.if-list-gt-MAX_RUNS.true) in
-    too_many_snapshot c.args.map.now.entries seen c.cut_at.new.runs
-    (cut_as c.args.map.now.entries seen i.0 i.1 i.2 c.cut_at.new.runs c.list.ensures.canonical
+    let many : 1000000 < length c.cut_at.new.runs.list = omega (arith, one, c.if-list-gt-MAX_RUNS.true) in
+    too_many_snapshot c.args.map.now.entries seen c.cut_at.new.runs.list
+    (cut_as c.args.map.now.entries seen i.0 i.1 i.2 c.cut_at.new.runs.list c.list.ensures.canonical
     (λ o. c.cut_at.ensures o ∙ ap (λ (l : List Run). if is_below o (to_z w64 (of_z w64 c.state.inside.start)) then None else row_at l o) c.from_list-rows.ensures))
     many new (subst (λ (x : StateParts). IsSnapshotted c.args.map.now.entries x new) (sym c.state.view_is) is)
 
@@ -38,10 +38,10 @@ invariant_of-kept c =
       runs = c.state.inside.runs;
     } in
     let one = ap (λ (l : List Run). length l) c.list.ensures.same in
-    let few : length c.cut_at.new.runs ≤ 1000000 = omega (arith, one, c.if-list-gt-MAX_RUNS.false) in
-    kept_state c.state.inside.state_epoch c.state.inside.leader_epoch c.state.inside.start c.cut_at.new.runs i.0 i.1 i.2
-    (laid_stored c.state.inside.start [] c.state.inside.runs c.cut_at.new.runs
-    (cut_as c.args.map.now.entries seen i.0 i.1 i.2 c.cut_at.new.runs c.list.ensures.canonical
+    let few : length c.cut_at.new.runs.list ≤ 1000000 = omega (arith, one, c.if-list-gt-MAX_RUNS.false) in
+    kept_state c.state.inside.state_epoch c.state.inside.leader_epoch c.state.inside.start c.cut_at.new.runs.list i.0 i.1 i.2
+    (laid_stored c.state.inside.start [] c.state.inside.runs c.cut_at.new.runs.list
+    (cut_as c.args.map.now.entries seen i.0 i.1 i.2 c.cut_at.new.runs.list c.list.ensures.canonical
     (λ o. c.cut_at.ensures o ∙ ap (λ (l : List Run). if is_below o (to_z w64 (of_z w64 c.state.inside.start)) then None else row_at l o) c.from_list-rows.ensures))
     (tt, tt) i.3) few
 
@@ -57,10 +57,10 @@ returns-in-Ok-clause-taken c = λ _.
       runs = c.state.inside.runs;
     } in
     let one = ap (λ (l : List Run). length l) c.list.ensures.same in
-    let few : length c.cut_at.new.runs ≤ 1000000 = omega (arith, one, c.if-list-gt-MAX_RUNS.false) in
+    let few : length c.cut_at.new.runs.list ≤ 1000000 = omega (arith, one, c.if-list-gt-MAX_RUNS.false) in
     subst (λ (x : StateParts). IsSnapshotted c.args.map.now.entries x c.insert.new.self.entries) c.state.view_is
-    (snapshot_taken c.args.map.now.entries seen i.0 i.1 i.2 c.cut_at.new.runs c.insert.new.self.entries
+    (snapshot_taken c.args.map.now.entries seen i.0 i.1 i.2 c.cut_at.new.runs.list c.insert.new.self.entries
     (c.is_next.ensures.0 c.if-not-is_next.false ∙ ap next_snapshot c.get.ensures.value)
-    (cut_as c.args.map.now.entries seen i.0 i.1 i.2 c.cut_at.new.runs c.list.ensures.canonical
+    (cut_as c.args.map.now.entries seen i.0 i.1 i.2 c.cut_at.new.runs.list c.list.ensures.canonical
     (λ o. c.cut_at.ensures o ∙ ap (λ (l : List Run). if is_below o (to_z w64 (of_z w64 c.state.inside.start)) then None else row_at l o) c.from_list-rows.ensures))
     few c.in-Ok.ensures.entries)

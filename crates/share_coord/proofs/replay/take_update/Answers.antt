@@ -25,12 +25,12 @@ returns-then-list-gt-MAX_RUNS-clause-refused c = λ _ new is.
     let known : kept_at c.args.map.now.entries seen.key ≡ Some c.in-Some.kept.now = sym c.get.ensures.value ∙ ap option_copied c.in-Some.is in
     let fit : IsKeptState c.in-Some.kept.now.view = subst (λ (k : Kept). IsKeptState k.view) c.kept.view_is c.kept.invariant in
     let one = ap (λ (l : List Run). length l) c.list.ensures.same in
-    let many : 1000000 < length c.in_ok-rows.rows = omega (arith, one, c.if-list-gt-MAX_RUNS.true) in
-    let laid = laid_as c.args.map.now.entries seen i.0 i.1 i.2 c.in-Some.kept.now.view c.start_after-start.result c.in_ok-rows.rows fit.start
+    let many : 1000000 < length c.in_ok-rows.rows.list = omega (arith, one, c.if-list-gt-MAX_RUNS.true) in
+    let laid = laid_as c.args.map.now.entries seen i.0 i.1 i.2 c.in-Some.kept.now.view c.start_after-start.result c.in_ok-rows.rows.list fit.start
     (subst (λ (k : Kept). c.start_after-start.result ≡ start_after (to_z w64 (of_z w64 k.view.start)) (to_z w64 (of_z w64 c.state.inside.start))) c.kept.view_is c.start_after-start.ensures)
-    (subst (λ (l : List Run). AreLaid (to_z w64 (of_z w64 c.start_after-start.result)) c.in-Some.kept.now.view.runs l c.in_ok-rows.rows) c.from_list.ensures
-    (subst (λ (k : Kept). AreLaid (to_z w64 (of_z w64 c.start_after-start.result)) k.view.runs c.from_list.result c.in_ok-rows.rows) c.kept.view_is c.in_ok-rows.ensures)) in
-    too_many_update c.args.map.now.entries seen c.in-Some.kept.now c.in_ok-rows.rows known laid.1 many new
+    (subst (λ (l : List Run). AreLaid (to_z w64 (of_z w64 c.start_after-start.result)) c.in-Some.kept.now.view.runs l c.in_ok-rows.rows.list) c.from_list.ensures
+    (subst (λ (k : Kept). AreLaid (to_z w64 (of_z w64 c.start_after-start.result)) k.view.runs c.from_list.result.list c.in_ok-rows.rows.list) c.kept.view_is c.in_ok-rows.ensures)) in
+    too_many_update c.args.map.now.entries seen c.in-Some.kept.now c.in_ok-rows.rows.list known laid.1 many new
     (subst (λ (x : StateParts). IsUpdated c.args.map.now.entries x new) (sym c.state.view_is) is)
 
 pub invariant_of-kept : goal.invariant_of-kept
@@ -46,14 +46,14 @@ invariant_of-kept c =
     } in
     let fit : IsKeptState c.in-Some.kept.now.view = subst (λ (k : Kept). IsKeptState k.view) c.kept.view_is c.kept.invariant in
     let one = ap (λ (l : List Run). length l) c.list.ensures.same in
-    let few : length c.in_ok-rows.rows ≤ 1000000 = omega (arith, one, c.if-list-gt-MAX_RUNS.false) in
-    let laid = laid_as c.args.map.now.entries seen i.0 i.1 i.2 c.in-Some.kept.now.view c.start_after-start.result c.in_ok-rows.rows fit.start
+    let few : length c.in_ok-rows.rows.list ≤ 1000000 = omega (arith, one, c.if-list-gt-MAX_RUNS.false) in
+    let laid = laid_as c.args.map.now.entries seen i.0 i.1 i.2 c.in-Some.kept.now.view c.start_after-start.result c.in_ok-rows.rows.list fit.start
     (subst (λ (k : Kept). c.start_after-start.result ≡ start_after (to_z w64 (of_z w64 k.view.start)) (to_z w64 (of_z w64 c.state.inside.start))) c.kept.view_is c.start_after-start.ensures)
-    (subst (λ (l : List Run). AreLaid (to_z w64 (of_z w64 c.start_after-start.result)) c.in-Some.kept.now.view.runs l c.in_ok-rows.rows) c.from_list.ensures
-    (subst (λ (k : Kept). AreLaid (to_z w64 (of_z w64 c.start_after-start.result)) k.view.runs c.from_list.result c.in_ok-rows.rows) c.kept.view_is c.in_ok-rows.ensures)) in
-    kept_state c.state.inside.state_epoch c.state.inside.leader_epoch c.start_after-start.result c.in_ok-rows.rows i.0 i.1
+    (subst (λ (l : List Run). AreLaid (to_z w64 (of_z w64 c.start_after-start.result)) c.in-Some.kept.now.view.runs l c.in_ok-rows.rows.list) c.from_list.ensures
+    (subst (λ (k : Kept). AreLaid (to_z w64 (of_z w64 c.start_after-start.result)) k.view.runs c.from_list.result.list c.in_ok-rows.rows.list) c.kept.view_is c.in_ok-rows.ensures)) in
+    kept_state c.state.inside.state_epoch c.state.inside.leader_epoch c.start_after-start.result c.in_ok-rows.rows.list i.0 i.1
     (subst (λ (z : ℤ). IsStart z) (sym laid.0) (start_fit c.in-Some.kept.now.view.start c.state.inside.start fit.start i.2))
-    (laid_stored (start_after c.in-Some.kept.now.view.start c.state.inside.start) c.in-Some.kept.now.view.runs c.state.inside.runs c.in_ok-rows.rows laid.1 fit.runs i.3) few
+    (laid_stored (start_after c.in-Some.kept.now.view.start c.state.inside.start) c.in-Some.kept.now.view.runs c.state.inside.runs c.in_ok-rows.rows.list laid.1 fit.runs i.3) few
 
 pub returns-in-Ok-clause-taken : goal.returns-in-Ok-clause-taken
 returns-in-Ok-clause-taken c = λ _.
@@ -69,11 +69,11 @@ returns-in-Ok-clause-taken c = λ _.
     let known : kept_at c.args.map.now.entries seen.key ≡ Some c.in-Some.kept.now = sym c.get.ensures.value ∙ ap option_copied c.in-Some.is in
     let fit : IsKeptState c.in-Some.kept.now.view = subst (λ (k : Kept). IsKeptState k.view) c.kept.view_is c.kept.invariant in
     let one = ap (λ (l : List Run). length l) c.list.ensures.same in
-    let few : length c.in_ok-rows.rows ≤ 1000000 = omega (arith, one, c.if-list-gt-MAX_RUNS.false) in
-    let laid = laid_as c.args.map.now.entries seen i.0 i.1 i.2 c.in-Some.kept.now.view c.start_after-start.result c.in_ok-rows.rows fit.start
+    let few : length c.in_ok-rows.rows.list ≤ 1000000 = omega (arith, one, c.if-list-gt-MAX_RUNS.false) in
+    let laid = laid_as c.args.map.now.entries seen i.0 i.1 i.2 c.in-Some.kept.now.view c.start_after-start.result c.in_ok-rows.rows.list fit.start
     (subst (λ (k : Kept). c.start_after-start.result ≡ start_after (to_z w64 (of_z w64 k.view.start)) (to_z w64 (of_z w64 c.state.inside.start))) c.kept.view_is c.start_after-start.ensures)
-    (subst (λ (l : List Run). AreLaid (to_z w64 (of_z w64 c.start_after-start.result)) c.in-Some.kept.now.view.runs l c.in_ok-rows.rows) c.from_list.ensures
-    (subst (λ (k : Kept). AreLaid (to_z w64 (of_z w64 c.start_after-start.result)) k.view.runs c.from_list.result c.in_ok-rows.rows) c.kept.view_is c.in_ok-rows.ensures)) in
+    (subst (λ (l : List Run). AreLaid (to_z w64 (of_z w64 c.start_after-start.result)) c.in-Some.kept.now.view.runs l c.in_ok-rows.rows.list) c.from_list.ensures
+    (subst (λ (k : Kept). AreLaid (to_z w64 (of_z w64 c.start_after-start.result)) k.view.runs c.from_list.result.list c.in_ok-rows.rows.list) c.kept.view_is c.in_ok-rows.ensures)) in
     subst (λ (x : StateParts). IsUpdated c.args.map.now.entries x c.insert.new.self.entries) c.state.view_is
-    (update_taken c.args.map.now.entries seen i.0 i.1 i.2 c.in-Some.kept.now c.start_after-start.result c.in_ok-rows.rows c.one_more-updates.result c.insert.new.self.entries
+    (update_taken c.args.map.now.entries seen i.0 i.1 i.2 c.in-Some.kept.now c.start_after-start.result c.in_ok-rows.rows.list c.one_more-updates.result c.insert.new.self.entries
     known (sym c.if-kept-state.false ∙ ap (λ (k : Kept). k.snapshot) c.kept.view_is) fit.start laid.0 laid.1 few (c.one_more-updates.ensures ∙ ap (λ (k : Kept). min (k.updates + 1) 500) c.kept.view_is) c.in-Ok.ensures.entries)

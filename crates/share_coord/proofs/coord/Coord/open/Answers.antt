@@ -1,47 +1,55 @@
-use Rattle.std.proofs.Common.{rules, ◌∙◌, refl, sym, subst, ℕ, List, [], false, true}
-use Rattle.coord_checkpoint.specs.Disks.{IsOfFirst}
+use Rattle.std.proofs.Common.{◌≡◌, ◌∙◌, inl, sym, ap, subst, List, ℕ, Bool, None, false, true}
 use Rattle.gate_journal.proofs.Once.{not_both}
-use Rattle.share_coord.specs.Stored.{AreAccepted, IsRefused}
-use Rattle.share_coord.proofs.Reading.{accepted_once, refused_clash, true_place, unlisted_damaged, refused_damaged, no_device}
+use Rattle.checkpoint_journal.specs.Generations.{IsLiveOn}
+use Rattle.coord_checkpoint.specs.Openings.{frames_in}
+use Rattle.coord_checkpoint.proofs.Opened.{frames_placed}
+use Rattle.share_coord.specs.Stored.{AreTaken, IsRefused}
+use Rattle.share_coord.proofs.Reading.{no_device, refused_clash, refused_damaged, taken_once}
+use Rattle.share_coord.proofs.Replaying.{refused_at, replayed}
 use Rattle.share_coord.proofs.coord.Coord.open.Goals as goal
 
 pub returns-in-Err-clause-refused : goal.returns-in-Err-clause-refused
 returns-in-Err-clause-refused g c = record {
-  damaged = λ second place e x y on_a on_b. unlisted_damaged x y second place (c.in-Err.ensures.damaged second place e x y on_a on_b);
+  damaged = λ second place e x y on_a on_b. inl (c.in-Err.ensures.damaged second place e x y on_a on_b);
   sound = λ x y entries on_a on_b stored. c.in-Err.ensures.recovers x y stored.frames on_a on_b stored.listed;
   device = c.in-Err.ensures.device;
   second_device = c.in-Err.ensures.second_device;
-  untouched = λ is. c.in-Err.ensures.untouched (subst IsOfFirst (sym is) refl);
-  unread = λ x y place on_a on_b bad is. c.in-Err.ensures.untouched (subst IsOfFirst (sym is) refl);
+  untouched = c.in-Err.ensures.untouched;
+  unread = λ x y place on_a on_b bad is. c.in-Err.ensures.unread x place on_a bad is;
 }
 
-pub returns-in-Ok-replay-clause-opened : goal.returns-in-Ok-replay-clause-opened
-returns-in-Ok-replay-clause-opened g c =
-    let accepted : AreAccepted [] c.in-Ok.opened.1.items c.in-Ok-replay.map.entries =
-    subst (λ (fs : List (List ℕ)). AreAccepted [] fs c.in-Ok-replay.map.entries) c.deref.ensures.value c.in-Ok-replay.ensures.accepted in
+pub invariant_of-result : goal.invariant_of-result
+invariant_of-result g c =
+    (None, replayed g.D.Disk.seen c.in-Ok.opened.0 c.in-Ok.opened.1 c.in-Ok-finish.map.entries c.in-Ok.ensures.kept c.in-Ok-finish.ensures.taken c.in-Ok.ensures.few)
+
+pub returns-in-Ok-finish-clause-opened : goal.returns-in-Ok-finish-clause-opened
+returns-in-Ok-finish-clause-opened g c =
+    let items = frames_in c.in-Ok.opened.1 in
+    let es = c.in-Ok-finish.map.entries in
+    let taken = c.in-Ok-finish.ensures.taken in
     record {
-      holds = search rules;
-      opens = λ x y on_a on_b. record { frames = c.in-Ok.opened.1.items; listed = c.in-Ok.ensures.opens x y on_a on_b; accepted = accepted };
-      only = λ x y entries on_a on_b stored. accepted_once [] c.in-Ok.opened.1.items c.in-Ok-replay.map.entries entries accepted
-          (subst (λ (fs : List (List ℕ)). AreAccepted [] fs entries) (sym (c.in-Ok.ensures.recovers x y stored.frames on_a on_b stored.listed)) stored.accepted);
+      holds = replayed g.D.Disk.seen c.in-Ok.opened.0 c.in-Ok.opened.1 es c.in-Ok.ensures.kept taken c.in-Ok.ensures.few;
+      opens = λ x y on_a on_b. record { frames = items; listed = c.in-Ok.ensures.opens x y on_a on_b; taken = taken };
+      only = λ x y entries on_a on_b stored.
+          let same : items ≡ stored.frames = ap frames_in (c.in-Ok.ensures.recovers x y stored.frames on_a on_b stored.listed) ∙ frames_placed 0 stored.frames in
+          taken_once items es entries taken (subst (λ (fs : List (List ℕ)). AreTaken fs entries) (sym same) stored.taken);
     }
 
-pub returns-in-Refused-clause-refused : goal.returns-in-Refused-clause-refused
-returns-in-Refused-clause-refused g c =
-    let refused = c.in-Err-replay.ensures.refused c.in-Refused.place c.in-Refused.is in
-    let items = c.in-Ok.opened.1.items in
-    let is : IsRefused items refused.0 = subst (λ (fs : List (List ℕ)). IsRefused fs refused.0) c.deref.ensures.value refused.1 in
+pub returns-in-Err-finish-clause-refused : goal.returns-in-Err-finish-clause-refused
+returns-in-Err-finish-clause-refused g c =
+    let items = frames_in c.in-Ok.opened.1 in
+    let at = c.in-Err-finish.place in
+    let is : IsRefused items at = refused_at c.in-Ok.opened.1 at c.in-Ok.ensures.places c.in-Err-finish.ensures.refused in
+    let on_second = c.on_second-second.result in
     record {
       damaged = λ second place e x y on_a on_b.
-          let listed = c.in-Ok.ensures.opens x y on_a on_b in
-          let size = (g.met.D.Disk.read_is_image c.args.a x on_a).1 in
-          let told = true_place x items refused.0 c.in-Refused.place c.len-len.result listed.listed is refused.2 (c.len-len.ensures ∙ size) c.len-len.type_inv in
-          refused_damaged x y items c.in-Refused.place second place listed (subst (λ (n : ℕ). IsRefused items n) (sym told) is) e;
+          let live = subst (λ (b : Bool). IsLiveOn x y b items) (sym c.on_second-second.ensures) (c.in-Ok.ensures.live x y on_a on_b) in
+          refused_damaged x y on_second at second place (record { frames = items; live = live; refused = is }) e;
       sound = λ x y entries on_a on_b stored second place e.
-          refused_clash items refused.0 entries is
-          (subst (λ (fs : List (List ℕ)). AreAccepted [] fs entries) (sym (c.in-Ok.ensures.recovers x y stored.frames on_a on_b stored.listed)) stored.accepted);
-      device = λ e. absurd (no_device false false c.in-Refused.place e);
-      second_device = λ e. absurd (no_device false true c.in-Refused.place e);
-      untouched = λ e. absurd (no_device false false c.in-Refused.place e);
-      unread = λ x y place on_a on_b bad e. absurd (not_both x items place (c.in-Ok.ensures.opens x y on_a on_b).listed bad);
+          let same : items ≡ stored.frames = ap frames_in (c.in-Ok.ensures.recovers x y stored.frames on_a on_b stored.listed) ∙ frames_placed 0 stored.frames in
+          refused_clash items at entries is (subst (λ (fs : List (List ℕ)). AreTaken fs entries) (sym same) stored.taken);
+      device = λ e. absurd (no_device on_second false at e);
+      second_device = λ e. absurd (no_device on_second true at e);
+      untouched = λ e. absurd (no_device on_second false at e);
+      unread = λ x y place on_a on_b bad e. absurd (not_both x (c.in-Ok.ensures.live x y on_a on_b).ones place (c.in-Ok.ensures.live x y on_a on_b).first_is bad);
     }

@@ -1,4 +1,0 @@
-pub mod Disks
-pub mod Stores
-pub mod Writes
-pub mod Steps

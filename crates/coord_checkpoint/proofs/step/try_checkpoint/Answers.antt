@@ -1,0 +1,93 @@
+use Rattle.std.proofs.Common.{◌+◌, ◌<◌, ◌^◌, length, refl, subst, arith}
+use Rattle.checkpoint_journal.specs.Making.{IsUnmade}
+use Rattle.checkpoint_journal.specs.declared.making.CheckpointFault.{CheckpointFault}
+use Rattle.coord_checkpoint.proofs.Trying.{beside_by, has_checkpoint, making_moments, sealing_now, uncleared, unsealed}
+use Rattle.coord_checkpoint.proofs.step.try_checkpoint.Goals as goal
+
+pub returns-in-Ok-clause-made : goal.returns-in-Ok-clause-made
+returns-in-Ok-clause-made g c =
+    let due = (c.is_due.ensures c.if-not-is_due.false).0 in
+    let few : length (g.S.Snapshots.rest c.args.snapshots.now) + 2 < 2 ^ 63 = omega (arith, due, c.count.ensures, c.ranges.frames.fits) in
+    let clears = c.may_make.ensures.clears c.if-not-may_make.false in
+    let fits : c.args.turn.now.generation + 1 < 2 ^ 64 = omega (arith, c.may_make.ensures.next c.if-not-may_make.false) in
+    λ _. (
+      record { on_second = refl; generation = refl; sealing = refl },
+      λ sealing r. has_checkpoint g.D.Disk.seen c.args.idle.now c.write_checkpoint.new.idle c.args.turn.now (g.S.Snapshots.rest c.args.snapshots.now) clears few fits c.in-Ok.ensures.all (c.in-Ok.ensures.made _ _ sealing (beside_by g.D.Disk.seen c.args.idle.now c.write_checkpoint.new.idle c.args.turn.now (g.S.Snapshots.rest c.args.snapshots.now) clears few fits sealing r)),
+    )
+
+pub returns-in-Ok-clause-any_moment : goal.returns-in-Ok-clause-any_moment
+returns-in-Ok-clause-any_moment g c =
+    let due = (c.is_due.ensures c.if-not-is_due.false).0 in
+    let few : length (g.S.Snapshots.rest c.args.snapshots.now) + 2 < 2 ^ 63 = omega (arith, due, c.count.ensures, c.ranges.frames.fits) in
+    let clears = c.may_make.ensures.clears c.if-not-may_make.false in
+    let fits : c.args.turn.now.generation + 1 < 2 ^ 64 = omega (arith, c.may_make.ensures.next c.if-not-may_make.false) in
+    λ sealing r. making_moments g.D.Disk.seen c.args.idle.now c.write_checkpoint.new.idle c.args.turn.now (g.S.Snapshots.rest c.args.snapshots.now) clears few fits sealing (c.write_checkpoint.ensures.any_moment _ _ sealing (beside_by g.D.Disk.seen c.args.idle.now c.write_checkpoint.new.idle c.args.turn.now (g.S.Snapshots.rest c.args.snapshots.now) clears few fits sealing r))
+
+pub returns-in-Err-Uncleared-clause-kept : goal.returns-in-Err-Uncleared-clause-kept
+returns-in-Err-Uncleared-clause-kept g c =
+    let due = (c.is_due.ensures c.if-not-is_due.false).0 in
+    let few : length (g.S.Snapshots.rest c.args.snapshots.now) + 2 < 2 ^ 63 = omega (arith, due, c.count.ensures, c.ranges.frames.fits) in
+    let clears = c.may_make.ensures.clears c.if-not-may_make.false in
+    let fits : c.args.turn.now.generation + 1 < 2 ^ 64 = omega (arith, c.may_make.ensures.next c.if-not-may_make.false) in
+    λ _. (
+      record { on_second = refl; generation = refl },
+      λ sealing r. uncleared g.D.Disk.seen c.args.idle.now c.write_checkpoint.new.idle c.args.turn.now (g.S.Snapshots.rest c.args.snapshots.now) clears few fits sealing r
+          (subst (λ (e : CheckpointFault). IsUnmade g.D.Disk.seen c.write_checkpoint.new.idle c.args.turn.now.on_second c.args.turn.now.generation sealing
+          (c.args.turn.now.generation + 1) (g.S.Snapshots.rest c.args.snapshots.now) e) c.in-Err-Uncleared.field-0-is
+          (c.in-Err-Uncleared.ensures.failed _ _ sealing (beside_by g.D.Disk.seen c.args.idle.now c.write_checkpoint.new.idle c.args.turn.now (g.S.Snapshots.rest c.args.snapshots.now) clears few fits sealing r))),
+    )
+
+pub returns-in-Err-Uncleared-clause-any_moment : goal.returns-in-Err-Uncleared-clause-any_moment
+returns-in-Err-Uncleared-clause-any_moment g c =
+    let due = (c.is_due.ensures c.if-not-is_due.false).0 in
+    let few : length (g.S.Snapshots.rest c.args.snapshots.now) + 2 < 2 ^ 63 = omega (arith, due, c.count.ensures, c.ranges.frames.fits) in
+    let clears = c.may_make.ensures.clears c.if-not-may_make.false in
+    let fits : c.args.turn.now.generation + 1 < 2 ^ 64 = omega (arith, c.may_make.ensures.next c.if-not-may_make.false) in
+    λ sealing r. making_moments g.D.Disk.seen c.args.idle.now c.write_checkpoint.new.idle c.args.turn.now (g.S.Snapshots.rest c.args.snapshots.now) clears few fits sealing (c.write_checkpoint.ensures.any_moment _ _ sealing (beside_by g.D.Disk.seen c.args.idle.now c.write_checkpoint.new.idle c.args.turn.now (g.S.Snapshots.rest c.args.snapshots.now) clears few fits sealing r))
+
+pub returns-in-Err-Unsealed-clause-kept : goal.returns-in-Err-Unsealed-clause-kept
+returns-in-Err-Unsealed-clause-kept g c =
+    let due = (c.is_due.ensures c.if-not-is_due.false).0 in
+    let few : length (g.S.Snapshots.rest c.args.snapshots.now) + 2 < 2 ^ 63 = omega (arith, due, c.count.ensures, c.ranges.frames.fits) in
+    let clears = c.may_make.ensures.clears c.if-not-may_make.false in
+    let fits : c.args.turn.now.generation + 1 < 2 ^ 64 = omega (arith, c.may_make.ensures.next c.if-not-may_make.false) in
+    λ _. (
+      record { on_second = refl; generation = refl },
+      λ sealing r. unsealed g.D.Disk.seen c.args.idle.now c.write_checkpoint.new.idle c.args.turn.now (g.S.Snapshots.rest c.args.snapshots.now) clears few fits sealing r
+          (subst (λ (e : CheckpointFault). IsUnmade g.D.Disk.seen c.write_checkpoint.new.idle c.args.turn.now.on_second c.args.turn.now.generation sealing
+          (c.args.turn.now.generation + 1) (g.S.Snapshots.rest c.args.snapshots.now) e) c.in-Err-Unsealed.field-0-is
+          (c.in-Err-Unsealed.ensures.failed _ _ sealing (beside_by g.D.Disk.seen c.args.idle.now c.write_checkpoint.new.idle c.args.turn.now (g.S.Snapshots.rest c.args.snapshots.now) clears few fits sealing r))),
+    )
+
+pub returns-in-Err-Unsealed-clause-any_moment : goal.returns-in-Err-Unsealed-clause-any_moment
+returns-in-Err-Unsealed-clause-any_moment g c =
+    let due = (c.is_due.ensures c.if-not-is_due.false).0 in
+    let few : length (g.S.Snapshots.rest c.args.snapshots.now) + 2 < 2 ^ 63 = omega (arith, due, c.count.ensures, c.ranges.frames.fits) in
+    let clears = c.may_make.ensures.clears c.if-not-may_make.false in
+    let fits : c.args.turn.now.generation + 1 < 2 ^ 64 = omega (arith, c.may_make.ensures.next c.if-not-may_make.false) in
+    λ sealing r. making_moments g.D.Disk.seen c.args.idle.now c.write_checkpoint.new.idle c.args.turn.now (g.S.Snapshots.rest c.args.snapshots.now) clears few fits sealing (c.write_checkpoint.ensures.any_moment _ _ sealing (beside_by g.D.Disk.seen c.args.idle.now c.write_checkpoint.new.idle c.args.turn.now (g.S.Snapshots.rest c.args.snapshots.now) clears few fits sealing r))
+
+pub returns-in-Err-Sealing-clause-kept : goal.returns-in-Err-Sealing-clause-kept
+returns-in-Err-Sealing-clause-kept g c =
+    let due = (c.is_due.ensures c.if-not-is_due.false).0 in
+    let few : length (g.S.Snapshots.rest c.args.snapshots.now) + 2 < 2 ^ 63 = omega (arith, due, c.count.ensures, c.ranges.frames.fits) in
+    let clears = c.may_make.ensures.clears c.if-not-may_make.false in
+    let fits : c.args.turn.now.generation + 1 < 2 ^ 64 = omega (arith, c.may_make.ensures.next c.if-not-may_make.false) in
+    λ _. (
+      record { on_second = refl; generation = refl },
+      λ sealing r. sealing_now g.D.Disk.seen c.args.idle.now c.write_checkpoint.new.idle c.args.turn.now (g.S.Snapshots.rest c.args.snapshots.now) clears few fits sealing r
+          (subst (λ (e : CheckpointFault). IsUnmade g.D.Disk.seen c.write_checkpoint.new.idle c.args.turn.now.on_second c.args.turn.now.generation sealing
+          (c.args.turn.now.generation + 1) (g.S.Snapshots.rest c.args.snapshots.now) e) c.in-Err-Sealing.field-0-is
+          (c.in-Err-Sealing.ensures.failed _ _ sealing (beside_by g.D.Disk.seen c.args.idle.now c.write_checkpoint.new.idle c.args.turn.now (g.S.Snapshots.rest c.args.snapshots.now) clears few fits sealing r))),
+    )
+
+pub returns-in-Err-Sealing-clause-any_moment : goal.returns-in-Err-Sealing-clause-any_moment
+returns-in-Err-Sealing-clause-any_moment g c =
+    let due = (c.is_due.ensures c.if-not-is_due.false).0 in
+    let few : length (g.S.Snapshots.rest c.args.snapshots.now) + 2 < 2 ^ 63 = omega (arith, due, c.count.ensures, c.ranges.frames.fits) in
+    let clears = c.may_make.ensures.clears c.if-not-may_make.false in
+    let fits : c.args.turn.now.generation + 1 < 2 ^ 64 = omega (arith, c.may_make.ensures.next c.if-not-may_make.false) in
+    λ sealing r. making_moments g.D.Disk.seen c.args.idle.now c.write_checkpoint.new.idle c.args.turn.now (g.S.Snapshots.rest c.args.snapshots.now) clears few fits sealing (c.write_checkpoint.ensures.any_moment _ _ sealing (beside_by g.D.Disk.seen c.args.idle.now c.write_checkpoint.new.idle c.args.turn.now (g.S.Snapshots.rest c.args.snapshots.now) clears few fits sealing r))
+
+pub returns-in-Ok-clause-few : goal.returns-in-Ok-clause-few
+returns-in-Ok-clause-few g c = let few = (c.is_due.ensures c.if-not-is_due.false).1 in λ _. omega (arith, few, c.count.ensures)

@@ -1,0 +1,79 @@
+-- What one write to a store leaves, and when it is refused. This project's own.
+-- For example a write of `61` to a store whose checkpoint is due and is made leaves that checkpoint and `61` behind it; where the
+-- checkpoint fails before its seal, `61` stands behind the frames that there were.
+use Rattle.std.specs.Prelude.{◌≡◌, ◌≢◌, ◌⊎◌, ◌↔◌, ◌+◌, ◌<◌, ◌^◌, ℕ, Bool, true, not, List, [], ◌∷◌, ◌++◌, length, Some, None, Result, Err, OnOk, OnErr, MatchResult, false}
+use Rattle.std.specs.Prelude.{if◌then◌else◌}
+use Rattle.std.specs.declared.option.Option.{Option}
+use Rattle.edge_io.specs.Armed.{RunsOn}
+use Rattle.edge_io.specs.Moments.{LeavesPairs}
+use Rattle.edge_io.specs.Views.{DiskView}
+use Rattle.gate_journal.specs.Journals.{IsQuiet}
+use Rattle.share_model.specs.declared.fault.StoreFault.{StoreFault}
+use Rattle.share_model.specs.declared.fault.StoreFault.TheVariants.{Device, Full}
+use Rattle.coord_checkpoint.specs.Disks.{HasFailed}
+use Rattle.coord_checkpoint.specs.Stores.{Finds, IsBase, IsDue, IsLeftWithin, Keeps, StoreParts}
+use Rattle.checkpoint_journal.specs.Checkpoints.{IsCheckpoint}
+
+-- A write at Ok: its frame stands behind the frames, or the other one behind a checkpoint of them; no seal may land and nothing is pending.
+pub record Adds {D : Type 0} (seen : D → DiskView) (new : StoreParts D) (frames snapshots : List (List ℕ)) (frame fresh : List ℕ)
+    (checkpointed : Bool) : Type 0 where
+  pub base : List (List ℕ)
+  pub from : IsBase frames snapshots checkpointed base
+  pub few : length base < 2 ^ 62
+  pub keeps : Keeps seen new (base ++ (if checkpointed then fresh else frame) ∷ []) None None
+
+-- A write at Err: the store keeps the frames, or a checkpoint of them. What is pending is nothing, or the write from before, where no
+-- checkpoint was completed, or this one.
+pub record Stays {D : Type 0} (seen : D → DiskView) (new : StoreParts D) (frames : List (List ℕ)) (sealing : Option (List (List ℕ)))
+    (pending : Option (List ℕ)) (snapshots : List (List ℕ)) (frame fresh : List ℕ) (checkpointed : Bool) : Type 0 where
+  pub base : List (List ℕ)
+  pub seals : Option (List (List ℕ))
+  pub waits : Option (List ℕ)
+  pub from : IsBase frames snapshots checkpointed base
+  pub may : (found : List (List ℕ)) → seals ≡ Some found → (checkpointed ≡ false) × ((sealing ≡ Some found) ⊎ IsCheckpoint snapshots found)
+  pub which : (waits ≡ None) ⊎ ((checkpointed ≡ false) × (waits ≡ pending)) ⊎ (waits ≡ Some (if checkpointed then fresh else frame))
+  pub keeps : Keeps seen new base seals waits
+
+-- It is refused as full exactly where the frame would end past 2^62 bytes behind the live journal at entry, and then nothing is changed.
+pub record Fills {D : Type 0} (seen : D → DiskView) (old new : StoreParts D) (len : ℕ) (checkpointed : Bool) (result : Result ℕ StoreFault) : Type 0 where
+  pub exact : (frames : List (List ℕ)) (sealing : Option (List (List ℕ))) (pending : Option (List ℕ)) → Keeps seen old frames sealing pending →
+      (end : ℕ) → (result ≡ Err (Full end)) ↔ ((end ≡ old.end) × (2 ^ 62 < old.end + len))
+  pub same : (frames : List (List ℕ)) (sealing : Option (List (List ℕ))) (pending : Option (List ℕ)) → Keeps seen old frames sealing pending →
+      (end : ℕ) → result ≡ Err (Full end) → (new ≡ old) × (checkpointed ≡ false)
+
+-- the second disk or the first
+abbrev pub side : {D : Type 0} → Bool → StoreParts D → D
+side on_second store = if on_second then store.second.disk else store.first.disk
+
+-- A device refuses a write only where a call failed on the disk that was live; or on the other one, where that has become live, or
+-- where a seal may still land there and its gate couldn't be closed. So a checkpoint that fails before its seal refuses nothing.
+abbrev pub RefusesDevice : {D : Type 0} → (D → DiskView) → StoreParts D → StoreParts D → Type 0
+RefusesDevice seen old new = HasFailed seen (side old.on_second old) (side old.on_second new)
+    ⊎ (HasFailed seen (side (not old.on_second) old) (side (not old.on_second) new) × ((new.on_second ≢ old.on_second) ⊎ (new.sealing ≡ true)))
+
+-- calls for a checkpoint may be made: one is due, or the seal of one may still land
+abbrev pub MayCheckpoint : {D : Type 0} → StoreParts D → List (List ℕ) → Type 0
+MayCheckpoint store snapshots = IsDue store snapshots ⊎ (store.sealing ≡ true)
+
+-- no call of the two disks failed; or calls for a checkpoint were made, and those of at most one disk failed
+abbrev pub IsQuietBut : {D : Type 0} → (D → DiskView) → Type 0 → StoreParts D → StoreParts D → Type 0
+IsQuietBut seen checkpoint old new = (IsQuiet seen old.first.disk new.first.disk × IsQuiet seen old.second.disk new.second.disk)
+    ⊎ (checkpoint × (IsQuiet seen old.first.disk new.first.disk ⊎ IsQuiet seen old.second.disk new.second.disk))
+
+-- A write to a store of keys with these snapshots: of the one frame, in a buffer of so many bytes, or behind a completed checkpoint of the
+-- other one.
+pub record Writes {D : Type 0} (seen : D → DiskView) (frame fresh : List ℕ) (snapshots : List (List ℕ)) (len : ℕ) (old new : StoreParts D)
+    (checkpointed : Bool) (result : Result ℕ StoreFault) : Type 0 where
+  pub kept : OnOk result ((frames : List (List ℕ)) (sealing : Option (List (List ℕ))) (pending : Option (List ℕ)) →
+      Keeps seen old frames sealing pending → Adds seen new frames snapshots frame fresh checkpointed)
+  pub failed : OnErr result ((frames : List (List ℕ)) (sealing : Option (List (List ℕ))) (pending : Option (List ℕ)) →
+      Keeps seen old frames sealing pending → Stays seen new frames sealing pending snapshots frame fresh checkpointed)
+  pub full : Fills seen old new len checkpointed result
+  pub device : result ≡ Err Device → RefusesDevice seen old new
+  pub quiet : OnOk result (IsQuietBut seen (MayCheckpoint old snapshots) old new)
+  -- at each moment since it began a crash of each disk leaves what it kept, a checkpoint, or a frame behind the frames or a checkpoint
+  pub any_moment : (frames : List (List ℕ)) (sealing : Option (List (List ℕ))) (pending : Option (List ℕ)) →
+      Keeps seen old frames sealing pending → LeavesPairs seen old.first.disk new.first.disk old.second.disk new.second.disk
+      (Finds (IsLeftWithin frames sealing pending snapshots frame fresh))
+  pub runs_first : RunsOn seen old.first.disk new.first.disk
+  pub runs_second : RunsOn seen old.second.disk new.second.disk

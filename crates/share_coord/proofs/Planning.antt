@@ -1,0 +1,286 @@
+-- A write whose numbers are not refused, and an initialisation: what they are to change.
+use Rattle.std.proofs.Common.{◌≡◌, ◌<◌, ◌≤◌, ◌+◌, refl, sym, ap, ◌∙◌, subst, arith, ℕ, ℤ, List, [], ◌∷◌, length, Bool, true, false, nat_lt, if◌then◌else◌, Option, Some, None}
+use Rattle.std.specs.Prelude.{min}
+use Rattle.std.specs.Option.{IfSome}
+use Rattle.std.proofs.lemmas.Bool.Decides.{nat_tests}
+use Rattle.gate_journal.specs.Frames.{IsFrame}
+use Rattle.share_model.specs.Keys.{KeyParts}
+use Rattle.share_model.specs.ShareStates.{AreLaid, AreWritten, start_after}
+use Rattle.share_model.specs.declared.run.Run.{Run}
+use Rattle.state_records.specs.Spelling.{record_bytes}
+use Rattle.state_records.specs.States.{IsKey, StateParts}
+use Rattle.state_records.specs.declared.record.StateRecord.{StateRecord}
+use Rattle.state_records.specs.declared.record.StateRecord.TheVariants.{Snapshot, Update, Removal}
+use Rattle.share_coord.specs.Calls.{IsWritten, write_refusal, written_of}
+use Rattle.share_coord.specs.Planning.{GoesOn, IsPlanned, fresh_kept, left_by, record_of}
+use Rattle.share_coord.specs.Putting.{FitFrames, FitsFrame, IsOfKey, IsPut}
+use Rattle.share_coord.specs.Recorded.{IsWriteRecord, write_record}
+use Rattle.share_coord.specs.Stored.{Entries, Follows, based, based_kept, kept_at, next_snapshot, renewed, renewed_kept, with_kept}
+use Rattle.share_coord.specs.declared.plan.Fresh.{Fresh}
+use Rattle.share_coord.specs.declared.view.Kept.{Kept}
+use Rattle.share_coord.proofs.Keys.{kept_based, some_is, some_none}
+use Rattle.share_coord.proofs.Sizes.{removal_fits, snapshot_fits, update_fits}
+use Rattle.share_coord.proofs.Spans.{laid_again}
+
+-- the record behind a checkpoint is one that there is
+pub fresh_of : (fresh : Option Fresh) (one : StateRecord) → record_of fresh ≡ Some one → (f : Fresh) × (fresh ≡ Some f) × (one ≡ f.written)
+fresh_of None one is = absurd (some_none one (sym is))
+fresh_of (Some f) one is = (f, refl, sym (some_is f.written one is))
+
+pub at_some : (P : Fresh → Type 0) (fresh : Option Fresh) (f : Fresh) → fresh ≡ Some f → IfSome fresh P → P f
+at_some P fresh f is h = subst (λ (o : Option Fresh). IfSome o P) is h
+
+fits_update : (r : StateRecord) (state : StateParts) → r ≡ Update state → IsKey state.key → length state.runs ≤ 1000000 → FitsFrame r
+fits_update r state is key few = (update_fits r state is key few, subst IsOfKey (sym is) tt)
+
+pub fits_snapshot : (r : StateRecord) (state : StateParts) → r ≡ Snapshot state → IsKey state.key → length state.runs ≤ 1000000 → FitsFrame r
+fits_snapshot r state is key few = (snapshot_fits r state is key few, subst IsOfKey (sym is) tt)
+
+pub fit_fresh : (fresh : Option Fresh) → IfSome fresh (λ f. FitsFrame f.written) → IfSome (record_of fresh) FitsFrame
+fit_fresh None h = tt
+fit_fresh (Some f) h = h
+
+pub if_some : (P Q : Fresh → Type 0) (fresh : Option Fresh) → ((f : Fresh) → P f → Q f) → IfSome fresh P → IfSome fresh Q
+if_some P Q None g h = tt
+if_some P Q (Some f) g h = g f h
+
+-- ---- a write
+
+abbrev update_record : KeyParts → ℕ → ℤ → ℤ → ℤ → List Run → StateRecord
+update_record key n state leader start runs =
+    Update (record { key = key; snapshot = n; state_epoch = state; leader_epoch = leader; start = start; runs = runs })
+
+abbrev kept_by : ℤ → ℤ → ℤ → List Run → ℕ → ℕ → Kept
+kept_by state leader start runs n m = record {
+  view = record { state_epoch = state; leader_epoch = leader; start = start; runs = runs };
+  snapshot = n;
+  updates = m;
+}
+
+-- what is behind a checkpoint, if one is tried
+abbrev pub IsFreshUpdate : KeyParts → ℤ → ℤ → ℤ → List Run → Fresh → Type 0
+IsFreshUpdate key state leader start over f = (f.written ≡ Update (record { key = key; snapshot = 0; state_epoch = state; leader_epoch = leader; start = start; runs = over }))
+    × (f.snapshot ≡ 0) × (f.updates ≡ 1)
+
+module _ (key : KeyParts) (known : Kept) (state leader start : ℤ) (runs over rows : List Run) (is_key : IsKey key)
+    (are_written : AreWritten runs over) (are_laid : AreLaid (start_after known.view.start start) known.view.runs over rows)
+    (few_over : length over ≤ 1000000) (few : length rows ≤ 1000000) (plain : StateRecord) (kept : Kept) (fresh : Option Fresh)
+    (is_fresh : IfSome fresh (IsFreshUpdate key state leader start over)) where
+  view_start : ℤ
+  view_start = start_after known.view.start start
+
+  -- behind a checkpoint
+  behind_kept : (f : Fresh) → IsFreshUpdate key state leader start over f → kept.view ≡ record { state_epoch = state; leader_epoch = leader; start = start_after known.view.start start; runs = rows }
+      → fresh ≡ Some f → fresh_kept kept fresh ≡ kept_by state leader (start_after known.view.start start) rows 0 1
+  behind_kept f h view is =
+      ap (fresh_kept kept) is ∙ λ i. record { view = view i; snapshot = h.1 i; updates = h.2 i }
+
+  behind_follows : (view : kept.view ≡ record { state_epoch = state; leader_epoch = leader; start = start_after known.view.start start; runs = rows })
+      (old : Entries) → kept_at old key ≡ Some known → (one : StateRecord) → record_of fresh ≡ Some one
+      → Follows (renewed old) one (with_kept (renewed old) key (fresh_kept kept fresh))
+  behind_follows view old at one is =
+      let f = fresh_of fresh one is in
+      let h = at_some (IsFreshUpdate key state leader start over) fresh f.0 f.1 is_fresh in
+      subst (λ (k : Kept). Follows (renewed old) one (with_kept (renewed old) key k)) (sym (behind_kept f.0 h view f.1))
+      (subst (λ (r : StateRecord). Follows (renewed old) r (with_kept (renewed old) key (kept_by state leader (start_after known.view.start start) rows 0 1)))
+      (sym (f.2 ∙ h.0)) (record {
+        kept = renewed_kept known;
+        runs = rows;
+        known = kept_based true old key known at;
+        same = refl;
+        laid = are_laid;
+        few = few;
+        is = refl;
+      }))
+
+  behind_written : (view : kept.view ≡ record { state_epoch = state; leader_epoch = leader; start = start_after known.view.start start; runs = rows })
+      (old : Entries) → kept_at old key ≡ Some known → write_refusal (kept_at old key) state leader start runs ≡ None → (one : StateRecord) → record_of fresh ≡ Some one
+      → IsWritten old key state leader start runs (with_kept (renewed old) key (fresh_kept kept fresh))
+  behind_written view old at none one is =
+      let f = fresh_of fresh one is in
+      let h = at_some (IsFreshUpdate key state leader start over) fresh f.0 f.1 is_fresh in
+      record {
+        granted = none;
+        checkpointed = true;
+        kept = known;
+        written = over;
+        laid = rows;
+        known = at;
+        are_written = are_written;
+        are_laid = are_laid;
+        few_written = few_over;
+        few = few;
+        is = ap (with_kept (renewed old) key) (behind_kept f.0 h view f.1);
+      }
+
+  behind_record : (old : Entries) → kept_at old key ≡ Some known → (one : StateRecord) → record_of fresh ≡ Some one → IsWriteRecord old key state leader start runs one
+  behind_record old at one is =
+      let f = fresh_of fresh one is in
+      let h = at_some (IsFreshUpdate key state leader start over) fresh f.0 f.1 is_fresh in
+      record {
+        checkpointed = true;
+        kept = known;
+        written = over;
+        laid = rows;
+        known = at;
+        are_written = are_written;
+        are_laid = are_laid;
+        is = f.2 ∙ h.0;
+      }
+
+  behind_fits : IfSome (record_of fresh) FitsFrame
+  behind_fits = fit_fresh fresh (if_some (IsFreshUpdate key state leader start over) (λ f. FitsFrame f.written) fresh
+      (λ f h. fits_update f.written _ h.0 is_key few_over) is_fresh)
+
+  -- stored as an update
+  module _ (low : known.updates < 500) (plain_is : plain ≡ update_record key known.snapshot state leader start over)
+      (kept_is : kept ≡ kept_by state leader (start_after known.view.start start) rows known.snapshot (known.updates + 1)) where
+    view_is : kept.view ≡ record { state_epoch = state; leader_epoch = leader; start = start_after known.view.start start; runs = rows }
+    view_is = ap (λ (k : Kept). k.view) kept_is
+
+    low_test : nat_lt known.updates 500 ≡ true
+    low_test = grind (arith, nat_tests)
+
+    update_follows : (old : Entries) → kept_at old key ≡ Some known → Follows old plain (with_kept old key kept)
+    update_follows old at =
+        subst (λ (k : Kept). Follows old plain (with_kept old key k)) (sym kept_is)
+        (subst (λ (r : StateRecord). Follows old r (with_kept old key (kept_by state leader (start_after known.view.start start) rows known.snapshot (known.updates + 1)))) (sym plain_is)
+        (record {
+          kept = known;
+          runs = rows;
+          known = at;
+          same = refl;
+          laid = are_laid;
+          few = few;
+          is = ap (λ (n : ℕ). with_kept old key (kept_by state leader (start_after known.view.start start) rows known.snapshot n)) (omega (arith, low));
+        }))
+
+    update_goes : (old : Entries) → kept_at old key ≡ Some known → GoesOn old plain (record_of fresh) (left_by old key kept fresh)
+    update_goes old at false one is = subst (λ (r : StateRecord). Follows old r (with_kept old key kept)) (sym is) (update_follows old at)
+    update_goes old at true one is = behind_follows view_is old at one is
+
+    update_written : (old : Entries) → kept_at old key ≡ Some known → write_refusal (kept_at old key) state leader start runs ≡ None
+        → (c : Bool) (one : StateRecord) → IsPut plain (record_of fresh) c one → IsWritten old key state leader start runs (left_by old key kept fresh c)
+    update_written old at none true one is = behind_written view_is old at none one is
+    update_written old at none false one is = record {
+      granted = none;
+      checkpointed = false;
+      kept = known;
+      written = over;
+      laid = rows;
+      known = at;
+      are_written = are_written;
+      are_laid = are_laid;
+      few_written = few_over;
+      few = few;
+      is = ap (with_kept old key) (kept_is ∙ ap (λ (b : Bool). kept_by state leader (start_after known.view.start start) rows
+          (if b then known.snapshot else known.snapshot + 1) (if b then known.updates + 1 else 0)) (sym low_test));
+    }
+
+    update_records : (old : Entries) → kept_at old key ≡ Some known → (c : Bool) (one : StateRecord) → IsPut plain (record_of fresh) c one
+        → IsWriteRecord old key state leader start runs one
+    update_records old at true one is = behind_record old at one is
+    update_records old at false one is = record {
+      checkpointed = false;
+      kept = known;
+      written = over;
+      laid = rows;
+      known = at;
+      are_written = are_written;
+      are_laid = are_laid;
+      is = is ∙ (plain_is ∙ ap (λ (b : Bool). if b then update_record key known.snapshot state leader start over else Snapshot (record {
+        key = key;
+        snapshot = known.snapshot + 1;
+        state_epoch = state;
+        leader_epoch = leader;
+        start = start_after known.view.start start;
+        runs = rows;
+      })) (sym low_test));
+    }
+
+    pub planned_update : IsPlanned key known state leader start runs plain kept fresh
+    planned_update = record {
+      frames = (fits_update plain _ plain_is is_key few_over, behind_fits);
+      follows = update_goes;
+      written = update_written;
+      records = update_records;
+    }
+
+  -- stored as a snapshot
+  module _ (high : 500 ≤ known.updates) (plain_is : plain ≡ Snapshot (record {
+    key = key;
+    snapshot = known.snapshot + 1;
+    state_epoch = state;
+    leader_epoch = leader;
+    start = start_after known.view.start start;
+    runs = rows;
+  }))
+      (kept_is : kept ≡ kept_by state leader (start_after known.view.start start) rows (known.snapshot + 1) 0) where
+    view_is_too : kept.view ≡ record { state_epoch = state; leader_epoch = leader; start = start_after known.view.start start; runs = rows }
+    view_is_too = ap (λ (k : Kept). k.view) kept_is
+
+    high_test : nat_lt known.updates 500 ≡ false
+    high_test = grind (arith, nat_tests)
+
+    snapshot_follows : (old : Entries) → kept_at old key ≡ Some known → Follows old plain (with_kept old key kept)
+    snapshot_follows old at =
+        subst (λ (k : Kept). Follows old plain (with_kept old key k)) (sym kept_is)
+        (subst (λ (r : StateRecord). Follows old r (with_kept old key (kept_by state leader (start_after known.view.start start) rows (known.snapshot + 1) 0))) (sym plain_is)
+        (record {
+          runs = rows;
+          next = sym (ap next_snapshot at);
+          laid = laid_again (start_after known.view.start start) known.view.runs over rows are_laid;
+          few = few;
+          is = refl;
+        }))
+
+    snapshot_goes : (old : Entries) → kept_at old key ≡ Some known → GoesOn old plain (record_of fresh) (left_by old key kept fresh)
+    snapshot_goes old at false one is = subst (λ (r : StateRecord). Follows old r (with_kept old key kept)) (sym is) (snapshot_follows old at)
+    snapshot_goes old at true one is = behind_follows view_is_too old at one is
+
+    snapshot_written : (old : Entries) → kept_at old key ≡ Some known → write_refusal (kept_at old key) state leader start runs ≡ None
+        → (c : Bool) (one : StateRecord) → IsPut plain (record_of fresh) c one → IsWritten old key state leader start runs (left_by old key kept fresh c)
+    snapshot_written old at none true one is = behind_written view_is_too old at none one is
+    snapshot_written old at none false one is = record {
+      granted = none;
+      checkpointed = false;
+      kept = known;
+      written = over;
+      laid = rows;
+      known = at;
+      are_written = are_written;
+      are_laid = are_laid;
+      few_written = few_over;
+      few = few;
+      is = ap (with_kept old key) (kept_is ∙ ap (λ (b : Bool). kept_by state leader (start_after known.view.start start) rows
+          (if b then known.snapshot else known.snapshot + 1) (if b then known.updates + 1 else 0)) (sym high_test));
+    }
+
+    snapshot_records : (old : Entries) → kept_at old key ≡ Some known → (c : Bool) (one : StateRecord) → IsPut plain (record_of fresh) c one
+        → IsWriteRecord old key state leader start runs one
+    snapshot_records old at true one is = behind_record old at one is
+    snapshot_records old at false one is = record {
+      checkpointed = false;
+      kept = known;
+      written = over;
+      laid = rows;
+      known = at;
+      are_written = are_written;
+      are_laid = are_laid;
+      is = is ∙ (plain_is ∙ ap (λ (b : Bool). if b then update_record key known.snapshot state leader start over else Snapshot (record {
+        key = key;
+        snapshot = known.snapshot + 1;
+        state_epoch = state;
+        leader_epoch = leader;
+        start = start_after known.view.start start;
+        runs = rows;
+      })) (sym high_test));
+    }
+
+    pub planned_snapshot : IsPlanned key known state leader start runs plain kept fresh
+    planned_snapshot = record {
+      frames = (fits_snapshot plain _ plain_is is_key few, behind_fits);
+      follows = snapshot_goes;
+      written = snapshot_written;
+      records = snapshot_records;
+    }
