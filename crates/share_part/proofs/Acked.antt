@@ -7,9 +7,7 @@ use Rattle.std.specs.Ordering.{nat_cmp}
 use Rattle.std.proofs.lemmas.Map.Lookups.{exact_bytes}
 use Rattle.ack_ranges.specs.Batches.{IsWellFormed, kind_at}
 use Rattle.coord_checkpoint.specs.Disks.{HasFailed}
-use Rattle.edge_io.specs.Armed.{RunsOn, StarvesUnarmed}
 use Rattle.edge_io.specs.Causes.{Rose}
-use Rattle.gate_journal.specs.Journals.{IsQuiet}
 use Rattle.flex_fields.specs.declared.fault.NoMemory.{NoMemory as want}
 use Rattle.share_model.specs.ForeignRules.{ShareStates, share_state_at}
 use Rattle.share_model.specs.Held.{Held}
@@ -29,9 +27,9 @@ use Rattle.share_model.specs.declared.visit.VisitAnswer.{VisitAnswer}
 use Rattle.part_log.specs.Logs.{IsStoredLog, LogParts, OnlyReads}
 use Rattle.share_coord.specs.Parts.{StoreParts}
 use Rattle.share_coord.specs.Stored.{Entries}
-use Rattle.share_coord.proofs.Ends.{EndsLater, later_same}
 use Rattle.share_part.specs.Acknowledging.{Acknowledges, AreTheirs, NameNone, NameOne, StoresActs}
 use Rattle.share_part.specs.Following.{Acquires, Does, Fetches, Follows, HasNothingToWrite, IsEmptyAnswer, IsFetch, MakesTable, TakesMemory, releases_of}
+use Rattle.share_part.specs.Failures.{AreQuiet, FailuresRose, RunOnBoth, StarveUnarmed, failures_of}
 use Rattle.share_part.specs.Foreseeing.{with_ack}
 use Rattle.share_part.specs.Hosting.{PartConfParts, AreHosted, key_of}
 use Rattle.share_coord.specs.States.{states_of}
@@ -42,10 +40,11 @@ use Rattle.share_part.specs.Storing.{AcksOnce, SettlesGroup, StoresGroup}
 use Rattle.share_part.specs.Visits.{AreToWrite, AreWritten, StepsAcks}
 use Rattle.share_part.specs.Writes.{WritesActs, WritesAcks, WritesPart, WritesUnless, held_behind}
 use Rattle.share_part.specs.declared.limits.Limits.{Limits}
+use Rattle.share_part.proofs.Failing.{later_both, quiet_same, starve_then, then_starve}
 use Rattle.share_part.proofs.Holding.{AreKept}
 use Rattle.share_part.proofs.Mapping.{at_self}
 use Rattle.share_part.proofs.Parting.{all_pass}
-use Rattle.share_part.proofs.Storage.{behind, quiet_same, stands_same, stands_stored, still, stored_device, stored_later, stored_quiet, stored_steps, stored_writes}
+use Rattle.share_part.proofs.Storage.{behind, stands_same, stands_stored, still, stored_device, stored_quiet, stored_steps, stored_writes}
 use Rattle.share_part.proofs.Visiting.{carried, shard_of, untouched}
 use Rattle.edge_io.specs.Views.{DiskView}
 
@@ -101,7 +100,7 @@ module _ {D W : Type 0} (seen : D → DiskView) (holding : W → Held) (visit : 
   mid = behind seen holding visit.group acts old states windows old.clock sound few hosted kept
 
   abbrev Rises : Type 0
-  Rises = Rose (seen old.states.journal.live.disk).faults (seen states.journal.live.disk).faults
+  Rises = FailuresRose seen old.states states
 
   abbrev Same : Type 0
   Same = (other : List ℕ) → held_in holding windows other ≡ held_in holding old.windows other
@@ -143,10 +142,6 @@ module _ {D W : Type 0} (seen : D → DiskView) (holding : W → Held) (visit : 
       → StoresGroup seen Failed old.conf old.log.batches visit.group acts was old.states states Same Ends r → Stands
   stored_stand r h = stands_stored seen holding visit.group acts old states windows old.clock sound few hosted kept r h
 
-  later_stored : (r : Result (Option StoreFault) want)
-      → StoresGroup seen Failed old.conf old.log.batches visit.group acts was old.states states Same Ends r → EndsLater seen old.states states
-  later_stored r h = stored_later seen holding visit.group acts old states windows old.clock sound few hosted kept r h
-
   stands_settled : (r : Result AckOutcome want) → Settles r → Stands
   stands_settled (Ok (NotHeld o)) h = same_stand h.1 h.2
   stands_settled (Ok (Malformed f)) h = absurd h
@@ -162,10 +157,10 @@ module _ {D W : Type 0} (seen : D → DiskView) (holding : W → Held) (visit : 
   -- ---- the step
 
   abbrev DoesAcks : AckOutcome → PartShardState → PartShardState → Type 0
-  DoesAcks ack s t = Acknowledges old.conf Rises old.states.journal.live.end s visit t ack
+  DoesAcks ack s t = Acknowledges old.conf Rises old.states.journal.end s visit t ack
 
   abbrev Steps : AckOutcome → PartShardState → Type 0
-  Steps ack s = (t : PartShardState) × Carries seen holding mid t × StepsAcks old.conf Rises old.states.journal.live.end s visit ack t
+  Steps ack s = (t : PartShardState) × Carries seen holding mid t × StepsAcks old.conf Rises old.states.journal.end s visit ack t
 
   abbrev pub AllSteps : AckOutcome → Type 0
   AllSteps ack = (s : PartShardState) → Carries seen holding old s → Steps ack s
@@ -175,37 +170,37 @@ module _ {D W : Type 0} (seen : D → DiskView) (holding : W → Held) (visit : 
   clock_is s c = c.clock
 
   unmoved : (ack : AckOutcome) → states ≡ old.states → Same
-      → ((batch : Option Batch) (pending : Option Entries) → Acknowledges old.conf Rises old.states.journal.live.end (shard_of seen holding old batch pending) visit (shard_of seen holding old batch pending) ack)
+      → ((batch : Option Batch) (pending : Option Entries) → Acknowledges old.conf Rises old.states.journal.end (shard_of seen holding old batch pending) visit (shard_of seen holding old batch pending) ack)
       → AllSteps ack
   unmoved ack is same does s c =
       let st = still seen holding visit.group acts old states windows old.clock sound few hosted kept (DoesAcks ack) is same does s c in
       (st.then, st.carries, record { log = st.log; clock = st.clock_is ∙ sym (clock_is s c); does = st.does })
 
   -- the acts are stored, or aren't
-  acts_steps : (ack : AckOutcome) (fault : Option StoreFault) → IsWellFormed visit.acks → AreHeldBy visit.member acts was
-      → ((s t : PartShardState) → AreTheirs s visit → StoresActs old.conf Rises old.states.journal.live.end s visit.group acts t fault → DoesAcks ack s t)
+  acts_steps : RunOnBoth seen old.states states → (ack : AckOutcome) (fault : Option StoreFault) → IsWellFormed visit.acks → AreHeldBy visit.member acts was
+      → ((s t : PartShardState) → AreTheirs s visit → StoresActs old.conf Rises old.states.journal.end s visit.group acts t fault → DoesAcks ack s t)
       → StoresGroup seen Failed old.conf old.log.batches visit.group acts was old.states states Same Ends (Ok fault) → AllSteps ack
-  acts_steps ack fault formed theirs does h s c =
-      let st = stored_steps seen holding visit.group acts old states windows old.clock sound few hosted kept fault h s c in
+  acts_steps runs ack fault formed theirs does h s c =
+      let st = stored_steps seen holding visit.group acts old states windows old.clock sound few hosted kept runs fault h s c in
       let held : AreHeldBy visit.member acts (s.held visit.group) = subst (AreHeldBy visit.member acts) (sym (c.held visit.group)) theirs in
       (st.then, st.carries, record { log = st.log; clock = st.clock_is ∙ sym (clock_is s c); does = does s st.then (formed, held) st.does })
 
-  settled_steps : (ack : AckOutcome) → IsWellFormed visit.acks → Settles (Ok ack) → AllSteps ack
-  settled_steps (NotHeld o) formed h = unmoved (NotHeld o) h.1 h.2 (λ batch pending. (formed, h.0, record { states = refl; pending = refl; held = refl }))
-  settled_steps (Malformed f) formed h = absurd h
-  settled_steps Done formed h = acts_steps Done None formed h.0 (λ s t theirs stores. (theirs, stores)) h.1
-  settled_steps (Store fault) formed h = acts_steps (Store fault) (Some fault) formed h.0 (λ s t theirs stores. (theirs, stores)) h.1
+  settled_steps : RunOnBoth seen old.states states → (ack : AckOutcome) → IsWellFormed visit.acks → Settles (Ok ack) → AllSteps ack
+  settled_steps runs (NotHeld o) formed h = unmoved (NotHeld o) h.1 h.2 (λ batch pending. (formed, h.0, record { states = refl; pending = refl; held = refl }))
+  settled_steps runs (Malformed f) formed h = absurd h
+  settled_steps runs Done formed h = acts_steps runs Done None formed h.0 (λ s t theirs stores. (theirs, stores)) h.1
+  settled_steps runs (Store fault) formed h = acts_steps runs (Store fault) (Some fault) formed h.0 (λ s t theirs stores. (theirs, stores)) h.1
 
-  none_stored : (s t : PartShardState) → NameNone acts → IsStill s t → AreTheirs s visit → StoresActs old.conf Rises old.states.journal.live.end s visit.group acts t None
+  none_stored : (s t : PartShardState) → NameNone acts → IsStill s t → AreTheirs s visit → StoresActs old.conf Rises old.states.journal.end s visit.group acts t None
   none_stored s t none is theirs = inl (none, is)
 
-  pub steps : (ack : AckOutcome) → Acked (Ok ack) → AllSteps ack
-  steps ack (inl m) = subst AllSteps (sym (ok_same ack (Malformed m.0) m.1))
+  pub steps : RunOnBoth seen old.states states → (ack : AckOutcome) → Acked (Ok ack) → AllSteps ack
+  steps runs ack (inl m) = subst AllSteps (sym (ok_same ack (Malformed m.0) m.1))
       (unmoved (Malformed m.0) m.3.0 m.3.1 (λ batch pending. (m.2, record { states = refl; pending = refl; held = refl })))
-  steps ack (inr (inl n)) = subst AllSteps (sym (ok_same ack Done n.2))
+  steps runs ack (inr (inl n)) = subst AllSteps (sym (ok_same ack Done n.2))
       (unmoved Done n.3.0 n.3.1 (λ batch pending.
       ((n.0, λ offset some. absurd (none_some (acts offset) (n.1 offset) some)), inl (n.1, record { states = refl; pending = refl; held = refl }))))
-  steps ack (inr (inr g)) = settled_steps ack g.0 g.2
+  steps runs ack (inr (inr g)) = settled_steps runs ack g.0 g.2
 
   -- where nothing is to be written, nothing is
   none_settled : (r : Result AckOutcome want) → IsWellFormed visit.acks → NameOne acts → Settles r → (batch : Option Batch) (pending : Option Entries)
@@ -226,7 +221,7 @@ module _ {D W : Type 0} (seen : D → DiskView) (holding : W → Held) (visit : 
   unwritten r h = carried seen holding old (λ s. (AreToWrite s visit → ⊥) → states ≡ old.states) (λ batch pending k nothing. none_written r h batch pending nothing)
 
   -- nor does the shard change then
-  acts_still : (s t : PartShardState) (fault : Option StoreFault) → StoresActs old.conf Rises old.states.journal.live.end s visit.group acts t fault
+  acts_still : (s t : PartShardState) (fault : Option StoreFault) → StoresActs old.conf Rises old.states.journal.end s visit.group acts t fault
       → (NameOne acts → ⊥) → IsStill s t
   acts_still s t None (inl h) none = h.1
   acts_still s t None (inr h) none = absurd (none h.0)
@@ -239,22 +234,9 @@ module _ {D W : Type 0} (seen : D → DiskView) (holding : W → Held) (visit : 
   acks_still Done s t h nothing = acts_still s t None h.1 (λ named. nothing (h.0, named))
   acks_still (Store fault) s t h nothing = acts_still s t (Some fault) h.1 (λ named. nothing (h.0, named))
 
-  -- the journal never ends before where it did
-  later_settled : (r : Result AckOutcome want) → Settles r → EndsLater seen old.states states
-  later_settled (Ok (NotHeld o)) h = later_same seen old.states states h.1
-  later_settled (Ok (Malformed f)) h = absurd h
-  later_settled (Ok Done) h = later_stored (Ok None) h.1
-  later_settled (Ok (Store fault)) h = later_stored (Ok (Some fault)) h.1
-  later_settled (Err e) h = later_stored (Err e) h
-
-  later : (r : Result AckOutcome want) → Acked r → EndsLater seen old.states states
-  later r (inl m) = later_same seen old.states states m.3.0
-  later r (inr (inl n)) = later_same seen old.states states n.3.0
-  later r (inr (inr g)) = later_settled r g.2
-
   -- a device fault
   abbrev Starves : Type 0
-  Starves = StarvesUnarmed seen old.states.journal.live.disk states.journal.live.disk
+  Starves = StarveUnarmed seen old.states states
 
   device_settled : (ack : AckOutcome) → Settles (Ok ack) → ack ≡ Store Device → Starves
   device_settled (NotHeld o) h is = absurd (let clash : ⊥ = cc in clash)
@@ -268,12 +250,12 @@ module _ {D W : Type 0} (seen : D → DiskView) (holding : W → Held) (visit : 
   device_sound ack (inr (inl n)) is = absurd (let e : Done ≡ Store Device = sym (ok_same ack Done n.2) ∙ is in let clash : ⊥ = cc in clash)
   device_sound ack (inr (inr g)) is = device_settled ack g.2 is
 
-  -- no device call failed, where none is told
+  -- no device call failed but those of a checkpoint, where none is told
   abbrev Quiet : Type 0
-  Quiet = IsQuiet seen old.states.journal.live.disk states.journal.live.disk
+  Quiet = AreQuiet seen old.states states
 
   still_quiet : states ≡ old.states → Quiet
-  still_quiet is = quiet_same seen holding visit.group acts old states windows old.clock sound few hosted kept is
+  still_quiet is = quiet_same seen old.states states is
 
   quiet_settled : (ack : AckOutcome) → Settles (Ok ack) → ((fault : StoreFault) → ack ≢ Store fault) → Quiet
   quiet_settled (NotHeld o) h none = still_quiet h.1
@@ -384,52 +366,47 @@ module _ {D W : Type 0} (seen : D → DiskView) (holding : W → Held) (visit : 
   unanswered only e (inr (inr g)) = same_all only g.2.0 g.2.1
 
   pub none_acked : (read : ReadsBatches seen (false ≡ true) old.log old.log) (now : ℕ) (r : Result AckOutcome want) (e : want) → r ≡ Err e
-      → Acked r → states.journal.idle ≡ old.states.journal.idle → (result : Result VisitAnswer want) → IsErr result
+      → Acked r → (result : Result VisitAnswer want) → IsErr result
       → VisitsOnce seen holding now visit old mid result
-  none_acked read now r e is h idle (Ok answer) none = absurd (let clash : ⊥ = cc in clash)
-  none_acked read now r e is h idle (Err f) none = record {
+  none_acked read now r e is h (Ok answer) none = absurd (let clash : ⊥ = cc in clash)
+  none_acked read now r e is h (Err f) none = record {
     unread = false;
     steps = tt;
     memory = inl (unanswered read.reads e (subst Acked is h));
     records = inl (unanswered read.reads e (subst Acked is h)).states;
-    quiet = tt;
     ack_sound = tt;
     sound = tt;
     unwritten = λ s c nothing behind. unwritten r h s c nothing;
-    ends = λ s c. later r h c.pending c.holds;
     log = read;
     others = λ away. refl;
-    idle = idle;
     conf = refl;
   }
 
   -- ---- what follows
 
   module _ (now : ℕ) (new : PartParts D W) (r : Result AckOutcome want) (ack : AckOutcome) (r_is : r ≡ Ok ack) (r_acked : Acked r)
-      (idle : states.journal.idle ≡ old.states.journal.idle)
-      (runs : RunsOn seen old.states.journal.live.disk states.journal.live.disk)
-      (more : RunsOn seen states.journal.live.disk new.states.journal.live.disk) where
+      (runs : RunOnBoth seen old.states states) (more : RunOnBoth seen states new.states) where
     abbrev Risen : Type 0
-    Risen = Rose (seen old.states.journal.live.disk).faults (seen new.states.journal.live.disk).faults
+    Risen = FailuresRose seen old.states new.states
 
     acked : Acked (Ok ack)
     acked = subst Acked r_is r_acked
 
     rises_first : Rises → Risen
-    rises_first h = let later = more.later in omega (arith, h, later)
+    rises_first h = let later = later_both seen states new.states more in omega (arith, h, later)
 
-    acks_as : (s t : PartShardState) (a : AckOutcome) → Acknowledges old.conf Rises old.states.journal.live.end s visit t a → Acknowledges old.conf Risen old.states.journal.live.end s visit t a
+    acks_as : (s t : PartShardState) (a : AckOutcome) → Acknowledges old.conf Rises old.states.journal.end s visit t a → Acknowledges old.conf Risen old.states.journal.end s visit t a
     acks_as s t (Malformed f) h = h
     acks_as s t (NotHeld o) h = h
     acks_as s t Done h = h
     acks_as s t (Store Device) h = (h.0, (h.1.0, rises_first h.1.1, h.1.2))
     acks_as s t (Store (Full at)) h = h
 
-    steps_as : (s t : PartShardState) → StepsAcks old.conf Rises old.states.journal.live.end s visit ack t → StepsAcks old.conf Risen old.states.journal.live.end s visit ack t
+    steps_as : (s t : PartShardState) → StepsAcks old.conf Rises old.states.journal.end s visit ack t → StepsAcks old.conf Risen old.states.journal.end s visit ack t
     steps_as s t h = record { log = h.log; clock = h.clock; does = acks_as s t ack h.does }
 
     abbrev Unarmed : Type 0
-    Unarmed = StarvesUnarmed seen old.states.journal.live.disk new.states.journal.live.disk
+    Unarmed = StarveUnarmed seen old.states new.states
 
     -- the acknowledgements write nothing, and what follows them neither
     nothing_so : (s t : PartShardState) → IsStill s t → (u : Then) → HasNothingToWrite old.conf s visit u → HasNothingToWrite old.conf t visit u
@@ -441,7 +418,7 @@ module _ {D W : Type 0} (seen : D → DiskView) (holding : W → Held) (visit : 
     nothing_at_all : ((t : PartShardState) → Carries seen holding mid t → HasNothingToWrite old.conf t visit visit.then → new.states ≡ states)
         → (s : PartShardState) → Carries seen holding old s → (AreToWrite s visit → ⊥) → HasNothingToWrite old.conf s visit visit.then → new.states ≡ old.states
     nothing_at_all stays s c nothing behind =
-        let first = steps ack acked s c in
+        let first = steps runs ack acked s c in
         stays first.0 first.1 (nothing_so s first.0 (acks_still ack s first.0 first.2.does nothing) visit.then behind) ∙ unwritten r r_acked s c nothing
 
     pub visited : (inner : VisitAnswer) (done : Result VisitAnswer want) → done ≡ Ok inner → FollowsOnce seen holding now visit mid new done
@@ -451,21 +428,20 @@ module _ {D W : Type 0} (seen : D → DiskView) (holding : W → Held) (visit : 
         record {
           unread = o.unread;
           steps = λ s c.
-              let first = steps ack acked s c in
+              let first = steps runs ack acked s c in
               let then = o.steps first.0 first.1 in (
                 then.0,
                 then.1,
                 record {
                   between = first.0;
-                  counted = (seen states.journal.live.disk).faults;
-                  at = states.journal.live.end;
+                  counted = failures_of seen states;
+                  at = states.journal.end;
                   acks = first.2;
-                  counts = (runs.later, more.later);
-                  ends = (later r r_acked c.pending c.holds, o.ends first.0 first.1);
-                  unwritten = λ nothing. ap (λ (p : StoreParts D). p.journal.live.end) (unwritten r r_acked s c nothing);
-                  still = λ nothing. ap (λ (p : StoreParts D). p.journal.live.end) (o.unwritten first.0 first.1 nothing);
+                  counts = (later_both seen old.states states runs, later_both seen states new.states more);
+                  unwritten = λ nothing. ap (λ (p : StoreParts D). p.journal.end) (unwritten r r_acked s c nothing);
+                  still = λ nothing. ap (λ (p : StoreParts D). p.journal.end) (o.unwritten first.0 first.1 nothing);
                   does = follows_as old.conf (is_some (seen old.log.journal.disk).content)
-                      (Rose (seen states.journal.live.disk).faults (seen new.states.journal.live.disk).faults) states.journal.live.end first.0 visit ack inner then.0
+                      (FailuresRose seen states new.states) states.journal.end first.0 visit ack inner then.0
                       (Rose (seen old.log.journal.disk).faults (seen new.log.journal.disk).faults) o.unread then.2.does;
                   clock = then.2.clock ∙ ap (λ (n : ℕ). max n now) first.2.clock;
                   log = then.2.log ∙ first.2.log;
@@ -476,19 +452,14 @@ module _ {D W : Type 0} (seen : D → DiskView) (holding : W → Held) (visit : 
             between = states;
             acks = writes_acked ack acked;
             follows = subst (λ (h : Held). WritesUnless o.unread seen old.conf old.log.batches visit h states new.states inner.then visit.then) (holds_acked ack acked) o.records;
+            quiet_acks = quiet_acked ack acked;
+            quiet_then = o.quiet;
           };
-          quiet = λ none none_then told. o.quiet none_then (runs.told ∙ told) ∙ quiet_acked ack acked none told;
-          ack_sound = λ fault told bare. more.stays (runs.told ∙ told) (device_sound ack acked fault told bare);
-          sound = λ fault wrote told bare. o.sound fault wrote (runs.told ∙ told) (runs.unarmed told bare);
+          ack_sound = λ fault. starve_then seen old.states states new.states (device_sound ack acked fault) runs more;
+          sound = λ fault wrote. then_starve seen old.states states new.states runs (o.sound fault wrote);
           unwritten = λ s c nothing behind. nothing_at_all o.unwritten s c nothing behind;
-          ends = λ s c.
-              let first = steps ack acked s c in
-              let before = later r r_acked c.pending c.holds in
-              let behind = o.ends first.0 first.1 in
-              omega (arith, before, behind);
           log = o.log;
           others = o.others;
-          idle = o.idle ∙ idle;
           conf = o.conf;
         }
 
@@ -504,19 +475,11 @@ module _ {D W : Type 0} (seen : D → DiskView) (holding : W → Held) (visit : 
           steps = tt;
           memory = memory;
           records = records;
-          quiet = tt;
           ack_sound = tt;
           sound = tt;
           unwritten = λ s c nothing behind. same ∙ nothing_at_all o.unwritten s c nothing behind;
-          ends = λ s c.
-              let first = steps ack acked s c in
-              let before = later r r_acked c.pending c.holds in
-              let behind = o.ends first.0 first.1 in
-              let end : after.states.journal.live.end ≡ new.states.journal.live.end = ap (λ (p : StoreParts D). p.journal.live.end) same in
-              omega (arith, before, behind, end);
           log = subst (λ (l : LogParts D). ReadsBatches seen (o.unread ≡ true) old.log l) (sym log) o.log;
           others = λ away. log ∙ o.others away;
-          idle = ap (λ (p : StoreParts D). p.journal.idle) same ∙ o.idle ∙ idle;
           conf = conf ∙ o.conf;
         }
 
@@ -545,9 +508,7 @@ module _ {D W : Type 0} (seen : D → DiskView) (holding : W → Held) (visit : 
     (kept : AreKept old.conf old.log.batches (states_of old.states.entries) (held_in holding old.windows))
     (now : ℕ) (new : PartParts D W) (r : Result AckOutcome want) (ack : AckOutcome) (r_is : r ≡ Ok ack)
     (r_acked : Acked seen holding visit old states windows sound few hosted kept r)
-    (idle : states.journal.idle ≡ old.states.journal.idle)
-    (runs : RunsOn seen old.states.journal.live.disk states.journal.live.disk)
-    (more : RunsOn seen states.journal.live.disk new.states.journal.live.disk) where
+    (runs : RunOnBoth seen old.states states) (more : RunOnBoth seen states new.states) where
   raised_carries : (parts : PartParts D W) (s : PartShardState) → Carries seen holding parts s → Carries seen holding (raised now parts) (raised_to now s)
   raised_carries parts s c = record {
     log = c.log;
@@ -586,9 +547,9 @@ module _ {D W : Type 0} (seen : D → DiskView) (holding : W → Held) (visit : 
   unfollowed_behind e done is follows written no_table f =
       let o = subst (FollowsOnce seen holding now visit (mid seen holding visit old states windows sound few hosted kept) new) is follows in
       let u = o.memory in
-      stopped seen holding visit old states windows sound few hosted kept now new r ack r_is r_acked idle runs more e done is follows (raised now new) refl refl refl
+      stopped seen holding visit old states windows sound few hosted kept now new r ack r_is r_acked runs more e done is follows (raised now new) refl refl refl
       (inr (λ s c.
-      let first = steps seen holding visit once states windows sound few hosted kept ack (subst (Acked seen holding visit once states windows sound few hosted kept) r_is r_acked)
+      let first = steps seen holding visit once states windows sound few hosted kept runs ack (subst (Acked seen holding visit once states windows sound few hosted kept) r_is r_acked)
       (raised_to now s) (raised_carries old s c) in (
         first.0,
         untouched seen holding (mid seen holding visit once states windows sound few hosted kept) (raised now new)
@@ -596,7 +557,7 @@ module _ {D W : Type 0} (seen : D → DiskView) (holding : W → Held) (visit : 
         record {
           ack = ack;
           written = written;
-          acks = steps_as seen holding visit once states windows sound few hosted kept now new r ack r_is r_acked idle runs more (raised_to now s) first.0 first.2;
+          acks = steps_as seen holding visit once states windows sound few hosted kept now new r ack r_is r_acked runs more (raised_to now s) first.0 first.2;
           follows = releases visit.then written no_table o.follows;
           some = subst (λ (h : Held). NameOne (releases_of visit.member h)) (sym (first.1.held visit.group))
               (subst (TakesMemory visit.member (held_in holding windows visit.group)) (releases visit.then written no_table o.follows) o.follows);

@@ -1,5 +1,5 @@
 -- A fetch that was ready before the acknowledgements before it were stored: which plan it goes by.
-use Rattle.std.proofs.Common.{◌≡◌, ⊎_elim, ◌∙◌, inl, inr, refl, sym, ap, subst, arith, ℕ, ◌≤◌, List, Option, Some, None, true, false}
+use Rattle.std.proofs.Common.{◌≡◌, ⊎_elim, ◌∙◌, inl, inr, refl, sym, ap, subst, ℕ, ◌≤◌, List, Option, Some, None, true, false}
 use Rattle.std.specs.Prelude.{Result, Ok, Err, IsErr, IsSome, unwrap_or}
 use Rattle.ack_ranges.specs.Batches.{kind_at}
 use Rattle.coord_checkpoint.specs.Disks.{HasFailed}
@@ -162,7 +162,7 @@ module _ {D W : Type 0} (seen : D → DiskView) (holding : W → Held) (visit : 
       by_settled : (a : AckOutcome) → ack ≡ a → NameOne (kind_at visit.acks) → Group a → (a ≡ Done → now ≡ held_after (kind_at visit.acks) was) → GoesBy plan
       by_settled (NotHeld o) is one g held = goes_still is_stays plan (others (λ e. let never : NotHeld o ≡ Done = sym is ∙ e in let clash : ⊥ = cc in clash)) (ap (λ (s : StoreParts D). states_of s.entries) g.1) (g.2 visit.group)
       by_settled (Malformed f) is one g held = absurd g
-      by_settled (Store fault) is one g held = goes_still is_stays plan (others (λ e. let never : Store fault ≡ Done = sym is ∙ e in let clash : ⊥ = cc in clash)) (ap states_of g.1.1.once.same) (g.1.2 visit.group)
+      by_settled (Store fault) is one g held = goes_still is_stays plan (others (λ e. let never : Store fault ≡ Done = sym is ∙ e in let clash : ⊥ = cc in clash)) g.1.1.once.same (g.1.2 visit.group)
       by_settled Done is one g held = ⊎_elim
           (λ n. absurd (none_named seen holding visit old states windows sound few hosted kept n.0 one))
           (λ h. done_moves acks moves judged is_moves (λ f e. let never : Done ≡ Malformed f = sym is ∙ formed f e in let clash : ⊥ = cc in clash) g.0 h.0 h.1 (done is) (held refl))
@@ -187,14 +187,11 @@ none_ready seen holding now visit old windows read same (Err e) none = record {
   steps = tt;
   memory = inl (record { conf = refl; log = read.reads; states = refl; clock = refl; held = same });
   records = inl refl;
-  quiet = tt;
   ack_sound = tt;
   sound = tt;
   unwritten = λ s c first behind. refl;
-  ends = λ s c. omega arith;
   log = read;
   others = λ away. refl;
-  idle = refl;
   conf = refl;
 }
 

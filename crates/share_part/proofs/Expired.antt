@@ -7,10 +7,6 @@ use Rattle.std.specs.Cmp.Lexicographic.{slice_cmp}
 use Rattle.std.specs.List.{AllByRecursion}
 use Rattle.std.specs.Map.{keys_of}
 use Rattle.std.specs.Ordering.{nat_cmp}
-use Rattle.edge_io.specs.Armed.{RunsOn}
-use Rattle.edge_io.specs.Causes.{Rose}
-use Rattle.edge_io.proofs.Runs.{runs_none, runs_then}
-use Rattle.gate_journal.specs.Journals.{IsQuiet}
 use Rattle.flex_fields.specs.declared.fault.NoMemory.{NoMemory as want}
 use Rattle.share_coord.specs.Parts.{StoreParts}
 use Rattle.part_log.specs.Logs.{LogParts}
@@ -22,6 +18,7 @@ use Rattle.share_model.specs.declared.visit.ExpireAnswer.{ExpireAnswer}
 use Rattle.share_model.specs.declared.visit.ExpireAnswer.TheVariants.{Done, Store}
 use Rattle.share_part.specs.Acknowledging.{NameNone, StoresActs}
 use Rattle.share_part.specs.Expiring.{StepsGroup, StepsGroups, due_count, ending, groups_of, more_freed}
+use Rattle.share_part.specs.Failures.{FailuresRose, RunOnBoth, failures_of}
 use Rattle.share_part.specs.Hosting.{AreHosted, PartConfParts}
 use Rattle.share_coord.specs.States.{states_of}
 use Rattle.share_part.specs.Once.{ExpiresOnce, IsNothingDue}
@@ -33,6 +30,7 @@ use Rattle.share_part.specs.declared.release.Released.{Released}
 use Rattle.share_part.specs.declared.release.Released.TheVariants.{Done as released, Store as unreleased}
 use Rattle.share_part.specs.declared.settle.Whose.TheVariants.{Due}
 use Rattle.share_part.proofs.Expiries.{NextIn, StepsTo, all_done, all_pass, apart_from, in_back, in_front, max_again, next_in, none_due_of, none_in, one_fails, one_more, order_behind, some_due_of, stores_as, wrote_one, wrote_past}
+use Rattle.share_part.proofs.Failing.{later_both, run_none, run_then, then_starve}
 use Rattle.share_part.proofs.Holding.{AreKept}
 use Rattle.share_part.proofs.Ordered.{IsIn, InOrder, due_is_filter, entries_sorted, found_all, groups_order, none_due}
 use Rattle.lock_index.specs.Windows.{IsRising}
@@ -48,14 +46,15 @@ module _ {D W : Type 0} (seen : D → DiskView) (holding : W → Held) (now : �
   abbrev IsDue : List ℕ → Bool
   IsDue g = has_due clock (held_in holding entry.windows g)
 
-  abbrev disk : PartParts D W → D
-  disk parts = parts.states.journal.live.disk
+  -- how many calls of the state disks have failed
+  abbrev failed : PartParts D W → ℕ
+  failed parts = failures_of seen parts.states
 
   abbrev end : PartParts D W → ℕ
-  end parts = parts.states.journal.live.end
+  end parts = parts.states.journal.end
 
-  abbrev Runs : D → D → Type 0
-  Runs a b = RunsOn seen a b
+  abbrev Runs : PartParts D W → PartParts D W → Type 0
+  Runs a b = RunOnBoth seen a.states b.states
 
   abbrev held_then : List ℕ → Held
   held_then = held_in holding entry.windows
@@ -69,7 +68,6 @@ module _ {D W : Type 0} (seen : D → DiskView) (holding : W → Held) (now : �
     pub carries : Carries seen holding current shard
     pub clock_is : max shard.clock now ≡ clock
     pub log : shard.log ≡ s.log
-    pub ends : end entry ≤ end current
     pub some : (i ≡ 0) ⊎ ((0 < freed) × (shard.clock ≡ clock))
     pub done : List (List ℕ)
     pub rest : List (List ℕ)
@@ -77,15 +75,13 @@ module _ {D W : Type 0} (seen : D → DiskView) (holding : W → Held) (now : �
     pub left : filter IsDue rest ≡ drop i due
     pub order : InOrder rest
     pub fresh : (g : List ℕ) → IsIn rest g → shard.held g ≡ held_in holding entry.windows g
-    pub to : StepsTo entry.conf (seen (disk entry)).faults (end entry) done 0 (raised_to now s) (seen (disk current)).faults (end current) freed (raised_to now shard)
+    pub to : StepsTo entry.conf (failed entry) (end entry) done 0 (raised_to now s) (failed current) (end current) freed (raised_to now shard)
     pub wrote : Wrote done entry.states current.states
 
   pub record SoFar (current : PartParts D W) (i freed : ℕ) : Type 0 where
     pub conf : current.conf ≡ entry.conf
     pub log : current.log ≡ entry.log
-    pub idle : current.states.journal.idle ≡ entry.states.journal.idle
-    pub runs : Runs (disk entry) (disk current)
-    pub quiet : IsQuiet seen (disk entry) (disk current)
+    pub runs : Runs entry current
     pub none : i ≡ 0 → (current ≡ entry) × (freed ≡ 0)
     pub within : i ≤ length due
     pub few : freed ≤ 2 ^ 64 - 1
@@ -96,20 +92,17 @@ module _ {D W : Type 0} (seen : D → DiskView) (holding : W → Held) (now : �
   begins by_group hosted kept due_is = record {
     conf = refl;
     log = refl;
-    idle = refl;
-    runs = runs_none seen (disk entry);
-    quiet = λ told. refl;
+    runs = run_none seen entry.states;
     none = λ is. (refl, refl);
     within = omega arith;
     few = omega arith;
     steps = λ s c.
-        let by_key = entries_sorted c.holds.frames entry.states.entries c.holds.accepted in
+        let by_key = entries_sorted _ entry.states.entries c.holds.taken in
         record {
           shard = s;
           carries = c;
           clock_is = ap (λ (n : ℕ). max n now) c.clock;
           log = refl;
-          ends = omega arith;
           some = inl refl;
           done = [];
           rest = groups;
@@ -125,7 +118,7 @@ module _ {D W : Type 0} (seen : D → DiskView) (holding : W → Held) (now : �
   -- ---- one group more
 
   module _ (current after : PartParts D W) (i freed : ℕ) (group : List ℕ) (h : SoFar current i freed) (lt : i < length due) (d : List ℕ) (at : get_or due i d ≡ group)
-      (runs : Runs (disk current) (disk after)) where
+      (runs : Runs current after) where
     next_is : drop i due ≡ group ∷ drop (i + 1) due
     next_is = let split : drop i due ≡ get_or due i d ∷ drop (i + 1) due = rw (add-one, drop-cons due i d) in split ∙ ap (λ (g : List ℕ). g ∷ drop (i + 1) due) at
 
@@ -146,8 +139,8 @@ module _ {D W : Type 0} (seen : D → DiskView) (holding : W → Held) (now : �
       group_held = f.fresh group (subst (λ (l : List (List ℕ)). IsIn l group) (sym next.is) (in_back next.passed (group ∷ next.behind) group (inl refl)))
 
       -- the groups up to this one are passed
-      to_here : StepsTo entry.conf (seen (disk entry)).faults (end entry) (f.done ++ next.passed) 0 (raised_to now s) (seen (disk current)).faults (end current) freed (raised_to now f.shard)
-      to_here = all_pass entry.conf (seen (disk entry)).faults (end entry) f.done 0 (raised_to now s) (seen (disk current)).faults (end current) freed (raised_to now f.shard) f.to h.few next.passed
+      to_here : StepsTo entry.conf (failed entry) (end entry) (f.done ++ next.passed) 0 (raised_to now s) (failed current) (end current) freed (raised_to now f.shard)
+      to_here = all_pass entry.conf (failed entry) (end entry) f.done 0 (raised_to now s) (failed current) (end current) freed (raised_to now f.shard) f.to h.few next.passed
           (λ g there.
           ap (λ (n : ℕ). due_count n (f.shard.held g)) f.clock_is
           ∙ ap (due_count clock) (f.fresh g (in_rest g there))
@@ -170,17 +163,16 @@ module _ {D W : Type 0} (seen : D → DiskView) (holding : W → Held) (now : �
       parts_are : groups ≡ (f.done ++ next.passed) ++ (group ∷ next.behind)
       parts_are = f.parted ∙ ap (λ (l : List (List ℕ)). f.done ++ l) next.is ∙ sym (append_assoc f.done next.passed (group ∷ next.behind))
 
-      one_group : (fault : Option StoreFault) (t : PartShardState) → end current ≤ end after → t.log ≡ f.shard.log → t.clock ≡ clock
-          → StoresActs current.conf (Rose (seen (disk current)).faults (seen (disk after)).faults) (end current) f.shard group (releasing (is_chosen (Due clock)) (f.shard.held group)) t fault
-          → StepsGroup entry.conf (seen (disk current)).faults (seen (disk after)).faults (end current) (end after) (raised_to now f.shard) group fault t
-      one_group fault t ends log clock_is stores = record {
-        counts = runs.later;
-        ends = ends;
+      one_group : (fault : Option StoreFault) (t : PartShardState) → t.log ≡ f.shard.log → t.clock ≡ clock
+          → StoresActs current.conf (FailuresRose seen current.states after.states) (end current) f.shard group (releasing (is_chosen (Due clock)) (f.shard.held group)) t fault
+          → StepsGroup entry.conf (failed current) (failed after) (end current) (raised_to now f.shard) group fault t
+      one_group fault t log clock_is stores = record {
+        counts = later_both seen current.states after.states runs;
         log = log;
         clock = clock_is ∙ sym f.clock_is;
-        stores = stores_as entry.conf (Rose (seen (disk current)).faults (seen (disk after)).faults) (end current) f.shard t group _ now fault
-            (subst (λ (n : ℕ). StoresActs entry.conf (Rose (seen (disk current)).faults (seen (disk after)).faults) (end current) f.shard group (releasing (is_chosen (Due n)) (f.shard.held group)) t fault) (sym f.clock_is)
-            (subst (λ (c : PartConfParts). StoresActs c (Rose (seen (disk current)).faults (seen (disk after)).faults) (end current) f.shard group (releasing (is_chosen (Due clock)) (f.shard.held group)) t fault) h.conf stores));
+        stores = stores_as entry.conf (FailuresRose seen current.states after.states) (end current) f.shard t group _ now fault
+            (subst (λ (n : ℕ). StoresActs entry.conf (FailuresRose seen current.states after.states) (end current) f.shard group (releasing (is_chosen (Due n)) (f.shard.held group)) t fault) (sym f.clock_is)
+            (subst (λ (c : PartConfParts). StoresActs c (FailuresRose seen current.states after.states) (end current) f.shard group (releasing (is_chosen (Due clock)) (f.shard.held group)) t fault) h.conf stores));
       }
 
       raised_same : (t : PartShardState) → t.clock ≡ clock → t ≡ raised_to now t
@@ -189,7 +181,7 @@ module _ {D W : Type 0} (seen : D → DiskView) (holding : W → Held) (now : �
           λ j. record { log = t.log; states = t.states; pending = t.pending; held = t.held; clock = same j }
 
       -- what other groups hold stays
-      held_same : (t : PartShardState) → StoresActs current.conf (Rose (seen (disk current)).faults (seen (disk after)).faults) (end current) f.shard group (releasing (is_chosen (Due clock)) (f.shard.held group)) t None
+      held_same : (t : PartShardState) → StoresActs current.conf (FailuresRose seen current.states after.states) (end current) f.shard group (releasing (is_chosen (Due clock)) (f.shard.held group)) t None
           → (g : List ℕ) → is_at (slice_cmp nat_cmp group) g ≡ false → t.held g ≡ f.shard.held g
       held_same t (inl x) g apart = ap (λ (held : List ℕ → Held). held g) x.1.held
       held_same t (inr x) g apart = ap (λ (held : List ℕ → Held). held g) x.1.held
@@ -201,9 +193,7 @@ module _ {D W : Type 0} (seen : D → DiskView) (holding : W → Held) (now : �
         record {
           conf = o.conf ∙ h.conf;
           log = o.log ∙ h.log;
-          idle = o.idle ∙ h.idle;
-          runs = runs_then seen (disk entry) (disk current) (disk after) h.runs runs;
-          quiet = λ told. o.quiet (λ fault e. let clash : ⊥ = cc in clash) (h.runs.told ∙ told) ∙ h.quiet told;
+          runs = run_then seen entry.states current.states after.states h.runs runs;
           none = λ e. absurd (omega (arith, e));
           within = omega (arith, lt);
           few = (let bound : min (freed + count) (2 ^ 64 - 1) ≤ 2 ^ 64 - 1 = omega arith in bound);
@@ -214,16 +204,15 @@ module _ {D W : Type 0} (seen : D → DiskView) (holding : W → Held) (now : �
               let counted : count ≡ due_count clock (f.shard.held group) = r.2.counts in
               let behind = order_behind n.passed group n.behind (subst InOrder n.is f.order) in
               let some : 0 < due_count clock (f.shard.held group) = subst (λ (l : Held). 0 < due_count clock l) (sym (group_held s f)) (some_due_of clock (held_in holding entry.windows group) n.pass) in
-              let to = one_more entry.conf (seen (disk entry)).faults (end entry) (f.done ++ n.passed) 0 (raised_to now s) (seen (disk current)).faults (end current) freed (raised_to now f.shard) (to_here s f)
-              group (seen (disk after)).faults (end after) r.0 (one_group s f None r.0 (o.ends f.shard f.carries) r.2.log r.2.clock_is r.2.stores)
-              (λ none. ap (λ (p : StoreParts D). p.journal.live.end) (o.unwritten
+              let to = one_more entry.conf (failed entry) (end entry) (f.done ++ n.passed) 0 (raised_to now s) (failed current) (end current) freed (raised_to now f.shard) (to_here s f)
+              group (failed after) (end after) r.0 (one_group s f None r.0 r.2.log r.2.clock_is r.2.stores)
+              (λ none. ap (λ (p : StoreParts D). p.journal.end) (o.unwritten
               (subst (λ (l : Held). NameNone (ending clock l)) (f.carries.held group) (subst (λ (n : ℕ). NameNone (ending n (f.shard.held group))) f.clock_is none)))) in
               record {
                 shard = r.0;
                 carries = r.1;
                 clock_is = ap (λ (n : ℕ). max n now) r.2.clock_is ∙ max_again entry.clock now;
                 log = r.2.log ∙ f.log;
-                ends = (let before = f.ends in let more = o.ends f.shard f.carries in omega (arith, before, more));
                 some = inr ((let positive : 0 < min (freed + count) (2 ^ 64 - 1) = omega (arith, counted, some) in positive), r.2.clock_is);
                 done = (f.done ++ n.passed) ++ group ∷ [];
                 rest = n.behind;
@@ -232,9 +221,9 @@ module _ {D W : Type 0} (seen : D → DiskView) (holding : W → Held) (now : �
                 order = behind.0;
                 fresh = λ g there. held_same s f r.0 r.2.stores g (apart_from group n.behind g behind.1 there) ∙ f.fresh g (behind_rest s f g there);
                 wrote = wrote_one seen entry.conf entry.log.batches clock held_then (f.done ++ n.passed) group entry.states current.states after.states (wrote_here s f)
-                    (wrote_next s f None o.records);
-                to = subst (StepsTo entry.conf (seen (disk entry)).faults (end entry) ((f.done ++ n.passed) ++ group ∷ []) 0 (raised_to now s) (seen (disk after)).faults (end after) (more_freed freed count)) (raised_same s f r.0 r.2.clock_is)
-                    (subst (λ (m : ℕ). StepsTo entry.conf (seen (disk entry)).faults (end entry) ((f.done ++ n.passed) ++ group ∷ []) 0 (raised_to now s) (seen (disk after)).faults (end after) (more_freed freed m) r.0)
+                    (wrote_next s f None o.records) (o.quiet (λ fault e. let clash : ⊥ = cc in clash));
+                to = subst (StepsTo entry.conf (failed entry) (end entry) ((f.done ++ n.passed) ++ group ∷ []) 0 (raised_to now s) (failed after) (end after) (more_freed freed count)) (raised_same s f r.0 r.2.clock_is)
+                    (subst (λ (m : ℕ). StepsTo entry.conf (failed entry) (end entry) ((f.done ++ n.passed) ++ group ∷ []) 0 (raised_to now s) (failed after) (end after) (more_freed freed m) r.0)
                     (ap (λ (n : ℕ). due_count n (f.shard.held group)) f.clock_is ∙ sym counted) to);
               };
         }
@@ -247,13 +236,6 @@ module _ {D W : Type 0} (seen : D → DiskView) (holding : W → Held) (now : �
         let none : due ≡ [] = due_is ∙ none_due holding clock entry.windows entry.windows (found_all holding clock entry.windows by_group) rising nothing in
         let empty : length due ≡ 0 = ap (λ (l : List (List ℕ)). length l) none in
         omega (arith, empty, lt)
-
-    ends_so : {result : Result Released want} → Once result → (s : PartShardState) → Carries seen holding entry s → end entry ≤ end after
-    ends_so o s c =
-        let f = h.steps s c in
-        let before = f.ends in
-        let more = o.ends f.shard f.carries in
-        omega (arith, before, more)
 
     -- ---- its write fails
 
@@ -271,14 +253,14 @@ module _ {D W : Type 0} (seen : D → DiskView) (holding : W → Held) (now : �
                 let f = h.steps s c in
                 let r = o.steps f.shard f.carries in
                 let n = next s f in
-                let steps = one_fails entry.conf (seen (disk entry)).faults (end entry) (f.done ++ n.passed) 0 (raised_to now s) (seen (disk current)).faults (end current) freed (raised_to now f.shard) (to_here s f)
-                group n.behind (seen (disk after)).faults (end after) fault r.0 (one_group s f (Some fault) r.0 (o.ends f.shard f.carries) r.2.log r.2.clock_is r.2.stores) in (
+                let steps = one_fails entry.conf (failed entry) (end entry) (f.done ++ n.passed) 0 (raised_to now s) (failed current) (end current) freed (raised_to now f.shard) (to_here s f)
+                group n.behind (failed after) (end after) fault r.0 (one_group s f (Some fault) r.0 r.2.log r.2.clock_is r.2.stores) in (
                   r.0,
                   r.1,
                   record {
                     clock = r.2.clock_is ∙ ap (λ (n : ℕ). max n now) (sym c.clock);
                     log = r.2.log ∙ f.log;
-                    groups = subst (λ (l : List (List ℕ)). StepsGroups entry.conf (seen (disk entry)).faults (seen (disk after)).faults (end entry) (end after) l 0 (raised_to now s) (Store freed group fault) r.0)
+                    groups = subst (λ (l : List (List ℕ)). StepsGroups entry.conf (failed entry) (failed after) (end entry) (end after) l 0 (raised_to now s) (Store freed group fault) r.0)
                         (sym (ap groups_of c.states ∙ parts_are s f)) steps;
                   },
                 );
@@ -287,12 +269,9 @@ module _ {D W : Type 0} (seen : D → DiskView) (holding : W → Held) (now : �
                 let f = h.steps s c in
                 let n = next s f in
                 (f.done ++ n.passed, n.behind, parts_are s f, current.states, wrote_here s f, wrote_next s f (Some fault) o.records);
-            quiet = λ none. absurd (none freed group fault refl);
             nothing_due = λ nothing. absurd (none_left by_group due_is rising nothing);
-            sound = λ m g told bare unarmed. o.sound (ap unreleased (told_device freed m group g fault Device told)) (h.runs.told ∙ bare) (h.runs.unarmed bare unarmed);
-            ends = ends_so o;
+            sound = λ m g told. then_starve seen entry.states current.states after.states h.runs (o.sound (ap unreleased (told_device freed m group g fault Device told)));
             log = o.log ∙ h.log;
-            idle = o.idle ∙ h.idle;
             conf = o.conf ∙ h.conf;
           }
 
@@ -324,21 +303,18 @@ module _ {D W : Type 0} (seen : D → DiskView) (holding : W → Held) (now : �
                     parted = ap groups_of c.states ∙ f.parted;
                     freed = freed;
                     some = more.0;
-                    groups = subst (StepsGroups entry.conf (seen (disk entry)).faults (seen (disk after)).faults (end entry) (end after) f.done 0 (raised_to now s) (Done freed)) (sym (raised_same s f f.shard more.1))
-                        (all_done entry.conf (seen (disk entry)).faults (end entry) f.done 0 (raised_to now s) (seen (disk current)).faults (end current) freed (raised_to now f.shard) f.to (seen (disk after)).faults (end after) runs.later
-                        (o.ends f.shard f.carries));
+                    groups = subst (StepsGroups entry.conf (failed entry) (failed after) (end entry) (end after) f.done 0 (raised_to now s) (Done freed)) (sym (raised_same s f f.shard more.1))
+                        (subst (λ (n : ℕ). StepsGroups entry.conf (failed entry) (failed after) (end entry) n f.done 0 (raised_to now s) (Done freed) (raised_to now f.shard))
+                        (sym (ap (λ (p : PartParts D W). p.states.journal.end) o.memory)) (all_done entry.conf (failed entry) (end entry) f.done 0 (raised_to now s) (failed current) (end current) freed (raised_to now f.shard) f.to (failed after) (later_both seen current.states after.states runs)));
                   },
                 )))
                 (cases_lt i 1);
             records = λ s c.
                 let f = h.steps s c in
                 (f.done, f.rest, f.parted, subst (λ (p : PartParts D W). Wrote f.done entry.states p.states) (sym o.memory) f.wrote);
-            quiet = tt;
             nothing_due = λ nothing. absurd (none_left by_group due_is rising nothing);
             sound = tt;
-            ends = ends_so o;
             log = o.log ∙ h.log;
-            idle = o.idle ∙ h.idle;
             conf = o.conf ∙ h.conf;
           }
 
@@ -360,7 +336,7 @@ module _ {D W : Type 0} (seen : D → DiskView) (holding : W → Held) (now : �
     all_ended = record {
       steps = λ s c.
           let f = h.steps s c in
-          let to = all_pass entry.conf (seen (disk entry)).faults (end entry) f.done 0 (raised_to now s) (seen (disk current)).faults (end current) freed (raised_to now f.shard) f.to h.few f.rest
+          let to = all_pass entry.conf (failed entry) (end entry) f.done 0 (raised_to now s) (failed current) (end current) freed (raised_to now f.shard) f.to h.few f.rest
           (λ g there.
           ap (λ (n : ℕ). due_count n (f.shard.held g)) f.clock_is
           ∙ ap (due_count clock) (f.fresh g there)
@@ -380,10 +356,9 @@ module _ {D W : Type 0} (seen : D → DiskView) (holding : W → Held) (now : �
             record {
               clock = f.clock_is ∙ ap (λ (n : ℕ). max n now) (sym c.clock);
               log = f.log;
-              groups = subst (λ (l : List (List ℕ)). StepsGroups entry.conf (seen (disk entry)).faults (seen (disk current)).faults (end entry) (end current) l 0 (raised_to now s) (Done freed) (raised_to now f.shard))
+              groups = subst (λ (l : List (List ℕ)). StepsGroups entry.conf (failed entry) (failed current) (end entry) (end current) l 0 (raised_to now s) (Done freed) (raised_to now f.shard))
                   (sym (ap groups_of c.states ∙ f.parted))
-                  (all_done entry.conf (seen (disk entry)).faults (end entry) (f.done ++ f.rest) 0 (raised_to now s) (seen (disk current)).faults (end current) freed (raised_to now f.shard) to (seen (disk current)).faults (end current) (omega arith)
-                  (omega arith));
+                  (all_done entry.conf (failed entry) (end entry) (f.done ++ f.rest) 0 (raised_to now s) (failed current) (end current) freed (raised_to now f.shard) to (failed current) (omega arith));
             },
           );
       memory = tt;
@@ -392,7 +367,6 @@ module _ {D W : Type 0} (seen : D → DiskView) (holding : W → Held) (now : �
           subst (λ (l : List (List ℕ)). Wrote l entry.states current.states) (sym f.parted)
           (wrote_past seen entry.conf entry.log.batches clock held_then f.done f.rest entry.states current.states f.wrote
           (λ g there. none_due_of clock (held_in holding entry.windows g) (none_in IsDue f.rest (f.left ∙ drop_none due i past) g there)));
-      quiet = λ none. h.quiet;
       nothing_due = λ nothing.
           let none : due ≡ [] = due_is ∙ none_due holding clock entry.windows entry.windows (found_all holding clock entry.windows by_group) rising nothing in
           let empty : length due ≡ 0 = ap (λ (l : List (List ℕ)). length l) none in
@@ -400,13 +374,11 @@ module _ {D W : Type 0} (seen : D → DiskView) (holding : W → Held) (now : �
           let first = h.none (omega (arith, empty, within)) in
           (ap (λ (n : ℕ). Ok (Done n)) first.1, ap (λ (p : PartParts D W). record { conf = p.conf; log = p.log; states = p.states; windows = p.windows; clock = clock }) first.0);
       sound = λ m g told. absurd (let clash : ⊥ = cc in clash);
-      ends = λ s c. (h.steps s c).ends;
       log = h.log;
-      idle = h.idle;
       conf = h.conf;
     }
 
   -- no memory is found for the list of the groups
   pub none_begins : (answer : Result ExpireAnswer want) → IsErr answer → (IsNothingDue holding entry.windows clock → ⊥) → ExpiresOnce seen holding now entry entry answer
   none_begins (Ok answer) none some = absurd (let clash : ⊥ = cc in clash)
-  none_begins (Err e) none some = record { steps = tt; memory = inl refl; records = λ s c. ([], groups, refl, refl); quiet = tt; nothing_due = λ nothing. absurd (some nothing); sound = tt; ends = λ s c. omega arith; log = refl; idle = refl; conf = refl }
+  none_begins (Err e) none some = record { steps = tt; memory = inl refl; records = λ s c. ([], groups, refl, refl); nothing_due = λ nothing. absurd (some nothing); sound = tt; log = refl; conf = refl }

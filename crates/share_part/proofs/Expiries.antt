@@ -16,12 +16,14 @@ use Rattle.share_model.specs.declared.fault.StoreFault.TheVariants.{Device, Full
 use Rattle.share_model.specs.declared.visit.ExpireAnswer.TheVariants.{Done, Store}
 use Rattle.share_part.specs.Acknowledging.{NameNone, StoresActs}
 use Rattle.share_part.specs.Expiring.{StepsGroup, StepsGroups, due_count, ending, more_freed}
+use Rattle.share_part.specs.Failures.{AreQuiet}
 use Rattle.share_part.specs.Hosting.{PartConfParts}
 use Rattle.share_part.specs.Releasing.{has_due}
 use Rattle.share_part.specs.Settling.{Acts, is_chosen}
 use Rattle.share_part.specs.Shards.{IsStill, PartShardState, raised_to}
 use Rattle.share_part.specs.Writes.{WritesActs, WritesGroups}
 use Rattle.share_part.specs.declared.settle.Whose.TheVariants.{Due}
+use Rattle.share_part.proofs.Failing.{quiet_same}
 use Rattle.share_part.proofs.Letting.{counted_none, none_named}
 use Rattle.share_part.proofs.Ordered.{IsIn, InOrder, id_cmp}
 
@@ -71,40 +73,40 @@ module _ (conf : PartConfParts) where
   abbrev pub StepsTo : (count end : ℕ) → List (List ℕ) → (freed : ℕ) → PartShardState → (later at more : ℕ) → PartShardState → Type 0
   StepsTo count end [] freed old later at more new = (later ≡ count) × (at ≡ end) × (more ≡ freed) × (new ≡ old)
   StepsTo count end (group ∷ groups) freed old later at more new =
-      (between : PartShardState) × (counted : ℕ) × (mid : ℕ) × StepsGroup conf count counted end mid old group None between
+      (between : PartShardState) × (counted : ℕ) × (mid : ℕ) × StepsGroup conf count counted end old group None between
       × (NameNone (ending old.clock (old.held group)) → mid ≡ end)
       × StepsTo counted mid groups (more_freed freed (due_count old.clock (old.held group))) between later at more new
 
   pub all_done : (count end : ℕ) (groups : List (List ℕ)) (freed : ℕ) (old : PartShardState) (later at more : ℕ) (new : PartShardState) → StepsTo count end groups freed old later at more new
-      → (last top : ℕ) → later ≤ last → at ≤ top → StepsGroups conf count last end top groups freed old (Done more) new
-  all_done count end [] freed old later at more new h last top le below =
-      (ap (λ (n : ℕ). Done n) h.2, h.3, (let same = h.0 in omega (arith, same, le)), (let same = h.1 in omega (arith, same, below)))
-  all_done count end (group ∷ groups) freed old later at more new h last top le below =
-      inl (h.0, h.1, h.2, h.3, h.4, all_done h.1 h.2 groups (more_freed freed (due_count old.clock (old.held group))) h.0 later at more new h.5 last top le below)
+      → (last : ℕ) → later ≤ last → StepsGroups conf count last end at groups freed old (Done more) new
+  all_done count end [] freed old later at more new h last le =
+      (ap (λ (n : ℕ). Done n) h.2, h.3, (let same = h.0 in omega (arith, same, le)), h.1)
+  all_done count end (group ∷ groups) freed old later at more new h last le =
+      inl (h.0, h.1, h.2, h.3, h.4, all_done h.1 h.2 groups (more_freed freed (due_count old.clock (old.held group))) h.0 later at more new h.5 last le)
 
   pub one_fails : (count end : ℕ) (groups : List (List ℕ)) (freed : ℕ) (old : PartShardState) (later at more : ℕ) (mid : PartShardState) → StepsTo count end groups freed old later at more mid
-      → (group : List ℕ) (rest : List (List ℕ)) (last top : ℕ) (fault : StoreFault) (new : PartShardState) → StepsGroup conf later last at top mid group (Some fault) new
+      → (group : List ℕ) (rest : List (List ℕ)) (last top : ℕ) (fault : StoreFault) (new : PartShardState) → StepsGroup conf later last at mid group (Some fault) new
       → StepsGroups conf count last end top (groups ++ (group ∷ rest)) freed old (Store more group fault) new
   one_fails count end [] freed old later at more mid h group rest last top fault new step = inr (
     fault,
     ap (λ (n : ℕ). Store n group fault) h.2,
-    subst (λ (s : PartShardState). StepsGroup conf count last end top s group (Some fault) new) h.3
-        (subst (λ (n : ℕ). StepsGroup conf count last n top mid group (Some fault) new) h.1
-        (subst (λ (n : ℕ). StepsGroup conf n last at top mid group (Some fault) new) h.0 step)),
+    subst (λ (s : PartShardState). StepsGroup conf count last end s group (Some fault) new) h.3
+        (subst (λ (n : ℕ). StepsGroup conf count last n mid group (Some fault) new) h.1
+        (subst (λ (n : ℕ). StepsGroup conf n last at mid group (Some fault) new) h.0 step)),
   )
   one_fails count end (first ∷ groups) freed old later at more mid h group rest last top fault new step =
       inl (h.0, h.1, h.2, h.3, h.4, one_fails h.1 h.2 groups (more_freed freed (due_count old.clock (old.held first))) h.0 later at more mid h.5 group rest last top fault new step)
 
   pub one_more : (count end : ℕ) (groups : List (List ℕ)) (freed : ℕ) (old : PartShardState) (later at more : ℕ) (mid : PartShardState) → StepsTo count end groups freed old later at more mid
-      → (group : List ℕ) (last next : ℕ) (new : PartShardState) → StepsGroup conf later last at next mid group None new → (NameNone (ending mid.clock (mid.held group)) → next ≡ at)
+      → (group : List ℕ) (last next : ℕ) (new : PartShardState) → StepsGroup conf later last at mid group None new → (NameNone (ending mid.clock (mid.held group)) → next ≡ at)
       → StepsTo count end (groups ++ group ∷ []) freed old last next (more_freed more (due_count mid.clock (mid.held group))) new
   one_more count end [] freed old later at more mid h group last next new step same = (
     new,
     last,
     next,
-    subst (λ (s : PartShardState). StepsGroup conf count last end next s group None new) h.3
-        (subst (λ (n : ℕ). StepsGroup conf count last n next mid group None new) h.1
-        (subst (λ (n : ℕ). StepsGroup conf n last at next mid group None new) h.0 step)),
+    subst (λ (s : PartShardState). StepsGroup conf count last end s group None new) h.3
+        (subst (λ (n : ℕ). StepsGroup conf count last n mid group None new) h.1
+        (subst (λ (n : ℕ). StepsGroup conf n last at mid group None new) h.0 step)),
     subst (λ (s : PartShardState). NameNone (ending s.clock (s.held group)) → next ≡ end) h.3 (λ none. same none ∙ h.1),
     (
       refl,
@@ -125,7 +127,7 @@ module _ (conf : PartConfParts) where
     old,
     count,
     end,
-    record { counts = omega arith; ends = omega arith; log = refl; clock = refl; stores = inl (nothing, record { states = refl; pending = refl; held = refl }) },
+    record { counts = omega arith; log = refl; clock = refl; stores = inl (nothing, record { states = refl; pending = refl; held = refl }) },
     (λ x. refl),
     all_pass count end [] (more_freed freed (due_count old.clock (old.held g))) old later at more mid (h.0, h.1, h.2 ∙ sym kept, h.3) few passed (λ other there. none other (inr there)),
   )
@@ -234,10 +236,13 @@ module _ {D : Type 0} (seen : D → DiskView) (conf : PartConfParts) (log : List
   wrote_past [] (g ∷ passed) old new h none = (
     old,
     inl (none_named (is_chosen (Due clock)) (held g) (counted_none (is_chosen (Due clock)) (held g) (none g (inl refl))), refl),
+    quiet_same seen old old refl,
     wrote_past [] passed old new h (λ other there. none other (inr there)),
   )
-  wrote_past (group ∷ groups) passed old new h none = (h.0, h.1, wrote_past groups passed h.0 new h.2 none)
+  wrote_past (group ∷ groups) passed old new h none = (h.0, h.1, h.2, wrote_past groups passed h.0 new h.3 none)
 
-  pub wrote_one : (groups : List (List ℕ)) (group : List ℕ) (old mid new : StoreParts D) → Wrote groups old mid → Acted group mid new → Wrote (groups ++ group ∷ []) old new
-  wrote_one [] group old mid new h acted = (new, subst (λ (s : StoreParts D). Acted group s new) h acted, refl)
-  wrote_one (first ∷ groups) group old mid new h acted = (h.0, h.1, wrote_one groups group h.0 mid new h.2 acted)
+  pub wrote_one : (groups : List (List ℕ)) (group : List ℕ) (old mid new : StoreParts D) → Wrote groups old mid → Acted group mid new → AreQuiet seen mid new
+      → Wrote (groups ++ group ∷ []) old new
+  wrote_one [] group old mid new h acted quiet =
+      (new, subst (λ (s : StoreParts D). Acted group s new) h acted, subst (λ (s : StoreParts D). AreQuiet seen s new) h quiet, refl)
+  wrote_one (first ∷ groups) group old mid new h acted quiet = (h.0, h.1, h.2, wrote_one groups group h.0 mid new h.3 acted quiet)

@@ -1,9 +1,7 @@
 -- The releases of a group as a step of the shard.
 use Rattle.std.proofs.Common.{◌≡◌, ◌≢◌, ◌∙◌, refl, sym, ap, subst, ℕ, max, ◌≤◌, List, Option, Some, Bool, true, false}
 use Rattle.std.specs.Prelude.{Result, Ok, Err, IsErr, is_some}
-use Rattle.edge_io.specs.Causes.{Rose}
 use Rattle.flex_fields.specs.declared.fault.NoMemory.{NoMemory as want}
-use Rattle.gate_journal.specs.Journals.{IsQuiet}
 use Rattle.part_log.specs.Logs.{IsStoredLog}
 use Rattle.share_coord.specs.Parts.{StoreParts}
 use Rattle.share_model.specs.Held.{Held}
@@ -16,6 +14,7 @@ use Rattle.share_model.specs.declared.visit.ThenOutcome.TheVariants.{Done as the
 use Rattle.share_model.specs.declared.visit.Visit.{Visit}
 use Rattle.share_model.specs.declared.visit.VisitAnswer.{VisitAnswer}
 use Rattle.share_part.specs.Acknowledging.{NameNone, NameOne, StoresActs}
+use Rattle.share_part.specs.Failures.{AreQuiet, FailuresRose, RunOnBoth}
 use Rattle.share_part.specs.Following.{Does, HasNothingToWrite, IsEmptyAnswer, TakesMemory, fault_of, releases_of}
 use Rattle.share_part.specs.Hosting.{AreHosted}
 use Rattle.share_coord.specs.States.{states_of}
@@ -29,7 +28,7 @@ use Rattle.share_part.specs.declared.release.Released.TheVariants.{Done, Store}
 use Rattle.share_part.specs.declared.settle.Whose.{Whose}
 use Rattle.share_part.specs.declared.settle.Whose.TheVariants.{Member}
 use Rattle.share_part.proofs.Holding.{AreKept}
-use Rattle.share_part.proofs.Storage.{Stores, stands_stored, stored_device, stored_later, stored_none, stored_quiet, stored_steps, stored_writes}
+use Rattle.share_part.proofs.Storage.{Stores, stands_stored, stored_device, stored_none, stored_quiet, stored_steps, stored_writes}
 use Rattle.edge_io.specs.Views.{DiskView}
 
 is_store : (r : Released) (fault : StoreFault) → fault_in r ≡ Some fault → r ≡ Store fault
@@ -61,11 +60,11 @@ module _ {D W : Type 0} (seen : D → DiskView) (holding : W → Held) (group : 
       → AreHosted old.conf old.log.batches (states_of states.entries) × AreKept old.conf old.log.batches (states_of states.entries) (held_in holding windows)
   released_stand r h = stands_stored seen holding group acts old states windows old.clock sound few hosted kept (told_in r) h
 
-  module _ (idle : states.journal.idle ≡ old.states.journal.idle) where
+  module _ (runs : RunOnBoth seen old.states states) where
     abbrev Rises : Type 0
-    Rises = Rose (seen old.states.journal.live.disk).faults (seen states.journal.live.disk).faults
+    Rises = FailuresRose seen old.states states
 
-    quiet_by : (r : Released) → Told (Ok r) → ((fault : StoreFault) → r ≢ Store fault) → IsQuiet seen old.states.journal.live.disk states.journal.live.disk
+    quiet_by : (r : Released) → Told (Ok r) → ((fault : StoreFault) → r ≢ Store fault) → AreQuiet seen old.states states
     quiet_by (Done count) h none = stored_quiet seen holding group acts old states windows old.clock sound few hosted kept h
     quiet_by (Store fault) h none = absurd (none fault refl)
 
@@ -75,13 +74,13 @@ module _ {D W : Type 0} (seen : D → DiskView) (holding : W → Held) (group : 
         let h = subst Told is told in
         record {
           steps = λ s c.
-              let st = stored_steps seen holding group acts old states windows clock sound few hosted kept (fault_in r) h s c in (
+              let st = stored_steps seen holding group acts old states windows clock sound few hosted kept runs (fault_in r) h s c in (
                 st.then,
                 st.carries,
                 record {
                   log = st.log;
                   clock_is = st.clock_is;
-                  stores = subst (λ (h : Held). StoresActs old.conf Rises old.states.journal.live.end s group (releasing (is_chosen whose) h) st.then (fault_in r)) (sym (c.held group)) st.does;
+                  stores = subst (λ (h : Held). StoresActs old.conf Rises old.states.journal.end s group (releasing (is_chosen whose) h) st.then (fault_in r)) (sym (c.held group)) st.does;
                   counts = subst (λ (h : Held). Counts whose h r) (sym (c.held group)) counts;
                 },
               );
@@ -91,10 +90,7 @@ module _ {D W : Type 0} (seen : D → DiskView) (holding : W → Held) (group : 
           records = stored_writes seen holding group acts old states windows old.clock sound few hosted kept (fault_in r) h;
           quiet = quiet_by r h;
           sound = λ fault. stored_device seen holding group acts old states windows clock sound few hosted kept (fault_in r) h (ap fault_in fault);
-          ends = λ s c. stored_later seen holding group acts old states windows clock sound few hosted kept (told_in (Ok r)) h
-              c.pending c.holds;
           log = refl;
-          idle = idle;
           conf = refl;
         }
 
@@ -111,10 +107,7 @@ module _ {D W : Type 0} (seen : D → DiskView) (holding : W → Held) (group : 
           records = tt;
           quiet = tt;
           sound = tt;
-          ends = λ s c. stored_later seen holding group acts old states windows old.clock sound few hosted kept (told_in (Err f)) h
-              c.pending c.holds;
           log = refl;
-          idle = idle;
           conf = refl;
         }
 
@@ -127,7 +120,7 @@ module _ {D W : Type 0} (seen : D → DiskView) (holding : W → Held)
   told_there = is_some (seen old.log.journal.disk).content
 
   abbrev Rising : Type 0
-  Rising = Rose (seen old.states.journal.live.disk).faults (seen new.states.journal.live.disk).faults
+  Rising = FailuresRose seen old.states new.states
 
   abbrev Once : Result Released want → Type 0
   Once result = ReleasesOnce seen holding clock visit.group (Member visit.member) old new result
@@ -136,11 +129,11 @@ module _ {D W : Type 0} (seen : D → DiskView) (holding : W → Held)
   was_held = held_in holding old.windows visit.group
 
   told_as : (s t : PartShardState) (answer : VisitAnswer) (outcome : ThenOutcome) (r : Released) → IsEmptyAnswer outcome answer → fault_of outcome ≡ fault_in r
-      → StoresActs old.conf Rising old.states.journal.live.end s visit.group (releases_of visit.member (s.held visit.group)) t (fault_in r)
-      → Does old.conf told_there Rising old.states.journal.live.end s visit answer t Release
+      → StoresActs old.conf Rising old.states.journal.end s visit.group (releases_of visit.member (s.held visit.group)) t (fault_in r)
+      → Does old.conf told_there Rising old.states.journal.end s visit answer t Release
   told_as s t answer outcome r empty same stores = (
     record { outcome_is = refl; grants = empty.grants; batches = empty.batches },
-    subst (λ (f : Option StoreFault). StoresActs old.conf Rising old.states.journal.live.end s visit.group (releases_of visit.member (s.held visit.group)) t f)
+    subst (λ (f : Option StoreFault). StoresActs old.conf Rising old.states.journal.end s visit.group (releases_of visit.member (s.held visit.group)) t f)
         (sym (ap fault_of empty.outcome_is ∙ same)) stores,
   )
 
@@ -165,7 +158,7 @@ module _ {D W : Type 0} (seen : D → DiskView) (holding : W → Held)
                 clock = st.2.clock_is ∙ at ∙ ap (λ (n : ℕ). max n now) (sym c.clock);
                 log = st.2.log;
                 ack = ack;
-                does = subst (Does old.conf told_there Rising old.states.journal.live.end s visit answer st.0) (sym is) (told_as s st.0 answer outcome r empty same st.2.stores);
+                does = subst (Does old.conf told_there Rising old.states.journal.end s visit answer st.0) (sym is) (told_as s st.0 answer outcome r empty same st.2.stores);
               },
             );
         follows = tt;
@@ -176,10 +169,8 @@ module _ {D W : Type 0} (seen : D → DiskView) (holding : W → Held)
         quiet = λ none. o.quiet (λ fault is. none refl fault (empty.outcome_is ∙ is_told outcome fault (same ∙ ap fault_in is)));
         sound = λ fault wrote. o.sound (is_store r Device (sym same ∙ (ap fault_of (sym empty.outcome_is) ∙ ap fault_of fault)));
         unwritten = λ s c. none_let_go s c o.unwritten;
-        ends = o.ends;
         log = read o.log;
         others = λ away. o.log;
-        idle = o.idle;
         conf = o.conf;
       }
 
@@ -197,4 +188,4 @@ module _ {D W : Type 0} (seen : D → DiskView) (holding : W → Held)
   kept_back result e none once (Ok answer) failed = absurd (let clash : ⊥ = cc in clash)
   kept_back result e none once (Err f) failed =
       let o = subst Once none once in
-      record { unread = false; steps = tt; follows = subst (TakesMemory visit.member (held_in holding old.windows visit.group)) (sym is) o.named; memory = unchanged o.memory; records = tt; quiet = tt; sound = tt; unwritten = λ s c. none_let_go s c o.unwritten; ends = o.ends; log = read o.log; others = λ away. o.log; idle = o.idle; conf = o.conf }
+      record { unread = false; steps = tt; follows = subst (TakesMemory visit.member (held_in holding old.windows visit.group)) (sym is) o.named; memory = unchanged o.memory; records = tt; quiet = tt; sound = tt; unwritten = λ s c. none_let_go s c o.unwritten; log = read o.log; others = λ away. o.log; conf = o.conf }

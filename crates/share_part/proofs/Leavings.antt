@@ -7,7 +7,6 @@ use Rattle.share_model.specs.Held.{Held}
 use Rattle.share_model.specs.Logs.{Batch}
 use Rattle.share_model.specs.Pending.{WithPending}
 use Rattle.part_log.specs.Logs.{IsLogText, MayFollow, and_pending}
-use Rattle.share_coord.specs.Stored.{AreStored, Entries}
 use Rattle.share_part.specs.Hosting.{PartConfParts, AreHosted}
 use Rattle.share_coord.specs.States.{AreStates, states_of}
 use Rattle.share_part.specs.Leaving.{IsLeftOf, IsDoneOr}
@@ -36,21 +35,20 @@ record LeftStates (conf : PartConfParts) (log : List Batch) (states : ShareState
   text : AreStates first second its
   hosted : AreHosted conf log its
 
-states_left : (conf : PartConfParts) (log : List Batch) (entries : Entries) (pending : Option Entries) (first second : List ℕ)
-    → AreHosted conf log (states_of entries) → IsPendingHosted conf log (option_map states_of pending) → WithPending (AreStored first second) entries pending
-    → LeftStates conf log (states_of entries) (option_map states_of pending) first second
-states_left conf log entries None first second h p w =
-    record { its = states_of entries; is = inl refl; text = record { entries = entries; stored = w; is = refl }; hosted = h }
-states_left conf log entries (Some lost) first second h p w = ⊎_elim
-    (λ (s : AreStored first second entries). record { its = states_of entries; is = inl refl; text = record { entries = entries; stored = s; is = refl }; hosted = h })
-    (λ (s : AreStored first second lost). record { its = states_of lost; is = inr refl; text = record { entries = lost; stored = s; is = refl }; hosted = p }) w
+states_left : (conf : PartConfParts) (log : List Batch) (states : ShareStates) (pending : Option ShareStates) (first second : List ℕ)
+    → AreHosted conf log states → IsPendingHosted conf log pending → WithPending (AreStates first second) states pending
+    → LeftStates conf log states pending first second
+states_left conf log states None first second h p w = record { its = states; is = inl refl; text = w; hosted = h }
+states_left conf log states (Some lost) first second h p w = ⊎_elim
+    (λ (s : AreStates first second states). record { its = states; is = inl refl; text = s; hosted = h })
+    (λ (s : AreStates first second lost). record { its = lost; is = inr refl; text = s; hosted = p }) w
 
 module _ {D W : Type 0} (seen : D → DiskView) (holding : W → Held) (parts : PartParts D W) (log first second : List ℕ)
-    (at_log : (seen parts.log.journal.disk).image log) (at_first : (seen parts.states.journal.live.disk).image first) (at_second : (seen parts.states.journal.idle).image second) where
+    (at_log : (seen parts.log.journal.disk).image log) (at_first : (seen parts.states.journal.first.disk).image first) (at_second : (seen parts.states.journal.second.disk).image second) where
   pub left_of : (shard : PartShardState) → Carries seen holding parts shard → IsLeftOf parts.conf shard log first second
   left_of = carried seen holding parts (λ shard. IsLeftOf parts.conf shard log first second) (λ batch pending k.
       let l = log_left parts.conf parts.log.batches batch log k.log.keeps.follows (k.log.keeps.images log at_log) in
-      let s = states_left parts.conf parts.log.batches parts.states.entries pending first second k.hosted k.pending_hosted (k.holds.images first second at_first at_second) in
+      let s = states_left parts.conf parts.log.batches (states_of parts.states.entries) (option_map states_of pending) first second k.hosted k.pending_hosted (k.holds.images first second at_first at_second) in
       record {
         batches = l.batches;
         states = s.its;

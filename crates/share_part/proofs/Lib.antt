@@ -1,5 +1,5 @@
 -- Slotting: the slots of a log. Granting: the grants of what is taken. Gathering: what a walk takes, slot by slot. Seeing: the states of a store.
--- Looked: batches that were read. Visiting: what follows acknowledgements as a step of the shard. Storage: acts that are stored. Acked: acknowledgements. Freeing: releases. Ordered,
+-- Looked: batches that were read. Failing: calls of both state disks. Visiting: what follows acknowledgements as a step of the shard. Storage: acts that are stored. Acked: acknowledgements. Freeing: releases. Ordered,
 -- Expiries, Expired: expiries.
 pub mod Slotting
 pub mod Granting
@@ -20,6 +20,7 @@ pub mod Staying
 pub mod Foreseen
 pub mod Holding
 pub mod Looked
+pub mod Failing
 pub mod Visiting
 pub mod Advancing
 pub mod Doing

@@ -18,11 +18,11 @@ use Rattle.part_log.specs.Logs.{AddsOnce, IsAdded, IsStoredLog, IsWithin, Keeps,
 use Rattle.part_log.specs.Shards.{LogShardState, CarriesLog, IsLogOf, StepsLog, at_end}
 use Rattle.part_log.proofs.Frames.{bounds}
 use Rattle.part_log.proofs.Rising.{end_more, frames_more, sound_more}
-use Rattle.share_coord.proofs.Ends.{later_end, same_end}
 use Rattle.share_part.specs.Hosting.{PartConfParts, AreHosted}
 use Rattle.share_part.specs.Once.{ProducesOnce}
 use Rattle.share_part.specs.Shards.{PartShardState, PartParts, Carries, IsPendingHosted}
 use Rattle.share_part.specs.Slots.{and_more, next_slot, slots_from}
+use Rattle.share_part.proofs.Reaching.{later_end, same_end}
 use Rattle.edge_io.specs.Views.{DiskView}
 
 abbrev bytes_of : Batch → List ℕ

@@ -12,12 +12,13 @@ use Rattle.share_model.specs.ShareStates.{ShareState}
 use Rattle.share_model.specs.declared.reset.Reset.{Reset}
 use Rattle.share_model.specs.declared.reset.Reset.TheVariants.{Latest, Earliest}
 use Rattle.share_coord.specs.Calls.{IsInitialised}
-use Rattle.share_coord.specs.Stored.{Entries, kept_at, with_kept}
+use Rattle.share_coord.specs.Stored.{Entries, based, based_kept, kept_at, with_kept}
 use Rattle.share_coord.specs.declared.view.Kept.{Kept}
 use Rattle.share_part.specs.Hosting.{PartConfParts, AreHosted, IsHosted, key_of}
 use Rattle.share_coord.specs.States.{states_of}
 use Rattle.share_part.specs.Shards.{first_start, new_state}
 use Rattle.share_part.specs.Tables.{MayGoOut}
+use Rattle.share_coord.proofs.Held.{states_based}
 use Rattle.share_coord.proofs.Keys.{some_is}
 use Rattle.share_part.proofs.Mapping.{keys_total, keys_exact, at_is, set_found, set_other}
 
@@ -42,6 +43,14 @@ pub with_seen : (es : Entries) (key : KeyParts) (kept : Kept) → states_of (wit
 with_seen [] key kept = refl
 with_seen (e ∷ es) key kept = by_order (key_cmp key e.0) ((key, kept) ∷ e ∷ es) ((e.0, kept) ∷ es) (e ∷ with_kept es key kept)
     ((e.0, e.1.view) ∷ insert_entry key_cmp (states_of es) key kept.view) (ap (λ (l : ShareStates). (e.0, e.1.view) ∷ l) (with_seen es key kept))
+
+-- the same behind a checkpoint, or where none was made
+pub with_based : (c : Bool) (es : Entries) (key : KeyParts) (kept : Kept) → states_of (with_kept (based c es) key kept) ≡ insert_entry key_cmp (states_of es) key kept.view
+with_based c es key kept = with_seen (based c es) key kept ∙ ap (λ (l : ShareStates). insert_entry key_cmp l key kept.view) (states_based c es)
+
+pub kept_view : (c : Bool) (kept : Kept) → (based_kept c kept).view ≡ kept.view
+kept_view true kept = refl
+kept_view false kept = refl
 
 -- ---- states that a partition may have
 
@@ -81,4 +90,4 @@ module _ (conf : PartConfParts) (log : List Batch) where
 
 pub made_is : (conf : PartConfParts) (end : ℕ) (es new : Entries) (group : List ℕ) → IsInitialised es (key_of conf group) (pos 0) (pos (first_start conf.reset end)) new
     → states_of new ≡ insert_entry key_cmp (states_of es) (key_of conf group) (new_state conf end)
-made_is conf end es new group is = ap states_of is.is ∙ with_seen es (key_of conf group) _
+made_is conf end es new group is = ap states_of is.is ∙ with_based is.checkpointed es (key_of conf group) _

@@ -18,7 +18,7 @@ use Rattle.share_part.specs.Settling.{Acts, IsChange, IsSettled, acted, stored_a
 use Rattle.share_part.specs.Storing.{IsStored, start_number}
 use Rattle.share_part.specs.Tables.{table_of}
 use Rattle.share_part.specs.declared.settle.Change.{Change}
-use Rattle.share_part.proofs.Seeing.{state_seen, view_of, with_seen}
+use Rattle.share_part.proofs.Seeing.{kept_view, state_seen, view_of, with_based}
 use Rattle.share_part.proofs.Writing.{last_is, seen_kept, kept_one}
 
 module _ (conf : PartConfParts) (log : List Batch) (es new : Entries) (group : List ℕ) (state : ShareState) (held : Held) (acts : Acts) (change : Change)
@@ -66,4 +66,6 @@ module _ (conf : PartConfParts) (log : List Batch) (es new : Entries) (group : L
   }
 
   pub now_states : states_of new ≡ insert_entry key_cmp (states_of es) (key_of conf group) next
-  now_states = ap states_of w.is ∙ with_seen es (key_of conf group) _
+  now_states = ap states_of w.is ∙ with_based w.checkpointed es (key_of conf group) _
+      ∙ ap (λ (v : ShareState). insert_entry key_cmp (states_of es) (key_of conf group)
+      (record { state_epoch = pos 0; leader_epoch = pos 0; start = start_after v.start (start_number change.start); runs = w.laid })) (kept_view w.checkpointed w.kept)

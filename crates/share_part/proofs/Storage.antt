@@ -4,10 +4,7 @@ use Rattle.std.specs.Prelude.{Result, Ok, Err}
 use Rattle.std.specs.BTreeMap.{insert_entry}
 use Rattle.std.specs.Option.{option_map}
 use Rattle.coord_checkpoint.specs.Disks.{HasFailed}
-use Rattle.edge_io.specs.Armed.{StarvesUnarmed}
-use Rattle.edge_io.specs.Causes.{Rose}
 use Rattle.flex_fields.specs.declared.fault.NoMemory.{NoMemory as want}
-use Rattle.gate_journal.specs.Journals.{IsQuiet}
 use Rattle.share_model.specs.ForeignRules.{ShareStates}
 use Rattle.share_model.specs.Held.{Held}
 use Rattle.share_model.specs.Keys.{KeyParts, key_cmp}
@@ -21,9 +18,9 @@ use Rattle.share_coord.specs.Parts.{StoreParts}
 use Rattle.share_coord.specs.Stored.{Entries}
 use Rattle.share_coord.specs.declared.fault.CoordFault.{CoordFault}
 use Rattle.share_coord.specs.declared.fault.CoordFault.TheVariants.{Store as coord_store}
-use Rattle.share_coord.proofs.Ends.{EndsLater, later_once, later_same}
 use Rattle.share_coord.proofs.Once.{held_still}
 use Rattle.share_part.specs.Acknowledging.{AreSettled, NameNone, NameOne, StoresActs}
+use Rattle.share_part.specs.Failures.{AreQuiet, FailuresRose, RunOnBoth, StarveUnarmed}
 use Rattle.share_part.specs.Hosting.{AreHosted, IsHosted, KeepsHolds, key_of}
 use Rattle.share_coord.specs.States.{states_of}
 use Rattle.share_part.specs.Settling.{Acts, IsSettled, held_after}
@@ -31,6 +28,7 @@ use Rattle.share_part.specs.Shards.{PartShardState, PartParts, Carries, IsPendin
 use Rattle.share_part.specs.Storing.{IsActsStored, IsStored, StoresGroup}
 use Rattle.share_part.specs.Tables.{table_of}
 use Rattle.share_part.specs.Writes.{WritesActs}
+use Rattle.share_part.proofs.Failing.{quiet_same, rose_either, starve_either}
 use Rattle.share_part.proofs.Holding.{AreKept, kept_settled, same_kept, set_kept}
 use Rattle.share_part.proofs.Seeing.{hosted_more}
 use Rattle.share_part.proofs.Staying.{settled_hosted}
@@ -53,7 +51,7 @@ module _ {D W : Type 0} (seen : D → DiskView) (holding : W → Held) (group : 
   key = key_of old.conf group
 
   abbrev pub Rises : Type 0
-  Rises = Rose (seen old.states.journal.live.disk).faults (seen states.journal.live.disk).faults
+  Rises = FailuresRose seen old.states states
 
   abbrev pub Same : Type 0
   Same = (other : List ℕ) → held_in holding windows other ≡ held_in holding old.windows other
@@ -119,7 +117,7 @@ module _ {D W : Type 0} (seen : D → DiskView) (holding : W → Held) (group : 
     same_kept old.conf old.log.batches (states_of states.entries) (with_held (held_in holding old.windows) group (held_after acts was)) (held_in holding windows) h.2
         (set_well (Ok tt) h.1 states.entries h.1.once.written),
   )
-  stands_stored (Ok (Some fault)) h = stands_same (ap states_of h.1.once.same) h.2
+  stands_stored (Ok (Some fault)) h = stands_same h.1.once.same h.2
   stands_stored (Err e) h = stands_same (ap (λ (s : StoreParts D). states_of s.entries) h.0) h.1
 
   -- ---- the step
@@ -145,7 +143,7 @@ module _ {D W : Type 0} (seen : D → DiskView) (holding : W → Held) (group : 
     clock = clock;
   }
 
-  pub same_carried : (batch : Option Batch) (was_pending pending : Option Entries) → Keeping seen holding old batch was_pending → states.entries ≡ old.states.entries
+  pub same_carried : (batch : Option Batch) (was_pending pending : Option Entries) → Keeping seen holding old batch was_pending → states_of states.entries ≡ states_of old.states.entries
       → Holds seen states pending → IsPendingHosted old.conf old.log.batches (option_map states_of pending) → Same → Carries seen holding behind (shard_same batch pending)
   same_carried batch was_pending pending k entries holds fine same =
       carries_with seen holding old behind batch was_pending pending (held_in holding old.windows) k refl (λ shard c. c) entries holds fine (λ group. sym (same group))
@@ -154,18 +152,18 @@ module _ {D W : Type 0} (seen : D → DiskView) (holding : W → Held) (group : 
       → ((batch : Option Batch) (pending : Option Entries) → Does (shard_of seen holding old batch pending) (shard_same batch pending)) → AllSteps Does
   still Does is same does = carried seen holding old (Steps Does) (λ batch pending k. record {
     then = shard_same batch pending;
-    carries = same_carried batch pending pending k (ap (λ (s : StoreParts D). s.entries) is) (subst (λ (s : StoreParts D). Holds seen s pending) (sym is) k.holds) k.pending_hosted same;
+    carries = same_carried batch pending pending k (ap (λ (s : StoreParts D). states_of s.entries) is) (subst (λ (s : StoreParts D). Holds seen s pending) (sym is) k.holds) k.pending_hosted same;
     log = refl;
     clock_is = refl;
     does = does batch pending;
   })
 
   abbrev pub DoesActs : Option StoreFault → PartShardState → PartShardState → Type 0
-  DoesActs fault s t = StoresActs old.conf Rises old.states.journal.live.end s group acts t fault
+  DoesActs fault s t = StoresActs old.conf Rises old.states.journal.end s group acts t fault
 
-  pub stored_steps : (fault : Option StoreFault) → Stores (Ok fault) → AllSteps (DoesActs fault)
-  stored_steps None (inl n) = still (DoesActs None) n.1 n.2 (λ batch pending. inl (n.0, record { states = refl; pending = refl; held = refl }))
-  stored_steps None (inr h) = carried seen holding old (Steps (DoesActs None)) (λ batch pending k. record {
+  pub stored_steps : RunOnBoth seen old.states states → (fault : Option StoreFault) → Stores (Ok fault) → AllSteps (DoesActs fault)
+  stored_steps runs None (inl n) = still (DoesActs None) n.1 n.2 (λ batch pending. inl (n.0, record { states = refl; pending = refl; held = refl }))
+  stored_steps runs None (inr h) = carried seen holding old (Steps (DoesActs None)) (λ batch pending k. record {
     then = record {
       log = record { batches = old.log.batches; pending = batch };
       states = states_of states.entries;
@@ -188,8 +186,8 @@ module _ {D W : Type 0} (seen : D → DiskView) (holding : W → Held) (group : 
     clock_is = refl;
     does = inr (h.0, record { states = are_settled (Ok tt) h.1 states.entries h.1.once.written batch pending; nothing = refl; held = refl });
   })
-  stored_steps (Some Device) h = carried seen holding old (Steps (DoesActs (Some Device))) (λ batch pending k.
-      let rises : Rises = (h.1.once.device refl).0.0 in
+  stored_steps runs (Some Device) h = carried seen holding old (Steps (DoesActs (Some Device))) (λ batch pending k.
+      let rises : Rises = rose_either seen old.states states runs (h.1.once.device refl).0 in
       ⊎_elim
       (λ holds. record {
         then = shard_same batch pending;
@@ -206,7 +204,7 @@ module _ {D W : Type 0} (seen : D → DiskView) (holding : W → Held) (group : 
         does = (h.0, rises, record { states = refl; held = refl; pending = inr (states_of lost.0, refl, are_settled (Err (coord_store Device)) h.1 lost.0 lost.1 batch pending) });
       })
       (h.1.once.failed pending k.holds))
-  stored_steps (Some (Full at)) h = carried seen holding old (Steps (DoesActs (Some (Full at)))) (λ batch pending k.
+  stored_steps runs (Some (Full at)) h = carried seen holding old (Steps (DoesActs (Some (Full at)))) (λ batch pending k.
       let full = h.1.once.full at refl in record {
         then = shard_same batch pending;
         carries = same_carried batch pending pending k h.1.once.same (held_still seen old.states states (h.1.once.unchanged (λ e. let never : ⊥ = cc in never)) pending k.holds) k.pending_hosted h.2;
@@ -239,25 +237,15 @@ module _ {D W : Type 0} (seen : D → DiskView) (holding : W → Held) (group : 
   stored_none (Ok (Some fault)) h nothing = absurd (let e = nothing h.0.0 in let some = h.0.1 in let clash : ⊥ = cc in clash)
   stored_none (Err e) h nothing = h.0
 
-  -- the journal never ends before where it did
-  pub stored_later : (r : Result (Option StoreFault) want) → Stores r → EndsLater seen old.states states
-  stored_later (Ok None) (inl n) = later_same seen old.states states n.1
-  stored_later (Ok None) (inr h) = later_once seen Failed _ old.states states (Ok tt) h.1.once
-  stored_later (Ok (Some fault)) h = later_once seen Failed _ old.states states (Err (coord_store fault)) h.1.once
-  stored_later (Err e) h = later_same seen old.states states h.0
-
   -- a device fault
-  pub stored_device : (fault : Option StoreFault) → Stores (Ok fault) → fault ≡ Some Device → StarvesUnarmed seen old.states.journal.live.disk states.journal.live.disk
+  pub stored_device : (fault : Option StoreFault) → Stores (Ok fault) → fault ≡ Some Device → StarveUnarmed seen old.states states
   stored_device None h is = absurd (let clash : ⊥ = cc in clash)
-  stored_device (Some Device) h is = (h.1.once.device refl).0.1
+  stored_device (Some Device) h is = starve_either seen old.states states (h.1.once.device refl).0
   stored_device (Some (Full at)) h is = absurd (let clash : ⊥ = cc in clash)
 
-  -- no device call failed, where none is told
-  pub quiet_same : states ≡ old.states → IsQuiet seen old.states.journal.live.disk states.journal.live.disk
-  quiet_same same = λ told. ap (λ (s : StoreParts D). (seen s.journal.live.disk).faults) same
-
-  pub stored_quiet : Stores (Ok None) → IsQuiet seen old.states.journal.live.disk states.journal.live.disk
-  stored_quiet (inl n) = quiet_same n.1
+  -- no device call failed but those of a checkpoint, where none is told
+  pub stored_quiet : Stores (Ok None) → AreQuiet seen old.states states
+  stored_quiet (inl n) = quiet_same seen old.states states n.1
   stored_quiet (inr h) = h.1.once.quiet
 
   -- which record is stored

@@ -3,11 +3,8 @@ use Rattle.std.proofs.Common.{◌≡◌, ◌≢◌, ◌⊎◌, ⊎_elim, ◌∙�
 use Rattle.std.specs.Prelude.{Option, Some, None, Result, Ok, Err, IsErr, IsSome, is_some, unwrap_or, Bool, true, false}
 use Rattle.std.specs.BTreeMap.{insert_entry}
 use Rattle.std.specs.Option.{option_map}
-use Rattle.edge_io.specs.Armed.{StarvesUnarmed}
-use Rattle.edge_io.specs.Causes.{Rose}
 use Rattle.flex_fields.specs.declared.fault.NoMemory.{NoMemory as want}
 use Rattle.coord_checkpoint.specs.Disks.{HasFailed}
-use Rattle.gate_journal.specs.Journals.{IsQuiet}
 use Rattle.share_model.specs.ForeignRules.{ShareStates, share_state_at}
 use Rattle.share_model.specs.Held.{Held}
 use Rattle.share_model.specs.Keys.{KeyParts, key_cmp}
@@ -31,9 +28,9 @@ use Rattle.share_coord.specs.Stored.{Entries, kept_at}
 use Rattle.share_coord.specs.declared.fault.CoordFault.{CoordFault}
 use Rattle.share_coord.specs.declared.fault.CoordFault.TheVariants.{Invalid, Unknown, FencedLeader, FencedState, TooMany, Store, NoMemory}
 use Rattle.share_coord.specs.declared.view.Kept.{Kept}
-use Rattle.share_coord.proofs.Ends.{EndsLater, later_once, later_same}
 use Rattle.share_coord.proofs.Once.{held_still}
 use Rattle.share_part.specs.declared.limits.Limits.{Limits}
+use Rattle.share_part.specs.Failures.{AreQuiet, FailuresRose, RunOnBoth, StarveUnarmed}
 use Rattle.share_part.specs.Hosting.{PartConfParts, AreHosted, HoldsWell, KeepsHolds, key_of}
 use Rattle.share_coord.specs.States.{states_of}
 use Rattle.share_part.specs.declared.plan.Plan.{Plan}
@@ -46,6 +43,7 @@ use Rattle.share_part.specs.Tables.{table_of, with_holds}
 use Rattle.share_part.specs.Walks.{acquired, AreRunsOf, bytes_in, written_out}
 use Rattle.share_part.specs.Writes.{WritesThen, WritesUnless}
 use Rattle.share_part.proofs.Appending.{numbered_is}
+use Rattle.share_part.proofs.Failing.{quiet_same, rose_either, starve_either}
 use Rattle.share_part.proofs.Holding.{AreKept, kept_taken, none_kept, one_kept, same_kept, table_kept}
 use Rattle.share_part.proofs.Mapping.{keys_exact, keys_total, set_found}
 use Rattle.share_part.proofs.Seeing.{state_seen, view_of, hosted_more, new_hosted, made_is, goes_out}
@@ -98,7 +96,7 @@ module _ {D W : Type 0} (seen : D → DiskView) (holding : W → Held) where
   -- with other holds, another clock, and a store of the same states
   pub carries_with : (parts after : PartParts D W) (batch : Option Batch) (was pending : Option Entries) (held : List ℕ → Held) → Keeping parts batch was
       → after.conf ≡ parts.conf → ((shard : LogShardState) → CarriesLog seen parts.log shard → CarriesLog seen after.log shard)
-      → after.states.entries ≡ parts.states.entries → Holds seen after.states pending
+      → states_of after.states.entries ≡ states_of parts.states.entries → Holds seen after.states pending
       → IsPendingHosted parts.conf parts.log.batches (option_map states_of pending) → ((group : List ℕ) → held group ≡ held_in holding after.windows group)
       → Carries seen holding after (record {
         log = record { batches = parts.log.batches; pending = batch };
@@ -111,7 +109,7 @@ module _ {D W : Type 0} (seen : D → DiskView) (holding : W → Held) where
     log = log (record { batches = parts.log.batches; pending = batch }) k.log;
     pending = pending;
     holds = holds;
-    states = ap states_of (sym entries);
+    states = sym entries;
     pending_is = refl;
     held = same;
     clock = refl;
@@ -147,7 +145,7 @@ module _ {D W : Type 0} (seen : D → DiskView) (holding : W → Held) where
         held = held_in holding old.windows;
         clock = c;
       })) h.clock
-      (carries_with old new batch pending pending (held_in holding old.windows) k h.conf (carries_on seen old.log new.log h.log) (ap (λ (s : StoreParts D). s.entries) h.states)
+      (carries_with old new batch pending pending (held_in holding old.windows) k h.conf (carries_on seen old.log new.log h.log) (ap (λ (s : StoreParts D). states_of s.entries) h.states)
       (held_still seen old.states new.states h.states pending k.holds) k.pending_hosted (λ group. sym (h.held group))))
 
 -- ---- a fetch
@@ -157,7 +155,7 @@ err_is {T} {E} r e is = subst (λ (x : Result T E). IsErr x) (sym is) refl
 
 module _ {D W : Type 0} (seen : D → DiskView) (holding : W → Held) (now : ℕ) (visit : Visit) (old new : PartParts D W)
     (conf : new.conf ≡ old.conf) (log : ReadsBatches seen (false ≡ true) old.log new.log)
-    (idle : new.states.journal.idle ≡ old.states.journal.idle) where
+    (runs : RunOnBoth seen old.states new.states) where
   abbrev told_there : Bool
   told_there = is_some (seen old.log.journal.disk).content
 
@@ -165,33 +163,32 @@ module _ {D W : Type 0} (seen : D → DiskView) (holding : W → Held) (now : �
   carries_read = carries_on seen old.log new.log log.reads
 
   abbrev Rises : Type 0
-  Rises = Rose (seen old.states.journal.live.disk).faults (seen new.states.journal.live.disk).faults
+  Rises = FailuresRose seen old.states new.states
 
   abbrev Once : Result VisitAnswer want → Type 0
   Once result = FollowsOnce seen holding now visit old new result
 
   abbrev Leads : VisitAnswer → PartShardState → Type 0
-  Leads answer s = (t : PartShardState) × Carries seen holding new t × StepsThen old.conf (reading_of seen old.log new.log false) Rises old.states.journal.live.end s now visit answer t
+  Leads answer s = (t : PartShardState) × Carries seen holding new t × StepsThen old.conf (reading_of seen old.log new.log false) Rises old.states.journal.end s now visit answer t
 
   abbrev Starves : Type 0
-  Starves = StarvesUnarmed seen old.states.journal.live.disk new.states.journal.live.disk
+  Starves = StarveUnarmed seen old.states new.states
 
   abbrev key : KeyParts
   key = key_of old.conf visit.group
 
-  -- what is written
-  record Writes : Type 0 where
-    later : EndsLater seen old.states new.states
-    unwritten : (s : PartShardState) → Carries seen holding old s → HasNothingToWrite old.conf s visit visit.then → new.states ≡ old.states
+  -- where there is nothing to write, nothing is
+  abbrev Writes : Type 0
+  Writes = (s : PartShardState) → Carries seen holding old s → HasNothingToWrite old.conf s visit visit.then → new.states ≡ old.states
 
   writes_none : new.states ≡ old.states → Writes
-  writes_none same = record { later = later_same seen old.states new.states same; unwritten = λ s c nothing. same }
+  writes_none same = λ s c nothing. same
 
   abbrev Quiet : Type 0
-  Quiet = IsQuiet seen old.states.journal.live.disk new.states.journal.live.disk
+  Quiet = AreQuiet seen old.states new.states
 
-  quiet_same : new.states ≡ old.states → Quiet
-  quiet_same same = λ told. ap (λ (s : StoreParts D). (seen s.journal.live.disk).faults) same
+  quiet_still : new.states ≡ old.states → Quiet
+  quiet_still same = quiet_same seen old.states new.states same
 
   abbrev Records : VisitAnswer → Type 0
   Records answer = WritesUnless false seen old.conf old.log.batches visit (held_in holding old.windows visit.group) old.states new.states answer.then visit.then
@@ -207,11 +204,9 @@ module _ {D W : Type 0} (seen : D → DiskView) (holding : W → Held) (now : �
     records = records;
     quiet = λ none. quiet (none refl);
     sound = λ is wrote. sound is;
-    unwritten = writes.unwritten;
-    ends = λ s c. writes.later c.pending c.holds;
+    unwritten = writes;
     log = log;
     others = others;
-    idle = idle;
     conf = conf;
   }
 
@@ -227,10 +222,8 @@ module _ {D W : Type 0} (seen : D → DiskView) (holding : W → Held) (now : �
     quiet = tt;
     sound = tt;
     unwritten = λ s c nothing. states;
-    ends = λ s c. later_same seen old.states new.states states c.pending c.holds;
     log = log;
     others = λ away. absurd (away (subst IsFetch (sym fetch) tt));
-    idle = idle;
     conf = conf;
   }
 
@@ -244,7 +237,7 @@ module _ {D W : Type 0} (seen : D → DiskView) (holding : W → Held) (now : �
       → new.states ≡ old.states → new.windows ≡ old.windows → new.clock ≡ max old.clock now → Once (Ok answer)
   idly answer ack empty what still_log states windows clock = answered answer (writes_none states)
       (subst (WritesThen seen old.conf old.log.batches visit (held_in holding old.windows visit.group) old.states new.states answer.then) (sym what) states)
-      (λ none. quiet_same states)
+      (λ none. quiet_still states)
       (carried seen holding old (Leads answer) (λ batch pending k.
       let t : PartShardState = record {
         log = record { batches = old.log.batches; pending = batch };
@@ -254,24 +247,24 @@ module _ {D W : Type 0} (seen : D → DiskView) (holding : W → Held) (now : �
         clock = new.clock;
       } in (
         t,
-        carries_with seen holding old new batch pending pending (held_in holding old.windows) k conf carries_read (ap (λ (s : StoreParts D). s.entries) states)
+        carries_with seen holding old new batch pending pending (held_in holding old.windows) k conf carries_read (ap (λ (s : StoreParts D). states_of s.entries) states)
             (subst (λ (s : StoreParts D). Holds seen s pending) (sym states) k.holds) k.pending_hosted
             (λ group. ap (λ (w : List (List ℕ × W)). held_in holding w group) (sym windows)),
         record { clock = clock; log = refl; ack = ack; does = by_kind (shard_of seen holding old batch pending) t (record { states = refl; pending = refl; held = refl }) },
       )))
       (λ is. absurd (let never : Done ≡ store_outcome Device = sym empty.outcome_is ∙ is in let clash : ⊥ = cc in clash)) (λ away. still_log)
     where
-      by_kind : (s t : PartShardState) → IsStill s t → Does old.conf told_there Rises old.states.journal.live.end s visit answer t visit.then
-      by_kind s t still = subst (Does old.conf told_there Rises old.states.journal.live.end s visit answer t) (sym what) (empty, still)
+      by_kind : (s t : PartShardState) → IsStill s t → Does old.conf told_there Rises old.states.journal.end s visit answer t visit.then
+      by_kind s t still = subst (Does old.conf told_there Rises old.states.journal.end s visit answer t) (sym what) (empty, still)
 
   module _ (limits : Limits) (is_fetch : visit.then ≡ Fetch limits.records limits.bytes limits.first) where
     others_fetch : (IsFetch visit.then → ⊥) → new.log ≡ old.log
     others_fetch away = absurd (away (subst IsFetch (sym is_fetch) tt))
 
     does_fetch : (s t : PartShardState) (answer : VisitAnswer) (o : Option ShareState) → share_state_at s.states key ≡ o
-        → Fetches old.conf told_there Rises old.states.journal.live.end s visit limits answer t o → Does old.conf told_there Rises old.states.journal.live.end s visit answer t visit.then
-    does_fetch s t answer o is f = subst (Does old.conf told_there Rises old.states.journal.live.end s visit answer t) (sym is_fetch)
-        (subst (Fetches old.conf told_there Rises old.states.journal.live.end s visit limits answer t) (sym is) f)
+        → Fetches old.conf told_there Rises old.states.journal.end s visit limits answer t o → Does old.conf told_there Rises old.states.journal.end s visit answer t visit.then
+    does_fetch s t answer o is f = subst (Does old.conf told_there Rises old.states.journal.end s visit answer t) (sym is_fetch)
+        (subst (Fetches old.conf told_there Rises old.states.journal.end s visit limits answer t) (sym is) f)
 
     -- ---- records are acquired
 
@@ -321,10 +314,10 @@ module _ {D W : Type 0} (seen : D → DiskView) (holding : W → Held) (now : �
     -- the table was there
     pub acquired_there : (answer : VisitAnswer) (kept : Kept) → kept_at old.states.entries key ≡ Some kept → new.states ≡ old.states → Kept_by Done
         → Took answer kept.view → Once (Ok answer)
-    acquired_there answer kept is states by took = answered answer (writes_none states) (records_of answer Done took.outcome_is by) (λ none. quiet_same states)
+    acquired_there answer kept is states by took = answered answer (writes_none states) (records_of answer Done took.outcome_is by) (λ none. quiet_still states)
         (carried seen holding old (Leads answer) (λ batch pending k. (
           shard_then batch (states_of old.states.entries) (option_map states_of pending) kept.view,
-          carries_with seen holding old new batch pending pending (held_then kept.view) k conf carries_read (ap (λ (s : StoreParts D). s.entries) states)
+          carries_with seen holding old new batch pending pending (held_then kept.view) k conf carries_read (ap (λ (s : StoreParts D). states_of s.entries) states)
               (subst (λ (s : StoreParts D). Holds seen s pending) (sym states) k.holds) k.pending_hosted (λ group. sym (took.held group)),
           record {
             clock = took.clock;
@@ -356,14 +349,11 @@ module _ {D W : Type 0} (seen : D → DiskView) (holding : W → Held) (now : �
 
     -- the group has no table, and so there is one to write
     writes_one : kept_at old.states.entries key ≡ None → (done : Result (Unit {0}) CoordFault) → Wrote done → Writes
-    writes_one none done once = record {
-      later = later_once seen (HasFailed seen) Written old.states new.states done once;
-      unwritten = λ s c nothing.
-          let there : IsSome (share_state_at s.states key) = subst (HasNothingToWrite old.conf s visit) is_fetch nothing in
-          let gone : share_state_at s.states key ≡ None = ap (λ (states : ShareStates). share_state_at states key) c.states ∙ none_there none in
-          let never : IsSome {T = ShareState} None = subst (λ (o : Option ShareState). IsSome o) gone there in
-          absurd (let clash : ⊥ = cc in clash);
-    }
+    writes_one none done once = λ s c nothing.
+        let there : IsSome (share_state_at s.states key) = subst (HasNothingToWrite old.conf s visit) is_fetch nothing in
+        let gone : share_state_at s.states key ≡ None = ap (λ (states : ShareStates). share_state_at states key) c.states ∙ none_there none in
+        let never : IsSome {T = ShareState} None = subst (λ (o : Option ShareState). IsSome o) gone there in
+        absurd (let clash : ⊥ = cc in clash)
 
     -- the table was made
     pub acquired_first : (answer : VisitAnswer) (done : Unit {0}) → kept_at old.states.entries key ≡ None → Wrote (Ok done) → Kept_by Done → Took answer made
@@ -387,7 +377,7 @@ module _ {D W : Type 0} (seen : D → DiskView) (holding : W → Held) (now : �
             log = refl;
             ack = took.ack;
             does = does_fetch (shard_of seen holding old batch pending) _ answer None (none_there none)
-                (subst (MakesTable old.conf told_there Rises old.states.journal.live.end (shard_of seen holding old batch pending) visit limits answer (shard_then batch (states_of new.states.entries) None made)) (sym took.outcome_is)
+                (subst (MakesTable old.conf told_there Rises old.states.journal.end (shard_of seen holding old batch pending) visit limits answer (shard_then batch (states_of new.states.entries) None made)) (sym took.outcome_is)
                 (record { acquires = acquires batch pending _ _ answer made took; states = made_states new.states.entries once.written; nothing = refl }));
           },
         ))) (not_fault answer made took) others_fetch
@@ -413,9 +403,9 @@ module _ {D W : Type 0} (seen : D → DiskView) (holding : W → Held) (now : �
     }
 
     unmade : (answer : VisitAnswer) (fault : StoreFault) (batch : Option Batch) (was pending : Option Entries) → Keeping seen holding old batch was → Refused answer fault
-        → new.states.entries ≡ old.states.entries → Holds seen new.states pending → IsPendingHosted old.conf old.log.batches (option_map states_of pending)
+        → states_of new.states.entries ≡ states_of old.states.entries → Holds seen new.states pending → IsPendingHosted old.conf old.log.batches (option_map states_of pending)
         → kept_at old.states.entries key ≡ None
-        → MakesTable old.conf told_there Rises old.states.journal.live.end (shard_of seen holding old batch was) visit limits answer (shard_same batch pending) (store_outcome fault)
+        → MakesTable old.conf told_there Rises old.states.journal.end (shard_of seen holding old batch was) visit limits answer (shard_same batch pending) (store_outcome fault)
         → Leads answer (shard_of seen holding old batch was)
     unmade answer fault batch was pending k refused entries holds hosted none makes = (
       shard_same batch pending,
@@ -425,23 +415,24 @@ module _ {D W : Type 0} (seen : D → DiskView) (holding : W → Held) (now : �
         log = refl;
         ack = refused.ack;
         does = does_fetch (shard_of seen holding old batch was) _ answer None (none_there none)
-            (subst (MakesTable old.conf told_there Rises old.states.journal.live.end (shard_of seen holding old batch was) visit limits answer (shard_same batch pending)) (sym refused.empty.outcome_is) makes);
+            (subst (MakesTable old.conf told_there Rises old.states.journal.end (shard_of seen holding old batch was) visit limits answer (shard_same batch pending)) (sym refused.empty.outcome_is) makes);
       },
     )
 
     pub unstored : (answer : VisitAnswer) (fault : StoreFault) → kept_at old.states.entries key ≡ None → Wrote (Err (Store fault)) → Kept_by (store_outcome fault)
         → Refused answer fault → Once (Ok answer)
     unstored answer Device none once by refused =
-        let failed = once.device refl in
+        let failed = (once.device refl).0 in
+        let rose : Rises = rose_either seen old.states new.states runs failed in
         answered answer (writes_one none (Err (Store Device)) once) (records_of answer (store_outcome Device) refused.empty.outcome_is by) (λ told. absurd (told Device refused.empty.outcome_is))
         (carried seen holding old (Leads answer) (λ batch pending k.
         ⊎_elim
         (λ holds. unmade answer Device batch pending pending k refused once.same holds k.pending_hosted none
-        (failed.0.0, refused.empty, record { states = refl; pending = inl refl; held = refl }))
+        (rose, refused.empty, record { states = refl; pending = inl refl; held = refl }))
         (λ lost. unmade answer Device batch pending (Some lost.0) k refused once.same lost.2 (made_hosted lost.0 lost.1 k.hosted) none
-        (failed.0.0, refused.empty, record { states = refl; pending = inr (states_of lost.0, refl, made_states lost.0 lost.1); held = refl }))
+        (rose, refused.empty, record { states = refl; pending = inr (states_of lost.0, refl, made_states lost.0 lost.1); held = refl }))
         (once.failed pending k.holds)))
-        (λ is. failed.0.1) others_fetch
+        (λ is. starve_either seen old.states new.states failed) others_fetch
     unstored answer (Full at) none once by refused =
         let full = once.full at refl in
         answered answer (writes_one none (Err (Store (Full at))) once) (records_of answer (store_outcome (Full at)) refused.empty.outcome_is by) (λ told. absurd (told (Full at) refused.empty.outcome_is))
@@ -487,7 +478,7 @@ module _ {D W : Type 0} (seen : D → DiskView) (holding : W → Held) (now : �
     hosted_by : (result : Result ThenOutcome want) (done : Result (Unit {0}) CoordFault) → Wrote done → AreHosted old.conf old.log.batches (states_of old.states.entries)
         → AreHosted old.conf old.log.batches (states_of new.states.entries)
     hosted_by result (Ok u) once h = made_hosted new.states.entries once.written h
-    hosted_by result (Err e) once h = subst (λ (es : Entries). AreHosted old.conf old.log.batches (states_of es)) (sym once.same) h
+    hosted_by result (Err e) once h = subst (AreHosted old.conf old.log.batches) (sym once.same) h
 
     hosted_told : (result : Result ThenOutcome want) (o : Option Kept) → Told o result → AreHosted old.conf old.log.batches (states_of old.states.entries)
         → AreHosted old.conf old.log.batches (states_of new.states.entries)
@@ -627,7 +618,7 @@ module _ {D W : Type 0} (seen : D → DiskView) (holding : W → Held) (now : �
 
     moved_by : (done : Result (Unit {0}) CoordFault) → Wrote done → kept_at old.states.entries key ≡ None → Moved
     moved_by (Ok u) once none = inr (none_there none, made_states new.states.entries once.written)
-    moved_by (Err e) once none = inl (ap states_of once.same)
+    moved_by (Err e) once none = inl once.same
 
     moved_told : (result : Result ThenOutcome want) (o : Option Kept) → kept_at old.states.entries key ≡ o → Told o result → Moved
     moved_told result None is told = moved_by told.done told.once is
@@ -693,7 +684,7 @@ unread_so {D} {W} seen holding now visit old new conf log states asked answer ac
   steps = carried seen holding old Leads (λ batch pending k. (
     shard_same batch pending,
     carries_with seen holding old new batch pending pending (held_in holding old.windows) k conf (carries_on seen old.log new.log log.reads)
-        (ap (λ (s : StoreParts D). s.entries) states) (subst (λ (s : StoreParts D). Holds seen s pending) (sym states) k.holds) k.pending_hosted
+        (ap (λ (s : StoreParts D). states_of s.entries) states) (subst (λ (s : StoreParts D). Holds seen s pending) (sym states) k.holds) k.pending_hosted
         (λ group. sym (held group)),
     record {
       clock = clock;
@@ -705,20 +696,18 @@ unread_so {D} {W} seen holding now visit old new conf log states asked answer ac
   follows = tt;
   memory = tt;
   records = states;
-  quiet = λ none told. ap (λ (s : StoreParts D). (seen s.journal.live.disk).faults) states;
+  quiet = λ none. quiet_same seen old.states new.states states;
   sound = λ is wrote. absurd (let clash : ⊥ = cc in clash);
   unwritten = λ s c nothing. states;
-  ends = λ s c. later_same seen old.states new.states states c.pending c.holds;
   log = log;
   others = λ away. absurd (away asked);
-  idle = ap (λ (s : StoreParts D). s.journal.idle) states;
   conf = conf;
 }
   where
     Leads : PartShardState → Type 0
     Leads s = (t : PartShardState) × Carries seen holding new t
-        × StepsThen old.conf (reading_of seen old.log new.log true)
-        (Rose (seen old.states.journal.live.disk).faults (seen new.states.journal.live.disk).faults) old.states.journal.live.end s now visit answer t
+        × StepsThen old.conf (reading_of seen old.log new.log true) (FailuresRose seen old.states new.states) old.states.journal.end s now visit
+        answer t
 
     shard_same : Option Batch → Option Entries → PartShardState
     shard_same batch pending = record {

@@ -67,7 +67,7 @@ abbrev pub NameOne : Acts → Type 0
 NameOne acts = (offset : ℕ) × IsSome (acts offset)
 
 -- Acts on a group's table that are stored by one write, by the fault that it met, if it met one; where they name no offset there is no write.
--- `rose` says that the count of faults of the first state disk rose, `end` is where its journal ends.
+-- `rose` says that more calls of the two state disks have failed, `end` is where the live journal of the states ends.
 abbrev pub StoresActs : PartConfParts → (rose : Type 0) → (end : ℕ) → PartShardState → (group : List ℕ) → Acts → PartShardState
     → Option StoreFault → Type 0
 StoresActs conf rose end old group acts new None = (NameNone acts × IsStill old new) ⊎ (NameOne acts × IsActedOn conf old group acts new)

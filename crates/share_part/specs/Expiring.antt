@@ -36,12 +36,11 @@ groups_of states = map (λ entry. entry.0.group) states
 abbrev pub more_freed : ℕ → ℕ → ℕ
 more_freed freed count = min (freed + count) (2 ^ 64 - 1)
 
--- What has ended is released of one group, by the fault that its write met, if it met one. `count` and `later` are the faults of the first
--- state disk before it and behind it, `end` and `last` are where the journal ends before it and behind it.
-pub record StepsGroup (conf : PartConfParts) (count later end last : ℕ) (old : PartShardState) (group : List ℕ) (fault : Option StoreFault)
+-- What has ended is released of one group, by the fault that its write met, if it met one. `count` and `later` are how many calls of the
+-- two state disks have failed before it and behind it, `end` is where the live journal of the states ends before it.
+pub record StepsGroup (conf : PartConfParts) (count later end : ℕ) (old : PartShardState) (group : List ℕ) (fault : Option StoreFault)
     (new : PartShardState) : Type 0 where
   pub counts : count ≤ later
-  pub ends : end ≤ last
   pub log : new.log ≡ old.log
   pub clock : new.clock ≡ old.clock
   pub stores : StoresActs conf (Rose count later) end old group (ending old.clock (old.held group)) new fault
@@ -50,15 +49,15 @@ pub record StepsGroup (conf : PartConfParts) (count later end last : ℕ) (old :
 -- is the last.
 abbrev pub StepsGroups : PartConfParts → (count later end last : ℕ) → List (List ℕ) → (freed : ℕ) → PartShardState → ExpireAnswer → PartShardState
     → Type 0
-StepsGroups conf count later end last [] freed old answer new = (answer ≡ Done freed) × (new ≡ old) × (count ≤ later) × (end ≤ last)
+StepsGroups conf count later end last [] freed old answer new = (answer ≡ Done freed) × (new ≡ old) × (count ≤ later) × (last ≡ end)
 StepsGroups conf count later end last (group ∷ groups) freed old answer new =
-    ((between : PartShardState) × (counted : ℕ) × (at : ℕ) × StepsGroup conf count counted end at old group None between
+    ((between : PartShardState) × (counted : ℕ) × (at : ℕ) × StepsGroup conf count counted end old group None between
     × (NameNone (ending old.clock (old.held group)) → at ≡ end)
     × StepsGroups conf counted later at last groups (more_freed freed (due_count old.clock (old.held group))) between answer new)
-    ⊎ ((fault : StoreFault) × (answer ≡ Store freed group fault) × StepsGroup conf count later end last old group (Some fault) new)
+    ⊎ ((fault : StoreFault) × (answer ≡ Store freed group fault) × StepsGroup conf count later end old group (Some fault) new)
 
--- An expiry at the moment `now`. `count` and `later` are the faults of the first state disk before it and behind it, `end` and `last` are where its
--- journal ends before it and behind it.
+-- An expiry at the moment `now`. `count` and `later` are how many calls of the two state disks have failed before it and behind it, `end`
+-- and `last` are where the live journal of the states ends before it and behind it. A checkpoint of the states may move that end back.
 pub record StepsExpire (conf : PartConfParts) (count later end last : ℕ) (old : PartShardState) (now : ℕ) (answer : ExpireAnswer)
     (new : PartShardState) : Type 0 where
   pub clock : new.clock ≡ max old.clock now

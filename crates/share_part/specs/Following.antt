@@ -143,8 +143,8 @@ TakesMemory member held Nothing = ⊥
 TakesMemory member held Release = NameOne (releases_of member held)
 TakesMemory member held (Fetch records bytes first) = Unit {0}
 
--- What follows the acknowledgements, at the moment `now`. `rose` says that the count of faults of the first state disk rose, `end` is where
--- its journal ends.
+-- What follows the acknowledgements, at the moment `now`. `rose` says that more calls of the two state disks have failed, `end` is
+-- where the live journal of the states ends.
 pub record StepsThen (conf : PartConfParts) (reading : Reading) (rose : Type 0) (end : ℕ) (old : PartShardState) (now : ℕ)
     (visit : Visit) (answer : VisitAnswer) (new : PartShardState) : Type 0 where
   pub clock : new.clock ≡ max old.clock now

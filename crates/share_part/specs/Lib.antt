@@ -7,6 +7,7 @@ pub mod Budgets
 pub mod Collecting
 pub mod Hosting
 pub mod Shards
+pub mod Failures
 pub mod Acknowledging
 pub mod Following
 pub mod Visits

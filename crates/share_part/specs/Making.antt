@@ -11,7 +11,7 @@ use Rattle.share_model.specs.declared.visit.ThenOutcome.TheVariants.{Done, Store
 use Rattle.share_coord.specs.Calls.{IsInitialised}
 use Rattle.share_coord.specs.Holding.{WritesOnce}
 use Rattle.share_coord.specs.Parts.{StoreParts}
-use Rattle.share_coord.specs.Recorded.{StoresOne, init_record}
+use Rattle.share_coord.specs.Recorded.{IsInitRecord, StoresOne}
 use Rattle.share_coord.specs.Stored.{Entries, kept_at}
 use Rattle.share_coord.specs.declared.fault.CoordFault.{CoordFault}
 use Rattle.share_coord.specs.declared.fault.CoordFault.TheVariants.{Invalid, Unknown, FencedLeader, FencedState, TooMany, Store, NoMemory}
@@ -38,7 +38,7 @@ Tells (Err NoMemory) result = IsErr result
 
 -- a new table is stored as a snapshot with its start and no rows
 abbrev pub IsTableRecord : Entries → KeyParts → (start : ℕ) → StateRecord → Type 0
-IsTableRecord old key start one = one ≡ init_record old key (pos 0) (pos start)
+IsTableRecord old key start one = IsInitRecord old key (pos 0) (pos start) one
 
 -- A table that is stored by one record, or isn't.
 pub record MakesOnce {D : Type 0} (seen : D → DiskView) (Failed : D → D → Type 0)

@@ -23,6 +23,7 @@ use Rattle.part_log.specs.Shards.{IsLogOf, at_end}
 use Rattle.share_coord.specs.States.{states_of}
 use Rattle.share_part.specs.Acknowledging.{NameNone}
 use Rattle.share_part.specs.Expiring.{ExpiresPart, StepsExpire, ending, groups_of}
+use Rattle.share_part.specs.Failures.{AreQuiet, FailuresRose, StarveUnarmed, failures_of}
 use Rattle.share_part.specs.Following.{HasNothingToWrite, IsFetch, Reading, StepsThen, TakesMemory}
 use Rattle.share_part.specs.Shards.{PartShardState, PartParts, Carries, IsUntouched, StepsProduce, held_in}
 use Rattle.share_part.specs.Visits.{AreToWrite, StepsVisit, VisitsPart}
@@ -47,18 +48,13 @@ reading_of seen before after unread = record {
 
 -- ---- visits
 
--- no call of the first state disk failed: where it tells its content, its count of faults is as before
-abbrev pub AreQuiet : {D W : Type 0} → (D → DiskView) → PartParts D W → PartParts D W → Type 0
-AreQuiet seen before after = IsQuiet seen before.states.journal.live.disk after.states.journal.live.disk
-
 -- a shard that carried a state carries one that what follows the acknowledgements leads to
 abbrev pub Followed : {D W : Type 0} → (D → DiskView) → (W → Held) → ℕ → Visit → PartParts D W → PartParts D W
     → (unread : Bool) → VisitAnswer → Type 0
 Followed seen holding now visit before after unread answer = (old : PartShardState) → Carries seen holding before old
     → (new : PartShardState) × Carries seen holding after new
-    × StepsThen before.conf (reading_of seen before.log after.log unread)
-    (Rose (seen before.states.journal.live.disk).faults (seen after.states.journal.live.disk).faults) before.states.journal.live.end
-    old now visit answer new
+    × StepsThen before.conf (reading_of seen before.log after.log unread) (FailuresRose seen before.states after.states)
+    before.states.journal.end old now visit answer new
 
 -- What follows the acknowledgements.
 pub record FollowsOnce {D W : Type 0} (seen : D → DiskView) (holding : W → Held) (now : ℕ) (visit : Visit) (before after : PartParts D W) (result : Result VisitAnswer NoMemory)
@@ -72,21 +68,17 @@ pub record FollowsOnce {D W : Type 0} (seen : D → DiskView) (holding : W → H
   -- which record is stored
   pub records : IfOk result (λ answer. WritesUnless unread seen before.conf before.log.batches visit
       (held_in holding before.windows visit.group) before.states after.states answer.then visit.then)
-  -- where the answer tells no store fault, or the fault of a reading, no device call of the states failed
+  -- where the answer tells no store fault, or the fault of a reading, no device call of the states failed but those of a checkpoint
   pub quiet : IfOk result (λ answer. (unread ≡ false → (fault : StoreFault) → answer.then ≢ Store fault) →
-      AreQuiet seen before after)
-  -- with nothing armed, a device fault of a write comes only where the disk finds no memory
-  pub sound : IfOk result (λ answer. answer.then ≡ Store Device → unread ≡ false →
-      StarvesUnarmed seen before.states.journal.live.disk after.states.journal.live.disk)
+      AreQuiet seen before.states after.states)
+  -- with nothing armed, a device fault of a write comes only where a disk finds no memory
+  pub sound : IfOk result (λ answer. answer.then ≡ Store Device → unread ≡ false → StarveUnarmed seen before.states after.states)
   -- where there is nothing to write, the states and their disks stay
   pub unwritten : (old : PartShardState) → Carries seen holding before old → HasNothingToWrite before.conf old visit visit.then →
       after.states ≡ before.states
-  -- the journal of the states never ends before where it did
-  pub ends : (old : PartShardState) → Carries seen holding before old → before.states.journal.live.end ≤ after.states.journal.live.end
-  -- the log is read alone, and but for a fetch it stays; the second state disk stays
+  -- the log is read alone, and but for a fetch it stays
   pub log : ReadsBatches seen (unread ≡ true) before.log after.log
   pub others : (IsFetch visit.then → ⊥) → after.log ≡ before.log
-  pub idle : after.states.journal.idle ≡ before.states.journal.idle
   pub conf : after.conf ≡ before.conf
 
 -- a shard that carried a state carries one that a visit leads to
@@ -94,15 +86,13 @@ abbrev pub Visited : {D W : Type 0} → (D → DiskView) → (W → Held) → �
     → (unread : Bool) → VisitAnswer → Type 0
 Visited seen holding now visit before after unread answer = (old : PartShardState) → Carries seen holding before old
     → (new : PartShardState) × Carries seen holding after new
-    × StepsVisit before.conf (reading_of seen before.log after.log unread)
-    (seen before.states.journal.live.disk).faults (seen after.states.journal.live.disk).faults before.states.journal.live.end
-    after.states.journal.live.end old now visit answer new
+    × StepsVisit before.conf (reading_of seen before.log after.log unread) (failures_of seen before.states) (failures_of seen after.states)
+    before.states.journal.end after.states.journal.end old now visit answer new
 
 -- the acknowledgements were done alone
 abbrev pub AcksStand : {D W : Type 0} → (D → DiskView) → (W → Held) → ℕ → Visit → PartParts D W → PartParts D W → PartShardState → Type 0
 AcksStand seen holding now visit before after old = (new : PartShardState) × Carries seen holding after new
-    × VisitsPart before.conf (Rose (seen before.states.journal.live.disk).faults (seen after.states.journal.live.disk).faults)
-    before.states.journal.live.end old now visit new
+    × VisitsPart before.conf (FailuresRose seen before.states after.states) before.states.journal.end old now visit new
 
 -- A visit.
 pub record VisitsOnce {D W : Type 0} (seen : D → DiskView) (holding : W → Held) (now : ℕ) (visit : Visit) (before after : PartParts D W) (result : Result VisitAnswer NoMemory)
@@ -114,43 +104,35 @@ pub record VisitsOnce {D W : Type 0} (seen : D → DiskView) (holding : W → He
   -- where it finds no memory, nothing has changed, or what the acknowledgements left stands, where their write came to the device
   pub memory : OnErr result (IsUntouched seen holding before after
       ⊎ ((old : PartShardState) → Carries seen holding before old → AcksStand seen holding now visit before after old))
-  -- which records are stored
+  -- which records are stored; where the answer tells no store fault of a write, no device call of it failed but those of a checkpoint
   pub records : MatchResult result
       (WritesVisit unread seen before.conf before.log.batches visit (held_in holding before.windows visit.group)
       before.states after.states)
       (λ e. WritesPart seen before.conf before.log.batches visit (held_in holding before.windows visit.group)
       before.states after.states)
-  -- where the answer tells no store fault, or the fault of a reading, no device call of the states failed
-  pub quiet : IfOk result (λ answer. ((fault : StoreFault) → answer.ack ≢ ack_store fault) →
-      (unread ≡ false → (fault : StoreFault) → answer.then ≢ Store fault) → AreQuiet seen before after)
-  pub ack_sound : IfOk result (λ answer. answer.ack ≡ ack_store Device →
-      StarvesUnarmed seen before.states.journal.live.disk after.states.journal.live.disk)
-  -- with nothing armed, a device fault of a write comes only where the disk finds no memory
-  pub sound : IfOk result (λ answer. answer.then ≡ Store Device → unread ≡ false →
-      StarvesUnarmed seen before.states.journal.live.disk after.states.journal.live.disk)
+  -- with nothing armed, a device fault of a write comes only where a disk finds no memory
+  pub ack_sound : IfOk result (λ answer. answer.ack ≡ ack_store Device → StarveUnarmed seen before.states after.states)
+  pub sound : IfOk result (λ answer. answer.then ≡ Store Device → unread ≡ false → StarveUnarmed seen before.states after.states)
   -- where there is nothing to write, of acknowledgements or behind them, the states and their disks stay
   pub unwritten : (old : PartShardState) → Carries seen holding before old → (AreToWrite old visit → ⊥) →
       HasNothingToWrite before.conf old visit visit.then → after.states ≡ before.states
-  -- the journal of the states never ends before where it did
-  pub ends : (old : PartShardState) → Carries seen holding before old → before.states.journal.live.end ≤ after.states.journal.live.end
-  -- the log is read alone, and but for a fetch it stays; the second state disk stays
+  -- the log is read alone, and but for a fetch it stays
   pub log : ReadsBatches seen (unread ≡ true) before.log after.log
   pub others : (IsFetch visit.then → ⊥) → after.log ≡ before.log
-  pub idle : after.states.journal.idle ≡ before.states.journal.idle
   pub conf : after.conf ≡ before.conf
 
 -- a shard that carried a state carries one that an expiry leads to
 abbrev pub Expired : {D W : Type 0} → (D → DiskView) → (W → Held) → ℕ → PartParts D W → PartParts D W → ExpireAnswer → Type 0
 Expired seen holding now before after answer = (old : PartShardState) → Carries seen holding before old → (new : PartShardState)
     × Carries seen holding after new
-    × StepsExpire before.conf (seen before.states.journal.live.disk).faults (seen after.states.journal.live.disk).faults before.states.journal.live.end
-    after.states.journal.live.end old now answer new
+    × StepsExpire before.conf (failures_of seen before.states) (failures_of seen after.states) before.states.journal.end
+    after.states.journal.end old now answer new
 
 -- some groups were done alone
 abbrev pub PartStands : {D W : Type 0} → (D → DiskView) → (W → Held) → ℕ → PartParts D W → PartParts D W → PartShardState → Type 0
 PartStands seen holding now before after old = (new : PartShardState) × Carries seen holding after new
-    × ExpiresPart before.conf (seen before.states.journal.live.disk).faults (seen after.states.journal.live.disk).faults before.states.journal.live.end
-    after.states.journal.live.end old now new
+    × ExpiresPart before.conf (failures_of seen before.states) (failures_of seen after.states) before.states.journal.end
+    after.states.journal.end old now new
 
 -- nothing that any group holds has ended by a moment
 abbrev pub IsNothingDue : {W : Type 0} → (W → Held) → List (List ℕ × W) → (clock : ℕ) → Type 0
@@ -163,7 +145,7 @@ pub record ExpiresOnce {D W : Type 0} (seen : D → DiskView) (holding : W → H
   -- where it finds no memory, nothing has changed, or what the groups left stands that were done
   pub memory : OnErr result ((after ≡ before)
       ⊎ ((old : PartShardState) → Carries seen holding before old → PartStands seen holding now before after old))
-  -- which records are stored
+  -- which records are stored; in each write that was done no device call failed but those of a checkpoint
   pub records : (old : PartShardState) → Carries seen holding before old →
       WritesExpiry seen before.conf before.log.batches (max before.clock now)
       (held_in holding before.windows) (groups_of (states_of before.states.entries)) before.states after.states result
@@ -171,17 +153,11 @@ pub record ExpiresOnce {D W : Type 0} (seen : D → DiskView) (holding : W → H
   pub nothing_due : IsNothingDue holding before.windows (max before.clock now) →
       (result ≡ Ok (Done 0))
       × (after ≡ record { conf = before.conf; log = before.log; states = before.states; windows = before.windows; clock = max before.clock now })
-  -- where the answer tells no store fault, no device call failed
-  pub quiet : IfOk result (λ answer. ((freed : ℕ) (group : List ℕ) (fault : StoreFault) → answer ≢ expire_store freed group fault) →
-      AreQuiet seen before after)
-  -- with nothing armed, a device fault comes only where the disk finds no memory
+  -- with nothing armed, a device fault comes only where a disk finds no memory
   pub sound : IfOk result (λ answer. (freed : ℕ) (group : List ℕ) → answer ≡ expire_store freed group Device →
-      StarvesUnarmed seen before.states.journal.live.disk after.states.journal.live.disk)
-  -- the journal of the states never ends before where it did
-  pub ends : (old : PartShardState) → Carries seen holding before old → before.states.journal.live.end ≤ after.states.journal.live.end
-  -- the log, its disk and the second state disk stay
+      StarveUnarmed seen before.states after.states)
+  -- the log and its disk stay
   pub log : after.log ≡ before.log
-  pub idle : after.states.journal.idle ≡ before.states.journal.idle
   pub conf : after.conf ≡ before.conf
 
 abbrev pub Produced : {D W : Type 0} → (D → DiskView) → (W → Held) → ℕ → List ℕ → PartParts D W → PartParts D W

@@ -2,10 +2,7 @@
 -- For example where `a` holds 0 to 2 and `b` holds 3, the releases of `a` are three, and where their write fails none of them is done.
 use Rattle.std.specs.Prelude.{◌≡◌, ◌≢◌, ◌≤◌, ◌<◌, ℕ, List, Bool, true, false, Option, Some, None, Result, Ok, Err, IfOk, OnErr, not, nat_eq, map, filter}
 use Rattle.std.specs.List.{count_by}
-use Rattle.edge_io.specs.Armed.{StarvesUnarmed}
-use Rattle.edge_io.specs.Causes.{Rose}
 use Rattle.flex_fields.specs.declared.fault.NoMemory.{NoMemory}
-use Rattle.gate_journal.specs.Journals.{IsQuiet}
 use Rattle.share_model.specs.Held.{Held, hold_at}
 use Rattle.share_model.specs.Logs.{Batch}
 use Rattle.share_model.specs.ShareStates.{ShareState}
@@ -14,6 +11,7 @@ use Rattle.share_model.specs.declared.fault.StoreFault.TheVariants.{Device}
 use Rattle.share_model.specs.declared.hold.Hold.{Hold}
 use Rattle.share_part.specs.Acknowledging.{NameNone, NameOne, StoresActs}
 use Rattle.share_part.specs.Expiring.{due_count}
+use Rattle.share_part.specs.Failures.{AreQuiet, FailuresRose, StarveUnarmed}
 use Rattle.share_part.specs.Hosting.{PartConfParts}
 use Rattle.share_part.specs.Settling.{Acts, IsChange, is_chosen, releasing}
 use Rattle.share_part.specs.Shards.{Carries, PartParts, PartShardState, held_in}
@@ -74,8 +72,8 @@ told_in (Err e) = Err e
 
 -- ---- on a shard
 
--- The releases of a group, where the clock is raised to `clock`. `rose` says that the count of faults of the first state disk rose, `end` is
--- where its journal ends.
+-- The releases of a group, where the clock is raised to `clock`. `rose` says that more calls of the two state disks have failed, `end` is
+-- where the live journal of the states ends.
 pub record StepsRelease (conf : PartConfParts) (rose : Type 0) (end : ℕ) (old : PartShardState) (clock : ℕ) (group : List ℕ) (whose : Whose)
     (released : Released) (new : PartShardState) : Type 0 where
   pub log : new.log ≡ old.log
@@ -87,8 +85,7 @@ abbrev pub ReleasedSo : {D W : Type 0} → (D → DiskView) → (W → Held) →
     → Released → Type 0
 ReleasedSo seen holding clock group whose before after released = (old : PartShardState) → Carries seen holding before old →
     (new : PartShardState) × Carries seen holding after new
-    × StepsRelease before.conf (Rose (seen before.states.journal.live.disk).faults (seen after.states.journal.live.disk).faults) before.states.journal.live.end
-    old clock group whose released new
+    × StepsRelease before.conf (FailuresRose seen before.states after.states) before.states.journal.end old clock group whose released new
 
 -- The releases of a group on a shard in memory.
 pub record ReleasesOnce {D W : Type 0} (seen : D → DiskView) (holding : W → Held) (clock : ℕ) (group : List ℕ) (whose : Whose) (before after : PartParts D W)
@@ -102,14 +99,10 @@ pub record ReleasesOnce {D W : Type 0} (seen : D → DiskView) (holding : W → 
   pub records : IfOk result (λ released. WritesActs seen before.conf before.log.batches group
       (releasing (is_chosen whose) (held_in holding before.windows group)) (held_in holding before.windows group)
       before.states after.states (fault_in released))
-  -- where no store fault is told, no device call failed
-  pub quiet : IfOk result (λ released. ((fault : StoreFault) → released ≢ Store fault) →
-      IsQuiet seen before.states.journal.live.disk after.states.journal.live.disk)
-  pub sound : IfOk result (λ released. released ≡ Store Device →
-      StarvesUnarmed seen before.states.journal.live.disk after.states.journal.live.disk)
-  pub ends : (old : PartShardState) → Carries seen holding before old → before.states.journal.live.end ≤ after.states.journal.live.end
+  -- where no store fault is told, no device call failed but those of a checkpoint
+  pub quiet : IfOk result (λ released. ((fault : StoreFault) → released ≢ Store fault) → AreQuiet seen before.states after.states)
+  pub sound : IfOk result (λ released. released ≡ Store Device → StarveUnarmed seen before.states after.states)
   pub log : after.log ≡ before.log
-  pub idle : after.states.journal.idle ≡ before.states.journal.idle
   pub conf : after.conf ≡ before.conf
 
 -- ---- which groups are due

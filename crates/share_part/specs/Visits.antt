@@ -35,17 +35,17 @@ AreWritten visit (Store (Full end)) = ⊥
 abbrev pub AreToWrite : PartShardState → Visit → Type 0
 AreToWrite old visit = AreTheirs old visit × NameOne (kind_at visit.acks)
 
--- A visit at the moment `now`. `reading` tells how the batches of a fetch were read, `count` and `later` are the faults
--- of the first state disk before it and behind it, `end` and `last` are where its journal ends before it and behind it.
+-- A visit at the moment `now`. `reading` tells how the batches of a fetch were read, `count` and `later` are how many calls of the two
+-- state disks have failed before it and behind it, `end` and `last` are where the live journal of the states ends before it and behind
+-- it. A checkpoint of the states may move that end back.
 pub record StepsVisit (conf : PartConfParts) (reading : Reading) (count later end last : ℕ) (old : PartShardState) (now : ℕ)
     (visit : Visit) (answer : VisitAnswer) (new : PartShardState) : Type 0 where
-  -- what the acknowledgements left, the faults by then, and where the journal ended then
+  -- what the acknowledgements left, the failed calls by then, and where the live journal ended then
   pub between : PartShardState
   pub counted : ℕ
   pub at : ℕ
   pub acks : StepsAcks conf (Rose count counted) end old visit answer.ack between
   pub counts : (count ≤ counted) × (counted ≤ later)
-  pub ends : (end ≤ at) × (at ≤ last)
   pub unwritten : (AreToWrite old visit → ⊥) → at ≡ end
   pub still : HasNothingToWrite conf between visit visit.then → last ≡ at
   pub does : Follows conf reading.told reading.rose (Rose counted later) at between visit answer new reading.failed

@@ -6,7 +6,7 @@
 -- Worked example: a log has one batch from 0 to 9, the start is 0, nothing is stored, and `a` holds 0 to 9 with count
 -- 1. An accept of 3 stores an update with start -1 and the row of 3. An accept of 0 behind it stores an update with
 -- start 1 and no rows: that of 3 isn't stored again.
-use Rattle.std.specs.Prelude.{◌≡◌, ◌⊎◌, ◌++◌, ℕ, List, [], ◌∷◌, Option, Some, None, Result, Ok, Err, Bool, true, false}
+use Rattle.std.specs.Prelude.{◌≡◌, ◌≢◌, ◌⊎◌, ◌++◌, ℕ, List, [], ◌∷◌, Option, Some, None, Result, Ok, Err, Bool, true, false}
 use Rattle.ack_ranges.specs.Batches.{kind_at}
 use Rattle.coord_checkpoint.specs.Disks.{HasFailed}
 use Rattle.edge_io.specs.Views.{DiskView}
@@ -23,10 +23,12 @@ use Rattle.share_model.specs.declared.visit.ExpireAnswer.TheVariants.{Done as ex
 use Rattle.share_model.specs.declared.visit.Then.{Then}
 use Rattle.share_model.specs.declared.visit.Then.TheVariants.{Nothing, Release, Fetch}
 use Rattle.share_model.specs.declared.visit.ThenOutcome.{ThenOutcome}
+use Rattle.share_model.specs.declared.visit.ThenOutcome.TheVariants.{Store as then_store}
 use Rattle.share_model.specs.declared.visit.Visit.{Visit}
 use Rattle.share_model.specs.declared.visit.VisitAnswer.{VisitAnswer}
 use Rattle.share_part.specs.Acknowledging.{NameNone, NameOne}
 use Rattle.share_part.specs.Expiring.{ending}
+use Rattle.share_part.specs.Failures.{AreQuiet}
 use Rattle.share_part.specs.Following.{fault_of, releases_of}
 use Rattle.share_part.specs.Hosting.{PartConfParts}
 use Rattle.share_part.specs.Making.{MakesTableOnce}
@@ -85,6 +87,9 @@ pub record WritesVisit {D : Type 0} (unread : Bool) (seen : D → DiskView) (con
   pub acks : WritesAcks seen conf log visit was old between answer.ack
   pub follows :
       WritesUnless unread seen conf log visit (held_behind visit was answer.ack) between new answer.then visit.then
+  -- where no store fault is told of one of both, no call of the state disks failed in it, but those of a checkpoint
+  pub quiet_acks : ((fault : StoreFault) → answer.ack ≢ Store fault) → AreQuiet seen old between
+  pub quiet_then : (unread ≡ false → (fault : StoreFault) → answer.then ≢ then_store fault) → AreQuiet seen between new
 
 -- a visit that finds no memory: nothing is written, or the acknowledgements are, and nothing behind them
 abbrev pub WritesPart : {D : Type 0} → (D → DiskView) → PartConfParts → (log : List Batch) → Visit → (was : Held)
@@ -94,12 +99,13 @@ WritesPart seen conf log visit was old new = (new ≡ old)
 
 -- ---- an expiry
 
--- what has ended by the clock is released of groups one after another, each by a write of its own
+-- What has ended by the clock is released of groups one after another, each by a write of its own, in which no call of the state disks
+-- failed but those of a checkpoint.
 abbrev pub WritesGroups : {D : Type 0} → (D → DiskView) → PartConfParts → (log : List Batch) → (clock : ℕ)
     → (List ℕ → Held) → List (List ℕ) → (old new : StoreParts D) → Type 0
 WritesGroups seen conf log clock held [] old new = new ≡ old
 WritesGroups {D} seen conf log clock held (group ∷ groups) old new = (between : StoreParts D)
-    × WritesActs seen conf log group (ending clock (held group)) (held group) old between None
+    × WritesActs seen conf log group (ending clock (held group)) (held group) old between None × AreQuiet seen old between
     × WritesGroups seen conf log clock held groups between new
 
 -- An expiry over these groups: all are done, or those up to one whose write fails, or some of them where it finds no

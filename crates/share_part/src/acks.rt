@@ -1,7 +1,6 @@
 // The acknowledgements of a visit.
 ghost use Rattle.std.specs.Prelude.{◌≡◌, ℕ, List, Some, None, Ok, [], IfSome, IfNone, IfOk};
 ghost use Rattle.coord_checkpoint.specs.Disks.{HasFailed};
-ghost use Rattle.edge_io.specs.Armed.{RunsOn};
 ghost use Rattle.topic_conf.specs.Configs.{IsLimit};
 ghost use Rattle.ack_ranges.specs.Batches.{IsWellFormed, kind_at};
 ghost use Rattle.part_log.specs.Logs.{IsStoredLog};
@@ -13,6 +12,7 @@ ghost use Rattle.share_part.specs.Settling.{held_after};
 ghost use Rattle.share_part.specs.Shards.{held_in, with_held};
 ghost use Rattle.share_part.specs.Foreseeing.{HasSpare, JudgesAcks};
 ghost use Rattle.share_part.specs.Storing.{AcksOnce, SettlesGroup};
+ghost use Rattle.share_part.specs.Failures.{RunOnBoth};
 
 use crate::conf::PartConf;
 use crate::ending::end_acknowledged;
@@ -155,8 +155,7 @@ pub fn settle_acks<D: Disk, W: Window>(
         result ≡ Ok (AckOutcome.Malformed fault) }
     ensures spare { (n : ℕ) → HasSpare W.spare windows.old.entries visit.now.group n →
         HasSpare W.spare windows.new.entries visit.now.group n }
-    ensures runs { RunsOn D.seen states.old.journal.live.disk states.new.journal.live.disk }
-    ensures idle { states.new.journal.idle ≡ states.old.journal.idle }
+    ensures runs { RunOnBoth D.seen states.old states.new }
     ensures range { IsLimit conf.now.limit }
 {
     let change = match acks {

@@ -9,6 +9,6 @@ use lock_index::Window;
 /// opened of them is never damaged, and has that log and those tables.
 pub fn a_crash_leaves_the_shard<D: Disk, W: Window>()
     ensures { (parts : PartParts D W) (shard : PartShardState) (log first second : List ℕ) → Carries D.seen W.held parts shard →
-        (D.seen parts.log.journal.disk).image log → (D.seen parts.states.journal.live.disk).image first → (D.seen parts.states.journal.idle).image second →
+        (D.seen parts.log.journal.disk).image log → (D.seen parts.states.journal.first.disk).image first → (D.seen parts.states.journal.second.disk).image second →
         IsLeftOf parts.conf shard log first second }
 {}

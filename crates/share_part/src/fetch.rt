@@ -5,7 +5,6 @@ ghost use Rattle.std.specs.Cmp.Lexicographic.{slice_cmp};
 ghost use Rattle.std.specs.List.{AllByRecursion};
 ghost use Rattle.std.specs.Map.{lookup};
 ghost use Rattle.std.specs.Ordering.{nat_cmp};
-ghost use Rattle.edge_io.specs.Armed.{RunsOn};
 ghost use Rattle.edge_io.specs.Disk.{IsTold};
 ghost use Rattle.coord_checkpoint.specs.Disks.{HasFailed};
 ghost use Rattle.share_model.specs.ForeignRules.{share_state_at, size_of};
@@ -24,6 +23,7 @@ ghost use Rattle.share_part.specs.Once.{ReadsBatches};
 ghost use Rattle.share_part.specs.Shards.{first_start, held_in};
 ghost use Rattle.share_part.specs.Tables.{table_of};
 ghost use Rattle.share_part.specs.Walks.{acquired};
+ghost use Rattle.share_part.specs.Failures.{RunOnBoth};
 
 use crate::conf::PartConf;
 use crate::limits::Limits;
@@ -157,8 +157,7 @@ fn store_state<D: Disk>(
     ensures absent { kept_at states.old.entries key.now ≡ None → MakesOnce D.seen
         (HasFailed D.seen) (IsInitialised states.old.entries key.now (pos 0) (pos start))
         (IsTableRecord states.old.entries key.now start) states.old states.new result }
-    ensures runs { RunsOn D.seen states.old.journal.live.disk states.new.journal.live.disk }
-    ensures idle { states.new.journal.idle ≡ states.old.journal.idle }
+    ensures runs { RunOnBoth D.seen states.old states.new }
 {
     if states.look(key).is_some() {
         return Ok(ThenOutcome::Done);
@@ -181,8 +180,7 @@ pub fn make_table<D: Disk>(
     requires { end ≤ 2 ^ 62 }
     ensures made { MakesTableOnce D.seen (HasFailed D.seen)
         conf.now group.now end states.old states.new result }
-    ensures runs { RunsOn D.seen states.old.journal.live.disk states.new.journal.live.disk }
-    ensures idle { states.new.journal.idle ≡ states.old.journal.idle }
+    ensures runs { RunOnBoth D.seen states.old states.new }
 {
     let key = conf.key(group);
     store_state(states, &key, first_start(conf.reset(), end))

@@ -5,7 +5,6 @@ ghost use Rattle.std.specs.Cmp.Lexicographic.{slice_cmp};
 ghost use Rattle.std.specs.Map.{lookup};
 ghost use Rattle.std.specs.Ordering.{nat_cmp};
 ghost use Rattle.coord_checkpoint.specs.Disks.{HasFailed};
-ghost use Rattle.edge_io.specs.Armed.{RunsOn};
 ghost use Rattle.topic_conf.specs.Configs.{IsLimit};
 ghost use Rattle.part_log.specs.Logs.{IsStoredLog};
 ghost use Rattle.share_model.specs.ForeignRules.{share_state_at};
@@ -17,6 +16,7 @@ ghost use Rattle.share_part.specs.Releasing.{AreChosen, AreLeft, Counts, IsNextC
 ghost use Rattle.share_part.specs.Settling.{AreBelow, held_after, is_chosen, releasing};
 ghost use Rattle.share_part.specs.Shards.{held_in, with_held};
 ghost use Rattle.share_part.specs.Storing.{StoresGroup};
+ghost use Rattle.share_part.specs.Failures.{RunOnBoth};
 ghost use Rattle.lock_index.specs.Windows.{IsRising};
 
 use crate::conf::PartConf;
@@ -197,8 +197,7 @@ pub fn release_held<D: Disk, W: Window>(
     ensures count { IfOk result (Counts whose.now (held_in W.held windows.old.entries group.now)) }
     ensures windows { OnErr result (windows.new.entries ≡ windows.old.entries) }
     ensures named { OnErr result (NameOne (releasing (is_chosen whose.now) (held_in W.held windows.old.entries group.now))) }
-    ensures runs { RunsOn D.seen states.old.journal.live.disk states.new.journal.live.disk }
-    ensures idle { states.new.journal.idle ≡ states.old.journal.idle }
+    ensures runs { RunOnBoth D.seen states.old states.new }
     ensures range { IsLimit conf.now.limit }
 {
     let judged = judge_release(alloc, conf, log, states, windows, group, whose)?;

@@ -106,8 +106,8 @@ fn act_on_piece<W: Window>(
 ) -> Result<Option<u64>, NoMemory>
     requires order { piece.first ≤ piece.last }
     requires below { piece.last < 2 ^ 63 }
-    ensures { IfOk result (λ missing. (acts : Acts) → AreDoneTo limit member.now acts (W.held window.now) piece.first rows.old → IsSaid piece acts →
-        Comes limit member.now acts (W.held window.now) (piece.last + 1) rows.new missing) }
+    ensures { IfOk result (λ missing. (acts : Acts) → AreDoneTo limit member.now acts (W.held window.now) piece.first rows.old.list → IsSaid piece acts →
+        Comes limit member.now acts (W.held window.now) (piece.last + 1) rows.new.list missing) }
 {
     let mut from = piece.first;
     while from <= piece.last {
@@ -129,9 +129,9 @@ fn act_on_pieces<W: Window>(
     limit: u16,
     mut pieces: Pieces<'_>,
 ) -> Result<Option<u64>, NoMemory>
-    requires none { rows.old ≡ [] }
+    requires none { rows.old.list ≡ [] }
     requires pieces { AreCanonical pieces }
-    ensures { IfOk result (Ends limit member.now (piece_at pieces.entry) (W.held window.now) rows.new) }
+    ensures { IfOk result (Ends limit member.now (piece_at pieces.entry) (W.held window.now) rows.new.list) }
 {
     while let Some(piece) = pieces.next_piece() {
         let missing = act_on_piece(rows, window, member, limit, piece)?;
@@ -163,8 +163,8 @@ fn release_run(
 ) -> Result<(), NoMemory>
     requires { first ≤ last }
     ensures rows { OnOk result ((held : Held) → AreHeldSo held first last hold.now →
-        AreRowsTo limit (releasing (is_chosen whose.now) held) held first rows.old →
-        AreRowsTo limit (releasing (is_chosen whose.now) held) held (last + 1) rows.new) }
+        AreRowsTo limit (releasing (is_chosen whose.now) held) held first rows.old.list →
+        AreRowsTo limit (releasing (is_chosen whose.now) held) held (last + 1) rows.new.list) }
     ensures chosen { OnErr result (is_chosen whose.now hold.now ≡ true) }
 {
     if !is_chosen(whose, hold) {
@@ -181,9 +181,9 @@ fn release_all<W: Window>(
     whose: &Whose,
     limit: u16,
 ) -> Result<(), NoMemory>
-    requires none { rows.old ≡ [] }
+    requires none { rows.old.list ≡ [] }
     requires below { AreBelow (W.held window.now) }
-    ensures rows { OnOk result (AreRows limit (releasing (is_chosen whose.now) (W.held window.now)) (W.held window.now) rows.new) }
+    ensures rows { OnOk result (AreRows limit (releasing (is_chosen whose.now) (W.held window.now)) (W.held window.now) rows.new.list) }
     ensures named { OnErr result (NameOne (releasing (is_chosen whose.now) (W.held window.now))) }
 {
     let mut from = 0;
@@ -197,8 +197,8 @@ fn release_all<W: Window>(
 // What is to be stored once acts store these rows.
 fn change_of<D: Disk>(log: &PartLog<D>, start: u64, stored: &Runs, mut rows: Runs) -> Change
     requires sound { IsStoredLog log.now.batches }
-    ensures { (limit : ℕ) (acts : Acts) (held : Held) → AreRows limit acts held rows →
-        IsChange limit acts log.now.batches (record { start = start; rows = stored.now; held = held }) result }
+    ensures { (limit : ℕ) (acts : Acts) (held : Held) → AreRows limit acts held rows.list →
+        IsChange limit acts log.now.batches (record { start = start; rows = stored.now.list; held = held }) result }
 {
     let next = advance(log, start, rows.list(), stored.list());
     rows.cut_below(next);
@@ -228,7 +228,7 @@ pub fn acknowledge<D: Disk, W: Window>(
     requires sound { IsStoredLog log.now.batches }
     requires well_formed { IsWellFormed batches.now }
     ensures { IfOk result (Judges limit member.now (kind_at batches.now) log.now.batches
-        (record { start = start; rows = stored.now; held = W.held window.now })) }
+        (record { start = start; rows = stored.now.list; held = W.held window.now })) }
 {
     let mut rows = Runs::new(alloc);
     let missing = act_on_pieces(&mut rows, window, member, limit, Pieces::new(batches))?;
@@ -252,7 +252,7 @@ pub fn release<D: Disk, W: Window>(
     requires sound { IsStoredLog log.now.batches }
     requires below { AreBelow (W.held window.now) }
     ensures judged { IfOk result (ReleasesTable limit (releasing (is_chosen whose.now) (W.held window.now)) log.now.batches
-        (record { start = start; rows = stored.now; held = W.held window.now })) }
+        (record { start = start; rows = stored.now.list; held = W.held window.now })) }
     ensures named { OnErr result (NameOne (releasing (is_chosen whose.now) (W.held window.now))) }
 {
     let mut rows = Runs::new(alloc);

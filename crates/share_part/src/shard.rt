@@ -9,6 +9,7 @@ ghost use Rattle.share_model.specs.declared.fault.LogFault.{LogFault};
 ghost use Rattle.coord_checkpoint.specs.Disks.{RunsBoth};
 ghost use Rattle.edge_io.specs.Moments.{LeavesOnly};
 ghost use Rattle.gate_journal.specs.Frames.{StandsAs};
+ghost use Rattle.share_part.specs.Failures.{RunOnBoth};
 ghost use Rattle.share_part.specs.Opening.{IsOpened, IsNotOpened};
 ghost use Rattle.share_part.specs.Foreseeing.{JudgesAcks, with_ack};
 ghost use Rattle.share_part.specs.Hosting.{key_of};
@@ -154,7 +155,7 @@ impl<D: Disk, W: Window> PartShard<D, W> {
             (λ e. RunsOn D.seen disks.0 e.disks.0) }
         ensures both { MatchResult result
             (λ s. RunsBoth D.seen disks.1 disks.2
-            s.states.journal.live.disk s.states.journal.idle)
+            s.states.journal.first.disk s.states.journal.second.disk)
             (λ e. RunsBoth D.seen disks.1 disks.2
             e.disks.1 e.disks.2) }
     {
@@ -220,8 +221,7 @@ impl<D: Disk, W: Window> PartShard<D, W> {
         requires now { now ≤ 2 ^ 62 }
         requires fetch { visit.now.then ≡ Then.Fetch limits.records limits.bytes limits.first }
         ensures once { FollowsOnce D.seen W.held now visit.now self.old self.new result }
-        ensures runs { RunsOn D.seen
-            self.old.states.journal.live.disk self.new.states.journal.live.disk }
+        ensures runs { RunOnBoth D.seen self.old.states self.new.states }
         ensures ranges { IfOk result (λ answer. AllByRecursion IsSmallGrant answer.grants) }
     {
         let group = &visit.group;
@@ -251,8 +251,7 @@ impl<D: Disk, W: Window> PartShard<D, W> {
     fn release(&mut self, clock: u64, group: &Name, whose: &Whose) -> Result<Released, NoMemory>
         requires clock { clock ≤ 2 ^ 62 }
         ensures once { ReleasesOnce D.seen W.held clock group.now whose.now self.old self.new result }
-        ensures runs { RunsOn D.seen
-            self.old.states.journal.live.disk self.new.states.journal.live.disk }
+        ensures runs { RunOnBoth D.seen self.old.states self.new.states }
     {
         let released = release_held(
             self.alloc,
@@ -272,8 +271,7 @@ impl<D: Disk, W: Window> PartShard<D, W> {
         requires now { now ≤ 2 ^ 62 }
         requires release { visit.now.then ≡ Then.Release }
         ensures once { FollowsOnce D.seen W.held now visit.now self.old self.new result }
-        ensures runs { RunsOn D.seen
-            self.old.states.journal.live.disk self.new.states.journal.live.disk }
+        ensures runs { RunOnBoth D.seen self.old.states self.new.states }
         ensures ranges { IfOk result (λ answer. AllByRecursion IsSmallGrant answer.grants) }
     {
         let clock = self.clock.max(now);
@@ -285,8 +283,7 @@ impl<D: Disk, W: Window> PartShard<D, W> {
     fn follow(&mut self, now: u64, visit: &Visit) -> Result<VisitAnswer, NoMemory>
         requires now { now ≤ 2 ^ 62 }
         ensures once { FollowsOnce D.seen W.held now visit.now self.old self.new result }
-        ensures runs { RunsOn D.seen
-            self.old.states.journal.live.disk self.new.states.journal.live.disk }
+        ensures runs { RunOnBoth D.seen self.old.states self.new.states }
         ensures ranges { IfOk result (λ answer. AllByRecursion IsSmallGrant answer.grants) }
     {
         match visit.then {
@@ -317,8 +314,7 @@ impl<D: Disk, W: Window> PartShard<D, W> {
         requires table { IsFetch visit.now.then →
             share_state_at (states_of self.old.states.entries) (key_of self.old.conf visit.now.group) ≡ None }
         ensures once { VisitsOnce D.seen W.held now visit.now self.old self.new result }
-        ensures runs { RunsOn D.seen
-            self.old.states.journal.live.disk self.new.states.journal.live.disk }
+        ensures runs { RunOnBoth D.seen self.old.states self.new.states }
         ensures ranges { IfOk result (λ answer. AllByRecursion IsSmallGrant answer.grants) }
     {
         let ack = settle_acks(
@@ -358,8 +354,7 @@ impl<D: Disk, W: Window> PartShard<D, W> {
         requires table { IsSome
             (share_state_at (states_of self.old.states.entries) (key_of self.old.conf visit.now.group)) }
         ensures once { VisitsOnce D.seen W.held now visit.now self.old self.new result }
-        ensures runs { RunsOn D.seen
-            self.old.states.journal.live.disk self.new.states.journal.live.disk }
+        ensures runs { RunOnBoth D.seen self.old.states self.new.states }
         ensures ranges { IfOk result (λ answer. AllByRecursion IsSmallGrant answer.grants) }
     {
         let ready = ready(
@@ -405,8 +400,7 @@ impl<D: Disk, W: Window> PartShard<D, W> {
     pub fn visit(&mut self, now: u64, visit: &Visit) -> Result<VisitAnswer, NoMemory>
         requires now { now ≤ 2 ^ 62 }
         ensures once { VisitsOnce D.seen W.held now visit.now self.old self.new result }
-        ensures runs { RunsOn D.seen
-            self.old.states.journal.live.disk self.new.states.journal.live.disk }
+        ensures runs { RunOnBoth D.seen self.old.states self.new.states }
         ensures ranges { IfOk result (λ answer. AllByRecursion IsSmallGrant answer.grants) }
     {
         let acks = judge_acks(
@@ -447,8 +441,7 @@ impl<D: Disk, W: Window> PartShard<D, W> {
     pub fn expire(&mut self, now: u64) -> Result<ExpireAnswer, NoMemory>
         requires { now ≤ 2 ^ 62 }
         ensures once { ExpiresOnce D.seen W.held now self.old self.new result }
-        ensures runs { RunsOn D.seen
-            self.old.states.journal.live.disk self.new.states.journal.live.disk }
+        ensures runs { RunOnBoth D.seen self.old.states self.new.states }
     {
         let clock = self.clock.max(now);
         let due = due_groups(self.alloc, &self.windows, clock)?;
@@ -512,15 +505,15 @@ impl<D: Disk, W: Window> PartShard<D, W> {
 
     /// Whether a call of one of its disks has failed for want of memory.
     pub fn starved(&self) -> bool
-        ensures { (result ≡ true) ↔ (((D.seen self.now.log.journal.disk).starved ≡ true) ⊎ (((D.seen self.now.states.journal.live.disk).starved ≡ true)
-            ⊎ ((D.seen self.now.states.journal.idle).starved ≡ true))) }
+        ensures { (result ≡ true) ↔ (((D.seen self.now.log.journal.disk).starved ≡ true) ⊎ (((D.seen self.now.states.journal.first.disk).starved ≡ true)
+            ⊎ ((D.seen self.now.states.journal.second.disk).starved ≡ true))) }
     {
         self.log.starved() || self.states.starved()
     }
 
     /// Gives the disks back: that of the log, and the two of the states.
     pub fn into_disks(self) -> (D, D, D)
-        ensures { (result.0 ≡ self.log.journal.disk) × (result.1 ≡ self.states.journal.live.disk) × (result.2 ≡ self.states.journal.idle) }
+        ensures { (result.0 ≡ self.log.journal.disk) × (result.1 ≡ self.states.journal.first.disk) × (result.2 ≡ self.states.journal.second.disk) }
     {
         let PartShard { log, states, .. } = self;
         let (a, b) = states.into_disks();
@@ -534,14 +527,14 @@ impl<D: Disk, W: Window> PartShard<D, W> {
             × (self.new.states ≡ self.old.states) }
         ensures first { disk ≡ DiskPlace.StateA →
             ArmsAlone D.seen after mode
-            self.old.states.journal.live.disk self.new.states.journal.live.disk
-            × (self.new.states.journal.idle ≡ self.old.states.journal.idle) × (self.new.log ≡ self.old.log) }
+            self.old.states.journal.first.disk self.new.states.journal.first.disk
+            × (self.new.states.journal.second ≡ self.old.states.journal.second) × (self.new.log ≡ self.old.log) }
         ensures second { disk ≡ DiskPlace.StateB →
             ArmsAlone D.seen after mode
-            self.old.states.journal.idle self.new.states.journal.idle
-            × (self.new.states.journal.live ≡ self.old.states.journal.live) × (self.new.log ≡ self.old.log) }
+            self.old.states.journal.second.disk self.new.states.journal.second.disk
+            × (self.new.states.journal.first ≡ self.old.states.journal.first) × (self.new.log ≡ self.old.log) }
         ensures conf { self.new.conf ≡ self.old.conf }
-        ensures ends { (self.new.log.journal.end ≡ self.old.log.journal.end) × (self.new.states.journal.live.end ≡ self.old.states.journal.live.end) }
+        ensures ends { (self.new.log.journal.end ≡ self.old.log.journal.end) × (self.new.states.journal.end ≡ self.old.states.journal.end) }
         ensures stays { (shard : PartShardState) → Carries D.seen W.held self.old shard → Carries D.seen W.held self.new shard }
     {
         match disk {

@@ -1,10 +1,10 @@
 // Stores what acts change.
 ghost use Rattle.std.specs.Prelude.{◌≡◌, ◌≤◌, ◌^◌, ℕ, pos, IfSome, None};
-ghost use Rattle.edge_io.specs.Armed.{RunsOn};
 ghost use Rattle.coord_checkpoint.specs.Disks.{HasFailed};
 ghost use Rattle.share_coord.specs.Calls.{Causes, IsTooMany, write_refusal};
 ghost use Rattle.share_coord.specs.Stored.{kept_at};
 ghost use Rattle.share_part.specs.Storing.{IsRecordOf, IsStored, StoresOnce, TellsFault, start_number};
+ghost use Rattle.share_part.specs.Failures.{RunOnBoth};
 
 use edge_io::Disk;
 use share_coord::{Coord, CoordFault};
@@ -51,8 +51,7 @@ pub fn store_change<D: Disk>(
     ensures once { StoresOnce D.seen (HasFailed D.seen)
         (IsStored states.old.entries key.now start runs.now) (IsRecordOf states.old.entries key.now start runs.now)
         states.old states.new result }
-    ensures runs { RunsOn D.seen states.old.journal.live.disk states.new.journal.live.disk }
-    ensures idle { states.new.journal.idle ≡ states.old.journal.idle }
+    ensures runs { RunOnBoth D.seen states.old states.new }
 {
     match states.write(key, 0, 0, start_number(start), runs) {
         Ok(()) => Ok(None),

@@ -47,10 +47,10 @@ fn delivery_of(state: RowState, count: u16) -> Option<u16>
 
 // How far offsets go out alike of which nothing is held up to `last`, by what is stored of them.
 fn stretch_stored(rows: &Runs, slot: u64, last: u64) -> Stretch
-    requires rows { MayGoOut rows.now }
+    requires rows { MayGoOut rows.now.list }
     requires order { slot ≤ last }
     ensures { (held : Held) → ((offset : ℕ) → slot ≤ offset → offset ≤ last → hold_at held offset ≡ None) →
-        IsStretch rows.now held slot result.last result.count }
+        IsStretch rows.now.list held slot result.last result.count }
 {
     let Some(run) = run_from(rows.list(), slot) else {
         return Stretch {
@@ -72,8 +72,8 @@ fn stretch_stored(rows: &Runs, slot: u64, last: u64) -> Stretch
 
 // How far offsets from one on go out alike.
 fn stretch_from<W: Window>(rows: &Runs, window: &W, slot: u64) -> Stretch
-    requires { MayGoOut rows.now }
-    ensures { IsStretch rows.now (W.held window.now) slot result.last result.count }
+    requires { MayGoOut rows.now.list }
+    ensures { IsStretch rows.now.list (W.held window.now) slot result.last result.count }
 {
     let Some(run) = window.run_from(slot) else {
         return stretch_stored(rows, slot, u64::MAX);
@@ -91,8 +91,8 @@ fn stretch_from<W: Window>(rows: &Runs, window: &W, slot: u64) -> Stretch
 fn stretch_laid<W: Window>(changed: &[Run], rows: &Runs, window: &W, slot: u64) -> Stretch
     requires canonical { IsCanonical changed.now }
     requires changed { MayGoOut changed.now }
-    requires rows { MayGoOut rows.now }
-    ensures { IsStretch (changed.now ++ rows.now) (left_by changed.now (W.held window.now))
+    requires rows { MayGoOut rows.now.list }
+    ensures { IsStretch (changed.now ++ rows.now.list) (left_by changed.now (W.held window.now))
         slot result.last result.count }
 {
     let Some(run) = run_from(changed, slot) else {
@@ -124,14 +124,14 @@ fn step<D: Disk, W: Window>(
 ) -> Result<Option<u32>, NoMemory>
     requires sound { IsStoredLog log.now.batches }
     requires slot { IsSlot log.now.batches slot }
-    requires rows { MayGoOut rows.now }
+    requires rows { MayGoOut rows.now.list }
     requires canonical { IsCanonical changed.now }
     requires changed { MayGoOut changed.now }
-    requires lie { LieAtSlots log.now.batches (changed.now ++ rows.now) (left_by changed.now (W.held window.now)) }
+    requires lie { LieAtSlots log.now.batches (changed.now ++ rows.now.list) (left_by changed.now (W.held window.now)) }
     requires most { 1 ≤ most }
     ensures goes { IfOk result (λ on. (start : ℕ) (walk : Walk) → Collects log.now.batches collector.old walk →
         GoesOver log.now.batches
-        (record { start = start; rows = changed.now ++ rows.now; held = left_by changed.now (W.held window.now) }) collector.new walk slot on) }
+        (record { start = start; rows = changed.now ++ rows.now.list; held = left_by changed.now (W.held window.now) }) collector.new walk slot on) }
     ensures most { IfOk result (λ on. IfSome on (λ n. n ≤ most)) }
     ensures grants { OnOk result (vec_len collector.new.grants ≤ vec_len collector.old.grants + 1) }
 {
@@ -163,13 +163,13 @@ fn collect<D: Disk, W: Window>(
     limits: Limits,
 ) -> Result<Collector, NoMemory>
     requires sound { IsStoredLog log.now.batches }
-    requires rows { MayGoOut rows.now }
+    requires rows { MayGoOut rows.now.list }
     requires canonical { IsCanonical changed.now }
     requires changed { MayGoOut changed.now }
-    requires lie { LieAtSlots log.now.batches (changed.now ++ rows.now) (left_by changed.now (W.held window.now)) }
+    requires lie { LieAtSlots log.now.batches (changed.now ++ rows.now.list) (left_by changed.now (W.held window.now)) }
     ensures takes { IfOk result (λ c. Collects log.now.batches c
         (acquired log.now.batches
-        (record { start = start; rows = changed.now ++ rows.now; held = left_by changed.now (W.held window.now) }) limits)) }
+        (record { start = start; rows = changed.now ++ rows.now.list; held = left_by changed.now (W.held window.now) }) limits)) }
     ensures grants { IfOk result (λ c. vec_len c.grants ≤ 2000) }
 {
     let mut collector = Collector::new(alloc, limits);
@@ -200,13 +200,13 @@ pub fn plan_laid<D: Disk, W: Window>(
     limits: Limits,
 ) -> Result<Plan, NoMemory>
     requires sound { IsStoredLog log.now.batches }
-    requires rows { MayGoOut rows.now }
+    requires rows { MayGoOut rows.now.list }
     requires canonical { IsCanonical changed.now }
     requires changed { MayGoOut changed.now }
-    requires lie { LieAtSlots log.now.batches (changed.now ++ rows.now) (left_by changed.now (W.held window.now)) }
+    requires lie { LieAtSlots log.now.batches (changed.now ++ rows.now.list) (left_by changed.now (W.held window.now)) }
     ensures is { IfOk result (λ plan. IsPlanOf log.now.batches plan
         (acquired log.now.batches
-        (record { start = start; rows = changed.now ++ rows.now; held = left_by changed.now (W.held window.now) }) limits)) }
+        (record { start = start; rows = changed.now ++ rows.now.list; held = left_by changed.now (W.held window.now) }) limits)) }
     ensures grants { IfOk result (λ plan. vec_len plan.grants ≤ 2001) }
 {
     collect(alloc, log, start, changed, rows, window, limits)?.finish()
@@ -222,10 +222,10 @@ pub fn plan<D: Disk, W: Window>(
     limits: Limits,
 ) -> Result<Plan, NoMemory>
     requires sound { IsStoredLog log.now.batches }
-    requires rows { MayGoOut rows.now }
-    requires lie { LieAtSlots log.now.batches rows.now (W.held window.now) }
+    requires rows { MayGoOut rows.now.list }
+    requires lie { LieAtSlots log.now.batches rows.now.list (W.held window.now) }
     ensures is { IfOk result (λ plan. IsPlanOf log.now.batches plan
-        (acquired log.now.batches (record { start = start; rows = rows.now; held = W.held window.now }) limits)) }
+        (acquired log.now.batches (record { start = start; rows = rows.now.list; held = W.held window.now }) limits)) }
     ensures grants { IfOk result (λ plan. vec_len plan.grants ≤ 2001) }
 {
     plan_laid(alloc, log, start, &[], rows, window, limits)

@@ -22,7 +22,7 @@ returns-in-Some-look g c =
     let there = subst (λ (k : KeyParts). Some c.in-Some-look.view.now ≡ option_map view_of (kept_at c.args.states.now.entries k)) c.key.ensures c.in-Some-look.ensures in
     judged_there g.W.Window.held c.args.states.now.entries c.args.windows.now.entries c.args.visit.now.group (key_of c.args.conf.now c.args.visit.now.group)
     c.args.conf.now.limit c.args.visit.now.member c.args.log.now.batches c.in-Some-look.view.now there
-    c.in-Some.window.now c.in-Some.ensures.value c.start_of.result c.view.inside.runs c.start_of.ensures (ap (λ (s : ShareState). s.runs) c.view.view_is)
+    c.in-Some.window.now c.in-Some.ensures.value c.start_of.result c.view.inside.runs.list c.start_of.ensures (ap (λ (s : ShareState). s.runs) c.view.view_is)
     c.limit.result c.limit.ensures.same c.as_slice.result.now c.args.visit.now.acks c.as_slice.ensures.items c.acknowledge.result c.acknowledge.ensures
 
 pub returns-in-None : goal.returns-in-None

@@ -23,20 +23,20 @@ pub plan-requires-clause-lie : goal.plan-requires-clause-lie
 plan-requires-clause-lie g c =
     let there = subst (λ (k : KeyParts). Some c.in-Some-look.view.now ≡ option_map view_of (kept_at c.args.states.now.entries k)) c.key.ensures c.in-Some-look.ensures in
     lie_there g.W.Window.held c.args.conf.now c.args.log.now.batches c.args.states.now.entries c.args.windows.now.entries c.args.group.now c.in-Some-look.view.now there c.requires.hosted c.requires.well
-    c.requires.sound.rises c.in-Some.window.now c.in-Some.ensures.value c.view.inside.runs (ap (λ (s : ShareState). s.runs) c.view.view_is)
+    c.requires.sound.rises c.in-Some.window.now c.in-Some.ensures.value c.view.inside.runs.list (ap (λ (s : ShareState). s.runs) c.view.view_is)
 
 pub plan-requires-in-None-clause-lie : goal.plan-requires-in-None-clause-lie
 plan-requires-in-None-clause-lie g c =
     let absent = subst (λ (k : KeyParts). ◌≡◌ {A = Option ShareState} None (option_map view_of (kept_at c.args.states.now.entries k))) c.key.ensures c.in-None.ensures in
     lie_new g.W.Window.held c.args.conf.now c.args.log.now.batches c.args.states.now.entries c.args.windows.now.entries c.args.group.now absent c.requires.well
-    c.in-Some.window.now c.in-Some.ensures.value c.new-rows.result c.new-rows.ensures
+    c.in-Some.window.now c.in-Some.ensures.value c.new-rows.result.list c.new-rows.ensures
 
 pub returns-in-Some-look-clause-is : goal.returns-in-Some-look-clause-is
 returns-in-Some-look-clause-is g c =
     let there = subst (λ (k : KeyParts). Some c.in-Some-look.view.now ≡ option_map view_of (kept_at c.args.states.now.entries k)) c.key.ensures c.in-Some-look.ensures in
     subst (λ (t : Table). IfOk c.plan.result (λ plan. IsPlanOf c.args.log.now.batches plan (acquired c.args.log.now.batches t c.args.limits)))
     (table_there g.W.Window.held c.args.conf.now c.args.log.now.batches c.args.states.now.entries c.args.windows.now.entries c.args.group.now c.in-Some-look.view.now there
-    c.in-Some.window.now c.in-Some.ensures.value c.start_of.result c.view.inside.runs c.start_of.ensures (ap (λ (s : ShareState). s.runs) c.view.view_is))
+    c.in-Some.window.now c.in-Some.ensures.value c.start_of.result c.view.inside.runs.list c.start_of.ensures (ap (λ (s : ShareState). s.runs) c.view.view_is))
     c.plan.ensures.is
 
 pub returns-in-None-clause-is : goal.returns-in-None-clause-is
@@ -44,7 +44,7 @@ returns-in-None-clause-is g c =
     let absent = subst (λ (k : KeyParts). ◌≡◌ {A = Option ShareState} None (option_map view_of (kept_at c.args.states.now.entries k))) c.key.ensures c.in-None.ensures in
     subst (λ (t : Table). IfOk c.plan-in-None.result (λ plan. IsPlanOf c.args.log.now.batches plan (acquired c.args.log.now.batches t c.args.limits)))
     (table_new g.W.Window.held c.args.conf.now c.args.log.now.batches c.args.states.now.entries c.args.windows.now.entries c.args.group.now absent
-    c.in-Some.window.now c.in-Some.ensures.value c.first_start.result c.new-rows.result
+    c.in-Some.window.now c.in-Some.ensures.value c.first_start.result c.new-rows.result.list
     (c.first_start.ensures.start ∙ ap (λ (r : Reset). first_start r c.end.result) c.reset.ensures ∙ ap (λ (n : ℕ). first_start c.args.conf.now.reset n) c.end.ensures.end)
     c.new-rows.ensures)
     c.plan-in-None.ensures.is

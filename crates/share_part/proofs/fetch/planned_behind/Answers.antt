@@ -25,7 +25,7 @@ plan_laid-requires-clause-canonical g c =
     let there = subst (λ (k : KeyParts). Some c.in-Some-look.view.now ≡ option_map view_of (kept_at c.args.states.now.entries k)) c.key.ensures c.in-Some-look.ensures in
     changed_canonical g.W.Window.held c.args.conf.now c.args.log.now.batches c.args.states.now.entries c.args.windows.now.entries c.args.visit.now.group
     (kind_at c.args.visit.now.acks) c.args.change.now c.requires.change c.in-Some-look.view.now there c.in-Some.window.now c.in-Some.ensures.value
-    c.start_of.result c.view.inside.runs c.deref.result.now c.start_of.ensures (ap (λ (s : ShareState). s.runs) c.view.view_is) c.deref.ensures.value
+    c.start_of.result c.view.inside.runs.list c.deref.result.now c.start_of.ensures (ap (λ (s : ShareState). s.runs) c.view.view_is) c.deref.ensures.value
     c.unwrap_or-start.result c.unwrap_or-start.ensures
 
 pub plan_laid-requires-clause-changed : goal.plan_laid-requires-clause-changed
@@ -33,7 +33,7 @@ plan_laid-requires-clause-changed g c =
     let there = subst (λ (k : KeyParts). Some c.in-Some-look.view.now ≡ option_map view_of (kept_at c.args.states.now.entries k)) c.key.ensures c.in-Some-look.ensures in
     changed_out g.W.Window.held c.args.conf.now c.args.log.now.batches c.args.states.now.entries c.args.windows.now.entries c.args.visit.now.group
     (kind_at c.args.visit.now.acks) c.args.change.now c.requires.change c.in-Some-look.view.now there c.in-Some.window.now c.in-Some.ensures.value
-    c.start_of.result c.view.inside.runs c.deref.result.now c.start_of.ensures (ap (λ (s : ShareState). s.runs) c.view.view_is) c.deref.ensures.value
+    c.start_of.result c.view.inside.runs.list c.deref.result.now c.start_of.ensures (ap (λ (s : ShareState). s.runs) c.view.view_is) c.deref.ensures.value
     c.unwrap_or-start.result c.unwrap_or-start.ensures c.requires.limit.few
 
 pub plan_laid-requires-clause-lie : goal.plan_laid-requires-clause-lie
@@ -41,10 +41,10 @@ plan_laid-requires-clause-lie g c =
     let there = subst (λ (k : KeyParts). Some c.in-Some-look.view.now ≡ option_map view_of (kept_at c.args.states.now.entries k)) c.key.ensures c.in-Some-look.ensures in
     changed_lies g.W.Window.held c.args.conf.now c.args.log.now.batches c.args.states.now.entries c.args.windows.now.entries c.args.visit.now.group
     (kind_at c.args.visit.now.acks) c.args.change.now c.requires.change c.in-Some-look.view.now there c.in-Some.window.now c.in-Some.ensures.value
-    c.start_of.result c.view.inside.runs c.deref.result.now c.start_of.ensures (ap (λ (s : ShareState). s.runs) c.view.view_is) c.deref.ensures.value
+    c.start_of.result c.view.inside.runs.list c.deref.result.now c.start_of.ensures (ap (λ (s : ShareState). s.runs) c.view.view_is) c.deref.ensures.value
     c.unwrap_or-start.result c.unwrap_or-start.ensures
     (lie_there g.W.Window.held c.args.conf.now c.args.log.now.batches c.args.states.now.entries c.args.windows.now.entries c.args.visit.now.group c.in-Some-look.view.now there c.requires.hosted c.requires.well
-    c.requires.sound.rises c.in-Some.window.now c.in-Some.ensures.value c.view.inside.runs (ap (λ (s : ShareState). s.runs) c.view.view_is))
+    c.requires.sound.rises c.in-Some.window.now c.in-Some.ensures.value c.view.inside.runs.list (ap (λ (s : ShareState). s.runs) c.view.view_is))
 
 pub returns-clause-is : goal.returns-clause-is
 returns-clause-is g c =
@@ -52,5 +52,5 @@ returns-clause-is g c =
     all_ok _ _ c.plan_laid.result
     (behind g.W.Window.held c.args.conf.now c.args.log.now.batches c.args.states.now.entries c.args.windows.now.entries c.args.visit.now.group
     (kind_at c.args.visit.now.acks) c.args.change.now c.requires.change c.in-Some-look.view.now there c.in-Some.window.now c.in-Some.ensures.value
-    c.start_of.result c.view.inside.runs c.deref.result.now c.start_of.ensures (ap (λ (s : ShareState). s.runs) c.view.view_is) c.deref.ensures.value
+    c.start_of.result c.view.inside.runs.list c.deref.result.now c.start_of.ensures (ap (λ (s : ShareState). s.runs) c.view.view_is) c.deref.ensures.value
     c.unwrap_or-start.result c.unwrap_or-start.ensures c.requires.sound.rises c.args.limits) c.plan_laid.ensures.is

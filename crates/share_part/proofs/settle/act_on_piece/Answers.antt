@@ -11,8 +11,8 @@ loop-from-preserved g c =
       omega (arith, c.loop-from.invariant.0, order),
       omega (arith, c.min-last.ensures),
       λ acts begun says. done_more c.args.limit c.args.member.now acts (g.W.Window.held c.args.window.now) c.loop-from.from c.min-last.result c.args.piece.kind c.in-Some.stretch.count
-          c.loop-from.rows c.put_range.new.self (c.loop-from.invariant.2 acts begun says)
+          c.loop-from.rows.list c.put_range.new.self.list (c.loop-from.invariant.2 acts begun says)
           (λ o lo hi. says o (omega (arith, c.loop-from.invariant.0, lo)) (omega (arith, hi, c.min-last.ensures)))
           (record { order = order; theirs = λ o lo hi. c.in-Some.ensures.some.theirs o lo (omega (arith, hi, within)) })
-          (subst (λ (r : Row). PutsRange c.loop-from.rows c.put_range.new.self c.loop-from.from c.min-last.result r) c.settled.ensures c.in_ok-put_range.ensures.ok),
+          (subst (λ (r : Row). PutsRange c.loop-from.rows.list c.put_range.new.self.list c.loop-from.from c.min-last.result r) c.settled.ensures c.in_ok-put_range.ensures.ok),
     )

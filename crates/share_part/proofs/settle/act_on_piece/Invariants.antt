@@ -5,8 +5,8 @@ use Rattle.share_part.proofs.settle.act_on_piece.Given as goal
 
 abbrev pub invariant-loop-from : goal.invariant-loop-from
 invariant-loop-from g l = (l.piece.first ≤ l.from) × (l.from ≤ l.piece.last + 1)
-    × ((acts : Acts) → AreDoneTo l.limit l.member acts (g.W.Window.held l.window) l.piece.first l.fn.rows → IsSaid l.piece acts
-    → AreDoneTo l.limit l.member acts (g.W.Window.held l.window) l.from l.rows)
+    × ((acts : Acts) → AreDoneTo l.limit l.member acts (g.W.Window.held l.window) l.piece.first l.fn.rows.list → IsSaid l.piece acts
+    → AreDoneTo l.limit l.member acts (g.W.Window.held l.window) l.from l.rows.list)
 
 abbrev pub decreases-loop-from : goal.decreases-loop-from
 decreases-loop-from g l = (l.piece.last + 1) - l.from

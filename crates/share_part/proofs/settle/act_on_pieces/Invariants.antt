@@ -4,7 +4,7 @@ use Rattle.share_part.proofs.Doing.{AreLeft}
 use Rattle.share_part.proofs.settle.act_on_pieces.Given as goal
 
 abbrev pub invariant-loop-piece : goal.invariant-loop-piece
-invariant-loop-piece g l = AreLeft l.limit l.member (piece_at l.fn.pieces) (g.W.Window.held l.window) l.rows l.pieces
+invariant-loop-piece g l = AreLeft l.limit l.member (piece_at l.fn.pieces) (g.W.Window.held l.window) l.rows.list l.pieces
 
 abbrev pub decreases-loop-piece : goal.decreases-loop-piece
 decreases-loop-piece g l = length l.pieces

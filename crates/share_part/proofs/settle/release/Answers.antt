@@ -7,12 +7,12 @@ use Rattle.share_part.proofs.settle.release.Goals as goal
 pub returns-then-is_empty-clause-judged : goal.returns-then-is_empty-clause-judged
 returns-then-is_empty-clause-judged g c =
     let none : length c.list.result.now ≡ 0 = search rules in
-    released_none c.args.limit (is_chosen c.args.whose.now) (g.W.Window.held c.args.window.now) c.release_all.new.rows
+    released_none c.args.limit (is_chosen c.args.whose.now) (g.W.Window.held c.args.window.now) c.release_all.new.rows.list
     (sym (ap (λ (l : List Run). length l) c.list.ensures.same) ∙ none) c.in_ok-release_all.ensures.rows
 
 pub returns-clause-judged : goal.returns-clause-judged
 returns-clause-judged g c = (
-  released_one c.args.limit (is_chosen c.args.whose.now) (g.W.Window.held c.args.window.now) c.release_all.new.rows c.list.ensures.canonical
+  released_one c.args.limit (is_chosen c.args.whose.now) (g.W.Window.held c.args.window.now) c.release_all.new.rows.list c.list.ensures.canonical
       (λ none. let has : length c.list.result.now ≡ 0 = ap (λ (l : List Run). length l) c.list.ensures.same ∙ none in
       let e : true ≡ false = search rules in let clash : ⊥ = cc in clash)
       c.in_ok-release_all.ensures.rows,

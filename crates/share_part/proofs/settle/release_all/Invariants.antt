@@ -4,7 +4,7 @@ use Rattle.share_part.specs.Settling.{is_chosen, releasing}
 use Rattle.share_part.proofs.settle.release_all.Given as goal
 
 abbrev pub invariant-loop-run : goal.invariant-loop-run
-invariant-loop-run g l = AreRowsTo l.limit (releasing (is_chosen l.whose) (g.W.Window.held l.window)) (g.W.Window.held l.window) l.from l.rows
+invariant-loop-run g l = AreRowsTo l.limit (releasing (is_chosen l.whose) (g.W.Window.held l.window)) (g.W.Window.held l.window) l.from l.rows.list
 
 abbrev pub decreases-loop-run : goal.decreases-loop-run
 decreases-loop-run g l = 2 ^ 64 - l.from

@@ -16,22 +16,22 @@ returns-in_default-clause-takes g c =
 pub returns-in_default-2-clause-takes : goal.returns-in_default-2-clause-takes
 returns-in_default-2-clause-takes g c =
     let w = c.loop-left.invariant.1 in
-    let table : Table = record { start = c.args.start; rows = c.args.changed.now ++ c.args.rows.now; held = left_by c.args.changed.now (g.W.Window.held c.args.window.now) } in
-    stopped c.args.log.now.batches (record { start = c.args.start; rows = c.args.changed.now ++ c.args.rows.now; held = left_by c.args.changed.now (g.W.Window.held c.args.window.now) }) c.args.limits c.loop-left.collector c.loop-left.left (c.loop-left.left - 1) c.loop-left.from
+    let table : Table = record { start = c.args.start; rows = c.args.changed.now ++ c.args.rows.now.list; held = left_by c.args.changed.now (g.W.Window.held c.args.window.now) } in
+    stopped c.args.log.now.batches (record { start = c.args.start; rows = c.args.changed.now ++ c.args.rows.now.list; held = left_by c.args.changed.now (g.W.Window.held c.args.window.now) }) c.args.limits c.loop-left.collector c.loop-left.left (c.loop-left.left - 1) c.loop-left.from
     (omega (arith, c.loop-left-test.true)) w c.in-Some.slot (sym c.next_slot.ensures.value ∙ c.in-Some.is) c.step.new.collector
     (subst (λ (o : Option ℕ). GoesOver c.args.log.now.batches table c.step.new.collector w.walk c.in-Some.slot o) c.in_default-2.is (c.in_ok-n.ensures.goes c.args.start w.walk w.collects))
 
 pub loop-left-smaller : goal.loop-left-smaller
 loop-left-smaller g c =
     let w = c.loop-left.invariant.1 in
-    let table : Table = record { start = c.args.start; rows = c.args.changed.now ++ c.args.rows.now; held = left_by c.args.changed.now (g.W.Window.held c.args.window.now) } in
+    let table : Table = record { start = c.args.start; rows = c.args.changed.now ++ c.args.rows.now.list; held = left_by c.args.changed.now (g.W.Window.held c.args.window.now) } in
     let goes = subst (λ (o : Option ℕ). GoesOver c.args.log.now.batches table c.step.new.collector w.walk c.in-Some.slot o) c.in-Some-2.is (c.in_ok-n.ensures.goes c.args.start w.walk w.collects) in
     omega (arith, goes.1, c.loop-left-test.true)
 
 pub loop-left-preserved : goal.loop-left-preserved
 loop-left-preserved g c =
     let w = c.loop-left.invariant.1 in
-    let table : Table = record { start = c.args.start; rows = c.args.changed.now ++ c.args.rows.now; held = left_by c.args.changed.now (g.W.Window.held c.args.window.now) } in
+    let table : Table = record { start = c.args.start; rows = c.args.changed.now ++ c.args.rows.now.list; held = left_by c.args.changed.now (g.W.Window.held c.args.window.now) } in
     let goes = subst (λ (o : Option ℕ). GoesOver c.args.log.now.batches table c.step.new.collector w.walk c.in-Some.slot o) c.in-Some-2.is (c.in_ok-n.ensures.goes c.args.start w.walk w.collects) in
     let few : c.in-Some-2.n ≤ c.loop-left.left = subst (λ (o : Option ℕ). IfSome o (λ n. n ≤ c.loop-left.left)) c.in-Some-2.is c.in_ok-n.ensures.most in (
       omega (arith, c.loop-left.invariant.0, c.in_ok-n.ensures.grants, goes.1, few),

@@ -9,6 +9,7 @@ use Rattle.share_part.specs.Following.{IsFetch}
 use Rattle.share_part.specs.Hosting.{AreHosted}
 use Rattle.share_part.specs.Making.{numbered_bytes, state_for}
 use Rattle.share_part.specs.Shards.{held_in}
+use Rattle.share_part.proofs.Failing.{run_none}
 use Rattle.share_part.proofs.Appending.{all_within, numbered_is}
 use Rattle.share_part.proofs.Holding.{AreKept, same_kept}
 use Rattle.share_part.proofs.Looked.{nothing_read, read_all, read_not}
@@ -17,7 +18,7 @@ use Rattle.share_part.proofs.shard.PartShard.fetch.Goals as goal
 
 pub returns-in_err-plan-clause-once : goal.returns-in_err-plan-clause-once
 returns-in_err-plan-clause-once g c = rw (← c.self.view_is) (starved_so g.D.Disk.seen g.W.Window.held c.args.now c.args.visit.now _ _ refl
-    (nothing_read g.D.Disk.seen g.met.D.Disk.only_now c.self.inside.log) refl c.args.limits c.requires.fetch
+    (nothing_read g.D.Disk.seen g.met.D.Disk.only_now c.self.inside.log) (run_none g.D.Disk.seen c.self.inside.states) c.args.limits c.requires.fetch
     c.from_residual.result c.from_residual.ensures.0 refl c.in_err-plan.ensures.held refl)
 
 pub invariant_of-self : goal.invariant_of-self
@@ -62,18 +63,18 @@ invariant_of-self-in_err-outcome g c = record {
   hosted = subst (λ (l : List Batch). AreHosted c.self.inside.conf l (states_of c.make_table.new.states.entries)) (sym c.append_batches.ensures.log.reads.batches)
       (hosted_after g.D.Disk.seen g.W.Window.held c.args.now c.args.visit.now (record { conf = c.self.inside.conf; log = c.self.inside.log; states = c.self.inside.states; windows = c.self.inside.windows.entries; clock = c.self.inside.clock })
       (record { conf = c.self.inside.conf; log = c.append_batches.new.log; states = c.make_table.new.states; windows = c.prepared.new.windows.entries; clock = c.self.inside.clock }) refl (read_all g.D.Disk.seen c.self.inside.log c.append_batches.new.log c.append_batches.result c.in_default.not-Err c.append_batches.ensures.log)
-      c.make_table.ensures.idle c.args.limits c.requires.fetch
+      c.make_table.ensures.runs c.args.limits c.requires.fetch
       c.make_table.result c.end.result (c.end.ensures.end ∙ ap end_of c.append_batches.ensures.log.reads.batches) c.make_table.ensures.made c.self.invariant.hosted);
   holds = subst (λ (l : List Batch). AreKept c.self.inside.conf l (states_of c.make_table.new.states.entries) (held_in g.W.Window.held c.prepared.new.windows.entries)) (sym c.append_batches.ensures.log.reads.batches)
       (wells_after g.D.Disk.seen g.W.Window.held c.args.now c.args.visit.now (record { conf = c.self.inside.conf; log = c.self.inside.log; states = c.self.inside.states; windows = c.self.inside.windows.entries; clock = c.self.inside.clock })
       (record { conf = c.self.inside.conf; log = c.append_batches.new.log; states = c.make_table.new.states; windows = c.prepared.new.windows.entries; clock = c.self.inside.clock }) refl (read_all g.D.Disk.seen c.self.inside.log c.append_batches.new.log c.append_batches.result c.in_default.not-Err c.append_batches.ensures.log)
-      c.make_table.ensures.idle c.args.limits c.requires.fetch
+      c.make_table.ensures.runs c.args.limits c.requires.fetch
       c.make_table.result c.end.result (c.end.ensures.end ∙ ap end_of c.append_batches.ensures.log.reads.batches) c.make_table.ensures.made c.in_ok-plan.ensures.held c.self.invariant.holds);
   moment = c.self.invariant.moment;
 }
 
 pub returns-in_err-outcome-clause-once : goal.returns-in_err-outcome-clause-once
-returns-in_err-outcome-clause-once g c = rw (← c.self.view_is) (unanswered g.D.Disk.seen g.W.Window.held c.args.now c.args.visit.now _ _ refl (read_all g.D.Disk.seen c.self.inside.log c.append_batches.new.log c.append_batches.result c.in_default.not-Err c.append_batches.ensures.log) c.make_table.ensures.idle
+returns-in_err-outcome-clause-once g c = rw (← c.self.view_is) (unanswered g.D.Disk.seen g.W.Window.held c.args.now c.args.visit.now _ _ refl (read_all g.D.Disk.seen c.self.inside.log c.append_batches.new.log c.append_batches.result c.in_default.not-Err c.append_batches.ensures.log) c.make_table.ensures.runs
     c.args.limits c.requires.fetch c.from_residual-in_err-outcome.result c.from_residual-in_err-outcome.ensures.0 c.make_table.result (err_is c.make_table.result _ c.in_err-outcome.was)
     c.end.result (c.end.ensures.end ∙ ap end_of c.append_batches.ensures.log.reads.batches) c.make_table.ensures.made c.in_ok-plan.ensures.held refl)
 
@@ -83,18 +84,18 @@ invariant_of-self-in_default-outcome g c = record {
   hosted = subst (λ (l : List Batch). AreHosted c.self.inside.conf l (states_of c.make_table.new.states.entries)) (sym c.append_batches.ensures.log.reads.batches)
       (hosted_after g.D.Disk.seen g.W.Window.held c.args.now c.args.visit.now (record { conf = c.self.inside.conf; log = c.self.inside.log; states = c.self.inside.states; windows = c.self.inside.windows.entries; clock = c.self.inside.clock })
       (record { conf = c.self.inside.conf; log = c.append_batches.new.log; states = c.make_table.new.states; windows = c.prepared.new.windows.entries; clock = c.max-self-inside-2.result }) refl (read_all g.D.Disk.seen c.self.inside.log c.append_batches.new.log c.append_batches.result c.in_default.not-Err c.append_batches.ensures.log)
-      c.make_table.ensures.idle c.args.limits c.requires.fetch
+      c.make_table.ensures.runs c.args.limits c.requires.fetch
       c.make_table.result c.end.result (c.end.ensures.end ∙ ap end_of c.append_batches.ensures.log.reads.batches) c.make_table.ensures.made c.self.invariant.hosted);
   holds = subst (λ (l : List Batch). AreKept c.self.inside.conf l (states_of c.make_table.new.states.entries) (held_in g.W.Window.held c.prepared.new.windows.entries)) (sym c.append_batches.ensures.log.reads.batches)
       (wells_after g.D.Disk.seen g.W.Window.held c.args.now c.args.visit.now (record { conf = c.self.inside.conf; log = c.self.inside.log; states = c.self.inside.states; windows = c.self.inside.windows.entries; clock = c.self.inside.clock })
       (record { conf = c.self.inside.conf; log = c.append_batches.new.log; states = c.make_table.new.states; windows = c.prepared.new.windows.entries; clock = c.max-self-inside-2.result }) refl (read_all g.D.Disk.seen c.self.inside.log c.append_batches.new.log c.append_batches.result c.in_default.not-Err c.append_batches.ensures.log)
-      c.make_table.ensures.idle c.args.limits c.requires.fetch
+      c.make_table.ensures.runs c.args.limits c.requires.fetch
       c.make_table.result c.end.result (c.end.ensures.end ∙ ap end_of c.append_batches.ensures.log.reads.batches) c.make_table.ensures.made c.in_ok-plan.ensures.held c.self.invariant.holds);
   moment = omega (arith, c.self.invariant.moment, c.requires.now, c.max-self-inside-2.ensures);
 }
 
 pub returns-in_default-outcome-clause-once : goal.returns-in_default-outcome-clause-once
-returns-in_default-outcome-clause-once g c = rw (← c.self.view_is) (refused g.D.Disk.seen g.W.Window.held c.args.now c.args.visit.now _ _ refl (read_all g.D.Disk.seen c.self.inside.log c.append_batches.new.log c.append_batches.result c.in_default.not-Err c.append_batches.ensures.log) c.make_table.ensures.idle
+returns-in_default-outcome-clause-once g c = rw (← c.self.view_is) (refused g.D.Disk.seen g.W.Window.held c.args.now c.args.visit.now _ _ refl (read_all g.D.Disk.seen c.self.inside.log c.append_batches.new.log c.append_batches.result c.in_default.not-Err c.append_batches.ensures.log) c.make_table.ensures.runs
     c.args.limits c.requires.fetch c.empty.result c.in_ok-outcome.outcome c.in_default-outcome.not-Done c.empty.ensures.ack c.empty.ensures.answer c.in_ok-plan.ensures.held c.max-self-inside-2.ensures
     c.make_table.result c.in_ok-outcome.was c.end.result (c.end.ensures.end ∙ ap end_of c.append_batches.ensures.log.reads.batches) c.make_table.ensures.made)
 
@@ -104,15 +105,15 @@ invariant_of-self-2 g c = record {
   hosted = subst (λ (l : List Batch). AreHosted c.self.inside.conf l (states_of c.make_table.new.states.entries)) (sym c.append_batches.ensures.log.reads.batches)
       (hosted_after g.D.Disk.seen g.W.Window.held c.args.now c.args.visit.now (record { conf = c.self.inside.conf; log = c.self.inside.log; states = c.self.inside.states; windows = c.self.inside.windows.entries; clock = c.self.inside.clock })
       (record { conf = c.self.inside.conf; log = c.append_batches.new.log; states = c.make_table.new.states; windows = c.hand_out.new.windows.entries; clock = c.max-self-inside-2.result }) refl (read_all g.D.Disk.seen c.self.inside.log c.append_batches.new.log c.append_batches.result c.in_default.not-Err c.append_batches.ensures.log)
-      c.make_table.ensures.idle c.args.limits c.requires.fetch
+      c.make_table.ensures.runs c.args.limits c.requires.fetch
       c.make_table.result c.end.result (c.end.ensures.end ∙ ap end_of c.append_batches.ensures.log.reads.batches) c.make_table.ensures.made c.self.invariant.hosted);
   holds = subst (λ (l : List Batch). AreKept c.self.inside.conf l (states_of c.make_table.new.states.entries) (held_in g.W.Window.held c.hand_out.new.windows.entries)) (sym c.append_batches.ensures.log.reads.batches)
       (wells_took g.D.Disk.seen g.W.Window.held c.args.now c.args.visit.now (record { conf = c.self.inside.conf; log = c.self.inside.log; states = c.self.inside.states; windows = c.self.inside.windows.entries; clock = c.self.inside.clock })
       (record { conf = c.self.inside.conf; log = c.append_batches.new.log; states = c.make_table.new.states; windows = c.hand_out.new.windows.entries; clock = c.max-self-inside-2.result }) refl (read_all g.D.Disk.seen c.self.inside.log c.append_batches.new.log c.append_batches.result c.in_default.not-Err c.append_batches.ensures.log)
-      c.make_table.ensures.idle c.args.limits c.requires.fetch
+      c.make_table.ensures.runs c.args.limits c.requires.fetch
       (held_by g.D.Disk.seen g.W.Window.held c.args.now c.args.visit.now (record { conf = c.self.inside.conf; log = c.self.inside.log; states = c.self.inside.states; windows = c.self.inside.windows.entries; clock = c.self.inside.clock })
       (record { conf = c.self.inside.conf; log = c.append_batches.new.log; states = c.make_table.new.states; windows = c.hand_out.new.windows.entries; clock = c.max-self-inside-2.result }) refl (read_all g.D.Disk.seen c.self.inside.log c.append_batches.new.log c.append_batches.result c.in_default.not-Err c.append_batches.ensures.log)
-      c.make_table.ensures.idle c.args.limits c.requires.fetch
+      c.make_table.ensures.runs c.args.limits c.requires.fetch
       c.self.inside.windows.entries c.prepared.new.windows.entries (λ group. refl) c.in_ok-plan.ensures.held
       c.in_ok-plan.plan (state_for c.self.inside.conf c.self.inside.log.batches c.self.inside.states.entries c.args.visit.now.group) c.in_ok-plan.ensures.prepared.is (c.max-self-inside-2.result + c.self.inside.conf.lock_ms) refl c.hand_out.ensures.held)
       c.make_table.result (c.in_ok-outcome.was ∙ ap (λ (o : ThenOutcome). Ok o) c.in-Done.is) c.end.result (c.end.ensures.end ∙ ap end_of c.append_batches.ensures.log.reads.batches) c.make_table.ensures.made c.self.invariant.hosted c.self.invariant.holds);
@@ -128,8 +129,8 @@ returns-clause-once g c =
     let none : length c.in_ok-plan.out.bytes ≡ 0 = ap length empty in
     let len : length c.hand_out.result.batches ≤ length (numbered_bytes c.self.inside.log.batches c.in_ok-plan.plan.numbers.items) =
     omega (arith, size, none, ap length c.hand_out.ensures.batches, ap (λ (l : List ℕ). length (numbered_bytes c.self.inside.log.batches l)) c.deref.ensures.value) in
-    rw (← c.self.view_is) (fetched g.D.Disk.seen g.W.Window.held c.args.now c.args.visit.now _ _ refl (read_all g.D.Disk.seen c.self.inside.log c.append_batches.new.log c.append_batches.result c.in_default.not-Err c.append_batches.ensures.log) c.make_table.ensures.idle c.args.limits c.requires.fetch _
-    (took_by g.D.Disk.seen g.W.Window.held c.args.now c.args.visit.now _ _ refl (read_all g.D.Disk.seen c.self.inside.log c.append_batches.new.log c.append_batches.result c.in_default.not-Err c.append_batches.ensures.log) c.make_table.ensures.idle c.args.limits c.requires.fetch
+    rw (← c.self.view_is) (fetched g.D.Disk.seen g.W.Window.held c.args.now c.args.visit.now _ _ refl (read_all g.D.Disk.seen c.self.inside.log c.append_batches.new.log c.append_batches.result c.in_default.not-Err c.append_batches.ensures.log) c.make_table.ensures.runs c.args.limits c.requires.fetch _
+    (took_by g.D.Disk.seen g.W.Window.held c.args.now c.args.visit.now _ _ refl (read_all g.D.Disk.seen c.self.inside.log c.append_batches.new.log c.append_batches.result c.in_default.not-Err c.append_batches.ensures.log) c.make_table.ensures.runs c.args.limits c.requires.fetch
     c.self.inside.windows.entries c.prepared.new.windows.entries (λ group. refl) c.in_ok-plan.ensures.held
     c.in_ok-plan.plan _ c.in_ok-plan.ensures.prepared.is _ c.hand_out.ensures.ack c.hand_out.ensures.outcome c.hand_out.ensures.grants bytes len (c.max-self-inside-2.result + c.self.inside.conf.lock_ms)
     refl c.hand_out.ensures.held c.max-self-inside-2.ensures)

@@ -1,5 +1,6 @@
 use Rattle.std.proofs.Common.{ap}
 use Rattle.share_part.specs.Shards.{PartParts}
+use Rattle.share_part.proofs.Failing.{run_same}
 use Rattle.share_part.proofs.Looked.{same_read}
 use Rattle.share_part.proofs.Visiting.{idly}
 use Rattle.share_part.proofs.shard.PartShard.follow.Goals as goal
@@ -9,7 +10,7 @@ returns-in-Nothing-clause-once g c = idly g.D.Disk.seen g.W.Window.held c.args.n
     (ap (λ (p : PartParts g.row.D.Denot g.row.W.Denot). p.conf) c.pass.ensures.clock)
     (same_read g.D.Disk.seen g.met.D.Disk.only_now c.args.self.now.log c.pass.new.self.log
     (ap (λ (p : PartParts g.row.D.Denot g.row.W.Denot). p.log) c.pass.ensures.clock))
-    (ap (λ (p : PartParts g.row.D.Denot g.row.W.Denot). p.states.journal.idle) c.pass.ensures.clock) c.pass.result c.pass.ensures.ack c.pass.ensures.answer c.in-Nothing.is
+    (run_same g.D.Disk.seen c.args.self.now.states c.pass.new.self.states (ap (λ (p : PartParts g.row.D.Denot g.row.W.Denot). p.states) c.pass.ensures.clock)) c.pass.result c.pass.ensures.ack c.pass.ensures.answer c.in-Nothing.is
     (ap (λ (p : PartParts g.row.D.Denot g.row.W.Denot). p.log) c.pass.ensures.clock)
     (ap (λ (p : PartParts g.row.D.Denot g.row.W.Denot). p.states) c.pass.ensures.clock) (ap (λ (p : PartParts g.row.D.Denot g.row.W.Denot). p.windows) c.pass.ensures.clock)
     (ap (λ (p : PartParts g.row.D.Denot g.row.W.Denot). p.clock) c.pass.ensures.clock)

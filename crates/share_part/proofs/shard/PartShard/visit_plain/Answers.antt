@@ -5,10 +5,10 @@ use Rattle.share_model.specs.ForeignRules.{share_state_at}
 use Rattle.share_model.specs.declared.visit.VisitAnswer.{VisitAnswer}
 use Rattle.share_part.specs.Following.{IsFetch}
 use Rattle.share_part.specs.Hosting.{key_of}
-use Rattle.edge_io.proofs.Runs.{runs_then}
 use Rattle.share_part.specs.Once.{VisitsOnce}
 use Rattle.share_part.specs.Shards.{PartParts}
 use Rattle.share_part.proofs.Acked.{formed_done, none_acked, stands, unfollowed, unfollowed_behind, visited}
+use Rattle.share_part.proofs.Failing.{run_then}
 use Rattle.share_part.proofs.Looked.{nothing_read}
 use Rattle.share_part.proofs.shard.PartShard.visit_plain.Goals as goal
 
@@ -24,7 +24,7 @@ returns-in_err-ack-clause-once g c = rw (← c.self.view_is) (none_acked g.D.Dis
     (record { conf = c.self.inside.conf; log = c.self.inside.log; states = c.self.inside.states; windows = c.self.inside.windows.entries; clock = c.self.inside.clock })
     c.settle_acks.new.states c.settle_acks.new.windows.entries c.self.invariant.log_is c.settle_acks.ensures.range.few c.self.invariant.hosted c.self.invariant.holds
     (nothing_read g.D.Disk.seen g.met.D.Disk.only_now c.self.inside.log) c.args.now c.settle_acks.result _ c.in_err-ack.was c.settle_acks.ensures.once
-    c.settle_acks.ensures.idle c.from_residual.result c.from_residual.ensures.0)
+    c.from_residual.result c.from_residual.ensures.0)
 
 pub invariant_of-self-2 : goal.invariant_of-self-2
 invariant_of-self-2 g c =
@@ -43,7 +43,7 @@ pub returns-then-not-are_written-clause-once : goal.returns-then-not-are_written
 returns-then-not-are_written-clause-once g c = rw (← c.self.view_is) (unfollowed g.D.Disk.seen g.W.Window.held c.args.visit.now
     (record { conf = c.self.inside.conf; log = c.self.inside.log; states = c.self.inside.states; windows = c.self.inside.windows.entries; clock = c.self.inside.clock })
     c.settle_acks.new.states c.settle_acks.new.windows.entries c.self.invariant.log_is c.settle_acks.ensures.range.few c.self.invariant.hosted c.self.invariant.holds c.args.now c.follow.new.self c.settle_acks.result c.in_ok-ack.ack c.in_ok-ack.was
-    c.settle_acks.ensures.once c.settle_acks.ensures.idle c.settle_acks.ensures.runs c.follow.ensures.runs
+    c.settle_acks.ensures.once c.settle_acks.ensures.runs c.follow.ensures.runs
     (nothing_read g.D.Disk.seen g.met.D.Disk.only_now c.self.inside.log).reads _ c.follow.result c.in-Err.is c.follow.ensures.once (c.are_written.ensures.not_written (search rules)) c.in-Err.fault)
 
 pub returns-else-not-are_written-clause-once : goal.returns-else-not-are_written-clause-once
@@ -52,7 +52,7 @@ returns-else-not-are_written-clause-once g c = rw (← c.self.view_is) (subst (�
     (unfollowed_behind g.D.Disk.seen g.W.Window.held c.args.visit.now
     (record { conf = c.self.inside.conf; log = c.self.inside.log; states = c.self.inside.states; windows = c.self.inside.windows.entries; clock = c.self.inside.clock })
     c.settle_acks.new.states c.settle_acks.new.windows.entries c.self.invariant.log_is c.settle_acks.ensures.range.few c.self.invariant.hosted c.self.invariant.holds c.args.now c.follow.new.self c.settle_acks.result c.in_ok-ack.ack c.in_ok-ack.was
-    c.settle_acks.ensures.once c.settle_acks.ensures.idle c.settle_acks.ensures.runs c.follow.ensures.runs
+    c.settle_acks.ensures.once c.settle_acks.ensures.runs c.follow.ensures.runs
     _ c.follow.result c.in-Err.is c.follow.ensures.once (c.are_written.ensures.written (search rules))
     (subst (λ (p : PartParts g.row.D.Denot g.row.W.Denot). IsFetch c.args.visit.now.then → share_state_at (states_of p.states.entries) (key_of p.conf c.args.visit.now.group) ≡ None)
     (sym c.self.view_is) c.requires.table) c.in-Err.fault))
@@ -63,9 +63,9 @@ returns-in-Ok-clause-once g c = rw (← c.self.view_is) (subst (λ (a : VisitAns
     (visited g.D.Disk.seen g.W.Window.held c.args.visit.now
     (record { conf = c.self.inside.conf; log = c.self.inside.log; states = c.self.inside.states; windows = c.self.inside.windows.entries; clock = c.self.inside.clock })
     c.settle_acks.new.states c.settle_acks.new.windows.entries c.self.invariant.log_is c.settle_acks.ensures.range.few c.self.invariant.hosted c.self.invariant.holds c.args.now c.follow.new.self c.settle_acks.result c.in_ok-ack.ack c.in_ok-ack.was
-    c.settle_acks.ensures.once c.settle_acks.ensures.idle c.settle_acks.ensures.runs c.follow.ensures.runs
+    c.settle_acks.ensures.once c.settle_acks.ensures.runs c.follow.ensures.runs
     _ c.follow.result c.in-Ok.is c.follow.ensures.once))
 
 pub returns-in-Ok-clause-runs : goal.returns-in-Ok-clause-runs
-returns-in-Ok-clause-runs g c = rw (← c.self.view_is) (runs_then g.D.Disk.seen
-    c.self.inside.states.journal.live.disk c.settle_acks.new.states.journal.live.disk c.follow.new.self.states.journal.live.disk c.settle_acks.ensures.runs c.follow.ensures.runs)
+returns-in-Ok-clause-runs g c = rw (← c.self.view_is) (run_then g.D.Disk.seen
+    c.self.inside.states c.settle_acks.new.states c.follow.new.self.states c.settle_acks.ensures.runs c.follow.ensures.runs)

@@ -1,7 +1,6 @@
 use Rattle.std.proofs.Common.{◌≡◌, ◌∙◌, ◌+◌, ◌++◌, ◌≤◌, ◌<◌, refl, sym, ap, subst, arith, rules, length, List, [], ℕ}
 use Rattle.std.specs.List.{AllByRecursion}
 use Rattle.std.specs.Prelude.{Ok, IsSome}
-use Rattle.edge_io.proofs.Runs.{runs_none}
 use Rattle.edge_io.specs.Disk.{IsTold}
 use Rattle.part_log.specs.Logs.{IsStoredLog}
 use Rattle.share_coord.specs.States.{states_of}
@@ -20,6 +19,7 @@ use Rattle.share_part.specs.Shards.{PartParts, held_in}
 use Rattle.share_part.proofs.Acked.{Acked, acked_from, none_acked, ok_same, stands, visited}
 use Rattle.share_part.proofs.Ahead.{goes_by, made_there, none_ready}
 use Rattle.share_part.proofs.Appending.{all_within, numbered_is}
+use Rattle.share_part.proofs.Failing.{run_none}
 use Rattle.share_part.proofs.Holding.{AreKept}
 use Rattle.share_part.proofs.Looked.{nothing_read, read_all, read_not}
 use Rattle.share_part.proofs.Visiting.{err_is, fetched, held_by, took_by, unread_so, wells_took}
@@ -56,7 +56,7 @@ returns-in_err-ack-clause-once g c = rw (← c.self.view_is) (none_acked g.D.Dis
     (record { conf = c.self.inside.conf; log = c.self.inside.log; states = c.self.inside.states; windows = c.self.inside.windows.entries; clock = c.self.inside.clock })
     c.settle_acks.new.states c.settle_acks.new.windows.entries c.self.invariant.log_is c.settle_acks.ensures.range.few c.self.invariant.hosted c.self.invariant.holds
     (held_in g.W.Window.held c.ready.new.windows.entries) c.in_ok-ready.ensures.held c.settle_acks.result c.settle_acks.ensures.once)
-    c.settle_acks.ensures.idle c.from_residual-in_err-ack.result c.from_residual-in_err-ack.ensures.0)
+    c.from_residual-in_err-ack.result c.from_residual-in_err-ack.ensures.0)
 
 pub append_batches-requires-clause-numbers : goal.append_batches-requires-clause-numbers
 append_batches-requires-clause-numbers g c = let goes = (goes_by g.D.Disk.seen g.W.Window.held c.args.visit.now
@@ -127,7 +127,7 @@ returns-in-Err-clause-once g c =
     (record { conf = c.self.inside.conf; log = c.self.inside.log; states = c.self.inside.states; windows = c.self.inside.windows.entries; clock = c.self.inside.clock })
     c.settle_acks.new.states c.settle_acks.new.windows.entries c.self.invariant.log_is c.settle_acks.ensures.range.few c.self.invariant.hosted c.self.invariant.holds
     (held_in g.W.Window.held c.ready.new.windows.entries) c.in_ok-ready.ensures.held c.settle_acks.result c.settle_acks.ensures.once)
-    c.settle_acks.ensures.idle c.settle_acks.ensures.runs (runs_none g.D.Disk.seen c.settle_acks.new.states.journal.live.disk)
+    c.settle_acks.ensures.runs (run_none g.D.Disk.seen c.settle_acks.new.states)
     c.unread.result (Ok c.unread.result) refl
     (unread_so g.D.Disk.seen g.W.Window.held c.args.now c.args.visit.now (record { conf = c.self.inside.conf; log = c.self.inside.log; states = c.settle_acks.new.states; windows = c.settle_acks.new.windows.entries; clock = c.self.inside.clock }) (record { conf = c.self.inside.conf; log = c.append_batches.new.log; states = c.settle_acks.new.states; windows = c.settle_acks.new.windows.entries; clock = c.max-self-inside.result }) refl (read_not g.D.Disk.seen c.self.inside.log c.append_batches.new.log c.append_batches.result (err_is c.append_batches.result _ c.in-Err.is) c.append_batches.ensures.log) refl
     (subst IsFetch (sym c.requires.fetch) tt) c.unread.result c.unread.ensures.ack c.unread.ensures.answer (λ group. refl) c.max-self-inside.ensures)))
@@ -183,10 +183,10 @@ invariant_of-self-2 g c =
       holds = subst (λ (l : List Batch). AreKept c.self.inside.conf l (states_of c.settle_acks.new.states.entries) (held_in g.W.Window.held c.hand_out-answer.new.windows.entries)) (sym c.append_batches.ensures.log.reads.batches)
           (wells_took g.D.Disk.seen g.W.Window.held c.args.now c.args.visit.now (record { conf = c.self.inside.conf; log = c.self.inside.log; states = c.settle_acks.new.states; windows = c.settle_acks.new.windows.entries; clock = c.self.inside.clock })
           (record { conf = c.self.inside.conf; log = c.append_batches.new.log; states = c.settle_acks.new.states; windows = c.hand_out-answer.new.windows.entries; clock = c.max-self-inside.result })
-          refl (read_all g.D.Disk.seen c.self.inside.log c.append_batches.new.log c.append_batches.result c.in_default.not-Err c.append_batches.ensures.log) refl c.args.limits c.requires.fetch
+          refl (read_all g.D.Disk.seen c.self.inside.log c.append_batches.new.log c.append_batches.result c.in_default.not-Err c.append_batches.ensures.log) (run_none g.D.Disk.seen c.settle_acks.new.states) c.args.limits c.requires.fetch
           (held_by g.D.Disk.seen g.W.Window.held c.args.now c.args.visit.now (record { conf = c.self.inside.conf; log = c.self.inside.log; states = c.settle_acks.new.states; windows = c.settle_acks.new.windows.entries; clock = c.self.inside.clock })
           (record { conf = c.self.inside.conf; log = c.append_batches.new.log; states = c.settle_acks.new.states; windows = c.hand_out-answer.new.windows.entries; clock = c.max-self-inside.result })
-          refl (read_all g.D.Disk.seen c.self.inside.log c.append_batches.new.log c.append_batches.result c.in_default.not-Err c.append_batches.ensures.log) refl c.args.limits c.requires.fetch
+          refl (read_all g.D.Disk.seen c.self.inside.log c.append_batches.new.log c.append_batches.result c.in_default.not-Err c.append_batches.ensures.log) (run_none g.D.Disk.seen c.settle_acks.new.states) c.args.limits c.requires.fetch
           c.settle_acks.new.windows.entries c.settle_acks.new.windows.entries (λ group. refl) (λ group. refl)
           c.chosen-plan.result.0 (state_for c.self.inside.conf c.self.inside.log.batches c.settle_acks.new.states.entries c.args.visit.now.group) goes.planned
           (c.max-self-inside.result + c.self.inside.conf.lock_ms) refl c.hand_out-answer.ensures.held)
@@ -227,14 +227,14 @@ returns-clause-once g c =
     (record { conf = c.self.inside.conf; log = c.self.inside.log; states = c.self.inside.states; windows = c.self.inside.windows.entries; clock = c.self.inside.clock })
     c.settle_acks.new.states c.settle_acks.new.windows.entries c.self.invariant.log_is c.settle_acks.ensures.range.few c.self.invariant.hosted c.self.invariant.holds
     (held_in g.W.Window.held c.ready.new.windows.entries) c.in_ok-ready.ensures.held c.settle_acks.result c.settle_acks.ensures.once)
-    c.settle_acks.ensures.idle c.settle_acks.ensures.runs (runs_none g.D.Disk.seen c.settle_acks.new.states.journal.live.disk)
+    c.settle_acks.ensures.runs (run_none g.D.Disk.seen c.settle_acks.new.states)
     c.hand_out-answer.result (Ok c.hand_out-answer.result) refl
     (fetched g.D.Disk.seen g.W.Window.held c.args.now c.args.visit.now (record { conf = c.self.inside.conf; log = c.self.inside.log; states = c.settle_acks.new.states; windows = c.settle_acks.new.windows.entries; clock = c.self.inside.clock })
     (record { conf = c.self.inside.conf; log = c.append_batches.new.log; states = c.settle_acks.new.states; windows = c.hand_out-answer.new.windows.entries; clock = c.max-self-inside.result })
-    refl (read_all g.D.Disk.seen c.self.inside.log c.append_batches.new.log c.append_batches.result c.in_default.not-Err c.append_batches.ensures.log) refl c.args.limits c.requires.fetch c.hand_out-answer.result
+    refl (read_all g.D.Disk.seen c.self.inside.log c.append_batches.new.log c.append_batches.result c.in_default.not-Err c.append_batches.ensures.log) (run_none g.D.Disk.seen c.settle_acks.new.states) c.args.limits c.requires.fetch c.hand_out-answer.result
     (took_by g.D.Disk.seen g.W.Window.held c.args.now c.args.visit.now (record { conf = c.self.inside.conf; log = c.self.inside.log; states = c.settle_acks.new.states; windows = c.settle_acks.new.windows.entries; clock = c.self.inside.clock })
     (record { conf = c.self.inside.conf; log = c.append_batches.new.log; states = c.settle_acks.new.states; windows = c.hand_out-answer.new.windows.entries; clock = c.max-self-inside.result })
-    refl (read_all g.D.Disk.seen c.self.inside.log c.append_batches.new.log c.append_batches.result c.in_default.not-Err c.append_batches.ensures.log) refl c.args.limits c.requires.fetch
+    refl (read_all g.D.Disk.seen c.self.inside.log c.append_batches.new.log c.append_batches.result c.in_default.not-Err c.append_batches.ensures.log) (run_none g.D.Disk.seen c.settle_acks.new.states) c.args.limits c.requires.fetch
     c.settle_acks.new.windows.entries c.settle_acks.new.windows.entries (λ group. refl) (λ group. refl)
     c.chosen-plan.result.0 _ goes.planned c.hand_out-answer.result c.hand_out-answer.ensures.ack c.hand_out-answer.ensures.outcome c.hand_out-answer.ensures.grants bytes len
     (c.max-self-inside.result + c.self.inside.conf.lock_ms) refl c.hand_out-answer.ensures.held c.max-self-inside.ensures)
