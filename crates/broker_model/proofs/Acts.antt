@@ -9,7 +9,7 @@ use Rattle.conn_core.specs.declared.next.Next.{Next}
 use Rattle.conn_core.specs.declared.next.Next.TheVariants.{Idle, Ask, Ready, Closed as NextClosed, Gone}
 use Rattle.conn_core.specs.Conns.{ConnParts}
 use Rattle.conn_core.specs.Turning.{turn}
-use Rattle.broker_model.specs.Hosted.{Hosted, ChangesAt, IsOneOf, IsTaken, disks_of, first_of, hosted_of, log_of, part_disks}
+use Rattle.broker_model.specs.Hosted.{Hosted, ChangesAt, IsOneOf, IsTaken, disks_of, first_of, hosted_of, log_of, part_disks, second_of}
 use Rattle.share_members.specs.Groups.{Memberships}
 use Rattle.broker_model.specs.Shards.{Counts, HostedPart, MembersCall, PartCall, Shards, ShardCall, StepsHosted, StepsMembers, StepsShards, hosted_by, Ends}
 use Rattle.broker_model.specs.Shards.ShardCall.{CallForeign, CallPart, CallMembers}
@@ -87,6 +87,9 @@ module _ (conf : ConfigParts) (h : Hosted) (hosted : IsOf (hosted_of conf) h) wh
 
   pub first_taken : IsTaken conf (first_of h)
   first_taken = inl (disks_in (hosted_of conf) h (first_of h) hosted (inr (inl refl)))
+
+  pub second_taken : IsTaken conf (second_of h)
+  second_taken = inl (disks_in (hosted_of conf) h (second_of h) hosted (inr (inr (inl refl))))
 
 module _ (counts : Counts) (ends : Ends) where
   module _ (now : ℕ) (hosted : Hosted) (did : PartCall) where

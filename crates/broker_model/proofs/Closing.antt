@@ -45,8 +45,8 @@ use Rattle.share_part.specs.Tables.{delivery_of, one_more, table_of, unless_held
 use Rattle.share_part.specs.Walks.{acquired}
 use Rattle.share_part.specs.declared.limits.Limits.{Limits}
 use Rattle.topic_conf.specs.Configs.{ConfigParts}
-use Rattle.broker_model.specs.Hosted.{Hosted, first_of}
-use Rattle.broker_model.specs.Shards.{HostedPart, PartCall, StepsPart}
+use Rattle.broker_model.specs.Hosted.{Hosted, first_of, state_store}
+use Rattle.broker_model.specs.Shards.{HostedPart, PartCall, StepsPart, faults_before, faults_behind}
 use Rattle.broker_model.specs.Shards.PartCall.{Visits, Produces, Looks, Expires}
 use Rattle.broker_model.specs.Keeping.{HasKept, IsActedOnIn, KeepsAcknowledgements}
 use Rattle.broker_model.specs.Locks.{Record}
@@ -364,8 +364,8 @@ module _ (o : ℕ) (row : Row) (closed : is_closed_state row.state ≡ true) (gr
       → StepsPart true (counts_of s.before s.after) (ends_of s.before s.after) now h x did y → Keeps o row h.conf group x.log.batches x
       → Keeps o row h.conf group x.log.batches y
   part_keeps s now h x y (Visits visit answer unread) is_log p k =
-      let c = (counts_of s.before s.after (first_of h)).0 in
-      let l = (counts_of s.before s.after (first_of h)).1 in
+      let c = faults_before (counts_of s.before s.after) (state_store h) in
+      let l = faults_behind (counts_of s.before s.after) (state_store h) in
       follows_keep o row closed h.conf group x.log.batches is_log true (Rose p.counted l) p.at p.between visit answer y
       (ap (λ (z : LogShardState). z.batches) p.acks.log) _ unread p.does
       (acks_keep o row closed h.conf group x.log.batches is_log true (Rose c p.counted) (s.before.ends (first_of h)) x visit answer p.between refl answer.ack p.acks.does k)
@@ -432,15 +432,15 @@ module _ (conf : ConfigParts) (r : Record) (s : Step) (c : IsActedOnIn r s) (ste
     p : StepsPart true (counts_of s.before s.after) (ends_of s.before s.after) call_of.now c.hosted call_of.old.shard (Visits c.visit c.answer c.unread) call_of.new.shard
     p = call_of.step.step
 
-    does : Acknowledges c.hosted.conf (Rose (counts_of s.before s.after (first_of c.hosted)).0 p.counted) (s.before.ends (first_of c.hosted))
+    does : Acknowledges c.hosted.conf (Rose (faults_before (counts_of s.before s.after) (state_store c.hosted)) p.counted) (s.before.ends (first_of c.hosted))
         call_of.old.shard c.visit p.between acknowledged
-    does = subst (λ (ack : AckOutcome). Acknowledges c.hosted.conf (Rose (counts_of s.before s.after (first_of c.hosted)).0 p.counted)
+    does = subst (λ (ack : AckOutcome). Acknowledges c.hosted.conf (Rose (faults_before (counts_of s.before s.after) (state_store c.hosted)) p.counted)
         (s.before.ends (first_of c.hosted)) call_of.old.shard c.visit p.between ack) c.done p.acks.does
 
     h : (hold : Hold) × (hold_at (call_of.old.shard.held c.visit.group) r.offset ≡ Some hold)
     h = held_some c.visit.member (hold_at (call_of.old.shard.held c.visit.group) r.offset) (does.0.1 r.offset (subst IsSome (sym c.named) refl))
 
-    by_stored : StoresActs c.hosted.conf (Rose (counts_of s.before s.after (first_of c.hosted)).0 p.counted) (s.before.ends (first_of c.hosted))
+    by_stored : StoresActs c.hosted.conf (Rose (faults_before (counts_of s.before s.after) (state_store c.hosted)) p.counted) (s.before.ends (first_of c.hosted))
         call_of.old.shard c.visit.group (kind_at c.visit.acks) p.between None → Begun
     by_stored (inl none) = absurd (none_not c.kind (sym (none.0 r.offset) ∙ c.named))
     by_stored (inr some) =

@@ -17,8 +17,8 @@ use Rattle.share_model.specs.declared.run.Run.{Run}
 use Rattle.share_model.specs.Keys.{KeyParts, key_cmp}
 use Rattle.foreign_coord.specs.Shards.{ForeignShardState, IsDone, StepsForeign, is_granted, writes}
 use Rattle.topic_conf.specs.Configs.{ConfigParts}
-use Rattle.broker_model.specs.Hosted.{Hosted, state_a}
-use Rattle.broker_model.specs.Shards.{Counts, MembersCall, PartCall, Shards, ShardCall, StepsShards, rose_at, Ends as JournalEnds}
+use Rattle.broker_model.specs.Hosted.{Hosted, state_a, foreign_store}
+use Rattle.broker_model.specs.Shards.{Counts, MembersCall, PartCall, Shards, ShardCall, StepsShards, Ends as JournalEnds, rose_on}
 use Rattle.broker_model.specs.Shards.ShardCall.{CallForeign, CallPart, CallMembers}
 use Rattle.broker_model.specs.Machine.{Lands}
 use Rattle.broker_model.specs.Steps.{IsRestart, StepsTo}
@@ -188,7 +188,7 @@ module _ (counts : Counts) (ends : JournalEnds) (unfinished : Option ForeignOp) 
   shard_completes : (now : ℕ) (did : ShardCall) → StepsShards counts ends now old did new
       → IsCompleted (CompletesCall old.foreign.states unfinished (Some did)) old.foreign new.foreign
   shard_completes now (CallForeign op answer fault) p =
-      did_completes unfinished old.foreign new.foreign tied (rose_at counts state_a) (ends state_a).0 op answer fault p.0
+      did_completes unfinished old.foreign new.foreign tied (rose_on counts foreign_store) (ends state_a).0 op answer fault p.0
   shard_completes now (CallPart shard hosted did) p = part_completes unfinished old.foreign new.foreign tied shard hosted did p.2
   shard_completes now (CallMembers did) p = members_complete unfinished old.foreign new.foreign tied did p.2
 

@@ -1,6 +1,5 @@
 -- No more writes and readings fail on a disk in a step than its count rises by.
 use Rattle.std.proofs.Common.{◌≡◌, ◌≤◌, ◌+◌, inl, inr, ⊎_elim, refl, sym, subst, arith, ℕ, List, [], ◌∷◌, Bool, true, false, cond, Option, Some, None, if◌then◌else◌}
-use Rattle.std.specs.Cmp.Lexicographic.{same_text}
 use Rattle.edge_io.specs.Causes.{Rose}
 use Rattle.session_script.specs.declared.event.Event.{Event}
 use Rattle.session_script.specs.declared.event.Outcome.{Outcome}
@@ -32,8 +31,8 @@ use Rattle.share_part.specs.Visits.{StepsVisit}
 use Rattle.share_part.specs.declared.limits.Limits.{Limits}
 use Rattle.call_fold.specs.declared.part.Produced.{Produced}
 use Rattle.call_fold.specs.declared.part.Produced.TheVariants.{Base, Batch, Store}
-use Rattle.broker_model.specs.Hosted.{Hosted, first_of, log_of, same_name, state_a}
-use Rattle.broker_model.specs.Shards.{Counts, PartCall, Shards, ShardCall, StepsHosted, StepsPart, StepsShards, faults_met, failures_in, log_faults_met, result_of, state_faults_met, store_fault_of_ack, store_fault_of_expiry, store_fault_of_log, store_fault_of_then, Ends}
+use Rattle.broker_model.specs.Hosted.{Hosted, log_of, state_a, StoreDisks, log_store, state_store, foreign_store, same_store}
+use Rattle.broker_model.specs.Shards.{Counts, PartCall, Shards, ShardCall, StepsHosted, StepsPart, StepsShards, faults_met, failures_in, log_faults_met, result_of, state_faults_met, store_fault_of_ack, store_fault_of_expiry, store_fault_of_log, store_fault_of_then, Ends, faults_before, faults_behind}
 use Rattle.broker_model.specs.Shards.ShardCall.{CallForeign, CallPart, CallMembers}
 use Rattle.broker_model.specs.Shards.PartCall.{Visits, Produces, Looks, Expires}
 use Rattle.broker_model.specs.Machine.{Machine}
@@ -41,6 +40,7 @@ use Rattle.broker_model.specs.Steps.{IsRestart, StepsTo}
 use Rattle.broker_model.specs.Disks.{Covers}
 use Rattle.broker_model.proofs.Lists.{change_of}
 use Rattle.broker_model.proofs.Acts.{Acts, step_acts, power_or_not}
+use Rattle.broker_model.proofs.Stores.{one_store}
 
 pub covers_none : (a b : ℕ) → a ≤ b → Covers a b 0
 covers_none a b le = omega (arith, le)
@@ -140,66 +140,75 @@ groups_met conf a b end last (group ∷ groups) freed old answer new (inr p) =
     subst (λ (x : ExpireAnswer). Covers a b (faults_met (store_fault_of_expiry x))) (sym p.1)
     (acts_met a b p.2.counts conf end old new group _ (Some p.0) p.2.stores)
 
-module _ (counts : Counts) (ends : Ends) (name : List ℕ) (later : (counts name).0 ≤ (counts name).1) where
-  abbrev CoversAt : List ℕ → ℕ → Type 0
-  CoversAt disk n = Covers (counts disk).0 (counts disk).1 n
+module _ (counts : Counts) (ends : Ends) where
+  abbrev CoversAt : StoreDisks → ℕ → Type 0
+  CoversAt store n = Covers (faults_before counts store) (faults_behind counts store) n
 
-  -- those of a disk, where this is that disk
-  met_at : (disk : List ℕ) (n : ℕ) → ((counts disk).0 ≤ (counts disk).1 → CoversAt disk n) → CoversAt name (cond (same_name name disk) n 0)
-  met_at disk n met = go (same_name name disk) refl where
-    go : (b : Bool) → same_name name disk ≡ b → CoversAt name (cond b n 0)
-    go true is =
-        let one : name ≡ disk = same_text name disk (sym is) in
-        subst (λ (d : List ℕ). CoversAt d n) (sym one) (met (subst (λ (d : List ℕ). (counts d).0 ≤ (counts d).1) one later))
-    go false is = covers_none (counts name).0 (counts name).1 later
+  abbrev Later : StoreDisks → Type 0
+  Later store = faults_before counts store ≤ faults_behind counts store
 
-  -- those of the first state disk and of the log's, where this is one of the two
-  met_on : (first log : List ℕ) (n m : ℕ) → ((counts first).0 ≤ (counts first).1 → CoversAt first n)
-      → ((counts log).0 ≤ (counts log).1 → CoversAt log m) → CoversAt name (cond (same_name name first) n (cond (same_name name log) m 0))
-  met_on first log n m met also = go (same_name name first) refl where
-    go : (b : Bool) → same_name name first ≡ b → CoversAt name (cond b n (cond (same_name name log) m 0))
-    go true is =
-        let one : name ≡ first = same_text name first (sym is) in
-        subst (λ (d : List ℕ). CoversAt d n) (sym one) (met (subst (λ (d : List ℕ). (counts d).0 ≤ (counts d).1) one later))
-    go false is = met_at log m also
+  module _ (store : StoreDisks) (later : Later store) where
+    none_met : CoversAt store 0
+    none_met = covers_none (faults_before counts store) (faults_behind counts store) later
 
-  part_met : (now : ℕ) (h : Hosted) (old new : PartShardState) (shard : ℕ) (did : PartCall) → StepsPart true counts ends now h old did new
-      → CoversAt name (failures_in name (Some (CallPart shard h did)))
-  part_met now h old new shard (Visits visit answer unread) step =
-      met_on (first_of h) (log_of h) (state_faults_met (Visits visit answer unread)) (log_faults_met (Visits visit answer unread))
-      (λ le. visit_met h.conf _ (counts (first_of h)).0 (counts (first_of h)).1 (ends (first_of h)).0 (ends (first_of h)).1 old new now visit answer step)
-      (λ le. unread_met (counts (log_of h)).0 (counts (log_of h)).1 le h.conf step.at step.between new true _ visit answer unread step.does)
-  part_met now h old new shard (Produces batch produced) step =
-      met_on (first_of h) (log_of h) 0 (log_faults_met (Produces batch produced)) (λ le. covers_none (counts (first_of h)).0 (counts (first_of h)).1 le)
-      (λ le. log_met (counts (log_of h)).0 (counts (log_of h)).1 le (ends (log_of h)).0 old.log new.log batch produced step.log)
-  part_met now h old new shard (Looks group looked) step =
-      met_on (first_of h) (log_of h) 0 0 (λ le. covers_none (counts (first_of h)).0 (counts (first_of h)).1 le)
-      (λ le. covers_none (counts (log_of h)).0 (counts (log_of h)).1 le)
-  part_met now h old new shard (Expires answer) step =
-      met_on (first_of h) (log_of h) (state_faults_met (Expires answer)) 0
-      (λ le. groups_met h.conf (counts (first_of h)).0 (counts (first_of h)).1 (ends (first_of h)).0 (ends (first_of h)).1 _ 0 _ answer new step.groups)
-      (λ le. covers_none (counts (log_of h)).0 (counts (log_of h)).1 le)
+    -- those of a store, where this is that store
+    met_at : (other : StoreDisks) (n : ℕ) → (Later other → CoversAt other n) → CoversAt store (cond (same_store store other) n 0)
+    met_at other n met = go (same_store store other) refl where
+      go : (b : Bool) → same_store store other ≡ b → CoversAt store (cond b n 0)
+      go true is =
+          let one : store ≡ other = one_store store other is in
+          subst (λ (d : StoreDisks). CoversAt d n) (sym one) (met (subst Later one later))
+      go false is = none_met
 
-  did_counts : (now : ℕ) (old new : Shards) (did : ShardCall) → StepsShards counts ends now old did new → CoversAt name (failures_in name (Some did))
-  did_counts now old new (CallForeign op answer fault) step =
-      met_at state_a (faults_met fault)
-      (λ le. foreign_met (counts state_a).0 (counts state_a).1 le (ends state_a).0 old.foreign new.foreign op answer fault step.0)
-  did_counts now old new (CallPart shard hosted did) step =
-      change_of shard (StepsHosted counts ends now hosted did)
-      (λ e f s. part_met now hosted e.shard f.shard shard did s.step) old.parts new.parts step.0
-  did_counts now old new (CallMembers did) step = covers_none (counts name).0 (counts name).1 later
+    -- those of one store and of another, where this is one of the two
+    met_on : (first log : StoreDisks) (n m : ℕ) → (Later first → CoversAt first n) → (Later log → CoversAt log m)
+        → CoversAt store (cond (same_store store first) n (cond (same_store store log) m 0))
+    met_on first log n m met also = go (same_store store first) refl where
+      go : (b : Bool) → same_store store first ≡ b → CoversAt store (cond b n (cond (same_store store log) m 0))
+      go true is =
+          let one : store ≡ first = one_store store first is in
+          subst (λ (d : StoreDisks). CoversAt d n) (sym one) (met (subst Later one later))
+      go false is = met_at log m also
 
-  counted : (old new : Shards) (call : Option ShardCall) → Acts counts ends old new call → CoversAt name (failures_in name call)
-  counted old new call (inl quiet) =
-      subst (λ (c : Option ShardCall). CoversAt name (failures_in name c)) (sym quiet.none) (covers_none (counts name).0 (counts name).1 later)
-  counted old new call (inr d) =
-      subst (λ (c : Option ShardCall). CoversAt name (failures_in name c)) (sym d.is) (did_counts d.now old new d.did d.step)
+    part_met : (now : ℕ) (h : Hosted) (old new : PartShardState) (shard : ℕ) (did : PartCall) → StepsPart true counts ends now h old did new
+        → CoversAt store (failures_in store (Some (CallPart shard h did)))
+    part_met now h old new shard (Visits visit answer unread) step =
+        met_on (state_store h) (log_store h) (state_faults_met (Visits visit answer unread)) (log_faults_met (Visits visit answer unread))
+        (λ le. visit_met h.conf _ _ _ _ _ old new now visit answer step)
+        (λ le. unread_met (counts (log_of h)).0 (counts (log_of h)).1 le h.conf step.at step.between new true _ visit answer unread step.does)
+    part_met now h old new shard (Produces batch produced) step =
+        met_on (state_store h) (log_store h) 0 (log_faults_met (Produces batch produced))
+        (λ le. covers_none (faults_before counts (state_store h)) (faults_behind counts (state_store h)) le)
+        (λ le. log_met (counts (log_of h)).0 (counts (log_of h)).1 le (ends (log_of h)).0 old.log new.log batch produced step.log)
+    part_met now h old new shard (Looks group looked) step =
+        met_on (state_store h) (log_store h) 0 0
+        (λ le. covers_none (faults_before counts (state_store h)) (faults_behind counts (state_store h)) le)
+        (λ le. covers_none (counts (log_of h)).0 (counts (log_of h)).1 le)
+    part_met now h old new shard (Expires answer) step =
+        met_on (state_store h) (log_store h) (state_faults_met (Expires answer)) 0
+        (λ le. groups_met h.conf _ _ _ _ _ 0 _ answer new step.groups)
+        (λ le. covers_none (counts (log_of h)).0 (counts (log_of h)).1 le)
 
-  pub step_counts : (conf : ConfigParts) (old : Machine) (event : Event) (call : Option ShardCall) (outcomes : List Outcome) (new : Machine)
-      → StepsTo conf counts ends old event call outcomes new → CoversAt name (failures_in name call)
-  step_counts conf old event call outcomes new does = ⊎_elim
-      (λ free. counted old.shards new.shards call (step_acts counts ends conf old new call outcomes event free does))
-      (λ p.
-      let restart : IsRestart old call outcomes new = subst (λ (e : Event). StepsTo conf counts ends old e call outcomes new) p.1 does in
-      subst (λ (c : Option ShardCall). CoversAt name (failures_in name c)) (sym restart.none) (covers_none (counts name).0 (counts name).1 later))
-      (power_or_not event)
+    did_counts : (now : ℕ) (old new : Shards) (did : ShardCall) → StepsShards counts ends now old did new → CoversAt store (failures_in store (Some did))
+    did_counts now old new (CallForeign op answer fault) step =
+        met_at foreign_store (faults_met fault)
+        (λ le. foreign_met (faults_before counts foreign_store) (faults_behind counts foreign_store) le (ends state_a).0 old.foreign new.foreign op answer fault step.0)
+    did_counts now old new (CallPart shard hosted did) step =
+        change_of shard (StepsHosted counts ends now hosted did)
+        (λ e f s. part_met now hosted e.shard f.shard shard did s.step) old.parts new.parts step.0
+    did_counts now old new (CallMembers did) step = none_met
+
+    counted : (old new : Shards) (call : Option ShardCall) → Acts counts ends old new call → CoversAt store (failures_in store call)
+    counted old new call (inl quiet) =
+        subst (λ (c : Option ShardCall). CoversAt store (failures_in store c)) (sym quiet.none) none_met
+    counted old new call (inr d) =
+        subst (λ (c : Option ShardCall). CoversAt store (failures_in store c)) (sym d.is) (did_counts d.now old new d.did d.step)
+
+    pub step_counts : (conf : ConfigParts) (old : Machine) (event : Event) (call : Option ShardCall) (outcomes : List Outcome) (new : Machine)
+        → StepsTo conf counts ends old event call outcomes new → CoversAt store (failures_in store call)
+    step_counts conf old event call outcomes new does = ⊎_elim
+        (λ free. counted old.shards new.shards call (step_acts counts ends conf old new call outcomes event free does))
+        (λ p.
+        let restart : IsRestart old call outcomes new = subst (λ (e : Event). StepsTo conf counts ends old e call outcomes new) p.1 does in
+        subst (λ (c : Option ShardCall). CoversAt store (failures_in store c)) (sym restart.none) none_met)
+        (power_or_not event)

@@ -175,5 +175,5 @@ all_of (e ∷ es) all = (all.0, all_of es all.1)
 
 pub stored_tell : (first second : List ℕ) (states : ShareStates) → StandForStates first second states → StatesTellHistories states
 stored_tell first second states s =
-    let read = all_read s.1.frames [] s.0 s.1.accepted (record { rises = tt; all = tt }) in
+    let read = all_read _ [] s.0 s.1.taken (record { rises = tt; all = tt }) in
     subst StatesTellHistories (sym s.2) (tells (states_of s.0) (rises_of s.0 read.rises) (all_of s.0 read.all))

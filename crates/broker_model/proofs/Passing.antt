@@ -48,8 +48,8 @@ use Rattle.share_part.specs.declared.settle.Whose.TheVariants.{Member, Due}
 use Rattle.call_fold.specs.declared.part.Produced.{Produced}
 use Rattle.call_fold.specs.declared.part.Produced.TheVariants.{Base, Batch, Store}
 use Rattle.topic_conf.specs.Configs.{ConfigParts}
-use Rattle.broker_model.specs.Hosted.{Hosted, HoldsAt, first_of}
-use Rattle.broker_model.specs.Shards.{HostedPart, PartCall, StepsPart, result_of}
+use Rattle.broker_model.specs.Hosted.{Hosted, HoldsAt, state_store}
+use Rattle.broker_model.specs.Shards.{HostedPart, PartCall, StepsPart, result_of, faults_before, faults_behind}
 use Rattle.broker_model.specs.Shards.ShardCall.{CallPart}
 use Rattle.broker_model.specs.Shards.PartCall.{Visits, Produces, Looks, Expires}
 use Rattle.broker_model.specs.Machine.{OpensPart}
@@ -517,8 +517,8 @@ module _ (r : Record) (s : Step) (Reason : Type 0) (cause : Closes r s ⊎ IsMad
       part_keeps : (now : ℕ) (did : PartCall) → s.call ≡ Some (CallPart r.shard hosted did)
           → StepsPart true (counts_of s.before s.after) (ends_of s.before s.after) now hosted x.shard did y.shard → Kept x.shard → Kept y.shard
       part_keeps now (Visits visit answer unread) call p k =
-          let c = (counts_of s.before s.after (first_of hosted)).0 in
-          let l = (counts_of s.before s.after (first_of hosted)).1 in
+          let c = faults_before (counts_of s.before s.after) (state_store hosted) in
+          let l = faults_behind (counts_of s.before s.after) (state_store hosted) in
           let same_log : p.between.log.batches ≡ x.shard.log.batches = ap (λ (l : LogShardState). l.batches) p.acks.log in
           follows_keeps visit answer unread call _ (Rose p.counted l) p.at p.between (subst IsLog (sym same_log) is_log) (subst (IsSlotYet r.offset) (sym same_log) slot)
           (λ hold at. acks_hold_back hosted.conf (Rose c p.counted) _ x.shard visit p.between answer.ack p.acks.does r.group r.offset hold at)

@@ -11,8 +11,8 @@ use Rattle.share_model.specs.declared.visit.VisitAnswer.{VisitAnswer}
 use Rattle.share_part.specs.Acknowledging.{Acknowledges, AreTheirs}
 use Rattle.share_part.specs.Shards.{PartShardState}
 use Rattle.topic_conf.specs.Configs.{ConfigParts}
-use Rattle.broker_model.specs.Hosted.{Hosted, first_of}
-use Rattle.broker_model.specs.Shards.{HostedPart}
+use Rattle.broker_model.specs.Hosted.{Hosted, first_of, state_store}
+use Rattle.broker_model.specs.Shards.{HostedPart, faults_before, faults_behind}
 use Rattle.broker_model.specs.Shards.PartCall.{Visits}
 use Rattle.broker_model.specs.Refusals.{IsDoneOrUnstored, TakesWhatIsHeld}
 use Rattle.broker_model.specs.Runs.{Step, IsRun}
@@ -24,14 +24,14 @@ rose_later : (a b c : ℕ) → Rose a b → b ≤ c → Rose a c
 rose_later a b c rose le = omega (arith, rose, le)
 
 module _ (s : Step) (hosted : Hosted) (p : HostedPart) (visit : Visit) (answer : VisitAnswer) (theirs : AreTheirs p.shard visit) where
-  by_answer : (counted : ℕ) (b : PartShardState) (ack : AckOutcome) → answer.ack ≡ ack → counted ≤ (counts_of s.before s.after (first_of hosted)).1
-      → Acknowledges hosted.conf (Rose (counts_of s.before s.after (first_of hosted)).0 counted) (s.before.ends (first_of hosted)) p.shard visit b ack
+  by_answer : (counted : ℕ) (b : PartShardState) (ack : AckOutcome) → answer.ack ≡ ack → counted ≤ faults_behind (counts_of s.before s.after) (state_store hosted)
+      → Acknowledges hosted.conf (Rose (faults_before (counts_of s.before s.after) (state_store hosted)) counted) (s.before.ends (first_of hosted)) p.shard visit b ack
       → IsDoneOrUnstored s hosted p visit answer
   by_answer counted b Done told le does = inl told
   by_answer counted b (Malformed fault) told le does = absurd (no_fault visit.acks fault does.0 theirs.0)
   by_answer counted b (NotHeld offset) told le does = absurd (does.1.missing (theirs.1 offset does.1.named))
   by_answer counted b (Store Device) told le does =
-      inr (inl (told, rose_later (counts_of s.before s.after (first_of hosted)).0 counted (counts_of s.before s.after (first_of hosted)).1 does.1.1 le))
+      inr (inl (told, rose_later (faults_before (counts_of s.before s.after) (state_store hosted)) counted (faults_behind (counts_of s.before s.after) (state_store hosted)) does.1.1 le))
   by_answer counted b (Store (Full at)) told le does =
       inr (inr (told ∙ ap (λ (e : ℕ). Store (Full e)) does.1.1, does.1.3))
 

@@ -1,13 +1,14 @@
 -- The shard of a hosted partition in memory takes the machine's step, by the counts of faults of its own disks and the ends of its own
 -- journals; or it is left between two writes of a call. This project's own.
--- For example a batch is answered with a fault of its device only where the count of the log's disk rose over the call, and a call that
--- only looks leaves all as it was.
+-- For example a batch is answered with a fault of its device only where the count of the log's disk rose over the call, acknowledgements
+-- only where one of both state disks' did, and a call that only looks leaves all as it was.
 use Rattle.std.specs.Prelude.{◌≡◌, ◌≤◌, ℕ}
 use Rattle.edge_io.specs.Causes.{Rose}
 use Rattle.edge_io.specs.Views.{DiskView}
 use Rattle.share_model.specs.ForeignRules.{share_state_at}
 use Rattle.share_model.specs.declared.visit.Visit.{Visit}
 use Rattle.share_part.specs.Expiring.{ExpiresPart, StepsExpire}
+use Rattle.share_part.specs.Failures.{FailuresRose, failures_of}
 use Rattle.share_part.specs.Hosting.{PartConfParts, key_of}
 use Rattle.share_part.specs.Once.{reading_of}
 use Rattle.share_part.specs.Shards.{PartParts, PartShardState, StepsProduce}
@@ -15,25 +16,22 @@ use Rattle.share_part.specs.Visits.{StepsVisit, VisitsPart}
 use Rattle.broker_model.specs.Shards.{PartCall, look_at, result_of}
 use Rattle.broker_model.specs.Shards.PartCall.{Visits, Produces, Looks, Expires}
 
--- its two journals never end before where they did
+-- the journal of its log never ends before where it did
 pub record EndsGoOn {D W : Type 0} (old new : PartParts D W) : Type 0 where
   pub log : old.log.journal.end ≤ new.log.journal.end
-  pub first : old.states.journal.live.end ≤ new.states.journal.live.end
 
 -- The shard takes the step of this call, by the counts of its own disks and the ends of its own journals.
 abbrev pub StepsOn : {D W : Type 0} → (D → DiskView) → PartConfParts → PartParts D W → PartParts D W → (now : ℕ) → PartShardState → PartCall → PartShardState
     → Type 0
 StepsOn seen conf old new now shard (Visits visit answer unread) after =
     StepsVisit conf (reading_of seen old.log new.log unread)
-    (seen old.states.journal.live.disk).faults (seen new.states.journal.live.disk).faults old.states.journal.live.end new.states.journal.live.end
-    shard now visit answer after
+    (failures_of seen old.states) (failures_of seen new.states) old.states.journal.end new.states.journal.end shard now visit answer after
 StepsOn seen conf old new now shard (Produces batch produced) after =
     StepsProduce (Rose (seen old.log.journal.disk).faults (seen new.log.journal.disk).faults) old.log.journal.end shard now batch (result_of produced) after
 StepsOn seen conf old new now shard (Looks group looked) after =
     (looked ≡ look_at (share_state_at shard.states (key_of conf group))) × (after ≡ shard)
 StepsOn seen conf old new now shard (Expires answer) after =
-    StepsExpire conf (seen old.states.journal.live.disk).faults (seen new.states.journal.live.disk).faults old.states.journal.live.end new.states.journal.live.end
-    shard now answer after
+    StepsExpire conf (failures_of seen old.states) (failures_of seen new.states) old.states.journal.end new.states.journal.end shard now answer after
 
 -- a call that makes several writes, between two of which memory may run out
 pub data Begun : Type 0 where
@@ -43,8 +41,7 @@ pub data Begun : Type 0 where
 -- It was left between two writes: a visit behind its acknowledgements, an expiry behind some of the groups.
 abbrev pub HalvesOn : {D W : Type 0} → (D → DiskView) → PartConfParts → PartParts D W → PartParts D W → (now : ℕ) → PartShardState → Begun → PartShardState
     → Type 0
-HalvesOn seen conf old new now shard (BeginsVisit visit) after = VisitsPart conf
-    (Rose (seen old.states.journal.live.disk).faults (seen new.states.journal.live.disk).faults) old.states.journal.live.end shard now visit after
+HalvesOn seen conf old new now shard (BeginsVisit visit) after =
+    VisitsPart conf (FailuresRose seen old.states new.states) old.states.journal.end shard now visit after
 HalvesOn seen conf old new now shard BeginsExpiry after =
-    ExpiresPart conf (seen old.states.journal.live.disk).faults (seen new.states.journal.live.disk).faults old.states.journal.live.end new.states.journal.live.end
-    shard now after
+    ExpiresPart conf (failures_of seen old.states) (failures_of seen new.states) old.states.journal.end new.states.journal.end shard now after

@@ -1,7 +1,7 @@
 -- The hosted partitions of a broker, the disks of a broker by their names, and lists of which one entry changes. This project's own.
 -- For example a broker of two partitions of `orders` takes `orders/0/log`, `orders/0/state-a`, `orders/0/state-b`, the same of
 -- `orders/1`, `foreign/state-a` and `foreign/state-b`, in this order, and a batch for shard 1 changes the second partition alone.
-use Rattle.std.specs.Prelude.{◌≡◌, ◌⊎◌, ℕ, zero, suc, List, [], ◌∷◌, ◌++◌, Bool, nat_eq, codes}
+use Rattle.std.specs.Prelude.{◌≡◌, ◌⊎◌, ◌+◌, ◌&&◌, ◌||◌, ℕ, zero, suc, List, [], ◌∷◌, ◌++◌, Bool, false, nat_eq, codes, Contains}
 use Rattle.std.specs.List.{flat_map}
 use Rattle.std.specs.Cmp.Lexicographic.{pointwise}
 use Rattle.edge_io.specs.Names.{hosted_name}
@@ -68,6 +68,47 @@ IsOneOf (n ∷ names) name = (name ≡ n) ⊎ IsOneOf names name
 -- the broker takes the disk of this name
 abbrev pub IsTaken : ConfigParts → List ℕ → Type 0
 IsTaken conf name = IsOneOf (part_disks (hosted_of conf)) name ⊎ ((name ≡ state_a) ⊎ (name ≡ state_b))
+
+-- the disk of this name has the log of a partition
+abbrev pub IsLogName : List ℕ → Type 0
+IsLogName name = (topic : List ℕ) × (number : ℕ) × (name ≡ hosted_name topic number Log)
+
+-- ---- stores
+
+-- a store by the names of its disks: a log has one, and states have two
+pub data StoreDisks : Type 0 where
+  OnOne : (disk : List ℕ) → StoreDisks
+  OnTwo : (first second : List ℕ) → StoreDisks
+
+abbrev pub log_store : Hosted → StoreDisks
+log_store h = OnOne (log_of h)
+
+abbrev pub state_store : Hosted → StoreDisks
+state_store h = OnTwo (first_of h) (second_of h)
+
+abbrev pub foreign_store : StoreDisks
+foreign_store = OnTwo state_a state_b
+
+-- it is one of the broker's
+abbrev pub IsStore : ConfigParts → StoreDisks → Type 0
+IsStore conf store = ((h : Hosted) × Contains (hosted_of conf) h × ((store ≡ log_store h) ⊎ (store ≡ state_store h)))
+    ⊎ (store ≡ foreign_store)
+
+abbrev pub same_store : StoreDisks → StoreDisks → Bool
+same_store (OnOne a) (OnOne b) = same_name a b
+same_store (OnTwo a b) (OnTwo c d) = same_name a c && same_name b d
+same_store (OnOne a) (OnTwo c d) = false
+same_store (OnTwo a b) (OnOne c) = false
+
+-- one of its disks has this name
+abbrev pub has_disk : StoreDisks → List ℕ → Bool
+has_disk (OnOne disk) name = same_name name disk
+has_disk (OnTwo first second) name = same_name name first || same_name name second
+
+-- what is counted of its disks in all
+abbrev pub sum_on : (List ℕ → ℕ) → StoreDisks → ℕ
+sum_on count (OnOne disk) = count disk
+sum_on count (OnTwo first second) = count first + count second
 
 -- ---- lists
 

@@ -43,7 +43,7 @@ use Rattle.share_part.specs.Hosting.{key_of}
 use Rattle.share_part.specs.Shards.{PartShardState, StepsProduce}
 use Rattle.share_part.specs.Visits.{StepsVisit}
 use Rattle.share_part.specs.Expiring.{StepsExpire}
-use Rattle.broker_model.specs.Hosted.{Hosted, ChangesAt, first_of, log_of, same_name, state_a}
+use Rattle.broker_model.specs.Hosted.{Hosted, ChangesAt, StoreDisks, first_of, foreign_store, has_disk, log_of, log_store, same_store, state_a, state_store, sum_on}
 
 -- ---- the shards
 
@@ -110,12 +110,23 @@ answered_by (CallMembers did) = answered_by_members did
 abbrev pub Counts : Type 0
 Counts = List ℕ → ℕ × ℕ
 
--- of each disk, by its name, where the journal on it ends at entry of a step and behind it
+-- of each disk, by its name, where the journal on it ends at entry of a step and behind it; of the two disks of states the first one
+-- has the end of the journal that is live
 abbrev pub Ends : Type 0
 Ends = List ℕ → ℕ × ℕ
 
 abbrev pub rose_at : Counts → List ℕ → Type 0
 rose_at counts name = Rose (counts name).0 (counts name).1
+
+-- of a store's disks in all, their count of faults at entry, and behind the step
+abbrev pub faults_before : Counts → StoreDisks → ℕ
+faults_before counts store = sum_on (λ name. (counts name).0) store
+
+abbrev pub faults_behind : Counts → StoreDisks → ℕ
+faults_behind counts store = sum_on (λ name. (counts name).1) store
+
+abbrev pub rose_on : Counts → StoreDisks → Type 0
+rose_on counts store = Rose (faults_before counts store) (faults_behind counts store)
 
 -- an answer of a log as the result of its call
 abbrev pub result_of : Produced → Result ℕ LogFault
@@ -132,13 +143,13 @@ look_at (Some state) = There state.state_epoch state.leader_epoch state.start st
 abbrev pub StepsPart : (told : Bool) → Counts → Ends → (now : ℕ) → Hosted → PartShardState → PartCall → PartShardState → Type 0
 StepsPart told counts ends now h old (Visits visit answer unread) new =
     StepsVisit h.conf (record { told = told; rose = rose_at counts (log_of h); failed = unread })
-    (counts (first_of h)).0 (counts (first_of h)).1 (ends (first_of h)).0 (ends (first_of h)).1 old now visit answer new
+    (faults_before counts (state_store h)) (faults_behind counts (state_store h)) (ends (first_of h)).0 (ends (first_of h)).1 old now visit answer new
 StepsPart told counts ends now h old (Produces batch produced) new =
     StepsProduce (rose_at counts (log_of h)) (ends (log_of h)).0 old now batch (result_of produced) new
 StepsPart told counts ends now h old (Looks group looked) new =
     (looked ≡ look_at (share_state_at old.states (key_of h.conf group))) × (new ≡ old)
 StepsPart told counts ends now h old (Expires answer) new =
-    StepsExpire h.conf (counts (first_of h)).0 (counts (first_of h)).1 (ends (first_of h)).0 (ends (first_of h)).1 old now answer new
+    StepsExpire h.conf (faults_before counts (state_store h)) (faults_behind counts (state_store h)) (ends (first_of h)).0 (ends (first_of h)).1 old now answer new
 
 -- this partition's shard does, and the log's disk tells its content
 pub record StepsHosted (counts : Counts) (ends : Ends) (now : ℕ) (hosted : Hosted) (did : PartCall) (old new : HostedPart) : Type 0 where
@@ -154,7 +165,7 @@ StepsMembers now old Ticks new = new ≡ expire_step now old
 -- The shard that is called takes its step, and each other one stays.
 abbrev pub StepsShards : Counts → Ends → (now : ℕ) → Shards → ShardCall → Shards → Type 0
 StepsShards counts ends now old (CallForeign op answer fault) new =
-    StepsForeign (rose_at counts state_a) (ends state_a).0 old.foreign op answer fault new.foreign
+    StepsForeign (rose_on counts foreign_store) (ends state_a).0 old.foreign op answer fault new.foreign
     × (new.parts ≡ old.parts) × (new.members ≡ old.members)
 StepsShards counts ends now old (CallPart shard hosted did) new =
     ChangesAt shard (StepsHosted counts ends now hosted did) old.parts new.parts
@@ -194,17 +205,17 @@ reads_log Nothing = false
 reads_log Release = false
 reads_log (Fetch records bytes first) = true
 
--- a partition's log is on its own disk; its tables are written on the first disk of its states, and the second is used at an opening alone
+-- a partition's log is on its own disk; its tables are written on both disks of its states
 abbrev pub part_calls : Hosted → PartCall → List ℕ → Bool
-part_calls h (Visits visit answer unread) name = (reads_log visit.then && same_name name (log_of h)) || same_name name (first_of h)
-part_calls h (Produces batch produced) name = same_name name (log_of h)
+part_calls h (Visits visit answer unread) name = (reads_log visit.then && has_disk (log_store h) name) || has_disk (state_store h) name
+part_calls h (Produces batch produced) name = has_disk (log_store h) name
 part_calls h (Looks group looked) name = false
-part_calls h (Expires answer) name = same_name name (first_of h)
+part_calls h (Expires answer) name = has_disk (state_store h) name
 
 -- the shard of this disk was called, and may have used it
 abbrev pub calls : Option ShardCall → List ℕ → Bool
 calls None name = false
-calls (Some (CallForeign op answer fault)) name = same_name name state_a
+calls (Some (CallForeign op answer fault)) name = has_disk foreign_store name
 calls (Some (CallPart shard hosted did)) name = part_calls hosted did name
 calls (Some (CallMembers did)) name = false
 
@@ -249,14 +260,14 @@ log_faults_met (Produces batch produced) = faults_met (store_fault_of_log produc
 log_faults_met (Looks group looked) = 0
 log_faults_met (Expires answer) = 0
 
--- on the disk of this name
-abbrev pub part_faults_met : Hosted → PartCall → List ℕ → ℕ
-part_faults_met h did name = if same_name name (first_of h) then state_faults_met did
-    else (if same_name name (log_of h) then log_faults_met did else 0)
+-- on the disks of this store
+abbrev pub part_faults_met : Hosted → PartCall → StoreDisks → ℕ
+part_faults_met h did store = if same_store store (state_store h) then state_faults_met did
+    else (if same_store store (log_store h) then log_faults_met did else 0)
 
--- how many writes and readings of this call failed on the disk of this name
-abbrev pub failures_in : List ℕ → Option ShardCall → ℕ
-failures_in name None = 0
-failures_in name (Some (CallForeign op answer fault)) = if same_name name state_a then faults_met fault else 0
-failures_in name (Some (CallPart shard hosted did)) = part_faults_met hosted did name
-failures_in name (Some (CallMembers did)) = 0
+-- how many writes and readings of this call failed on the disks of this store
+abbrev pub failures_in : StoreDisks → Option ShardCall → ℕ
+failures_in store None = 0
+failures_in store (Some (CallForeign op answer fault)) = if same_store store foreign_store then faults_met fault else 0
+failures_in store (Some (CallPart shard hosted did)) = part_faults_met hosted did store
+failures_in store (Some (CallMembers did)) = 0
