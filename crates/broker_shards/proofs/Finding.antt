@@ -12,7 +12,7 @@ use Rattle.part_log.specs.Logs.{LogParts}
 use Rattle.share_coord.specs.Parts.{StoreParts}
 use Rattle.share_part.specs.Once.{ExpiresOnce, ProducesOnce, VisitsOnce}
 use Rattle.share_part.specs.Shards.{PartParts}
-use Rattle.broker_shards.specs.Crashes.{FindsNothingNew, FoundWithin}
+use Rattle.broker_shards.specs.Crashes.{FindsNothingNew, FoundWithin, StatesFindNothingNew}
 use Rattle.broker_shards.specs.declared.part.PartAsk.TheVariants as asks
 
 module _ {D W : Type 0} (seen : D → DiskView) (holding : W → Held)
@@ -24,37 +24,36 @@ module _ {D W : Type 0} (seen : D → DiskView) (holding : W → Held)
   new_log : (old new : LogParts D) → new ≡ old → FindsNothingNew seen old.journal.disk new.journal.disk
   new_log old new same = nothing_new old.journal.disk new.journal.disk (ap (λ (l : LogParts D). l.journal.disk) same)
 
-  new_first : (old new : StoreParts D) → new ≡ old → FindsNothingNew seen old.journal.live.disk new.journal.live.disk
-  new_first old new same = nothing_new old.journal.live.disk new.journal.live.disk (ap (λ (t : StoreParts D). t.journal.live.disk) same)
+  new_states : (old new : StoreParts D) → new ≡ old → StatesFindNothingNew seen old new
+  new_states old new same = (
+    nothing_new old.journal.first.disk new.journal.first.disk (ap (λ (t : StoreParts D). t.journal.first.disk) same),
+    nothing_new old.journal.second.disk new.journal.second.disk (ap (λ (t : StoreParts D). t.journal.second.disk) same),
+  )
 
   module _ (old new : PartParts D W) (now : ℕ) where
     pub visit_found : (visit : Visit) (result : Result VisitAnswer NoMemory) → VisitsOnce seen holding now visit old new result
         → FoundWithin seen holding now (asks.Visit visit) old new
     visit_found visit result once = record {
       log = once.log.reads.journal.looks.moments;
-      first = λ s k acks then. new_first old.states new.states (once.unwritten s k acks then);
-      second = nothing_new old.states.journal.idle new.states.journal.idle once.idle;
+      states = λ s k acks then. new_states old.states new.states (once.unwritten s k acks then);
     }
 
     pub batch_found : (batch : List ℕ) (result : Result ℕ LogFault) → ProducesOnce seen holding now batch old new result
         → FoundWithin seen holding now (asks.Produce batch) old new
     batch_found batch result once = record {
       log = once.any_moment;
-      first = new_first old.states new.states once.states;
-      second = nothing_new old.states.journal.idle new.states.journal.idle (ap (λ (t : StoreParts D). t.journal.idle) once.states);
+      states = new_states old.states new.states once.states;
     }
 
     pub expiry_found : (result : Result ExpireAnswer NoMemory) → ExpiresOnce seen holding now old new result
         → FoundWithin seen holding now asks.Expire old new
     expiry_found result once = record {
       log = new_log old.log new.log once.log;
-      first = λ due. new_first old.states new.states (ap (λ (p : PartParts D W). p.states) (once.nothing_due due).1);
-      second = nothing_new old.states.journal.idle new.states.journal.idle once.idle;
+      states = λ due. new_states old.states new.states (ap (λ (p : PartParts D W). p.states) (once.nothing_due due).1);
     }
 
     pub look_found : (group : List ℕ) → new ≡ old → FoundWithin seen holding now (asks.Look group) old new
     look_found group same = record {
       log = new_log old.log new.log (ap (λ (p : PartParts D W). p.log) same);
-      first = new_first old.states new.states (ap (λ (p : PartParts D W). p.states) same);
-      second = nothing_new old.states.journal.idle new.states.journal.idle (ap (λ (p : PartParts D W). p.states.journal.idle) same);
+      states = new_states old.states new.states (ap (λ (p : PartParts D W). p.states) same);
     }

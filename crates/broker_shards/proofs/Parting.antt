@@ -4,6 +4,7 @@ use Rattle.std.specs.List.{AllByRecursion}
 use Rattle.edge_io.specs.Armed.{RunsOn}
 use Rattle.edge_io.specs.Views.{DiskView}
 use Rattle.edge_io.proofs.Runs.{runs_none}
+use Rattle.flex_fields.specs.declared.fault.NoMemory.{NoMemory as want}
 use Rattle.share_model.specs.ForeignRules.{share_state_at}
 use Rattle.share_model.specs.Held.{Held}
 use Rattle.share_model.specs.declared.fault.LogFault.{LogFault}
@@ -17,6 +18,7 @@ use Rattle.part_log.proofs.Looking.{carries_on}
 use Rattle.share_coord.specs.Parts.{StoreParts}
 use Rattle.share_coord.specs.Holding.{Holds}
 use Rattle.share_coord.specs.States.{states_of}
+use Rattle.share_part.specs.Failures.{RunOnBoth}
 use Rattle.share_part.specs.Hosting.{PartConfParts, AreHosted, key_of}
 use Rattle.share_part.specs.Once.{AcksStand, Expired, PartStands, Produced as ProducedSo, Visited}
 use Rattle.share_part.specs.Shards.{Carries, IsPendingHosted, IsUntouched, PartParts, PartShardState}
@@ -27,7 +29,12 @@ use Rattle.call_fold.specs.declared.part.Produced.{Produced}
 use Rattle.broker_model.specs.Acting.Begun.{BeginsVisit, BeginsExpiry}
 use Rattle.broker_model.specs.Shards.{look_at, result_of}
 use Rattle.broker_model.specs.Shards.PartCall.{Visits, Produces, Looks, Expires}
-use Rattle.broker_shards.specs.Acts.{Answers, FindsNoMemory, GoesOnPart}
+use Rattle.broker_shards.specs.Acts.{ActsOnPart, ActsPart, Answers, FindsNoMemory, GoesOnPart}
+use Rattle.broker_shards.specs.Crashes.{FoundWithin}
+use Rattle.broker_shards.specs.Hosts.{Host, Window, holding}
+use Rattle.broker_shards.specs.declared.part.PartAsk.{PartAsk}
+use Rattle.broker_shards.specs.declared.part.PartEvent.{PartEvent}
+use Rattle.broker_shards.specs.declared.part.PartTold.{PartTold}
 use Rattle.broker_shards.specs.declared.part.PartAsk.TheVariants as asks
 use Rattle.broker_shards.specs.declared.part.PartTold.TheVariants as tells
 use Rattle.broker_shards.proofs.Telling.{grants_told, not_memory}
@@ -37,15 +44,13 @@ module _ {D W : Type 0} (seen : D → DiskView) (holding : W → Held) (old new 
 
   pub states_go : (conf : new.conf ≡ old.conf) (log : RunsOn seen old.log.journal.disk new.log.journal.disk)
       (log_end : new.log.journal.end ≡ old.log.journal.end)
-      (first : RunsOn seen old.states.journal.live.disk new.states.journal.live.disk) (idle : new.states.journal.idle ≡ old.states.journal.idle)
-      (ends : (s : PartShardState) → Carries seen holding old s → old.states.journal.live.end ≤ new.states.journal.live.end)
-      → GoesOnPart seen holding old new
-  states_go conf log log_end first idle ends = record {
+      (states : RunOnBoth seen old.states new.states) → GoesOnPart seen holding old new
+  states_go conf log log_end states = record {
     conf = conf;
     log = log;
-    first = first;
-    second = idle;
-    ends = λ s k. record { log = omega (arith, log_end); first = ends s k };
+    first = states.0;
+    second = states.1;
+    ends = λ s k. record { log = omega (arith, log_end) };
   }
 
   -- where the log stays
@@ -65,14 +70,11 @@ module _ {D W : Type 0} (seen : D → DiskView) (holding : W → Held) (old new 
   log_goes conf log states ends = record {
     conf = conf;
     log = log;
-    first = subst (λ (t : StoreParts D). RunsOn seen old.states.journal.live.disk t.journal.live.disk) (sym states)
-        (runs_none seen old.states.journal.live.disk);
-    second = ap (λ (t : StoreParts D). t.journal.idle) states;
-    ends = λ s k. record {
-      log = ends s k;
-      first = (let e : new.states.journal.live.end ≡ old.states.journal.live.end = ap (λ (t : StoreParts D). t.journal.live.end) states
-          in omega (arith, e));
-    };
+    first = subst (λ (t : StoreParts D). RunsOn seen old.states.journal.first.disk t.journal.first.disk) (sym states)
+        (runs_none seen old.states.journal.first.disk);
+    second = subst (λ (t : StoreParts D). RunsOn seen old.states.journal.second.disk t.journal.second.disk) (sym states)
+        (runs_none seen old.states.journal.second.disk);
+    ends = λ s k. record { log = ends s k };
   }
 
   -- ---- what is answered
@@ -153,7 +155,25 @@ module _ {D W : Type 0} (seen : D → DiskView) (holding : W → Held) (part : P
   look_goes = record {
     conf = refl;
     log = runs_none seen part.log.journal.disk;
-    first = runs_none seen part.states.journal.live.disk;
-    second = refl;
-    ends = λ s k. record { log = omega arith; first = omega arith };
+    first = runs_none seen part.states.journal.first.disk;
+    second = runs_none seen part.states.journal.second.disk;
+    ends = λ s k. record { log = omega arith };
+  }
+
+-- ---- an act
+
+module _ {D : Type 0} (seen : D → DiskView) (old : Host D) (event : PartEvent) where
+  -- what is done at this moment of what is asked so is an act
+  pub acted : (now : ℕ) (asked : PartAsk) (result : Result PartTold want) (part : PartParts D Window) → now ≡ event.now → event.ask ≡ asked
+      → ActsOnPart seen holding now asked old.part result part → GoesOnPart seen holding old.part part
+      → FoundWithin seen holding now asked old.part part
+      → ActsPart seen old event result (record { topic = old.topic; conf = old.conf; part = part })
+  acted now asked result part at is acts goes within = record {
+    topic = refl;
+    conf = refl;
+    acts = subst (λ (a : PartAsk). ActsOnPart seen holding event.now a old.part result part) (sym is)
+        (subst (λ (n : ℕ). ActsOnPart seen holding n asked old.part result part) at acts);
+    goes_on = goes;
+    within = subst (λ (a : PartAsk). FoundWithin seen holding event.now a old.part part) (sym is)
+        (subst (λ (n : ℕ). FoundWithin seen holding n asked old.part part) at within);
   }

@@ -2,9 +2,8 @@
 -- act answers, they carry one then to which the machine's own step leads, and where it finds no memory, the one from before. This
 -- project's own; the steps are those of a recorded session.
 -- For example a look tells what is stored of its group and leaves the shard as it was; a tick at 50000 that removes two members tells 2.
-use Rattle.std.specs.Prelude.{◌≡◌, ◌⊎◌, ◌≤◌, ◌-◌, ◌^◌, ℕ, min, All, Option, Some, None, Result, Ok, Err}
+use Rattle.std.specs.Prelude.{◌≡◌, ◌⊎◌, ◌-◌, ◌^◌, ℕ, min, All, Option, Some, None, Result, Ok, Err}
 use Rattle.edge_io.specs.Armed.{RunsOn}
-use Rattle.edge_io.specs.Causes.{Rose}
 use Rattle.edge_io.specs.Views.{DiskView}
 use Rattle.flex_fields.specs.declared.fault.NoMemory.{NoMemory}
 use Rattle.share_model.specs.Held.{Held}
@@ -14,6 +13,7 @@ use Rattle.share_model.specs.declared.foreign.ForeignOp.{ForeignOp}
 use Rattle.call_fold.specs.Parts.{HasTellableBase, IsTellable, IsTellableLook, IsTellableVisit}
 use Rattle.share_coord.specs.Parts.{StoreParts}
 use Rattle.edge_io.specs.Moments.{LeavesPairs}
+use Rattle.foreign_coord.specs.Once.{HasRisen}
 use Rattle.foreign_coord.specs.Shards.{ForeignShardState, IsFound, StepsForeign, Carries as CarriesForeign}
 use Rattle.share_members.specs.Groups.{Memberships}
 use Rattle.share_members.specs.Expiry.{removed}
@@ -90,13 +90,13 @@ abbrev pub ActsOnPart : {D W : Type 0} → (D → DiskView) → (W → Held) →
 ActsOnPart seen holding now asked old (Ok told) new = Answers seen holding now asked told old new
 ActsOnPart seen holding now asked old (Err fault) new = FindsNoMemory seen holding now asked old new
 
--- What each act leaves: its configuration stays. No power is lost, no fault is armed, and no count of faults falls on its disks, of which the second
--- one of the states isn't used. No journal ends before where it did.
+-- What each act leaves: its configuration stays. No power is lost, no fault is armed, and no count of faults falls on its disks. The journal of
+-- the log never ends before where it did.
 pub record GoesOnPart {D W : Type 0} (seen : D → DiskView) (holding : W → Held) (old new : PartParts D W) : Type 0 where
   pub conf : new.conf ≡ old.conf
   pub log : RunsOn seen old.log.journal.disk new.log.journal.disk
-  pub first : RunsOn seen old.states.journal.live.disk new.states.journal.live.disk
-  pub second : new.states.journal.idle ≡ old.states.journal.idle
+  pub first : RunsOn seen old.states.journal.first.disk new.states.journal.first.disk
+  pub second : RunsOn seen old.states.journal.second.disk new.states.journal.second.disk
   pub ends : (s : PartShardState) → Carries seen holding old s → EndsGoOn old new
 
 pub record ActsPart {D : Type 0} (seen : D → DiskView) (old : Host D) (event : PartEvent) (result : Result PartTold NoMemory) (new : Host D) : Type 0 where
@@ -131,21 +131,20 @@ pub record AnswersForeign {D : Type 0} (seen : D → DiskView) (op : ForeignOp) 
   pub tellable : All IsTellable answer.runs
   pub steps : (s : ForeignShardState) → CarriesForeign seen old s → (after : ForeignShardState) × (fault : Option StoreFault)
       × CarriesForeign seen new after
-      × StepsForeign (Rose (seen old.journal.live.disk).faults (seen new.journal.live.disk).faults) old.journal.live.end s op answer fault after
+      × StepsForeign (HasRisen seen old new) old.journal.end s op answer fault after
 
 -- where no memory is found, nothing has changed
 abbrev pub ActsOnForeign : {D : Type 0} → (D → DiskView) → ForeignOp → StoreParts D → Result ForeignAnswer NoMemory → StoreParts D → Type 0
 ActsOnForeign seen op old (Ok answer) new = AnswersForeign seen op answer old new
 ActsOnForeign seen op old (Err fault) new = new ≡ old
 
--- No power is lost and no fault armed on its first disk, whose count of faults doesn't fall, and the second one isn't used. Its journal never ends
--- before where it did. At each moment since the act began a crash finds the states that were carried, with or without the pending write, or what
--- the call leaves where it is granted.
+-- No power is lost and no fault armed on its disks, whose counts of faults don't fall. At each moment since the act began a crash finds the
+-- states that were carried, with or without the pending write, or what the call leaves where it is granted.
 pub record ActsForeign {D : Type 0} (seen : D → DiskView) (old : ForeignHost D) (event : ForeignEvent) (result : Result ForeignAnswer NoMemory)
     (new : ForeignHost D) : Type 0 where
   pub acts : ActsOnForeign seen event.op old.foreign result new.foreign
-  pub first : RunsOn seen old.foreign.journal.live.disk new.foreign.journal.live.disk
-  pub second : new.foreign.journal.idle ≡ old.foreign.journal.idle
-  pub ends : (s : ForeignShardState) → CarriesForeign seen old.foreign s → old.foreign.journal.live.end ≤ new.foreign.journal.live.end
-  pub within : (s : ForeignShardState) → CarriesForeign seen old.foreign s → LeavesPairs seen old.foreign.journal.live.disk new.foreign.journal.live.disk
-      old.foreign.journal.idle new.foreign.journal.idle (IsFound s event.op)
+  pub first : RunsOn seen old.foreign.journal.first.disk new.foreign.journal.first.disk
+  pub second : RunsOn seen old.foreign.journal.second.disk new.foreign.journal.second.disk
+  pub within : (s : ForeignShardState) → CarriesForeign seen old.foreign s → LeavesPairs seen
+      old.foreign.journal.first.disk new.foreign.journal.first.disk
+      old.foreign.journal.second.disk new.foreign.journal.second.disk (IsFound s event.op)

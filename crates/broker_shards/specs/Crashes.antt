@@ -1,5 +1,5 @@
 -- What a crash finds on the disks of a shard behind a lock, at each moment since an act on it began. This project's own. Each disk that an
--- act doesn't write keeps to what it could be found with before. A produced batch, or a call on foreign state, is one write, and is found done
+-- act doesn't write keeps to what it could be found with before. A produced batch, or a call on foreign state, stores one record, and is found done
 -- or not done; a visit or an expiry may write several times, and what is found at a moment between is said of each write alone, by
 -- the crate that makes it. What is found behind any act stands for the state that the history has then.
 -- For example while a batch is produced, the log of three records is found with or without what was pending, or with the batch, and on the two
@@ -9,6 +9,7 @@ use Rattle.edge_io.specs.Moments.{LeavesOnly}
 use Rattle.edge_io.specs.Views.{DiskView}
 use Rattle.share_model.specs.Held.{Held}
 use Rattle.part_log.specs.Shards.{IsLogOf, at_end}
+use Rattle.share_coord.specs.Parts.{StoreParts}
 use Rattle.share_part.specs.Following.{HasNothingToWrite}
 use Rattle.share_part.specs.Once.{IsNothingDue}
 use Rattle.share_part.specs.Shards.{Carries, PartParts, PartShardState}
@@ -29,17 +30,21 @@ FoundOnLog seen holding (asks.Visit visit) old new = FindsNothingNew seen old.lo
 FoundOnLog seen holding (asks.Look group) old new = FindsNothingNew seen old.log.journal.disk new.log.journal.disk
 FoundOnLog seen holding asks.Expire old new = FindsNothingNew seen old.log.journal.disk new.log.journal.disk
 
--- on the first disk of the states: a visit that has nothing to store, and an expiry of nothing that is due, don't write it
+-- on both disks of the states
+abbrev pub StatesFindNothingNew : {D : Type 0} → (D → DiskView) → StoreParts D → StoreParts D → Type 0
+StatesFindNothingNew seen old new =
+    FindsNothingNew seen old.journal.first.disk new.journal.first.disk × FindsNothingNew seen old.journal.second.disk new.journal.second.disk
+
+-- a visit that has nothing to store, and an expiry of nothing that is due, don't write them
 abbrev pub FoundOnStates : {D W : Type 0} → (D → DiskView) → (W → Held) → (now : ℕ) → PartAsk → PartParts D W → PartParts D W → Type 0
 FoundOnStates seen holding now (asks.Visit visit) old new = (s : PartShardState) → Carries seen holding old s → (AreToWrite s visit → ⊥)
-    → HasNothingToWrite old.conf s visit visit.then → FindsNothingNew seen old.states.journal.live.disk new.states.journal.live.disk
-FoundOnStates seen holding now (asks.Produce batch) old new = FindsNothingNew seen old.states.journal.live.disk new.states.journal.live.disk
-FoundOnStates seen holding now (asks.Look group) old new = FindsNothingNew seen old.states.journal.live.disk new.states.journal.live.disk
-FoundOnStates seen holding now asks.Expire old new = IsNothingDue holding old.windows (max old.clock now)
-    → FindsNothingNew seen old.states.journal.live.disk new.states.journal.live.disk
+    → HasNothingToWrite old.conf s visit visit.then → StatesFindNothingNew seen old.states new.states
+FoundOnStates seen holding now (asks.Produce batch) old new = StatesFindNothingNew seen old.states new.states
+FoundOnStates seen holding now (asks.Look group) old new = StatesFindNothingNew seen old.states new.states
+FoundOnStates seen holding now asks.Expire old new =
+    IsNothingDue holding old.windows (max old.clock now) → StatesFindNothingNew seen old.states new.states
 
--- What a crash at a moment of an act on a partition finds on its three disks. The second disk of the states is never written.
+-- what a crash at a moment of an act on a partition finds on its three disks
 pub record FoundWithin {D W : Type 0} (seen : D → DiskView) (holding : W → Held) (now : ℕ) (asked : PartAsk) (old new : PartParts D W) : Type 0 where
   pub log : FoundOnLog seen holding asked old new
-  pub first : FoundOnStates seen holding now asked old new
-  pub second : FindsNothingNew seen old.states.journal.idle new.states.journal.idle
+  pub states : FoundOnStates seen holding now asked old new

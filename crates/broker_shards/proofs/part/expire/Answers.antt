@@ -9,7 +9,7 @@ returns-in-Ok-clause-acts g c = expired g.D.Disk.seen holding c.args.part.now c.
 pub returns-in-Ok-clause-goes_on : goal.returns-in-Ok-clause-goes_on
 returns-in-Ok-clause-goes_on g c = let once = c.in-Ok.ensures.once in
     states_go g.D.Disk.seen holding c.args.part.now c.expire.new.self once.conf (still_runs g.D.Disk.seen holding c.args.part.now c.expire.new.self once.log)
-    (still_ends g.D.Disk.seen holding c.args.part.now c.expire.new.self once.log) c.in-Ok.ensures.runs once.idle once.ends
+    (still_ends g.D.Disk.seen holding c.args.part.now c.expire.new.self once.log) c.in-Ok.ensures.runs
 
 pub returns-in-Err-clause-acts : goal.returns-in-Err-clause-acts
 returns-in-Err-clause-acts g c = expiry_refused g.D.Disk.seen holding c.args.part.now c.expire.new.self c.args.now c.in-Err.ensures.once.memory
@@ -17,7 +17,7 @@ returns-in-Err-clause-acts g c = expiry_refused g.D.Disk.seen holding c.args.par
 pub returns-in-Err-clause-goes_on : goal.returns-in-Err-clause-goes_on
 returns-in-Err-clause-goes_on g c = let once = c.in-Err.ensures.once in
     states_go g.D.Disk.seen holding c.args.part.now c.expire.new.self once.conf (still_runs g.D.Disk.seen holding c.args.part.now c.expire.new.self once.log)
-    (still_ends g.D.Disk.seen holding c.args.part.now c.expire.new.self once.log) c.in-Err.ensures.runs once.idle once.ends
+    (still_ends g.D.Disk.seen holding c.args.part.now c.expire.new.self once.log) c.in-Err.ensures.runs
 
 pub returns-in-Ok-clause-within : goal.returns-in-Ok-clause-within
 returns-in-Ok-clause-within g c = expiry_found g.D.Disk.seen holding g.met.D.Disk.only_now c.args.part.now c.expire.new.self c.args.now _ c.in-Ok.ensures.once

@@ -10,7 +10,7 @@ returns-in-Ok-clause-acts g c = visited g.D.Disk.seen holding c.args.part.now c.
 pub returns-in-Ok-clause-goes_on : goal.returns-in-Ok-clause-goes_on
 returns-in-Ok-clause-goes_on g c = let once = c.in-Ok.ensures.once in
     states_go g.D.Disk.seen holding c.args.part.now c.visit.new.self once.conf once.log.calls.runs
-    (read_ends g.D.Disk.seen holding c.args.part.now c.visit.new.self once.log.reads) c.in-Ok.ensures.runs once.idle once.ends
+    (read_ends g.D.Disk.seen holding c.args.part.now c.visit.new.self once.log.reads) c.in-Ok.ensures.runs
 
 pub returns-in-Err-clause-acts : goal.returns-in-Err-clause-acts
 returns-in-Err-clause-acts g c = visit_refused g.D.Disk.seen holding c.args.part.now c.visit.new.self c.args.now c.args.visit.now c.in-Err.ensures.once.memory
@@ -18,7 +18,7 @@ returns-in-Err-clause-acts g c = visit_refused g.D.Disk.seen holding c.args.part
 pub returns-in-Err-clause-goes_on : goal.returns-in-Err-clause-goes_on
 returns-in-Err-clause-goes_on g c = let once = c.in-Err.ensures.once in
     states_go g.D.Disk.seen holding c.args.part.now c.visit.new.self once.conf once.log.calls.runs
-    (read_ends g.D.Disk.seen holding c.args.part.now c.visit.new.self once.log.reads) c.in-Err.ensures.runs once.idle once.ends
+    (read_ends g.D.Disk.seen holding c.args.part.now c.visit.new.self once.log.reads) c.in-Err.ensures.runs
 
 pub returns-in-Ok-clause-within : goal.returns-in-Ok-clause-within
 returns-in-Ok-clause-within g c = visit_found g.D.Disk.seen holding g.met.D.Disk.only_now c.args.part.now c.visit.new.self c.args.now c.args.visit.now

@@ -1,0 +1,25 @@
+use Rattle.std.proofs.Common.{ap, subst, sym, ◌∙◌}
+use Rattle.broker_shards.specs.Acts.{ActsPart}
+use Rattle.broker_shards.specs.Hosts.{Host}
+use Rattle.broker_shards.specs.declared.part.PartAsk.TheVariants as asks
+use Rattle.broker_shards.proofs.Parting.{acted}
+use Rattle.broker_shards.proofs.part.PartHostShard.act.Goals as goal
+
+pub returns-in-Visit : goal.returns-in-Visit
+returns-in-Visit g c = subst (λ (h : Host g.row.D.Denot). ActsPart g.D.Disk.seen h c.args.event.now c.visit.result
+    (record { topic = c.self.inside.topic; conf = c.self.inside.conf; part = c.visit.new.part })) c.self.view_is
+    (acted g.D.Disk.seen _ c.args.event.now c.ms-now.result _ c.visit.result c.visit.new.part c.ms-now.ensures.is c.in-Visit.is
+    c.visit.ensures.acts c.visit.ensures.goes_on c.visit.ensures.within)
+
+pub returns-in-Produce : goal.returns-in-Produce
+returns-in-Produce g c = subst (λ (h : Host g.row.D.Denot). ActsPart g.D.Disk.seen h c.args.event.now c.produce.result
+    (record { topic = c.self.inside.topic; conf = c.self.inside.conf; part = c.produce.new.part })) c.self.view_is
+    (acted g.D.Disk.seen _ c.args.event.now c.ms-now.result (asks.Produce c.as_slice.result.now) c.produce.result c.produce.new.part
+    c.ms-now.ensures.is (c.in-Produce.is ∙ ap (λ b. asks.Produce b) (sym c.as_slice.ensures))
+    c.produce.ensures.acts c.produce.ensures.goes_on c.produce.ensures.within)
+
+pub returns-in-Expire : goal.returns-in-Expire
+returns-in-Expire g c = subst (λ (h : Host g.row.D.Denot). ActsPart g.D.Disk.seen h c.args.event.now c.expire.result
+    (record { topic = c.self.inside.topic; conf = c.self.inside.conf; part = c.expire.new.part })) c.self.view_is
+    (acted g.D.Disk.seen _ c.args.event.now c.ms-now.result asks.Expire c.expire.result c.expire.new.part c.ms-now.ensures.is c.in-Expire.is
+    c.expire.ensures.acts c.expire.ensures.goes_on c.expire.ensures.within)
