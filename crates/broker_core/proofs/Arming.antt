@@ -120,45 +120,45 @@ module _ {D : Type 0} (seen : D → DiskView) where
     conf_is = same ∙ k.conf_is;
     carries = stays k.carries;
     log = arms_fed after mode was.log.journal.disk is.log.journal.disk a.0 k.log;
-    first = subst (λ (t : StoreParts D). Fed t.journal.live.disk) (sym a.1) k.first;
-    second = subst (λ (t : StoreParts D). Fed t.journal.idle) (sym a.1) k.second;
+    first = subst (λ (t : StoreParts D). Fed t.journal.first.disk) (sym a.1) k.first;
+    second = subst (λ (t : StoreParts D). Fed t.journal.second.disk) (sym a.1) k.second;
   }
   part_armed after mode conf was is StateA s a same stays k = record {
     conf_is = same ∙ k.conf_is;
     carries = stays k.carries;
     log = subst (λ (t : LogParts D). Fed t.journal.disk) (sym a.2) k.log;
-    first = arms_fed after mode was.states.journal.live.disk is.states.journal.live.disk a.0 k.first;
-    second = subst Fed (sym a.1) k.second;
+    first = arms_fed after mode was.states.journal.first.disk is.states.journal.first.disk a.0 k.first;
+    second = subst (λ (w : Writer D). Fed w.disk) (sym a.1) k.second;
   }
   part_armed after mode conf was is StateB s a same stays k = record {
     conf_is = same ∙ k.conf_is;
     carries = stays k.carries;
     log = subst (λ (t : LogParts D). Fed t.journal.disk) (sym a.2) k.log;
     first = subst (λ (w : Writer D). Fed w.disk) (sym a.1) k.first;
-    second = arms_fed after mode was.states.journal.idle is.states.journal.idle a.0 k.second;
+    second = arms_fed after mode was.states.journal.second.disk is.states.journal.second.disk a.0 k.second;
   }
 
   part_goes : (after : ℕ) (mode : FaultMode) (was is : OpenPart D) (place : DiskPlace) → ArmsP after mode was is place → PartGoesOn seen was is
   part_goes after mode was is Log a = record {
     log = arms_go_on after mode was.log.journal.disk is.log.journal.disk a.0;
-    first = subst (λ (t : StoreParts D). GoesOn seen was.states.journal.live.disk t.journal.live.disk) (sym a.1)
-        (least_on seen was.states.journal.live.disk);
-    second = subst (λ (t : StoreParts D). GoesOn seen was.states.journal.idle t.journal.idle) (sym a.1)
-        (least_on seen was.states.journal.idle);
+    first = subst (λ (t : StoreParts D). GoesOn seen was.states.journal.first.disk t.journal.first.disk) (sym a.1)
+        (least_on seen was.states.journal.first.disk);
+    second = subst (λ (t : StoreParts D). GoesOn seen was.states.journal.second.disk t.journal.second.disk) (sym a.1)
+        (least_on seen was.states.journal.second.disk);
   }
   part_goes after mode was is StateA a = record {
     log = subst (λ (t : LogParts D). GoesOn seen was.log.journal.disk t.journal.disk) (sym a.2)
         (least_on seen was.log.journal.disk);
-    first = arms_go_on after mode was.states.journal.live.disk is.states.journal.live.disk a.0;
-    second = subst (λ (d : D). GoesOn seen was.states.journal.idle d) (sym a.1)
-        (least_on seen was.states.journal.idle);
+    first = arms_go_on after mode was.states.journal.first.disk is.states.journal.first.disk a.0;
+    second = subst (λ (w : Writer D). GoesOn seen was.states.journal.second.disk w.disk) (sym a.1)
+        (least_on seen was.states.journal.second.disk);
   }
   part_goes after mode was is StateB a = record {
     log = subst (λ (t : LogParts D). GoesOn seen was.log.journal.disk t.journal.disk) (sym a.2)
         (least_on seen was.log.journal.disk);
-    first = subst (λ (w : Writer D). GoesOn seen was.states.journal.live.disk w.disk) (sym a.1)
-        (least_on seen was.states.journal.live.disk);
-    second = arms_go_on after mode was.states.journal.idle is.states.journal.idle a.0;
+    first = subst (λ (w : Writer D). GoesOn seen was.states.journal.first.disk w.disk) (sym a.1)
+        (least_on seen was.states.journal.first.disk);
+    second = arms_go_on after mode was.states.journal.second.disk is.states.journal.second.disk a.0;
   }
 
   abbrev told_at : DiskPlace → OpenPart D → Type 0
@@ -173,8 +173,8 @@ module _ {D : Type 0} (seen : D → DiskView) where
   place_armed : (after : ℕ) (mode : FaultMode) (was is : OpenPart D) (place : DiskPlace) → told_at place was → ArmsP after mode was is place
       → facts (open_disk is place) ≡ with_arm after mode (facts (open_disk was place))
   place_armed after mode was is Log told a = armed_facts after mode was.log.journal.disk is.log.journal.disk told a.0
-  place_armed after mode was is StateA told a = armed_facts after mode was.states.journal.live.disk is.states.journal.live.disk told a.0
-  place_armed after mode was is StateB told a = armed_facts after mode was.states.journal.idle is.states.journal.idle told a.0
+  place_armed after mode was is StateA told a = armed_facts after mode was.states.journal.first.disk is.states.journal.first.disk told a.0
+  place_armed after mode was is StateB told a = armed_facts after mode was.states.journal.second.disk is.states.journal.second.disk told a.0
 
   abbrev Three : Hosted → OpenPart D → Facts → List ℕ → Facts
   Three h p o name = three h (facts (open_disk p Log)) (facts (open_disk p StateA)) (facts (open_disk p StateB)) o name
@@ -187,12 +187,12 @@ module _ {D : Type 0} (seen : D → DiskView) where
   place_past : (h : Hosted) (after : ℕ) (mode : FaultMode) (was is : OpenPart D) (place : DiskPlace) (o : Facts) (name : List ℕ)
       → same_name name (hosted_name h.topic h.conf.part place) ≡ false → ArmsP after mode was is place → Three h is o name ≡ Three h was o name
   place_past h after mode was is Log o name away a =
-      ap (λ (t : StoreParts D). three h (facts (open_disk is Log)) (facts t.journal.live.disk) (facts t.journal.idle) o name) a.1
+      ap (λ (t : StoreParts D). three h (facts (open_disk is Log)) (facts t.journal.first.disk) (facts t.journal.second.disk) o name) a.1
       ∙ past_one (same_name name (log_of h)) (facts (open_disk is Log)) (facts (open_disk was Log))
       (cond (same_name name (first_of h)) (facts (open_disk was StateA)) (cond (same_name name (second_of h)) (facts (open_disk was StateB)) o)) away
   place_past h after mode was is StateA o name away a =
       ap (λ (t : LogParts D). three h (facts t.journal.disk) (facts (open_disk is StateA)) (facts (open_disk is StateB)) o name) a.2
-      ∙ ap (λ (d : D). three h (facts (open_disk was Log)) (facts (open_disk is StateA)) (facts d) o name) a.1
+      ∙ ap (λ (w : Writer D). three h (facts (open_disk was Log)) (facts (open_disk is StateA)) (facts w.disk) o name) a.1
       ∙ ap (cond (same_name name (log_of h)) (facts (open_disk was Log)))
       (past_one (same_name name (first_of h)) (facts (open_disk is StateA)) (facts (open_disk was StateA))
       (cond (same_name name (second_of h)) (facts (open_disk was StateB)) o) away)
@@ -356,7 +356,7 @@ module _ {D : Type 0} (seen : D → DiskView) where
   -- ---- a disk of foreign state
 
   abbrev G : StoreParts D → List ℕ → Facts
-  G store name = foreign_facts seen (Some (store.journal.live.disk, store.journal.idle)) name
+  G store name = foreign_facts seen (Some (store.journal.first.disk, store.journal.second.disk)) name
 
   -- at both names
   record BothArmed (disk : List ℕ) (after : ℕ) (mode : FaultMode) (was is : StoreParts D) : Type 0 where
@@ -364,25 +364,25 @@ module _ {D : Type 0} (seen : D → DiskView) where
     at_second : G is state_b ≡ (if same_name disk state_b then with_arm after mode (G was state_b) else G was state_b)
     carried : (s : ForeignShardState) → IsCarried seen was s → IsCarried seen is s
 
-  foreign_armed : (disk : List ℕ) (after : ℕ) (mode : FaultMode) (was is : StoreParts D) → IsTold (seen was.journal.live.disk).content
-      → IsTold (seen was.journal.idle).content → ((s : ForeignShardState) → Carries seen was s → Carries seen is s)
+  foreign_armed : (disk : List ℕ) (after : ℕ) (mode : FaultMode) (was is : StoreParts D) → IsTold (seen was.journal.first.disk).content
+      → IsTold (seen was.journal.second.disk).content → ((s : ForeignShardState) → Carries seen was s → Carries seen is s)
       → ArmsEither seen disk after mode was is → BothArmed disk after mode was is
   foreign_armed disk after mode was is told second_told stays (inl (name, a, second)) =
       subst (λ (d : List ℕ). BothArmed d after mode was is) (sym name) (record {
-        at_first = armed_facts after mode was.journal.live.disk is.journal.live.disk told a;
-        at_second = ap facts second;
+        at_first = armed_facts after mode was.journal.first.disk is.journal.first.disk told a;
+        at_second = ap (λ (w : Writer D). facts w.disk) second;
         carried = λ s k. record {
           carries = stays s k.carries;
           told = ap is_some a.same_content ∙ k.told;
-          second_told = ap (λ (d : D). is_some (seen d).content) second ∙ k.second_told;
+          second_told = ap (λ (w : Writer D). is_some (seen w.disk).content) second ∙ k.second_told;
           fed = a.same_starved ∙ k.fed;
-          second_fed = ap (λ d. (seen d).starved) second ∙ k.second_fed;
+          second_fed = ap (λ (w : Writer D). (seen w.disk).starved) second ∙ k.second_fed;
         };
       })
   foreign_armed disk after mode was is told second_told stays (inr (inl (name, a, first))) =
       subst (λ (d : List ℕ). BothArmed d after mode was is) (sym name) (record {
         at_first = ap (λ (w : Writer D). facts w.disk) first;
-        at_second = armed_facts after mode was.journal.idle is.journal.idle second_told a;
+        at_second = armed_facts after mode was.journal.second.disk is.journal.second.disk second_told a;
         carried = λ s k. record {
           carries = stays s k.carries;
           told = ap (λ (w : Writer D). is_some (seen w.disk).content) first ∙ k.told;
@@ -489,20 +489,20 @@ module _ {D : Type 0} (seen : D → DiskView) where
           })
 
     either_on : ArmsEither seen disk after mode p.was p.is
-        → GoesOn seen p.was.journal.live.disk p.is.journal.live.disk × GoesOn seen p.was.journal.idle p.is.journal.idle
+        → GoesOn seen p.was.journal.first.disk p.is.journal.first.disk × GoesOn seen p.was.journal.second.disk p.is.journal.second.disk
     either_on (inl (name, a, second)) = (
-      arms_go_on after mode p.was.journal.live.disk p.is.journal.live.disk a,
-      subst (λ (d : D). GoesOn seen p.was.journal.idle d) (sym second) (least_on seen p.was.journal.idle),
+      arms_go_on after mode p.was.journal.first.disk p.is.journal.first.disk a,
+      subst (λ (w : Writer D). GoesOn seen p.was.journal.second.disk w.disk) (sym second) (least_on seen p.was.journal.second.disk),
     )
     either_on (inr (inl (name, a, first))) = (
-      subst (λ (w : Writer D). GoesOn seen p.was.journal.live.disk w.disk) (sym first)
-          (least_on seen p.was.journal.live.disk),
-      arms_go_on after mode p.was.journal.idle p.is.journal.idle a,
+      subst (λ (w : Writer D). GoesOn seen p.was.journal.first.disk w.disk) (sym first)
+          (least_on seen p.was.journal.first.disk),
+      arms_go_on after mode p.was.journal.second.disk p.is.journal.second.disk a,
     )
     either_on (inr (inr (not_a, not_b, same))) =
-        subst (λ (q : StoreParts D). GoesOn seen p.was.journal.live.disk q.journal.live.disk × GoesOn seen p.was.journal.idle q.journal.idle) (sym same) (
-          least_on seen p.was.journal.live.disk,
-          least_on seen p.was.journal.idle,
+        subst (λ (q : StoreParts D). GoesOn seen p.was.journal.first.disk q.journal.first.disk × GoesOn seen p.was.journal.second.disk q.journal.second.disk) (sym same) (
+          least_on seen p.was.journal.first.disk,
+          least_on seen p.was.journal.second.disk,
         )
 
     pub arms_state_on : GoOn seen (disks_in old) (disks_in new)
@@ -511,5 +511,5 @@ module _ {D : Type 0} (seen : D → DiskView) where
           (zip_same (DiskGoesOn seen) (same_goes seen) (slots_disks old.parts));
       foreign =
           subst (λ (f : ForeignSlot D). BothGoOn seen (foreign_disks f) (foreign_disks new.foreign)) (sym p.old_is)
-          (subst (λ (f : ForeignSlot D). BothGoOn seen (Some (p.was.journal.live.disk, p.was.journal.idle)) (foreign_disks f)) (sym p.new_is) (either_on p.either));
+          (subst (λ (f : ForeignSlot D). BothGoOn seen (Some (p.was.journal.first.disk, p.was.journal.second.disk)) (foreign_disks f)) (sym p.new_is) (either_on p.either));
     }

@@ -1,5 +1,5 @@
 -- Calls on the shard of a hosted partition, seen by all shards.
-use Rattle.std.proofs.Common.{◌≡◌, ◌≤◌, ◌⊎◌, arith, inl, inr, refl, sym, ap, ◌∙◌, subst, ℕ, zero, suc, List, [], ◌∷◌, Bool, false, Some}
+use Rattle.std.proofs.Common.{◌≡◌, ◌⊎◌, arith, inl, inr, refl, sym, ap, ◌∙◌, subst, ℕ, zero, suc, List, [], ◌∷◌, Bool, false, Some}
 use Rattle.std.specs.List.{AllZip}
 use Rattle.std.specs.declared.option.Option.{Option}
 use Rattle.edge_io.specs.declared.name.DiskPlace.{DiskPlace}
@@ -28,10 +28,10 @@ use Rattle.broker_model.specs.Acting.{Begun, EndsGoOn, HalvesOn, StepsOn}
 use Rattle.edge_io.specs.Disk.{IsTold}
 use Rattle.broker_core.specs.Carried.{GoesOn, IsPartCarried, OpenPart, PartGoesOn, Uses}
 use Rattle.broker_model.specs.Acting.Begun.{BeginsVisit, BeginsExpiry}
-use Rattle.broker_core.specs.Hosts.{AreApart, AreCarried, AreDistinct, AreOpen, Did, DiskGoesOn, ExpiresShard, GoesOnIf, GoOn, Halts, HaltsSlot, HalvesExpiry, HostsParts, IsHalfDone, IsLeftIn, IsOpenState, IsPartSlot, IsPartState, Leads, LeadsSlot, StaysHosted, among, counts_in, disks_in, ends_in, ends_over, facts_at, facts_in, foreign_disks, foreign_end, foreign_facts, hosted_slot, hosted_slots, open_disk, part_disk, slot_disks, slot_ends}
+use Rattle.broker_core.specs.Hosts.{AreApart, AreCarried, AreDistinct, AreOpen, Did, DiskGoesOn, ExpiresShard, GoesOnIf, GoOn, Halts, HaltsSlot, HalvesExpiry, HostsParts, IsHalfDone, IsLeftIn, IsOpenState, IsPartSlot, IsPartState, Leads, LeadsSlot, LogsLater, StaysHosted, among, counts_in, disks_in, ends_in, ends_over, facts_at, facts_in, foreign_disks, foreign_end, foreign_facts, hosted_slot, hosted_slots, open_disk, part_disk, slot_disks, slot_ends}
 use Rattle.broker_core.proofs.Flats.{among_changed, zip_flat}
 use Rattle.broker_core.proofs.Leading.{StillSlot, halts_still, open_still, parts_apart, parts_still, same_both, same_goes, slot_still, still_foreign}
-use Rattle.broker_core.proofs.Reaching.{SlotLater, SlotReaches, foreign_reaches, names_later, names_reach, open_reaches, same_later, slot_later, slot_reaches, slots_reach}
+use Rattle.broker_core.proofs.Reaching.{SlotLater, SlotReaches, names_later, names_reach, open_reaches, same_later, slot_later, slot_reaches, slots_reach}
 use Rattle.broker_core.proofs.Places.{Changed, changed, changes_all, changes_either, changes_not, changes_same, changes_zip, zip_same, zip_weaker}
 use Rattle.broker_core.proofs.Slots.{AreOf, Halves, Turns, are_of, called_same, half_named, slot_end_stays, slot_used, step_named}
 use Rattle.edge_io.specs.Views.{DiskView}
@@ -215,15 +215,12 @@ module _ {D : Type 0} (seen : D → DiskView) where
         found : PartSlot D → ℕ → ℕ
         found s o = among (λ (e : List ℕ × ℕ). e.0) (λ (e : List ℕ × ℕ). e.1) (slot_ends s) o name
 
-    pub on_later : (was is : OpenPart D) → T x y was is → EndsGoOn was is → (name : List ℕ) → ends_in old name ≤ ends_in (with_parts old ys) name
+    pub on_later : (was is : OpenPart D) → T x y was is → EndsGoOn was is → LogsLater (ends_in old) (ends_in (with_parts old ys))
     on_later was is t g =
-        let later : SlotLater seen x y = slot_later seen x y was is t.old_is t.new_is t.hosted g in
+        let later : SlotLater seen x y = slot_later seen x y was is t.old_is t.new_is t.hosted g.log in
         names_later seen old (with_parts old ys) (changes_zip Is (SlotLater seen) (same_later seen)
         (λ a b i. subst (λ (s : PartSlot D). SlotLater seen s b) (sym i.0) (subst (λ (s : PartSlot D). SlotLater seen x s) (sym i.1) later))
-        n old.parts ys exact) (λ name. least (foreign_end old.foreign name))
-      where
-        least : (n : ℕ) → n ≤ n
-        least n = omega arith
+        n old.parts ys exact)
 
   -- the call on the shard of this number, by a hosted partition
   abbrev pub DidPart : Counts → (ends : Ends) → (now n : ℕ) → PartCall → Shards → Option ShardCall → Shards → Type 0
@@ -251,7 +248,7 @@ module _ {D : Type 0} (seen : D → DiskView) where
             refl,
           ),
         );
-        disks = λ name. change_of n (GoesPart now did c.x c.y)
+        disks = λ name one. change_of n (GoesPart now did c.x c.y)
             (λ e f g. on_disks old ys n c.x c.y c.there c.here c.exact t.turns.hosted apart did g.was g.is g.turns g.used name) s.parts c.after c.goes;
         ends = λ name away. change_of n (GoesPart now did c.x c.y)
             (λ e f g. on_ends old ys n c.x c.y c.there c.here c.exact t.turns.hosted apart did g.was g.is g.turns g.used name away) s.parts c.after c.goes;
@@ -272,7 +269,7 @@ module _ {D : Type 0} (seen : D → DiskView) where
         ⊎ ((begun : Begun) × Half begun × HalvesOn seen x.conf was is now e.shard begun f.shard))
     ends : EndsGoOn was is
 
-  -- its disks stand for the shard, and reach to where its journals end
+  -- its disks stand for the shard, and that of its log reaches to where its journal ends
   record HaltedSlot (y : PartSlot D) (f : HostedPart) : Type 0 where
     still : StillSlot seen y f
     reaches : SlotReaches seen (λ n. n) y y
@@ -407,8 +404,7 @@ module _ {D : Type 0} (seen : D → DiskView) where
       };
       ends_later = change_of n (HaltedPart now Whole Half c.x c.y)
           (λ e f g. on_later old ys n c.x c.y c.there c.here c.exact hosted_is apart g.was g.is g.turns g.ends) s.parts c.after c.goes;
-      reach = names_reach seen (λ n. n) new new (slots_reach seen HaltedSlot (λ y f h. h.reaches) ys c.after c.zip)
-          (foreign_reaches seen old.foreign s.foreign k.foreign);
+      reach = names_reach seen (λ n. n) refl new new (slots_reach seen HaltedSlot (λ y f h. h.reaches) ys c.after c.zip);
       does = what_was_done (changes_either (λ e f. f ≡ e) Does n s.parts c.after
           (changes_so n (HaltedPart now Whole Half c.x c.y) (λ e f. (f ≡ e) ⊎ ((d : PartCall ⊎ Begun) × Does d e f)) halted s.parts c.after c.goes));
     }

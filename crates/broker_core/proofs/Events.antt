@@ -35,7 +35,7 @@ use Rattle.broker_core.specs.declared.slot.ForeignSlot.TheVariants as foreign
 use Rattle.broker_core.specs.declared.slot.PartState.{PartState}
 use Rattle.broker_core.specs.declared.slot.PartState.TheVariants as part
 use Rattle.broker_core.specs.declared.slot.PartSlot.{PartSlot}
-use Rattle.broker_core.specs.Hosts.{AreCarried, AreDistinct, AreHeld, AreHeldParts, AreNamed, AreOpen, AreOpenParts, BothGoOn, DiskGoesOn, DisksReach, GoesOnIf, GoOn, Halts, HalvesExpiry, HalvesServe, HostsParts, IsHalfDone, IsHeld, IsHeldState, IsOpen, IsOpenState, IsPartSlot, Leads, LeftDisks, StandStill, StaysHosted, all_names, counts_in, disks_in, ends_in, ends_over, facts_at, facts_in, foreign_facts, hosted_slots}
+use Rattle.broker_core.specs.Hosts.{AreCarried, AreDistinct, AreHeld, AreHeldParts, AreNamed, AreOpen, AreOpenParts, BothGoOn, DiskGoesOn, GoesOnIf, GoOn, Halts, HalvesExpiry, HalvesServe, HostsParts, IsHalfDone, IsHeld, IsHeldState, IsOpen, IsOpenState, IsPartSlot, Leads, LeftDisks, LogsReach, StandStill, StaysHosted, all_names, counts_in, disks_in, ends_in, ends_over, facts_at, facts_in, foreign_facts, hosted_slots}
 use Rattle.broker_core.specs.Cores.{AreReopened, CoreParts, HasMoment, IsArmed, IsCore, IsWhole, StopsIn, Advances, state_of}
 use Rattle.broker_core.proofs.Places.{among_zip, zip_weaker, one_in_front, one_in_rest}
 use Rattle.broker_core.proofs.Leading.{still_all}
@@ -281,7 +281,7 @@ module _ {D : Type 0} (seen : D → DiskView) where
           topics = topics_are old before whole k;
           later = λ name taken. later (disks_in old.hosts) (disks_in new.hosts) g name;
           machine = steps_from old before after id now v.call outcomes new.hosts k v.does;
-          disks = λ name taken. v.disks name;
+          disks = λ name taken. v.disks name (taken_one old name whole taken);
           losses = tt;
           ends = λ name taken. (v.ends_later name, v.ends name);
         },
@@ -306,7 +306,7 @@ module _ {D : Type 0} (seen : D → DiskView) where
           topics = topics_are old before whole k;
           later = λ name taken. later (disks_in old.hosts) (disks_in new.hosts) g name;
           machine = v.does before.connections;
-          disks = λ name taken. v.disks name;
+          disks = λ name taken. v.disks name (taken_one old name whole taken);
           losses = tt;
           ends = λ name taken. (v.ends_later name, v.ends name);
         },
@@ -327,7 +327,8 @@ module _ {D : Type 0} (seen : D → DiskView) where
           topics = topics_are old before whole k;
           later = λ name taken. later (disks_in old.hosts) (disks_in new.hosts) g name;
           machine = record { did = CallMembers Ticks; is = v.does.0; kind = refl; shards = v.does.1; tells = refl; connections = refl };
-          disks = λ name taken. subst (λ (call : Option ShardCall). OnCalled (calls call name) (F (disks_in old.hosts) name) (F (disks_in new.hosts) name)) v.does.0 (v.disks name);
+          disks = λ name taken. subst (λ (call : Option ShardCall). OnCalled (calls call name) (F (disks_in old.hosts) name) (F (disks_in new.hosts) name)) v.does.0
+              (v.disks name (taken_one old name whole taken));
           losses = tt;
           ends = λ name taken. v.ends name (ap (λ (call : Option ShardCall). calls call name) v.does.0);
         },
@@ -372,7 +373,7 @@ module _ {D : Type 0} (seen : D → DiskView) where
           losses = record {
             contents = v.contents;
             losses = λ name taken. v.lost name (taken_one old name whole taken);
-            reach = λ name taken. v.reach name (taken_one old name whole taken);
+            reach = λ name taken is. v.reach name is;
             opens = record {
               nobody = refl;
               hosts = lands_hosted before.shards.parts v.after.parts v.lands.parts ∙ hosts_are old before whole k;
@@ -399,10 +400,10 @@ module _ {D : Type 0} (seen : D → DiskView) where
     after = before;
     ends = ends_in old.hosts;
     reaches = inl refl;
-    ends_later = λ name. least (ends_in old.hosts name);
+    ends_later = λ name is. least (ends_in old.hosts name);
     still = subst (λ (h : HostsParts D). StandStill seen before.shards (disks_in h)) (sym same)
         (still_all seen old.hosts before.shards k.shards);
-    reach = subst (λ (h : HostsParts D). DisksReach seen (disks_in h) (λ name. ends_in old.hosts name - 1)) (sym same)
+    reach = subst (λ (h : HostsParts D). LogsReach seen (disks_in h) (λ name. ends_in old.hosts name - 1)) (sym same)
         (reach_less seen (disks_in old.hosts) (ends_in old.hosts) (reach_all seen old.hosts before.shards k.shards));
   }
 
@@ -509,12 +510,12 @@ module _ {D : Type 0} (seen : D → DiskView) where
       }
 
   pub stops_power : (old new : CoreParts D) (before : Machine) (choice : ℕ) → StandStill seen before.shards (disks_in new.hosts)
-      → DisksReach seen (disks_in new.hosts) (λ name. ends_in old.hosts name - 1) → S old before (Power choice) new
+      → LogsReach seen (disks_in new.hosts) (λ name. ends_in old.hosts name - 1) → S old before (Power choice) new
   stops_power old new before choice still reach = record {
     after = before;
     ends = ends_in old.hosts;
     reaches = inl refl;
-    ends_later = λ name. least (ends_in old.hosts name);
+    ends_later = λ name is. least (ends_in old.hosts name);
     still = still;
     reach = reach;
   }
@@ -535,7 +536,7 @@ module _ {D : Type 0} (seen : D → DiskView) where
   pub power_stops : {T : Type 0} (r : Result T CoreFault) (fault : CoreFault) (old : CoreParts D) (choice : ℕ) (event : Event) (new : CoreParts D)
       → r ≡ Err fault → event ≡ Power choice
       → ((s : Shards) → AreCarried seen old.hosts s → StandStill seen s (disks_in new.hosts)
-      × DisksReach seen (disks_in new.hosts) (λ name. ends_in old.hosts name - 1) × (fault ≡ NoMemory))
+      × LogsReach seen (disks_in new.hosts) (λ name. ends_in old.hosts name - 1) × (fault ≡ NoMemory))
       → IfErr r (λ x. (m : Machine) → C old m → S old m event new × (x ≡ NoMemory))
   power_stops {T} r fault old choice event new err is f =
       subst (λ (q : Result T CoreFault). IfErr q (λ x. (m : Machine) → C old m → S old m event new × (x ≡ NoMemory))) (sym err)

@@ -1,25 +1,27 @@
 -- Calls on shards, and what they lead to.
 use Rattle.std.proofs.lemmas.List.Elements.{All-from_recursion}
 use Rattle.std.specs.List.{AllByRecursion, AllZip, flat_map}
-use Rattle.std.specs.Prelude.{All}
-use Rattle.std.proofs.Common.{◌≡◌, ◌⊎◌, ◌↔◌, ◌≤◌, [], ◌∷◌, arith, inl, inr, refl, sym, ap, ◌∙◌, subst, ℕ, List, Bool, true, false, cond, Some, None, is_some}
+use Rattle.std.specs.Prelude.{All, ◌||◌}
+use Rattle.std.proofs.Common.{◌≡◌, ◌⊎◌, ◌↔◌, ◌≤◌, ◌+◌, [], ◌∷◌, arith, inl, inr, refl, sym, ap, ◌∙◌, subst, ℕ, List, Bool, true, false, cond, Some, None}
 use Rattle.std.specs.declared.option.Option.{Option}
 use Rattle.edge_io.specs.declared.name.DiskPlace.TheVariants.{Log, StateA, StateB}
-use Rattle.edge_io.specs.Armed.{RunsOn}
 use Rattle.edge_io.specs.Causes.{Rose}
 use Rattle.edge_io.specs.Disk.{IsTold}
 use Rattle.share_model.specs.declared.run.Run.{Run}
 use Rattle.share_model.specs.Runs.{IsCanonical}
 use Rattle.share_model.specs.declared.fault.StoreFault.{StoreFault}
+use Rattle.share_model.specs.declared.fault.StoreFault.TheVariants.{Device, Full}
 use Rattle.share_model.specs.declared.foreign.ForeignOp.{ForeignOp}
 use Rattle.share_model.specs.declared.foreign.ForeignAnswer.{ForeignAnswer}
 use Rattle.share_members.specs.Groups.{Memberships}
 use Rattle.share_coord.specs.Parts.{StoreParts}
 use Rattle.state_records.specs.States.{AreStoredRuns, IsStoredRun}
+use Rattle.foreign_coord.specs.Once.{HasRisen}
 use Rattle.foreign_coord.specs.Shards.{ForeignShardState, Carries, StepsForeign}
+use Rattle.share_part.specs.Failures.{RunOnBoth}
 use Rattle.share_part.specs.Shards.{Carries as CarriesPart}
-use Rattle.broker_model.specs.Hosted.{Hosted, IsOneOf, first_of, log_of, part_disks, same_name, second_of, state_a, state_b}
-use Rattle.broker_model.specs.Shards.{Counts, HostedPart, MembersCall, Shards, ShardCall, StepsMembers, StepsShards}
+use Rattle.broker_model.specs.Hosted.{Hosted, IsOneOf, first_of, foreign_store, has_disk, log_of, part_disks, same_name, second_of, state_a, state_b}
+use Rattle.broker_model.specs.Shards.{Counts, HostedPart, MembersCall, Shards, ShardCall, StepsMembers, StepsShards, rose_on}
 use Rattle.broker_model.specs.Shards.ShardCall.{CallForeign, CallMembers}
 use Rattle.broker_model.specs.Disks.{Facts, IsUsed, OnCalled, facts_of}
 use Rattle.call_fold.specs.Parts.{IsTellable}
@@ -32,10 +34,10 @@ use Rattle.broker_core.specs.declared.slot.PartState.{PartState}
 use Rattle.broker_core.specs.declared.slot.PartState.TheVariants as part
 use Rattle.broker_core.specs.declared.slot.PartSlot.{PartSlot}
 use Rattle.broker_core.specs.Carried.{HaltsForeign, IsCarried, LeadsForeign, GoesOn, OpenPart, holding}
-use Rattle.broker_core.specs.Hosts.{AreApart, AreCarried, AreDistinct, BothGoOn, Did, DiskGoesOn, ForeignStill, GoesOnIf, GoOn, Halts, HostsParts, IsPartSlot, IsPartState, IsSlot, Leads, LeftDisks, NotIn, PartStill, PartsStill, StandStill, all_names, among, counts_in, disks_in, ends_in, ends_over, facts_at, facts_in, foreign_disks, foreign_end, foreign_facts, hosted_slot, hosted_slots, part_disk, slot_ends, slots_disks}
+use Rattle.broker_core.specs.Hosts.{AreApart, AreCarried, AreDistinct, BothGoOn, Did, DiskGoesOn, ForeignStill, GoesOnIf, GoOn, Halts, HostsParts, IsPartSlot, IsPartState, IsSlot, Leads, LeftDisks, LogsLater, NotIn, PartStill, PartsStill, StandStill, all_names, among, counts_in, disks_in, ends_in, ends_over, facts_at, facts_in, foreign_disks, foreign_end, foreign_facts, hosted_slot, hosted_slots, part_disk, slot_ends, slots_disks}
 use Rattle.broker_core.proofs.Opening.{carried_stands}
-use Rattle.broker_core.proofs.Places.{zip_same, zip_weaker, apart_from, distinct_front, among_past, among_same}
-use Rattle.broker_core.proofs.Reaching.{SlotLater, foreign_open, names_later, names_reach, reach_all, same_later, slot_reaches, slots_reach}
+use Rattle.broker_core.proofs.Places.{zip_same, zip_weaker, apart_from, distinct_front, among_past, among_zip, not_both, one_in_either}
+use Rattle.broker_core.proofs.Reaching.{SlotLater, names_later, names_reach, reach_all, same_later, slot_reaches, slots_reach}
 use Rattle.broker_core.proofs.Reopens.{images_left}
 use Rattle.broker_core.proofs.Slots.{called_same, disk_names, end_names}
 use Rattle.edge_io.specs.Views.{DiskView}
@@ -62,6 +64,10 @@ fed_both starves a b not either = (unless a (λ e. clash (sym not ∙ either.1 (
     clash : false ≡ true → ⊥
     clash e = cc
 
+neither : (p q : Bool) → (p || q) ≡ false → p ≡ false
+neither true q is = absurd (let bad : true ≡ false = is in cc)
+neither false q is = refl
+
 a_is_one : IsOneOf (state_a ∷ state_b ∷ []) state_a
 a_is_one = inl refl
 
@@ -82,62 +88,52 @@ module _ {D : Type 0} (seen : D → DiskView) where
   C store s = IsCarried seen store s
 
   abbrev Runs : StoreParts D → StoreParts D → Type 0
-  Runs old new = RunsOn seen old.journal.live.disk new.journal.live.disk
-
-  -- its journal never ends before where it did
-  abbrev EndsOn : StoreParts D → StoreParts D → Type 0
-  EndsOn old new = (t : ForeignShardState) → Carries seen old t → old.journal.live.end ≤ new.journal.live.end
-
-  pub told_still : (old new : StoreParts D) → Runs old new → IsTold (seen old.journal.live.disk).content → IsTold (seen new.journal.live.disk).content
-  told_still old new runs told = runs.told ∙ told
+  Runs old new = RunOnBoth seen old new
 
   abbrev Acts : StoreParts D → StoreParts D → ForeignOp → ForeignAnswer → Type 0
   Acts old new op answer = (t : ForeignShardState) → Carries seen old t → (n : ForeignShardState) × (fault : Option StoreFault) × Carries seen new n
-      × StepsForeign (Rose (seen old.journal.live.disk).faults (seen new.journal.live.disk).faults) old.journal.live.end t op answer fault n
+      × StepsForeign (HasRisen seen old new) old.journal.end t op answer fault n
 
   pub act_leads : (old new : StoreParts D) (op : ForeignOp) (answer : ForeignAnswer) (s : ForeignShardState) → C old s → Acts old new op answer
-      → Runs old new → new.journal.idle ≡ old.journal.idle → EndsOn old new → (seen new.journal.live.disk).starved ≡ false
+      → Runs old new → ((seen new.journal.first.disk).starved ≡ false) × ((seen new.journal.second.disk).starved ≡ false)
       → LeadsForeign seen old s new op answer
-  act_leads old new op answer s k acts runs idle ends fed =
+  act_leads old new op answer s k acts runs fed =
       let r = acts s k.carries in
       record {
         after = r.0;
         fault = r.1;
         carried = record {
           carries = r.2;
-          told = told_still old new runs k.told;
-          second_told = ap (λ (d : D). is_some (seen d).content) idle ∙ k.second_told;
-          fed = fed;
-          second_fed = ap (λ d. (seen d).starved) idle ∙ k.second_fed;
+          told = runs.0.told ∙ k.told;
+          second_told = runs.1.told ∙ k.second_told;
+          fed = fed.0;
+          second_fed = fed.1;
         };
         step = r.3;
-        end = ends s k.carries;
-        used = record { losses = runs.same_losses; arms = runs.same_arms; spends = runs.spends k.told fed };
+        used = record { losses = runs.0.same_losses; arms = runs.0.same_arms; spends = runs.0.spends k.told fed.0 };
+        second_used = record { losses = runs.1.same_losses; arms = runs.1.same_arms; spends = runs.1.spends k.second_told fed.1 };
       }
 
   pub act_halts : (old new : StoreParts D) (op : ForeignOp) (answer : ForeignAnswer) (s : ForeignShardState) → C old s → Acts old new op answer
-      → Runs old new → new.journal.idle ≡ old.journal.idle → EndsOn old new → HaltsForeign seen old s new op
-  act_halts old new op answer s k acts runs idle ends =
+      → Runs old new → HaltsForeign seen old s new op
+  act_halts old new op answer s k acts runs =
       let r = acts s k.carries in
       record {
         after = r.0;
         carries = r.2;
         does = inr (answer, r.1, r.3);
-        end = ends s k.carries;
-        told = told_still old new runs k.told;
-        second_told = ap (λ (d : D). is_some (seen d).content) idle ∙ k.second_told;
+        told = runs.0.told ∙ k.told;
+        second_told = runs.1.told ∙ k.second_told;
       }
 
   pub act_refused : (old new : StoreParts D) (op : ForeignOp) (s : ForeignShardState) → C old s
-      → ((t : ForeignShardState) → Carries seen old t → Carries seen new t) → Runs old new → new.journal.idle ≡ old.journal.idle → EndsOn old new
-      → HaltsForeign seen old s new op
-  act_refused old new op s k same runs idle ends = record {
+      → ((t : ForeignShardState) → Carries seen old t → Carries seen new t) → Runs old new → HaltsForeign seen old s new op
+  act_refused old new op s k same runs = record {
     after = s;
     carries = same s k.carries;
     does = inl refl;
-    end = ends s k.carries;
-    told = told_still old new runs k.told;
-    second_told = ap (λ (d : D). is_some (seen d).content) idle ∙ k.second_told;
+    told = runs.0.told ∙ k.told;
+    second_told = runs.1.told ∙ k.second_told;
   }
 
   -- ---- hosts
@@ -164,12 +160,12 @@ module _ {D : Type 0} (seen : D → DiskView) where
       (second_of (hosted_slot slot), part_disk slot.state StateB) p
 
   pub open_still : (slot : PartSlot D) (p : HostedPart) (is : OpenPart D) → slot.state ≡ part.Open is → p.hosted ≡ hosted_slot slot → is.conf ≡ slot.conf
-      → CarriesPart seen holding is p.shard → IsTold (seen is.log.journal.disk).content → IsTold (seen is.states.journal.live.disk).content
-      → IsTold (seen is.states.journal.idle).content → StillSlot slot p
+      → CarriesPart seen holding is p.shard → IsTold (seen is.log.journal.disk).content → IsTold (seen is.states.journal.first.disk).content
+      → IsTold (seen is.states.journal.second.disk).content → StillSlot slot p
   open_still slot p is state_is hosted conf_is carries told first_told second_told = record {
     log = is.log.journal.disk;
-    first = is.states.journal.live.disk;
-    second = is.states.journal.idle;
+    first = is.states.journal.first.disk;
+    second = is.states.journal.second.disk;
     log_is = λ i. (log_of (sym hosted i), part_disk (state_is i) Log);
     first_is = λ i. (first_of (sym hosted i), part_disk (state_is i) StateA);
     second_is = λ i. (second_of (sym hosted i), part_disk (state_is i) StateB);
@@ -260,9 +256,9 @@ module _ {D : Type 0} (seen : D → DiskView) where
     call = None;
     carried = k;
     does = r;
-    disks = λ name. refl;
+    disks = λ name one. refl;
     ends = λ name away. refl;
-    ends_later = λ name. least (ends_in hosts name);
+    ends_later = λ name is. least (ends_in hosts name);
   }
 
   pub halts_still : (hosts : HostsParts D) (s : Shards) (P : Shards → Option ShardCall → Shards → Type 0) (W : Shards → Shards → Type 0) → K hosts s
@@ -270,7 +266,7 @@ module _ {D : Type 0} (seen : D → DiskView) where
   halts_still hosts s P W k = record {
     after = s;
     still = still_all hosts s k;
-    ends_later = λ name. least (ends_in hosts name);
+    ends_later = λ name is. least (ends_in hosts name);
     reach = reach_all seen hosts s k;
     does = inl refl;
   }
@@ -289,71 +285,131 @@ module _ {D : Type 0} (seen : D → DiskView) where
   abbrev entry_facts : List ℕ × Option D → Facts
   entry_facts e = facts_at seen e.1
 
-  module _ (old : HostsParts D) (was is : StoreParts D) (opened : old.foreign ≡ foreign.Open was) (second : is.journal.idle ≡ was.journal.idle)
-      (apart : AreApart old) where
+  -- one of the broker's disks has this name
+  abbrev pub IsHis : HostsParts D → List ℕ → Type 0
+  IsHis old name = IsOneOf (all_names (hosted_slots old.parts)) name
+
+  rose_weaker : (P Q : Type 0) → (P → Q) → (end : ℕ) (s after : ForeignShardState) (op : ForeignOp) (answer : ForeignAnswer) (fault : Option StoreFault)
+      → StepsForeign P end s op answer fault after → StepsForeign Q end s op answer fault after
+  rose_weaker P Q f end s after op answer None step = step
+  rose_weaker P Q f end s after op answer (Some Device) step = (step.0, f step.1, step.2)
+  rose_weaker P Q f end s after op answer (Some (Full at)) step = step
+
+  -- where one of two counts rose, their sum did
+  rose_first : (a b c d : ℕ) → Rose a c → b ≤ d → Rose (a + b) (c + d)
+  rose_first a b c d rose later = omega (arith, rose, later)
+
+  rose_second : (a b c d : ℕ) → a ≤ c → Rose b d → Rose (a + b) (c + d)
+  rose_second a b c d later rose = omega (arith, rose, later)
+
+  module _ (old : HostsParts D) (was is : StoreParts D) (opened : old.foreign ≡ foreign.Open was) (apart : AreApart old)
+      (first_on : GoesOn seen was.journal.first.disk is.journal.first.disk) (second_on : GoesOn seen was.journal.second.disk is.journal.second.disk) where
     abbrev next : HostsParts D
     next = record { parts = old.parts; members = old.members; foreign = foreign.Open is }
 
-    other_facts : (name : List ℕ) → foreign_facts seen (foreign_disks old.foreign) name
-        ≡ either (same_name name state_a) was.journal.live.disk was.journal.idle
-    other_facts name = ap (λ (f : ForeignSlot D). foreign_facts seen (foreign_disks f) name) opened
+    abbrev names : List (List ℕ)
+    names = part_disks (hosted_slots old.parts)
 
-    names_apart : NotIn (part_disks (hosted_slots old.parts)) state_a
-    names_apart = not_a_part (hosted_slots old.parts) apart
+    no_a : NotIn names state_a
+    no_a = not_a_part (hosted_slots old.parts) apart
 
-    first_facts : (left : Option (D × D)) → among (λ (e : List ℕ × Option D). e.0) entry_facts (slots_disks old.parts)
-        (foreign_facts seen left state_a) state_a ≡ foreign_facts seen left state_a
-    first_facts left =
-        among_past (λ (e : List ℕ × Option D). e.0) entry_facts (slots_disks old.parts)
-        (foreign_facts seen left state_a) state_a (subst (λ (l : List (List ℕ)). NotIn l state_a) (sym (disk_names old.parts)) names_apart)
+    no_b : NotIn names state_b
+    no_b = not_a_part_too (hosted_slots old.parts) apart
 
-    was_counted : (F old state_a).faults ≡ (seen was.journal.live.disk).faults
-    was_counted = ap (λ (f : Facts). f.faults) (first_facts (foreign_disks old.foreign) ∙ other_facts state_a)
+    past_parts : (left : Option (D × D)) (name : List ℕ) → NotIn names name → among (λ (e : List ℕ × Option D). e.0) entry_facts (slots_disks old.parts)
+        (foreign_facts seen left name) name ≡ foreign_facts seen left name
+    past_parts left name n =
+        among_past (λ (e : List ℕ × Option D). e.0) entry_facts (slots_disks old.parts) (foreign_facts seen left name) name
+        (subst (λ (l : List (List ℕ)). NotIn l name) (sym (disk_names old.parts)) n)
 
-    is_counted : (F next state_a).faults ≡ (seen is.journal.live.disk).faults
-    is_counted = ap (λ (f : Facts). f.faults) (first_facts (foreign_disks (foreign.Open is)))
+    was_at : (name : List ℕ) → NotIn names name → F old name ≡ either (same_name name state_a) was.journal.first.disk was.journal.second.disk
+    was_at name n = past_parts (foreign_disks old.foreign) name n ∙ ap (λ (f : ForeignSlot D). foreign_facts seen (foreign_disks f) name) opened
 
-    foreign_used : (b : Bool) → IsUsed (facts_of seen was.journal.live.disk) (facts_of seen is.journal.live.disk)
-        → OnCalled b (either b was.journal.live.disk was.journal.idle) (either b is.journal.live.disk is.journal.idle)
-    foreign_used true used = used
-    foreign_used false used = ap (facts_of seen) second
+    is_at : (name : List ℕ) → NotIn names name → F next name ≡ either (same_name name state_a) is.journal.first.disk is.journal.second.disk
+    is_at name n = past_parts (foreign_disks (foreign.Open is)) name n
 
-    foreign_disks_on : IsUsed (facts_of seen was.journal.live.disk) (facts_of seen is.journal.live.disk)
-        → (name : List ℕ) → OnCalled (same_name name state_a) (F old name) (F next name)
-    foreign_disks_on used name =
-        among_same (λ (e : List ℕ × Option D). e.0) entry_facts (OnCalled (same_name name state_a))
-        (called_same (same_name name state_a)) (slots_disks old.parts) (foreign_facts seen (foreign_disks old.foreign) name)
-        (foreign_facts seen (foreign_disks (foreign.Open is)) name) name
-        (subst (λ (f : Facts). OnCalled (same_name name state_a) f (either (same_name name state_a) is.journal.live.disk is.journal.idle))
-        (sym (other_facts name)) (foreign_used (same_name name state_a) used))
+    was_first : F old state_a ≡ facts_of seen was.journal.first.disk
+    was_first = was_at state_a no_a
 
-    foreign_ends_on : (name : List ℕ) → same_name name state_a ≡ false → ends_in next name ≡ ends_in old name
+    was_second : F old state_b ≡ facts_of seen was.journal.second.disk
+    was_second = was_at state_b no_b
+
+    is_first : F next state_a ≡ facts_of seen is.journal.first.disk
+    is_first = is_at state_a no_a
+
+    is_second : F next state_b ≡ facts_of seen is.journal.second.disk
+    is_second = is_at state_b no_b
+
+    abbrev Called : List ℕ → Type 0
+    Called name = OnCalled (has_disk foreign_store name) (F old name) (F next name)
+
+    parts_on : (name : List ℕ) → IsOneOf names name → Called name
+    parts_on name one =
+        among_zip (λ (e : List ℕ × Option D). e.0) entry_facts (λ (e : List ℕ × Option D). e.0) entry_facts
+        (OnCalled (has_disk foreign_store name)) (slots_disks old.parts) (slots_disks old.parts)
+        (zip_same (λ (e f : List ℕ × Option D). (f.0 ≡ e.0) × OnCalled (has_disk foreign_store name) (entry_facts e) (entry_facts f))
+        (λ e. (refl, called_same (has_disk foreign_store name) (entry_facts e))) (slots_disks old.parts))
+        (foreign_facts seen (foreign_disks old.foreign) name) (foreign_facts seen (foreign_disks (foreign.Open is)) name) name
+        (λ n. absurd (not_both names name (subst (λ (l : List (List ℕ)). NotIn l name) (disk_names old.parts) n) one))
+
+    first_called : IsUsed (facts_of seen was.journal.first.disk) (facts_of seen is.journal.first.disk) → Called state_a
+    first_called used = subst (λ (f : Facts). IsUsed f (F next state_a)) (sym was_first)
+        (subst (λ (f : Facts). IsUsed (facts_of seen was.journal.first.disk) f) (sym is_first) used)
+
+    second_called : IsUsed (facts_of seen was.journal.second.disk) (facts_of seen is.journal.second.disk) → Called state_b
+    second_called used = subst (λ (f : Facts). IsUsed f (F next state_b)) (sym was_second)
+        (subst (λ (f : Facts). IsUsed (facts_of seen was.journal.second.disk) f) (sym is_second) used)
+
+    foreign_disks_on : IsUsed (facts_of seen was.journal.first.disk) (facts_of seen is.journal.first.disk)
+        → IsUsed (facts_of seen was.journal.second.disk) (facts_of seen is.journal.second.disk) → (name : List ℕ) → IsHis old name → Called name
+    foreign_disks_on used second_used name one = go (one_in_either names (state_a ∷ state_b ∷ []) name one) where
+      go : IsOneOf names name ⊎ IsOneOf (state_a ∷ state_b ∷ []) name → Called name
+      go (inl part) = parts_on name part
+      go (inr (inl e)) = subst Called (sym e) (first_called used)
+      go (inr (inr (inl e))) = subst Called (sym e) (second_called second_used)
+      go (inr (inr (inr never))) = absurd never
+
+    foreign_ends_on : (name : List ℕ) → has_disk foreign_store name ≡ false → ends_in next name ≡ ends_in old name
     foreign_ends_on name away =
+        let not_first = neither (same_name name state_a) (same_name name state_b) away in
         ap (λ (n : ℕ). among (λ (e : List ℕ × ℕ). e.0) (λ (e : List ℕ × ℕ). e.1) (flat_map slot_ends old.parts) n name)
-        (ap (λ (b : Bool). cond b is.journal.live.end 0) away
-        ∙ sym (ap (λ (f : ForeignSlot D). foreign_end f name) opened ∙ ap (λ (b : Bool). cond b was.journal.live.end 0) away))
+        (ap (λ (b : Bool). cond b is.journal.end 0) not_first
+        ∙ sym (ap (λ (f : ForeignSlot D). foreign_end f name) opened ∙ ap (λ (b : Bool). cond b was.journal.end 0) not_first))
 
-    foreign_later : was.journal.live.end ≤ is.journal.live.end → (name : List ℕ) → ends_in old name ≤ ends_in next name
-    foreign_later l = names_later seen old next (zip_same (SlotLater seen) (same_later seen) old.parts) (λ name.
-        subst (λ (f : ForeignSlot D). foreign_end f name ≤ foreign_end (foreign.Open is) name) (sym opened) (go (same_name name state_a)))
-      where
-        go : (b : Bool) → cond b was.journal.live.end 0 ≤ cond b is.journal.live.end 0
-        go true = l
-        go false = omega arith
+    foreign_later : LogsLater (ends_in old) (ends_in next)
+    foreign_later = names_later seen old next (zip_same (SlotLater seen) (same_later seen) old.parts)
 
-    end_was : ends_in old state_a ≡ was.journal.live.end
+    end_was : ends_in old state_a ≡ was.journal.end
     end_was =
         among_past (λ (e : List ℕ × ℕ). e.0) (λ (e : List ℕ × ℕ). e.1) (flat_map slot_ends old.parts) (foreign_end old.foreign state_a) state_a
-        (subst (λ (l : List (List ℕ)). NotIn l state_a) (sym (end_names old.parts)) names_apart)
+        (subst (λ (l : List (List ℕ)). NotIn l state_a) (sym (end_names old.parts)) no_a)
         ∙ ap (λ (f : ForeignSlot D). foreign_end f state_a) opened
 
+    rose_in_all : HasRisen seen was is → rose_on (N old next) foreign_store
+    rose_in_all rose =
+        subst (λ (n : ℕ). Rose n ((F next state_a).faults + (F next state_b).faults)) (sym before)
+        (subst (λ (n : ℕ). Rose ((seen was.journal.first.disk).faults + (seen was.journal.second.disk).faults) n) (sym behind) (sum_rose rose))
+      where
+        before : (F old state_a).faults + (F old state_b).faults ≡ (seen was.journal.first.disk).faults + (seen was.journal.second.disk).faults
+        before = λ i. (was_first i).faults + (was_second i).faults
+
+        behind : (F next state_a).faults + (F next state_b).faults ≡ (seen is.journal.first.disk).faults + (seen is.journal.second.disk).faults
+        behind = λ i. (is_first i).faults + (is_second i).faults
+
+        sum_rose : HasRisen seen was is
+            → Rose ((seen was.journal.first.disk).faults + (seen was.journal.second.disk).faults)
+            ((seen is.journal.first.disk).faults + (seen is.journal.second.disk).faults)
+        sum_rose (inl one) = rose_first (seen was.journal.first.disk).faults (seen was.journal.second.disk).faults
+            (seen is.journal.first.disk).faults (seen is.journal.second.disk).faults one second_on.later
+        sum_rose (inr one) = rose_second (seen was.journal.first.disk).faults (seen was.journal.second.disk).faults
+            (seen is.journal.first.disk).faults (seen is.journal.second.disk).faults first_on.later one
+
     foreign_steps : (s after : ForeignShardState) (op : ForeignOp) (answer : ForeignAnswer) (fault : Option StoreFault)
-        → StepsForeign (Rose (seen was.journal.live.disk).faults (seen is.journal.live.disk).faults) was.journal.live.end s op answer fault after
-        → StepsForeign (Rose (F old state_a).faults (F next state_a).faults) (ends_in old state_a) s op answer fault after
+        → StepsForeign (HasRisen seen was is) was.journal.end s op answer fault after
+        → StepsForeign (rose_on (N old next) foreign_store) (ends_in old state_a) s op answer fault after
     foreign_steps s after op answer fault step =
-        subst (λ (n : ℕ). StepsForeign (Rose (F old state_a).faults (F next state_a).faults) n s op answer fault after) (sym end_was)
-        (subst (λ (m : ℕ). StepsForeign (Rose m (F next state_a).faults) was.journal.live.end s op answer fault after) (sym was_counted)
-        (subst (λ (m : ℕ). StepsForeign (Rose (seen was.journal.live.disk).faults m) was.journal.live.end s op answer fault after) (sym is_counted) step))
+        subst (λ (n : ℕ). StepsForeign (rose_on (N old next) foreign_store) n s op answer fault after) (sym end_was)
+        (rose_weaker (HasRisen seen was is) (rose_on (N old next) foreign_store) rose_in_all was.journal.end s after op answer fault step)
 
     foreign_carried : (s : Shards) → K old s → C was s.foreign
     foreign_carried s k = subst (λ (f : ForeignSlot D). IsSlot seen f s.foreign) opened k.foreign
@@ -368,9 +424,9 @@ module _ {D : Type 0} (seen : D → DiskView) where
           call = Some (CallForeign op answer l.fault);
           carried = record { parts = k.parts; members = k.members; foreign = l.carried };
           does = (CallForeign op answer l.fault, refl, refl, (foreign_steps s.foreign l.after op answer l.fault l.step, refl, refl));
-          disks = foreign_disks_on l.used;
+          disks = foreign_disks_on l.used l.second_used;
           ends = foreign_ends_on;
-          ends_later = foreign_later l.end;
+          ends_later = foreign_later;
         }
 
     pub foreign_halts : (now : ℕ) (op : ForeignOp) (W : Shards → Shards → Type 0)
@@ -388,14 +444,13 @@ module _ {D : Type 0} (seen : D → DiskView) where
               second_told = h.second_told;
             };
           };
-          ends_later = foreign_later h.end;
-          reach = names_reach seen (λ n. n) next next (slots_reach seen (IsPartSlot seen)
-              (slot_reaches seen) old.parts s.parts k.parts) (foreign_open seen is h.after h.carries);
+          ends_later = foreign_later;
+          reach = names_reach seen (λ n. n) refl next next (slots_reach seen (IsPartSlot seen) (slot_reaches seen) old.parts s.parts k.parts);
           does = go h.after h.does;
         }
       where
         go : (t : ForeignShardState) → (t ≡ s.foreign) ⊎ ((answer : ForeignAnswer) × (fault : Option StoreFault)
-            × StepsForeign (Rose (seen was.journal.live.disk).faults (seen is.journal.live.disk).faults) was.journal.live.end s.foreign op answer fault t)
+            × StepsForeign (HasRisen seen was is) was.journal.end s.foreign op answer fault t)
             → (record { parts = s.parts; members = s.members; foreign = t } ≡ s) ⊎ (((call : Option ShardCall) × ((answer : PartAnswer)
             × Did (N old next) (ends_over old next) now (Foreign op) answer s call (record { parts = s.parts; members = s.members; foreign = t })))
             ⊎ W s (record { parts = s.parts; members = s.members; foreign = t }))
@@ -424,12 +479,12 @@ module _ {D : Type 0} (seen : D → DiskView) where
   go_on_same left = record { parts = zip_same (DiskGoesOn seen) same_goes left.parts; foreign = same_both left.foreign }
 
   pub foreign_on : (old : HostsParts D) (was is : StoreParts D) → old.foreign ≡ foreign.Open was
-      → GoesOn seen was.journal.live.disk is.journal.live.disk → is.journal.idle ≡ was.journal.idle
+      → GoesOn seen was.journal.first.disk is.journal.first.disk → GoesOn seen was.journal.second.disk is.journal.second.disk
       → GoOn seen (disks_in old) (disks_in (record { parts = old.parts; members = old.members; foreign = foreign.Open is }))
   foreign_on old was is opened first second = record {
     parts = zip_same (DiskGoesOn seen) same_goes (slots_disks old.parts);
-    foreign = subst (λ (f : ForeignSlot D). BothGoOn seen (foreign_disks f) (Some (is.journal.live.disk, is.journal.idle))) (sym opened)
-        (first, subst (λ (d : D). GoesOn seen was.journal.idle d) (sym second) (least_on was.journal.idle));
+    foreign = subst (λ (f : ForeignSlot D). BothGoOn seen (foreign_disks f) (Some (is.journal.first.disk, is.journal.second.disk))) (sym opened)
+        (first, second);
   }
 
   -- ---- the members of groups
@@ -443,9 +498,9 @@ module _ {D : Type 0} (seen : D → DiskView) where
     call = Some (CallMembers did);
     carried = record { parts = k.parts; members = refl; foreign = k.foreign };
     does = (refl, (subst (λ (m : Memberships). StepsMembers now m did members) (sym k.members) steps, refl, refl));
-    disks = λ name. refl;
+    disks = λ name one. refl;
     ends = λ name away. refl;
-    ends_later = λ name. least (ends_in old name);
+    ends_later = λ name is. least (ends_in old name);
   }
 
   pub members_halt : (hosts : HostsParts D) (members : Memberships) (s : Shards) (P : Shards → Option ShardCall → Shards → Type 0) (W : Shards → Shards → Type 0)

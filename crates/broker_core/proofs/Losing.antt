@@ -1,5 +1,5 @@
 -- Power losses of all shards, seen by the names of the disks.
-use Rattle.std.proofs.Common.{◌≡◌, ◌≢◌, ◌⊎◌, ◌<◌, ◌≤◌, ◌-◌, ◌∷◌, ◌++◌, [], arith, inl, inr, refl, sym, ap, ◌∙◌, subst, ℕ, zero, suc, List, length, get_or, set, Bool, true, false, cond, Some, None}
+use Rattle.std.proofs.Common.{◌≡◌, ◌≢◌, ◌⊎◌, ◌<◌, ◌≤◌, ◌-◌, ◌∷◌, ◌++◌, [], arith, inl, inr, refl, sym, ap, ◌∙◌, subst, ℕ, zero, suc, List, length, get_or, set, Some, None}
 use Rattle.std.specs.List.{AllByRecursion, AllZip, flat_map}
 use Rattle.std.specs.declared.option.Option.{Option}
 use Rattle.edge_io.specs.declared.name.DiskPlace.{DiskPlace}
@@ -12,14 +12,15 @@ use Rattle.share_model.specs.Pending.{WithPending}
 use Rattle.share_members.specs.Groups.{Memberships}
 use Rattle.foreign_coord.specs.Shards.{ForeignShardState}
 use Rattle.part_log.specs.Logs.{and_pending}
-use Rattle.share_coord.proofs.Ends.{held_long}
 use Rattle.share_part.specs.Hosting.{ArePartText, PartConfParts}
 use Rattle.share_part.specs.Leaving.{IsLeftOf, IsDoneOr}
 use Rattle.share_part.specs.Shards.{PartShardState, shard_with}
-use Rattle.broker_model.specs.Hosted.{Hosted, IsOneOf, first_of, log_of, part_disks, same_name, second_of, state_a, state_b}
+use Rattle.share_part.proofs.Reaching.{log_long}
+use Rattle.broker_model.specs.Hosted.{Hosted, IsLogName, IsOneOf, first_of, log_of, part_disks, second_of, state_a, state_b}
 use Rattle.broker_model.specs.Shards.{HostedPart, Shards}
 use Rattle.broker_model.specs.Machine.{Lands, LandsPart, OpensPart, StandForStates, no_members}
 use Rattle.broker_model.specs.Disks.{Facts, IsRestarted}
+use Rattle.broker_model.proofs.Names.{first_not, second_not}
 use Rattle.broker_core.specs.declared.fault.CoreOpen.{CoreOpen}
 use Rattle.broker_core.specs.declared.fault.CoreOpen.TheVariants.{Device, Bay, NoMemory as want}
 use Rattle.broker_core.specs.declared.fault.CoreFault.{CoreFault}
@@ -29,17 +30,17 @@ use Rattle.broker_core.specs.declared.slot.ForeignSlot.TheVariants as foreign
 use Rattle.broker_core.specs.declared.slot.PartState.{PartState}
 use Rattle.broker_core.specs.declared.slot.PartState.TheVariants as part
 use Rattle.broker_core.specs.declared.slot.PartSlot.{PartSlot}
-use Rattle.broker_core.specs.Carried.{GoesOn, IsCarried, IsPartCarried, OpenPart}
+use Rattle.broker_core.specs.Carried.{GoesOn, IsCarried, IsPartCarried, OpenPart, holding}
 use Rattle.broker_core.specs.Restarts.{IsRestartedPart, IsRestartedShard, ReopensSlot, ShutsSlot, StopsAt}
 use Rattle.broker_core.specs.Foreign.{ReopensForeign, ShutsForeign}
-use Rattle.broker_core.specs.Hosts.{AreApart, AreCarried, AreDistinct, AreHeldParts, AreNamed, AreOpenParts, BothGoOn, BothRose, DiskGoesOn, DisksReach, ForeignStill, GoesOnIf, GoOn, HostsParts, IsHeld, IsHeldState, IsOpen, IsOpenState, IsPartSlot, IsPartState, IsSlot, NotIn, OneRose, PartRose, PartStandsAlone, ReachesTo, RoseIf, StandStill, all_names, disks_in, ends_in, facts_at, facts_in, foreign_disk, foreign_disks, foreign_end, foreign_facts, hosted_slot, hosted_slots, open_disk, open_end, part_disk, part_end, shut_disk, slot_disks, slot_ends, slots_disks}
+use Rattle.broker_core.specs.Hosts.{AreApart, AreCarried, AreDistinct, AreHeldParts, AreNamed, AreOpenParts, BothGoOn, BothRose, DiskGoesOn, ForeignStill, GoesOnIf, GoOn, HostsParts, IsHeld, IsHeldState, IsOpen, IsOpenState, IsPartSlot, IsPartState, IsSlot, LogsReach, NotIn, OneRose, PartRose, PartStandsAlone, RoseIf, StandStill, all_names, disks_in, ends_in, facts_at, facts_in, foreign_disks, foreign_end, foreign_facts, hosted_slot, hosted_slots, open_disk, part_disk, part_end, shut_disk, slot_disks, slot_ends, slots_disks}
 use Rattle.broker_core.specs.Cores.{AreReopened}
 use Rattle.broker_core.proofs.Calling.{slot_goes}
 use Rattle.broker_core.proofs.Flats.{all_pieces, zip_flat}
 use Rattle.broker_core.proofs.Leading.{StillSlot, not_a_part, not_a_part_too, parts_apart, parts_still, same_both, same_goes, slot_still, still_all, still_foreign}
 use Rattle.broker_core.proofs.Opening.{pending_map}
-use Rattle.broker_core.proofs.Places.{DoneTo, among_past, among_zip, each_found, not_both, one_in_either, zip_same, zip_weaker}
-use Rattle.broker_core.proofs.Reaching.{SlotReaches, again_reaches, fewer, foreign_left, foreign_reaches, names_reach, part_long, reach_all, reach_less, reaches_less, shut_reaches, slot_reaches, slots_reach}
+use Rattle.broker_core.proofs.Places.{DoneTo, among_past, among_zip, among_zip_where, each_found, not_both, one_in_either, zip_same, zip_weaker}
+use Rattle.broker_core.proofs.Reaching.{SlotReaches, again_reaches, names_reach, no_end, reach_all, reach_less, reaches_less, shut_reaches, slot_reaches, slots_reach}
 use Rattle.broker_core.proofs.Reopens.{part_left}
 use Rattle.broker_core.proofs.Slots.{disk_names}
 use Rattle.edge_io.specs.Views.{DiskView}
@@ -139,22 +140,19 @@ module _ {D : Type 0} (seen : D → DiskView) where
       ap (λ (s : PartState D). last_content (facts_at seen (part_disk s place)).losses) p.new_is
       ∙ ap last_content e ∙ last_is (seen (open_disk p.was place)).losses choice c
 
-  -- each loss left its disk to where the journal on it ended
+  -- each loss left a log's disk to where the journal on it ended
   abbrev EndEntry : List ℕ × ℕ → List ℕ × Option D → Type 0
-  EndEntry e f = (f.0 ≡ e.0) × (e.1 ≤ length (last_content (entry_facts f).losses))
+  EndEntry e f = (f.0 ≡ e.0) × (IsLogName e.0 → e.1 ≤ length (last_content (entry_facts f).losses))
 
   abbrev EndsIn : PartSlot D → PartSlot D → Type 0
   EndsIn x y = AllZip EndEntry (slot_ends x) (slot_disks y)
 
   slot_ends_in : (choice : ℕ) (x y : PartSlot D) (e : HostedPart) → Opens choice x y → In x e → EndsIn x y
   slot_ends_in choice x y e p k = (
-    (ap (λ (h : Hosted). log_of h) (hosted_y choice x y p), at Log r.l (last_of choice x y Log p r.l r.log_lost) (long Log r.l r.were.0)),
+    (ap (λ (h : Hosted). log_of h) (hosted_y choice x y p), λ is. at_log),
     (
-      (ap (λ (h : Hosted). first_of h) (hosted_y choice x y p), at StateA r.a (last_of choice x y StateA p r.a r.first_lost) (long StateA r.a r.were.1)),
-      (
-        (ap (λ (h : Hosted). second_of h) (hosted_y choice x y p), at StateB r.b (last_of choice x y StateB p r.b r.second_lost) (long StateB r.b r.were.2)),
-        tt,
-      ),
+      (ap (λ (h : Hosted). first_of h) (hosted_y choice x y p), λ is. absurd (first_not (hosted_slot x) is)),
+      ((ap (λ (h : Hosted). second_of h) (hosted_y choice x y p), λ is. absurd (second_not (hosted_slot x) is)), tt),
     ),
   )
     where
@@ -164,14 +162,11 @@ module _ {D : Type 0} (seen : D → DiskView) where
       r : IsRestartedPart seen choice x.conf p.was e.shard p.is
       r = p.reopens e.shard carried
 
-      long : (place : DiskPlace) (c : List ℕ) → (seen (open_disk p.was place)).image c → open_end p.was place ≤ length c
-      long place c on = part_long seen p.was e.shard carried.carries place c on
-
-      at : (place : DiskPlace) (c : List ℕ) → last_content (slot_facts y place).losses ≡ c → open_end p.was place ≤ length c
-          → part_end x.state place ≤ length (last_content (slot_facts y place).losses)
-      at place c is l =
-          subst (λ (d : List ℕ). part_end x.state place ≤ length d) (sym is)
-          (subst (λ (s : PartState D). part_end s place ≤ length c) (sym p.old_is) l)
+      at_log : part_end x.state Log ≤ length (last_content (slot_facts y Log).losses)
+      at_log =
+          subst (λ (d : List ℕ). part_end x.state Log ≤ length d) (sym (last_of choice x y Log p r.l r.log_lost))
+          (subst (λ (s : PartState D). part_end s Log ≤ length r.l) (sym p.old_is)
+          (log_long seen holding p.was e.shard carried.carries r.l r.were.0))
 
   -- the machine's partitions behind it
   record Reopened (xs ys : List (PartSlot D)) (es : List HostedPart) (choice : ℕ) : Type 0 where
@@ -269,10 +264,10 @@ module _ {D : Type 0} (seen : D → DiskView) where
     not_in_new : (name : List ℕ) → NotIn names name → NotIn (part_disks (hosted_slots new.parts)) name
     not_in_new name n = subst (λ (hs : List Hosted). NotIn (part_disks hs) name) (sym new_hosted) n
 
-    was_at : (name : List ℕ) → NotIn names name → F old name ≡ G (Some (p.was.journal.live.disk, p.was.journal.idle)) name
+    was_at : (name : List ℕ) → NotIn names name → F old name ≡ G (Some (p.was.journal.first.disk, p.was.journal.second.disk)) name
     was_at name n = past old name n ∙ ap (λ (f : ForeignSlot D). G (foreign_disks f) name) p.old_is
 
-    is_at : (name : List ℕ) → NotIn names name → F new name ≡ G (Some (p.is.journal.live.disk, p.is.journal.idle)) name
+    is_at : (name : List ℕ) → NotIn names name → F new name ≡ G (Some (p.is.journal.first.disk, p.is.journal.second.disk)) name
     is_at name n = past new name (not_in_new name n) ∙ ap (λ (f : ForeignSlot D). G (foreign_disks f) name) p.new_is
 
     abbrev Lost : List ℕ → Type 0
@@ -285,10 +280,10 @@ module _ {D : Type 0} (seen : D → DiskView) where
     no_b = not_a_part_too (hosted_slots old.parts) apart
 
     lost_at : (name : List ℕ) → NotIn names name
-        → IsLostFacts choice (G (Some (p.was.journal.live.disk, p.was.journal.idle)) name) (G (Some (p.is.journal.live.disk, p.is.journal.idle)) name) → Lost name
+        → IsLostFacts choice (G (Some (p.was.journal.first.disk, p.was.journal.second.disk)) name) (G (Some (p.is.journal.first.disk, p.is.journal.second.disk)) name) → Lost name
     lost_at name n l =
         subst (λ (f : Facts). IsLostFacts choice f (F new name)) (sym (was_at name n))
-        (subst (λ (f : Facts). IsLostFacts choice (G (Some (p.was.journal.live.disk, p.was.journal.idle)) name) f) (sym (is_at name n)) l)
+        (subst (λ (f : Facts). IsLostFacts choice (G (Some (p.was.journal.first.disk, p.was.journal.second.disk)) name) f) (sym (is_at name n)) l)
 
     lost_a : Lost state_a
     lost_a = lost_at state_a no_a (record { c = state.a; lost = state.lost; restarted = state.on_first })
@@ -323,24 +318,12 @@ module _ {D : Type 0} (seen : D → DiskView) where
     abbrev EndOf : ℕ → Facts → Type 0
     EndOf n f = n ≤ length (last_content f.losses)
 
-    foreign_reach : (name : List ℕ) → EndOf (foreign_end old.foreign name) (G (foreign_disks new.foreign) name)
-    foreign_reach name =
-        subst (λ (f : ForeignSlot D). EndOf (foreign_end f name) (G (foreign_disks new.foreign) name)) (sym p.old_is)
-        (subst (λ (f : ForeignSlot D). EndOf (foreign_end (foreign.Open p.was) name) (G (foreign_disks f) name)) (sym p.new_is) (go (same_name name state_a)))
-      where
-        left : last_content (seen p.is.journal.live.disk).losses ≡ state.a
-        left = ap last_content state.lost ∙ last_is (seen p.was.journal.live.disk).losses choice state.a
-
-        go : (b : Bool) → cond b p.was.journal.live.end 0 ≤ length (last_content (cond b (seen p.is.journal.live.disk).losses (seen p.is.journal.idle).losses))
-        go true = subst (λ (c : List ℕ). p.was.journal.live.end ≤ length c) (sym left)
-            (held_long seen p.was was_carried.carries.pending was_carried.carries.holds state.a state.were.0)
-        go false = omega arith
-
-    reach_at : (name : List ℕ) → ends_in old name ≤ length (contents name)
-    reach_at name =
-        among_zip (λ (e : List ℕ × ℕ). e.0) (λ (e : List ℕ × ℕ). e.1) (λ (e : List ℕ × Option D). e.0) entry_facts EndOf
+    reach_at : (name : List ℕ) → IsLogName name → ends_in old name ≤ length (contents name)
+    reach_at name is =
+        among_zip_where (λ (e : List ℕ × ℕ). e.0) (λ (e : List ℕ × ℕ). e.1) IsLogName (λ (e : List ℕ × Option D). e.0) entry_facts EndOf
         (flat_map slot_ends old.parts) (slots_disks new.parts) (zip_flat EndsIn EndEntry slot_ends slot_disks (λ x y z. z) old.parts new.parts r.reach)
-        (foreign_end old.foreign name) (G (foreign_disks new.foreign) name) name (λ none. foreign_reach name)
+        (foreign_end old.foreign name) (G (foreign_disks new.foreign) name) name is
+        (λ away. omega (arith, no_end seen old.foreign name is))
 
     abbrev Found : List ℕ × Option D → Type 0
     Found e = F new e.0 ≡ entry_facts e
@@ -387,7 +370,7 @@ module _ {D : Type 0} (seen : D → DiskView) where
           subst (λ (a : List ℕ). StandForStates a (contents state_b) state.after.states) (sym (contents_is state_a state.a (lost_a_is)))
           (subst (λ (b : List ℕ). StandForStates state.a b state.after.states) (sym (contents_is state_b state.b lost_b_is)) state.stands);
       lost = λ name one. let l = lost_one name one in l.lost ∙ ap (λ (c : List ℕ). (F old name).losses ++ (choice, c) ∷ []) (sym (contents_is name l.c l.lost));
-      reach = λ name one. reach_at name;
+      reach = reach_at;
       disks = λ name one. (lost_one name one).restarted;
     }
       where
@@ -491,7 +474,7 @@ module _ {D : Type 0} (seen : D → DiskView) where
 
   again_less : (choice : ℕ) (x y : PartSlot D) (e : HostedPart) → Opens choice x y → In x e → Less x y
   again_less choice x y e p k =
-      again_reaches seen x y p.was p.is e.shard (hosted_y choice x y p) p.old_is p.new_is (was_in x p.was e p.old_is k).carries p.images
+      again_reaches seen x y p.was p.is e.shard (hosted_y choice x y p) p.old_is p.new_is (was_in x p.was e p.old_is k).carries p.images.on_log
 
   all_less : (choice : ℕ) (xs ys : List (PartSlot D)) (es : List HostedPart) → AllZip (Opens choice) xs ys → AllZip In xs es → AllZip Less xs ys
   all_less choice [] [] [] z k = tt
@@ -509,14 +492,14 @@ module _ {D : Type 0} (seen : D → DiskView) where
   stops_less choice fault (x ∷ xs) (y ∷ ys) (e ∷ es) (inl (p, more)) k = (again_less choice x y e p k.0, stops_less choice fault xs ys es more k.1)
   stops_less choice fault (x ∷ xs) (y ∷ ys) (e ∷ es) (inr (p, same)) k = (
     shut_reaches seen x y p.was e.shard p.log p.first p.second (λ i. record { topic = p.topic i; conf = p.conf i }) p.old_is p.new_is
-        (was_in x p.was e p.old_is k.0).carries p.images,
+        (was_in x p.was e p.old_is k.0).carries p.images.on_log,
     subst (λ (l : List (PartSlot D)). AllZip Less xs l) (sym same) (same_less xs es k.1),
   )
 
-  -- the disks stand for the shards, and reach to the last gate of each journal
+  -- the disks stand for the shards, and those of logs reach to the last gate of each journal
   abbrev pub Stopped : HostsParts D → Shards → HostsParts D → CoreFault → Type 0
   Stopped old s new fault =
-      StandStill seen s (disks_in new) × DisksReach seen (disks_in new) (λ name. ends_in old name - 1) × (fault ≡ NoMemory)
+      StandStill seen s (disks_in new) × LogsReach seen (disks_in new) (λ name. ends_in old name - 1) × (fault ≡ NoMemory)
 
   pub none_stopped : (hosts : HostsParts D) (s : Shards) → AreCarried seen hosts s → Stopped hosts s hosts NoMemory
   none_stopped hosts s k = (
@@ -534,10 +517,7 @@ module _ {D : Type 0} (seen : D → DiskView) where
           foreign = subst (λ (f : ForeignSlot D). ForeignStill seen s.foreign (foreign_disks f)) (sym same)
               (still_foreign seen old.foreign s.foreign k.foreign);
         },
-        names_reach seen (λ n. n - 1) old new (stops_less choice fault old.parts new.parts s.parts stops k.parts) (λ name.
-            subst (λ (f : ForeignSlot D). ReachesTo seen (foreign_disk (foreign_disks f) name) (foreign_end old.foreign name - 1)) (sym same)
-            (fewer seen (foreign_disk (foreign_disks old.foreign) name) (foreign_end old.foreign name)
-            (foreign_reaches seen old.foreign s.foreign k.foreign name))),
+        names_reach seen (λ n. n - 1) refl old new (stops_less choice fault old.parts new.parts s.parts stops k.parts),
         d.1,
       )
 
@@ -556,9 +536,7 @@ module _ {D : Type 0} (seen : D → DiskView) where
             second_told = d.0.second_told;
           });
         },
-        names_reach seen (λ n. n - 1) old new (all_less choice old.parts new.parts s.parts opens k.parts) (λ name.
-            subst (λ (f : ForeignSlot D). ReachesTo seen (foreign_disk (foreign_disks f) name) (foreign_end old.foreign name - 1)) (sym p.new_is)
-            (foreign_left seen old.foreign p.was s.foreign p.first p.second p.old_is c.carries p.images.on_first name)),
+        names_reach seen (λ n. n - 1) refl old new (all_less choice old.parts new.parts s.parts opens k.parts),
         d.1,
       )
     where
@@ -637,7 +615,7 @@ module _ {D : Type 0} (seen : D → DiskView) where
     parts = opened_on choice old.parts new.parts opens;
     foreign =
         subst (λ (f : ForeignSlot D). BothGoOn seen (foreign_disks f) (foreign_disks new.foreign)) (sym p.old_is)
-        (subst (λ (f : ForeignSlot D). BothGoOn seen (Some (p.was.journal.live.disk, p.was.journal.idle)) (foreign_disks f)) (sym p.new_is) (p.on_first, p.on_second));
+        (subst (λ (f : ForeignSlot D). BothGoOn seen (Some (p.was.journal.first.disk, p.was.journal.second.disk)) (foreign_disks f)) (sym p.new_is) (p.on_first, p.on_second));
   }
 
   pub all_on : (choice : ℕ) (old new : HostsParts D) → AllZip (Opens choice) old.parts new.parts
@@ -646,7 +624,7 @@ module _ {D : Type 0} (seen : D → DiskView) where
     parts = opened_on choice old.parts new.parts opens;
     foreign =
         subst (λ (f : ForeignSlot D). BothGoOn seen (foreign_disks f) (foreign_disks new.foreign)) (sym p.old_is)
-        (subst (λ (f : ForeignSlot D). BothGoOn seen (Some (p.was.journal.live.disk, p.was.journal.idle)) (foreign_disks f)) (sym p.new_is) (p.first, p.second));
+        (subst (λ (f : ForeignSlot D). BothGoOn seen (Some (p.was.journal.first.disk, p.was.journal.second.disk)) (foreign_disks f)) (sym p.new_is) (p.first, p.second));
   }
 
   -- ---- which count rose
@@ -664,7 +642,7 @@ module _ {D : Type 0} (seen : D → DiskView) where
         (subst (λ (s : PartState D). RoseIf seen (Some (open_disk p.was place)) (part_disk s place)) (sym p.new_is) r)
 
     one : Rose (seen p.was.log.journal.disk).faults (seen p.log).faults
-        ⊎ (Rose (seen p.was.states.journal.live.disk).faults (seen p.first).faults ⊎ Rose (seen p.was.states.journal.idle).faults (seen p.second).faults)
+        ⊎ (Rose (seen p.was.states.journal.first.disk).faults (seen p.first).faults ⊎ Rose (seen p.was.states.journal.second.disk).faults (seen p.second).faults)
         → PartRose seen (slots_disks (x ∷ xs)) (slots_disks (y ∷ ys))
     one (inl r) = inl (at Log r)
     one (inr (inl r)) = inr (inl (at StateA r))
@@ -681,7 +659,7 @@ module _ {D : Type 0} (seen : D → DiskView) where
       → OneRose seen (disks_in old) (disks_in new)
   state_rose fault old new p is = inr
       (subst (λ (f : ForeignSlot D). BothRose seen (foreign_disks f) (foreign_disks new.foreign)) (sym p.old_is)
-      (subst (λ (f : ForeignSlot D). BothRose seen (Some (p.was.journal.live.disk, p.was.journal.idle)) (foreign_disks f)) (sym p.new_is) (p.device is)))
+      (subst (λ (f : ForeignSlot D). BothRose seen (Some (p.was.journal.first.disk, p.was.journal.second.disk)) (foreign_disks f)) (sym p.new_is) (p.device is)))
 
   -- ---- open, and held
 

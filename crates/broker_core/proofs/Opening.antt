@@ -12,7 +12,7 @@ use Rattle.share_model.specs.ForeignRules.{ShareStates}
 use Rattle.share_model.specs.Pending.{WithPending}
 use Rattle.share_coord.specs.Parts.{StoreParts}
 use Rattle.share_coord.specs.Stored.{Entries, AreStored}
-use Rattle.share_coord.specs.States.{states_of}
+use Rattle.share_coord.specs.States.{AreStates, states_of}
 use Rattle.foreign_coord.specs.Shards.{ForeignShardState, Carries}
 use Rattle.broker_model.specs.Machine.{StandForStates, Lands}
 use Rattle.broker_model.specs.Disks.{facts_of}
@@ -28,13 +28,6 @@ pub pending_map : {S : Type 0} (P Q : S → Type 0) → ((x : S) → P x → Q x
 pending_map P Q f s None h = f s h
 pending_map P Q f s (Some w) (inl h) = inl (f s h)
 pending_map P Q f s (Some w) (inr h) = inr (f w h)
-
--- what stands for the entries stands for their states
-pub of_states : (P : ShareStates → Type 0) (entries : Entries) (pending : Option Entries) (shard : ForeignShardState) → shard.states ≡ states_of entries
-    → shard.pending ≡ option_map states_of pending → WithPending (λ e. P (states_of e)) entries pending → WithPending P shard.states shard.pending
-of_states P entries None shard e p h = subst (λ q. WithPending P shard.states q) (sym p) (subst P (sym e) h)
-of_states P entries (Some w) shard e p (inl h) = subst (λ q. WithPending P shard.states q) (sym p) (inl (subst P (sym e) h))
-of_states P entries (Some w) shard e p (inr h) = subst (λ q. WithPending P shard.states q) (sym p) (inr h)
 
 -- one of the states for which it stands is what landed
 pub chosen : (P : ShareStates → Type 0) (shard : ForeignShardState) (states : ShareStates) (pending : Option ShareStates) → shard.states ≡ states
@@ -80,29 +73,36 @@ told_of o c e = ap is_some e
 pub same_some : (o : Option (List ℕ)) (c d : List ℕ) → o ≡ Some c → o ≡ Some d → c ≡ d
 same_some o c d e f = let g : Some c ≡ Some d = sym e ∙ f in cc
 
--- a content that is read as the same frames stands for the same states
-same_frames : (a b c : List ℕ) (states : ShareStates) → (a ≡ c) ⊎ ((frames : List (List ℕ)) × StandsFor a frames × StandsFor c frames)
-    → StandForStates a b states → StandForStates c b states
-same_frames a b c states (inl e) h = subst (λ x. StandForStates x b states) e h
-same_frames a b c states (inr f) h = (
-  h.0,
-  record {
-    frames = h.1.frames;
-    listed = record {
-      listed = subst (λ fs. StandsFor c fs) (once a f.0 h.1.frames f.1 h.1.listed.listed) f.2;
-      bare = h.1.listed.bare;
-    };
-    accepted = h.1.accepted;
-  },
-  h.2,
-)
+-- contents that are the same, or are read as the same frames
+abbrev pub AreAlike : List ℕ → List ℕ → Type 0
+AreAlike c x = (c ≡ x) ⊎ ((frames : List (List ℕ)) × StandsFor c frames × StandsFor x frames)
+
+stands_alike : (c x : List ℕ) (frames : List (List ℕ)) → AreAlike c x → StandsFor c frames → StandsFor x frames
+stands_alike c x frames (inl is) s = subst (λ (l : List ℕ). StandsFor l frames) is s
+stands_alike c x frames (inr is) s = subst (λ (fs : List (List ℕ)). StandsFor x fs) (once c is.0 frames is.1 s) is.2
+
+-- they stand for the same states
+pub stored_alike : (a b x y : List ℕ) (entries : Entries) → AreAlike a x → AreAlike b y → AreStored a b entries → AreStored x y entries
+stored_alike a b x y entries on_first on_second h = record {
+  frames = h.frames;
+  listed = record {
+    ones = h.listed.ones;
+    twos = h.listed.twos;
+    first_is = stands_alike a x h.listed.ones on_first h.listed.first_is;
+    second_is = stands_alike b y h.listed.twos on_second h.listed.second_is;
+    live = h.listed.live;
+  };
+  taken = h.taken;
+}
 
 module _ {D : Type 0} (seen : D → DiskView) where
   -- the images of a carried shard
-  pub carried_stands : (store : StoreParts D) (shard : ForeignShardState) → Carries seen store shard → ImagesStand seen shard store.journal.live.disk store.journal.idle
+  pub carried_stands : (store : StoreParts D) (shard : ForeignShardState) → Carries seen store shard → ImagesStand seen shard store.journal.first.disk store.journal.second.disk
   carried_stands store shard k a b on_first on_second =
-      of_states (StandForStates a b) store.entries k.pending shard k.states k.pending_is
-      (pending_map (AreStored a b) (λ e. StandForStates a b (states_of e)) (λ e h. (e, h, refl)) store.entries k.pending (k.holds.images a b on_first on_second))
+      subst (λ (p : Option ShareStates). WithPending (StandForStates a b) shard.states p) (sym k.pending_is)
+      (subst (λ (s : ShareStates). WithPending (StandForStates a b) s (option_map states_of k.pending)) (sym k.states)
+      (pending_map (AreStates a b) (StandForStates a b) (λ s h. (h.entries, h.stored, h.is))
+      (states_of store.entries) (option_map states_of k.pending) (k.holds.images a b on_first on_second)))
 
   abbrev Runs : D → D → Type 0
   Runs old new = RunsOn seen old new
@@ -116,7 +116,7 @@ module _ {D : Type 0} (seen : D → DiskView) where
       → ((x y : List ℕ) → (seen first).content ≡ Some x → (seen second).content ≡ Some y → AreStored x y store.entries)
       → ((x y : List ℕ) (entries : Entries) → (seen first).content ≡ Some x → (seen second).content ≡ Some y → AreStored x y entries → store.entries ≡ entries)
       → Carries seen store (record { states = states_of store.entries; pending = None })
-      → Runs first store.journal.live.disk → Runs second store.journal.idle → (seen store.journal.live.disk).starved ≡ false → (seen store.journal.idle).starved ≡ false
+      → Runs first store.journal.first.disk → Runs second store.journal.second.disk → (seen store.journal.first.disk).starved ≡ false → (seen store.journal.second.disk).starved ≡ false
       → IsOpened seen first second a b store
   opened first second a b store is is_second opens only carries runs second_runs fed second_fed = record {
     shard = record { states = states_of store.entries; pending = None };
@@ -130,8 +130,8 @@ module _ {D : Type 0} (seen : D → DiskView) where
     stands = (store.entries, opens a b is is_second, refl);
     only = λ states h. ap states_of (only a b h.0 is is_second h.1) ∙ sym h.2;
     nothing = refl;
-    on_first = opened_disk first store.journal.live.disk runs (told_of (seen first).content a is) fed;
-    on_second = opened_disk second store.journal.idle second_runs (told_of (seen second).content b is_second) second_fed;
+    on_first = opened_disk first store.journal.first.disk runs (told_of (seen first).content a is) fed;
+    on_second = opened_disk second store.journal.second.disk second_runs (told_of (seen second).content b is_second) second_fed;
   }
 
   -- ---- restarts
@@ -181,12 +181,12 @@ module _ {D : Type 0} (seen : D → DiskView) where
       (o.arms ∙ l.same_arms, (o.spends.disarmed l.disarmed).0, (o.spends.disarmed l.disarmed).1 ∙ l.quiet)
 
   pub restarted : (choice : ℕ) (store : StoreParts D) (shard : ForeignShardState) (mid_first mid_second : D) (a b : List ℕ) (new : StoreParts D)
-      → IsCarried seen store shard → IsLost choice store.journal.live.disk mid_first a → IsLost choice store.journal.idle mid_second b
+      → IsCarried seen store shard → IsLost choice store.journal.first.disk mid_first a → IsLost choice store.journal.second.disk mid_second b
       → IsOpened seen mid_first mid_second a b new
       → IsRestartedShard seen choice store shard new
   restarted choice store shard mid_first mid_second a b new k l m o =
-      let first = restarted_disk choice store.journal.live.disk mid_first new.journal.live.disk a l o.on_first in
-      let second = restarted_disk choice store.journal.idle mid_second new.journal.idle b m o.on_second in
+      let first = restarted_disk choice store.journal.first.disk mid_first new.journal.first.disk a l o.on_first in
+      let second = restarted_disk choice store.journal.second.disk mid_second new.journal.second.disk b m o.on_second in
       record {
         a = a;
         b = b;
@@ -208,7 +208,7 @@ module _ {D : Type 0} (seen : D → DiskView) where
   -- no image came
   pub images_within : (old_first old_second first second : D) → Within (seen old_first).image (seen first).image → Within (seen old_second).image (seen second).image
       → ImagesStandAs seen old_first old_second first second
-  images_within old_first old_second first second p q = record { on_first = λ c on. (c, p c on, inl refl); on_second = q }
+  images_within old_first old_second first second p q = record { on_first = λ c on. (c, p c on, inl refl); on_second = λ c on. (c, q c on, inl refl) }
 
   -- nor behind that any but by an opening
   pub images_behind : (old_first old_second mid_first mid_second first second : D) → Within (seen old_first).image (seen mid_first).image
@@ -216,12 +216,12 @@ module _ {D : Type 0} (seen : D → DiskView) where
       → ImagesStandAs seen old_first old_second first second
   images_behind old_first old_second mid_first mid_second first second p q i = record {
     on_first = λ c on. (let d = i.on_first c on in (d.0, p d.0 d.1, d.2));
-    on_second = λ c on. q c (i.on_second c on);
+    on_second = λ c on. (let d = i.on_second c on in (d.0, q d.0 d.1, d.2));
   }
 
   -- a loss was refused
   pub not_lost : (store : StoreParts D) (shard : ForeignShardState) (first second : D) → IsCarried seen store shard
-      → Within (seen store.journal.live.disk).image (seen first).image → Within (seen store.journal.idle).image (seen second).image
+      → Within (seen store.journal.first.disk).image (seen first).image → Within (seen store.journal.second.disk).image (seen second).image
       → IsTold (seen first).content → IsTold (seen second).content → IsNotRestarted seen shard first second
   not_lost store shard first second k within second_within told second_told = record {
     after = shard;
@@ -233,7 +233,7 @@ module _ {D : Type 0} (seen : D → DiskView) where
 
   -- it was not opened again
   pub not_opened : (choice : ℕ) (store : StoreParts D) (shard : ForeignShardState) (mid_first mid_second first second : D) (a b : List ℕ)
-      → IsCarried seen store shard → IsLost choice store.journal.live.disk mid_first a → IsLost choice store.journal.idle mid_second b
+      → IsCarried seen store shard → IsLost choice store.journal.first.disk mid_first a → IsLost choice store.journal.second.disk mid_second b
       → ImagesStandAs seen mid_first mid_second first second → IsTold (seen first).content → IsTold (seen second).content
       → IsNotRestarted seen shard first second
   not_opened choice store shard mid_first mid_second first second a b k l m as_before told second_told =
@@ -243,21 +243,23 @@ module _ {D : Type 0} (seen : D → DiskView) where
         lands = inr c.2;
         stand = λ x y on_first on_second.
             let f = as_before.on_first x on_first in
-            let stands : StandForStates x b c.0.states = same_frames a b x c.0.states (led a f.0 x (l.only f.0 f.1) f.2) c.1 in
-            subst (λ p. WithPending (StandForStates x y) c.0.states p) (sym c.2.nothing)
-            (subst (λ z. StandForStates x z c.0.states) (sym (m.only y (as_before.on_second y on_second))) stands);
+            let s = as_before.on_second y on_second in
+            subst (λ (p : Option ShareStates). WithPending (StandForStates x y) c.0.states p) (sym c.2.nothing) (
+              c.1.0,
+              stored_alike a b x y c.1.0 (led a f.0 x (l.only f.0 f.1) f.2) (led b s.0 y (m.only s.0 s.1) s.2) c.1.1,
+              c.1.2,
+            );
         told = told;
         second_told = second_told;
       }
     where
-      led : (a d x : List ℕ) → d ≡ a → (d ≡ x) ⊎ ((frames : List (List ℕ)) × StandsFor d frames × StandsFor x frames)
-          → (a ≡ x) ⊎ ((frames : List (List ℕ)) × StandsFor a frames × StandsFor x frames)
+      led : (a d x : List ℕ) → d ≡ a → AreAlike d x → AreAlike a x
       led a d x e (inl same) = inl (sym e ∙ same)
       led a d x e (inr f) = inr (f.0, subst (λ z. StandsFor z f.0) e f.1, f.2)
 
   -- contents that stood for states are neither damaged nor met by a fault with nothing armed
   pub only_memory : (choice : ℕ) (store : StoreParts D) (shard : ForeignShardState) (mid_first mid_second : D) (a b : List ℕ) (e : CoreOpen)
-      → IsCarried seen store shard → IsLost choice store.journal.live.disk mid_first a → IsLost choice store.journal.idle mid_second b
+      → IsCarried seen store shard → IsLost choice store.journal.first.disk mid_first a → IsLost choice store.journal.second.disk mid_second b
       → ((x y : List ℕ) (states : ShareStates) → (seen mid_first).content ≡ Some x → (seen mid_second).content ≡ Some y → StandForStates x y states
       → (name : List ℕ) (place : ℕ) → e ≢ fault.Damaged name place)
       → (IsTold (seen mid_first).content → IsTold (seen mid_second).content → (seen mid_first).armed ≡ Nothing → (seen mid_second).armed ≡ Nothing → e ≢ fault.Device)
@@ -270,7 +272,7 @@ module _ {D : Type 0} (seen : D → DiskView) where
   -- behind two losses, the opening failed
   pub stays_shut : {T : Type 0} (choice : ℕ) (store : StoreParts D) (shard : ForeignShardState) (mid_first mid_second : D) (r : Result T (D × D × CoreOpen))
       → IsCarried seen store shard
-      → (a : List ℕ) × IsLost choice store.journal.live.disk mid_first a → (b : List ℕ) × IsLost choice store.journal.idle mid_second b
+      → (a : List ℕ) × IsLost choice store.journal.first.disk mid_first a → (b : List ℕ) × IsLost choice store.journal.second.disk mid_second b
       → IfErr r (λ e. ImagesStandAs seen mid_first mid_second e.0 e.1)
       → ((x y : List ℕ) (states : ShareStates) → (seen mid_first).content ≡ Some x → (seen mid_second).content ≡ Some y → StandForStates x y states
       → IfErr r (λ e. (name : List ℕ) (place : ℕ) → e.2 ≢ fault.Damaged name place))
@@ -284,12 +286,12 @@ module _ {D : Type 0} (seen : D → DiskView) where
     only_memory choice store shard mid_first mid_second l.0 m.0 e.2 k l.1 m.1 recovers sound no_bay,
   )
 
-  pub told_first : (mid : D) (r : Result (StoreParts D) (D × D × CoreOpen)) → MatchResult r (λ new. GoesOn seen mid new.journal.live.disk) (λ e. GoesOn seen mid e.0)
+  pub told_first : (mid : D) (r : Result (StoreParts D) (D × D × CoreOpen)) → MatchResult r (λ new. GoesOn seen mid new.journal.first.disk) (λ e. GoesOn seen mid e.0)
       → IfErr r (λ e. is_some (seen e.0).content ≡ is_some (seen mid).content)
   told_first mid (Ok x) h = tt
   told_first mid (Err e) h = h.told
 
-  pub told_second : (mid : D) (r : Result (StoreParts D) (D × D × CoreOpen)) → MatchResult r (λ new. GoesOn seen mid new.journal.idle) (λ e. GoesOn seen mid e.1)
+  pub told_second : (mid : D) (r : Result (StoreParts D) (D × D × CoreOpen)) → MatchResult r (λ new. GoesOn seen mid new.journal.second.disk) (λ e. GoesOn seen mid e.1)
       → IfErr r (λ e. is_some (seen e.1).content ≡ is_some (seen mid).content)
   told_second mid (Ok x) h = tt
   told_second mid (Err e) h = h.told

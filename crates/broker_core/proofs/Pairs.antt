@@ -50,7 +50,7 @@ module _ {B D : Type 0} (bay_seen : B → BayView D) (seen : D → DiskView) (fi
   abbrev Last : B → Type 0
   Last new = (name : List ℕ) × ((name ≡ state_a) ⊎ (name ≡ state_b)) × (2 ^ 64 - 1 ≤ (bay_seen new).taken name)
 
-  pub taken_both : (old new : B) (store : StoreParts D) → GetsBoth old new → (seen first).faults ≤ (seen store.journal.live.disk).faults → (seen second).faults ≤ (seen store.journal.idle).faults
+  pub taken_both : (old new : B) (store : StoreParts D) → GetsBoth old new → (seen first).faults ≤ (seen store.journal.first.disk).faults → (seen second).faults ≤ (seen store.journal.second.disk).faults
       → ((a b : List ℕ) → (seen first).content ≡ Some a → (seen second).content ≡ Some b → IsOpened seen first second a b store)
       → TakesForeign bay_seen seen old (foreign.Open store) new
   taken_both old new store gets on_first on_second opens =
@@ -105,7 +105,7 @@ module _ {B D : Type 0} (bay_seen : B → BayView D) (seen : D → DiskView) (fi
         on_first = stays_put bay_seen seen (IsOfDevice fault) state_a old mid new first first_now each.0.as_told (to_mid.told state_a) holds.0
             (record { images = images.on_first; runs = on_first; fed = λ f s. absurd (not_both (fed f).0 s) });
         on_second = stays_put bay_seen seen (IsOfDevice fault) state_b old mid new second second_now each.1.0.as_told (to_mid.told state_b) holds.1.0
-            (record { images = λ c on. (c, images.on_second c on, inl refl); runs = on_second; fed = λ f s. absurd (not_both (fed f).1 s) });
+            (record { images = images.on_second; runs = on_second; fed = λ f s. absurd (not_both (fed f).1 s) });
         others = λ m n k. slot_then bay_seen m old mid new
             (gets_others bay_seen seen both old mid gets m (n, (k, tt)))
             (puts_others bay_seen seen (back first_now second_now) mid new puts m (n, (k, tt)));

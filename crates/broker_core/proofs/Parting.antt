@@ -23,6 +23,7 @@ use Rattle.share_coord.specs.Holding.{Holds}
 use Rattle.share_coord.specs.States.{states_of}
 use Rattle.part_log.proofs.Looking.{carries_on}
 use Rattle.share_part.specs.Hosting.{PartConfParts, AreHosted, key_of}
+use Rattle.share_part.specs.Failures.{RunOnBoth}
 use Rattle.share_part.specs.Following.{IsFetch}
 use Rattle.share_part.specs.Once.{AcksStand, Expired, ExpiresOnce, PartStands, Produced as ProducedSo, Visited, VisitsOnce}
 use Rattle.share_part.specs.Shards.{Carries, IsPendingHosted, IsUntouched, PartShardState}
@@ -81,76 +82,67 @@ module _ {D : Type 0} (seen : D → DiskView) where
   pub same_goes_on : (p : OpenPart D) → PartGoesOn seen p p
   same_goes_on p = record {
     log = least_on p.log.journal.disk;
-    first = least_on p.states.journal.live.disk;
-    second = least_on p.states.journal.idle;
+    first = least_on p.states.journal.first.disk;
+    second = least_on p.states.journal.second.disk;
   }
 
   -- ---- calls on the tables
 
-  -- the log goes on where it was, and the second disk stays
+  -- the log goes on where it was
   pub record OnStates (old new : OpenPart D) : Type 0 where
-    pub runs : Runs old.states.journal.live.disk new.states.journal.live.disk
-    pub ends : (t : PartShardState) → Carries seen holding old t → old.states.journal.live.end ≤ new.states.journal.live.end
+    pub runs : RunOnBoth seen old.states new.states
     pub log_runs : Runs old.log.journal.disk new.log.journal.disk
     pub log_end : new.log.journal.end ≡ old.log.journal.end
-    pub idle : new.states.journal.idle ≡ old.states.journal.idle
     pub conf : new.conf ≡ old.conf
 
   -- a visit
   pub visit_on : (old new : OpenPart D) (now : ℕ) (visit : Visit) (result : Result VisitAnswer Want) → VisitsOnce seen holding now visit old new result
-      → Runs old.states.journal.live.disk new.states.journal.live.disk → OnStates old new
+      → RunOnBoth seen old.states new.states → OnStates old new
   visit_on old new now visit result once runs = record {
     runs = runs;
-    ends = once.ends;
     log_runs = once.log.calls.runs;
     log_end = ap (λ (w : Writer D). w.end) once.log.reads.journal.rest;
-    idle = once.idle;
     conf = once.conf;
   }
 
   -- an expiry
   pub expiry_on : (old new : OpenPart D) (now : ℕ) (result : Result ExpireAnswer Want) → ExpiresOnce seen holding now old new result
-      → Runs old.states.journal.live.disk new.states.journal.live.disk → OnStates old new
+      → RunOnBoth seen old.states new.states → OnStates old new
   expiry_on old new now result once runs = record {
     runs = runs;
-    ends = once.ends;
     log_runs = subst (λ (l : LogParts D). Runs old.log.journal.disk l.journal.disk) (sym once.log) (runs_none seen old.log.journal.disk);
     log_end = ap (λ (l : LogParts D). l.journal.end) once.log;
-    idle = once.idle;
     conf = once.conf;
   }
 
   pub states_go : (old new : OpenPart D) → OnStates old new → PartGoesOn seen old new
   states_go old new o = record {
     log = record { later = o.log_runs.later; told = o.log_runs.told };
-    first = record { later = o.runs.later; told = o.runs.told };
-    second = subst (λ (d : D). GoesOn seen old.states.journal.idle d) (sym o.idle) (least_on old.states.journal.idle);
+    first = record { later = o.runs.0.later; told = o.runs.0.told };
+    second = record { later = o.runs.1.later; told = o.runs.1.told };
   }
 
-  states_end : (old new : OpenPart D) → OnStates old new → (s : PartShardState) → Carries seen holding old s → EndsGoOn old new
-  states_end old new o s k = record {
-    log = (let e = o.log_end in omega (arith, e));
-    first = o.ends s k;
-  }
+  states_end : (old new : OpenPart D) → OnStates old new → EndsGoOn old new
+  states_end old new o = record { log = (let e = o.log_end in omega (arith, e)) }
 
   log_told : (old new : OpenPart D) → OnStates old new → IsTold (seen old.log.journal.disk).content → IsTold (seen new.log.journal.disk).content
   log_told old new o told = o.log_runs.told ∙ told
-
-  second_told : (old new : OpenPart D) → OnStates old new → IsTold (seen old.states.journal.idle).content → IsTold (seen new.states.journal.idle).content
-  second_told old new o told = ap (λ (d : D). is_some (seen d).content) o.idle ∙ told
 
   abbrev Steps : OpenPart D → OpenPart D → ℕ → PartCall → Type 0
   Steps old new now did = (t : PartShardState) → Carries seen holding old t → (n : PartShardState) × Carries seen holding new n
       × StepsOn seen old.conf old new now t did n
 
   abbrev Fed : OpenPart D → Type 0
-  Fed new = ((seen new.log.journal.disk).starved ≡ false) × ((seen new.states.journal.live.disk).starved ≡ false) × ((seen new.states.journal.idle).starved ≡ false)
+  Fed new = ((seen new.log.journal.disk).starved ≡ false) × ((seen new.states.journal.first.disk).starved ≡ false) × ((seen new.states.journal.second.disk).starved ≡ false)
+
+  -- how both disks of the states were used, and the log's
+  record Used (old new : OpenPart D) : Type 0 where
+    first : IsUsed (facts_of seen old.states.journal.first.disk) (facts_of seen new.states.journal.first.disk)
+    second : IsUsed (facts_of seen old.states.journal.second.disk) (facts_of seen new.states.journal.second.disk)
+    log : IsUsed (facts_of seen old.log.journal.disk) (facts_of seen new.log.journal.disk)
 
   states_lead : (old new : OpenPart D) (now : ℕ) (did : PartCall) → OnStates old new → Steps old new now did → Fed new
-      → (IsUsed (facts_of seen old.states.journal.live.disk) (facts_of seen new.states.journal.live.disk)
-      → IsUsed (facts_of seen old.log.journal.disk) (facts_of seen new.log.journal.disk) → Uses seen old new did)
-      → (s : PartShardState) → Carried old.conf old s
-      → LeadsPart seen old.conf now did old s new
+      → (Used old new → Uses seen old new did) → (s : PartShardState) → Carried old.conf old s → LeadsPart seen old.conf now did old s new
   states_lead old new now did o steps fed uses s k =
       let r = steps s k.carries in
       record {
@@ -159,13 +151,16 @@ module _ {D : Type 0} (seen : D → DiskView) where
           conf_is = o.conf;
           carries = r.1;
           log = record { told = log_told old new o k.log.told; fed = fed.0 };
-          first = record { told = o.runs.told ∙ k.first.told; fed = fed.1 };
-          second = record { told = second_told old new o k.second.told; fed = fed.2 };
+          first = record { told = o.runs.0.told ∙ k.first.told; fed = fed.1 };
+          second = record { told = o.runs.1.told ∙ k.second.told; fed = fed.2 };
         };
         step = r.2;
-        ends = states_end old new o s k.carries;
-        used = uses (record { losses = o.runs.same_losses; arms = o.runs.same_arms; spends = o.runs.spends k.first.told fed.1 })
-            (record { losses = o.log_runs.same_losses; arms = o.log_runs.same_arms; spends = o.log_runs.spends k.log.told fed.0 });
+        ends = states_end old new o;
+        used = uses (record {
+          first = record { losses = o.runs.0.same_losses; arms = o.runs.0.same_arms; spends = o.runs.0.spends k.first.told fed.1 };
+          second = record { losses = o.runs.1.same_losses; arms = o.runs.1.same_arms; spends = o.runs.1.spends k.second.told fed.2 };
+          log = record { losses = o.log_runs.same_losses; arms = o.log_runs.same_arms; spends = o.log_runs.spends k.log.told fed.0 };
+        });
       }
 
   states_whole : (old new : OpenPart D) (now : ℕ) (did : PartCall) (Whole : PartCall → Type 0) (Half : Begun → Type 0) → Whole did → OnStates old new
@@ -178,10 +173,10 @@ module _ {D : Type 0} (seen : D → DiskView) where
         conf_is = o.conf;
         carries = r.1;
         does = inr (inl (did, is, r.2));
-        ends = states_end old new o s k.carries;
+        ends = states_end old new o;
         log_told = log_told old new o k.log.told;
-        first_told = o.runs.told ∙ k.first.told;
-        second_told = second_told old new o k.second.told;
+        first_told = o.runs.0.told ∙ k.first.told;
+        second_told = o.runs.1.told ∙ k.second.told;
       }
 
   states_none : (old new : OpenPart D) (now : ℕ) (Whole : PartCall → Type 0) (Half : Begun → Type 0) → OnStates old new → (s : PartShardState)
@@ -191,10 +186,10 @@ module _ {D : Type 0} (seen : D → DiskView) where
     conf_is = o.conf;
     carries = carries;
     does = inl refl;
-    ends = states_end old new o s k.carries;
+    ends = states_end old new o;
     log_told = log_told old new o k.log.told;
-    first_told = o.runs.told ∙ k.first.told;
-    second_told = second_told old new o k.second.told;
+    first_told = o.runs.0.told ∙ k.first.told;
+    second_told = o.runs.1.told ∙ k.second.told;
   }
 
   not_fetch : (asked : Then) → reads_log asked ≡ false → IsFetch asked → ⊥
@@ -205,8 +200,13 @@ module _ {D : Type 0} (seen : D → DiskView) where
   pub visit_leads : (old new : OpenPart D) (now : ℕ) (visit : Visit) (answer : VisitAnswer) (unread : Bool) → OnStates old new
       → ((IsFetch visit.then → ⊥) → new.log ≡ old.log) → Visited seen holding now visit old new unread answer → Fed new
       → (s : PartShardState) → Carried old.conf old s → LeadsPart seen old.conf now (Visits visit answer unread) old s new
-  visit_leads old new now visit answer unread o others steps fed = states_lead old new now (Visits visit answer unread) o steps fed (λ used log_used.
-      record { used = used; log_used = log_used; log = λ no. others (not_fetch visit.then no); log_end = o.log_end; second = o.idle })
+  visit_leads old new now visit answer unread o others steps fed = states_lead old new now (Visits visit answer unread) o steps fed (λ u. record {
+    used = u.first;
+    second_used = u.second;
+    log_used = u.log;
+    log = λ no. others (not_fetch visit.then no);
+    log_end = o.log_end;
+  })
 
   abbrev pub IsVisit : Visit → PartCall → Type 0
   IsVisit visit did = (answer : VisitAnswer) × (unread : Bool) × (did ≡ Visits visit answer unread)
@@ -244,17 +244,17 @@ module _ {D : Type 0} (seen : D → DiskView) where
         conf_is = o.conf;
         carries = a.1;
         does = inr (inr (BeginsVisit visit, refl, a.2));
-        ends = states_end old new o s k.carries;
+        ends = states_end old new o;
         log_told = log_told old new o k.log.told;
-        first_told = o.runs.told ∙ k.first.told;
-        second_told = second_told old new o k.second.told;
+        first_told = o.runs.0.told ∙ k.first.told;
+        second_told = o.runs.1.told ∙ k.second.told;
       }
 
   pub expire_leads : (old new : OpenPart D) (now : ℕ) (answer : ExpireAnswer) → OnStates old new → new.log ≡ old.log
       → Expired seen holding now old new answer → Fed new → (s : PartShardState) → Carried old.conf old s
       → LeadsPart seen old.conf now (Expires answer) old s new
   expire_leads old new now answer o log steps fed =
-      states_lead old new now (Expires answer) o steps fed (λ used log_used. record { used = used; log = log; second = o.idle })
+      states_lead old new now (Expires answer) o steps fed (λ u. record { used = u.first; second_used = u.second; log = log })
 
   abbrev pub IsExpiry : PartCall → Type 0
   IsExpiry did = (answer : ExpireAnswer) × (did ≡ Expires answer)
@@ -277,10 +277,10 @@ module _ {D : Type 0} (seen : D → DiskView) where
         conf_is = o.conf;
         carries = a.1;
         does = inr (inr (BeginsExpiry, refl, a.2));
-        ends = states_end old new o s k.carries;
+        ends = states_end old new o;
         log_told = log_told old new o k.log.told;
-        first_told = o.runs.told ∙ k.first.told;
-        second_told = second_told old new o k.second.told;
+        first_told = o.runs.0.told ∙ k.first.told;
+        second_told = o.runs.1.told ∙ k.second.told;
       }
 
   -- ---- batches
@@ -294,21 +294,18 @@ module _ {D : Type 0} (seen : D → DiskView) where
   pub log_goes : (old new : OpenPart D) → OnLog old new → PartGoesOn seen old new
   log_goes old new o = record {
     log = record { later = o.runs.later; told = o.runs.told };
-    first = subst (λ (t : StoreParts D). GoesOn seen old.states.journal.live.disk t.journal.live.disk) (sym o.states) (least_on old.states.journal.live.disk);
-    second = subst (λ (t : StoreParts D). GoesOn seen old.states.journal.idle t.journal.idle) (sym o.states) (least_on old.states.journal.idle);
+    first = subst (λ (t : StoreParts D). GoesOn seen old.states.journal.first.disk t.journal.first.disk) (sym o.states) (least_on old.states.journal.first.disk);
+    second = subst (λ (t : StoreParts D). GoesOn seen old.states.journal.second.disk t.journal.second.disk) (sym o.states) (least_on old.states.journal.second.disk);
   }
 
   log_end : (old new : OpenPart D) → OnLog old new → (s : PartShardState) → Carries seen holding old s → EndsGoOn old new
-  log_end old new o s k = record {
-    log = o.ends s k;
-    first = (let e : new.states.journal.live.end ≡ old.states.journal.live.end = ap (λ (t : StoreParts D). t.journal.live.end) o.states in omega (arith, e));
-  }
+  log_end old new o s k = record { log = o.ends s k }
 
-  first_told : (old new : OpenPart D) → OnLog old new → IsTold (seen old.states.journal.live.disk).content → IsTold (seen new.states.journal.live.disk).content
-  first_told old new o told = ap (λ (t : StoreParts D). is_some (seen t.journal.live.disk).content) o.states ∙ told
+  first_told : (old new : OpenPart D) → OnLog old new → IsTold (seen old.states.journal.first.disk).content → IsTold (seen new.states.journal.first.disk).content
+  first_told old new o told = ap (λ (t : StoreParts D). is_some (seen t.journal.first.disk).content) o.states ∙ told
 
-  idle_told : (old new : OpenPart D) → OnLog old new → IsTold (seen old.states.journal.idle).content → IsTold (seen new.states.journal.idle).content
-  idle_told old new o told = ap (λ (t : StoreParts D). is_some (seen t.journal.idle).content) o.states ∙ told
+  second_told : (old new : OpenPart D) → OnLog old new → IsTold (seen old.states.journal.second.disk).content → IsTold (seen new.states.journal.second.disk).content
+  second_told old new o told = ap (λ (t : StoreParts D). is_some (seen t.journal.second.disk).content) o.states ∙ told
 
   abbrev Adds : OpenPart D → OpenPart D → (now : ℕ) → List ℕ → Result ℕ LogFault → Type 0
   Adds old new now batch added = added ≢ Err NoMemory → ProducedSo seen holding now batch old new added
@@ -328,7 +325,7 @@ module _ {D : Type 0} (seen : D → DiskView) where
           carries = r.1;
           log = record { told = o.runs.told ∙ k.log.told; fed = fed.0 };
           first = record { told = first_told old new o k.first.told; fed = fed.1 };
-          second = record { told = idle_told old new o k.second.told; fed = fed.2 };
+          second = record { told = second_told old new o k.second.told; fed = fed.2 };
         };
         step = r.2;
         ends = log_end old new o s k.carries;
@@ -353,7 +350,7 @@ module _ {D : Type 0} (seen : D → DiskView) where
         ends = log_end old new o s k.carries;
         log_told = o.runs.told ∙ k.log.told;
         first_told = first_told old new o k.first.told;
-        second_told = idle_told old new o k.second.told;
+        second_told = second_told old new o k.second.told;
       }
 
   pub produce_halts : (old new : OpenPart D) (now : ℕ) (batch : List ℕ) (added : Result ℕ LogFault) → ((end : ℕ) → added ≢ Err (Behind end))
@@ -374,7 +371,7 @@ module _ {D : Type 0} (seen : D → DiskView) where
     ends = log_end old new o s k.carries;
     log_told = o.runs.told ∙ k.log.told;
     first_told = first_told old new o k.first.told;
-    second_told = idle_told old new o k.second.told;
+    second_told = second_told old new o k.second.told;
   }
 
   -- ---- looks
@@ -389,6 +386,6 @@ module _ {D : Type 0} (seen : D → DiskView) where
       told ∙ (λ i. look_at (share_state_at (sym k.carries.states i) (key_of (k.conf_is i) group))),
       refl,
     );
-    ends = record { log = omega arith; first = omega arith };
+    ends = record { log = omega arith };
     used = refl;
   }

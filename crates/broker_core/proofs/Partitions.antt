@@ -124,10 +124,10 @@ module _ {B D : Type 0} (bay_seen : B → BayView D) (seen : D → DiskView) whe
 
     pub taken_part : (old new : B) (shard : OpenPart D) (slot : PartSlot D) → hosted_slot slot ≡ h → slot.state ≡ part.Open shard
         → GetsAll bay_seen seen three old new → (seen log).faults ≤ (seen shard.log.journal.disk).faults
-        → (seen first).faults ≤ (seen shard.states.journal.live.disk).faults → (seen second).faults ≤ (seen shard.states.journal.idle).faults → Opened h log first second shard
-        → Stand shard.log.journal.disk shard.states.journal.live.disk shard.states.journal.idle
-        → Run shard.log.journal.disk shard.states.journal.live.disk shard.states.journal.idle
-        → AreFed seen shard.log.journal.disk shard.states.journal.live.disk shard.states.journal.idle → IsFresh seen shard → Takes h old slot new
+        → (seen first).faults ≤ (seen shard.states.journal.first.disk).faults → (seen second).faults ≤ (seen shard.states.journal.second.disk).faults → Opened h log first second shard
+        → Stand shard.log.journal.disk shard.states.journal.first.disk shard.states.journal.second.disk
+        → Run shard.log.journal.disk shard.states.journal.first.disk shard.states.journal.second.disk
+        → AreFed seen shard.log.journal.disk shard.states.journal.first.disk shard.states.journal.second.disk → IsFresh seen shard → Takes h old slot new
     taken_part old new shard slot hosted_is is_open gets on_log on_first on_second opens images runs fed fresh =
         let each = gets_each bay_seen seen three old new apart gets in
         record {
@@ -207,7 +207,7 @@ module _ {B D : Type 0} (bay_seen : B → BayView D) (seen : D → DiskView) whe
             (stays_put bay_seen seen (IsOfDevice fault) (first_of h) old mid new first first_now tf (still (first_of h)) holds.1.0 (record { images = images.on_first; runs = runs.on_first; fed = λ f s. absurd (not_both (fed f).1 s) }))
         stays holds still tl tf ts m (inr (inr (inl e))) = subst (λ (n : List ℕ). StaysAs bay_seen seen (IsOfDevice fault) n old new) (sym e)
             (stays_put bay_seen seen (IsOfDevice fault) (second_of h) old mid new second second_now ts (still (second_of h)) holds.1.1.0
-            (record { images = λ c on. (c, images.on_second c on, inl refl); runs = runs.on_second; fed = λ f s. absurd (not_both (fed f).2 s) }))
+            (record { images = images.on_second; runs = runs.on_second; fed = λ f s. absurd (not_both (fed f).2 s) }))
         stays holds still tl tf ts m (inr (inr (inr never))) = absurd never
 
         rise : (bay_seen mid).taken (log_of h) < (seen log_now).faults ⊎ ((bay_seen mid).taken (first_of h) < (seen first_now).faults ⊎ ((bay_seen mid).taken (second_of h) < (seen second_now).faults ⊎ ⊥))
@@ -312,14 +312,14 @@ module _ {B D : Type 0} (bay_seen : B → BayView D) (seen : D → DiskView) whe
     pub shard : OpenPart D
     pub is_open : slot.state ≡ part.Open shard
     pub on_log : IsTakenFrom bay_seen seen (log_of h) old new shard.log.journal.disk
-    pub on_first : IsTakenFrom bay_seen seen (first_of h) old new shard.states.journal.live.disk
-    pub on_second : IsTakenFrom bay_seen seen (second_of h) old new shard.states.journal.idle
+    pub on_first : IsTakenFrom bay_seen seen (first_of h) old new shard.states.journal.first.disk
+    pub on_second : IsTakenFrom bay_seen seen (second_of h) old new shard.states.journal.second.disk
     pub opens : Opened h on_log.given on_first.given on_second.given shard
-    pub images : PartImagesStandAs seen on_log.given on_first.given on_second.given shard.log.journal.disk shard.states.journal.live.disk
-        shard.states.journal.idle
-    pub runs : PartRunsOn seen on_log.given on_first.given on_second.given shard.log.journal.disk shard.states.journal.live.disk
-        shard.states.journal.idle
-    pub fed : AreFed seen shard.log.journal.disk shard.states.journal.live.disk shard.states.journal.idle
+    pub images : PartImagesStandAs seen on_log.given on_first.given on_second.given shard.log.journal.disk shard.states.journal.first.disk
+        shard.states.journal.second.disk
+    pub runs : PartRunsOn seen on_log.given on_first.given on_second.given shard.log.journal.disk shard.states.journal.first.disk
+        shard.states.journal.second.disk
+    pub fed : AreFed seen shard.log.journal.disk shard.states.journal.first.disk shard.states.journal.second.disk
 
   abbrev Slots : B → B → List (PartSlot D) → Type 0
   Slots old new slots = AllByRecursion (λ (s : PartSlot D). IsTakenSlot (hosted_slot s) old new s) slots
@@ -447,12 +447,12 @@ module _ {B D : Type 0} (bay_seen : B → BayView D) (seen : D → DiskView) whe
             (stays_put bay_seen seen Fed (log_of (hosted_slot s)) old behind new t.on_log.given t.shard.log.journal.disk t.on_log.as_told
             (still (log_of (hosted_slot s))) (at s.state t.is_open Log (log_of (hosted_slot s)) holds.0) (record { images = t.images.on_log; runs = t.runs.on_log; fed = λ f s. absurd (not_both t.fed.0 s) }))
         go (inr (inl e)) others = subst (λ (n : List ℕ). StaysAs bay_seen seen Fed n old new) (sym e)
-            (stays_put bay_seen seen Fed (first_of (hosted_slot s)) old behind new t.on_first.given t.shard.states.journal.live.disk t.on_first.as_told
+            (stays_put bay_seen seen Fed (first_of (hosted_slot s)) old behind new t.on_first.given t.shard.states.journal.first.disk t.on_first.as_told
             (still (first_of (hosted_slot s))) (at s.state t.is_open StateA (first_of (hosted_slot s)) holds.1.0) (record { images = t.images.on_first; runs = t.runs.on_first; fed = λ f s. absurd (not_both t.fed.1 s) }))
         go (inr (inr (inl e))) others = subst (λ (n : List ℕ). StaysAs bay_seen seen Fed n old new) (sym e)
-            (stays_put bay_seen seen Fed (second_of (hosted_slot s)) old behind new t.on_second.given t.shard.states.journal.idle t.on_second.as_told
+            (stays_put bay_seen seen Fed (second_of (hosted_slot s)) old behind new t.on_second.given t.shard.states.journal.second.disk t.on_second.as_told
             (still (second_of (hosted_slot s))) (at s.state t.is_open StateB (second_of (hosted_slot s)) holds.1.1.0)
-            (record { images = λ c on. (c, t.images.on_second c on, inl refl); runs = t.runs.on_second; fed = λ f s. absurd (not_both t.fed.2 s) }))
+            (record { images = t.images.on_second; runs = t.runs.on_second; fed = λ f s. absurd (not_both t.fed.2 s) }))
         go (inr (inr (inr more))) others = others more
 
   -- each of their disks has the count with which it was taken, or a greater one

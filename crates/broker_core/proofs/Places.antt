@@ -244,27 +244,17 @@ module _ {X A : Type 0} (name_of : X → List ℕ) (has : X → A) where
       (differs (name_of x) (name_of z) (λ e. not_there n xs x (name_of z) h d.0 (sym e)))
       ∙ among_there n xs x other h d.1
 
-  -- what holds of each, and of what else there is
-  pub among_same : (R : A → A → Type 0) → ((a : A) → R a a) → (xs : List X) (other more : A) (name : List ℕ) → R other more
-      → R (among name_of has xs other name) (among name_of has xs more name)
-  among_same R s [] other more name r = r
-  among_same R s (x ∷ xs) other more name r = go (same_name name (name_of x)) (among_same R s xs other more name r) where
-    go : (b : Bool) → R (among name_of has xs other name) (among name_of has xs more name)
-        → R (cond b (has x) (among name_of has xs other name)) (cond b (has x) (among name_of has xs more name))
-    go true ih = s (has x)
-    go false ih = ih
-
-  -- two lists with the same names
-  pub among_zip : {Y B : Type 0} (name_in : Y → List ℕ) (got : Y → B) (R : A → B → Type 0) (xs : List X) (ys : List Y)
-      → AllZip (λ x y. (name_in y ≡ name_of x) × R (has x) (got y)) xs ys → (other : A) (more : B) (name : List ℕ)
+  -- two lists with the same names, for a name of which this holds
+  pub among_zip_where : {Y B : Type 0} (Of : List ℕ → Type 0) (name_in : Y → List ℕ) (got : Y → B) (R : A → B → Type 0) (xs : List X) (ys : List Y)
+      → AllZip (λ x y. (name_in y ≡ name_of x) × (Of (name_of x) → R (has x) (got y))) xs ys → (other : A) (more : B) (name : List ℕ) → Of name
       → (NotIn (map name_of xs) name → R other more) → R (among name_of has xs other name) (among name_in got ys more name)
-  among_zip name_in got R [] [] z other more name r = r tt
-  among_zip name_in got R [] (y ∷ ys) z other more name r = absurd z
-  among_zip name_in got R (x ∷ xs) [] z other more name r = absurd z
-  among_zip name_in got R (x ∷ xs) (y ∷ ys) z other more name r =
+  among_zip_where Of name_in got R [] [] z other more name its r = r tt
+  among_zip_where Of name_in got R [] (y ∷ ys) z other more name its r = absurd z
+  among_zip_where Of name_in got R (x ∷ xs) [] z other more name its r = absurd z
+  among_zip_where Of name_in got R (x ∷ xs) (y ∷ ys) z other more name its r =
       subst (λ (b : Bool). R (cond (same_name name (name_of x)) (has x) (among name_of has xs other name)) (cond b (got y) (among name_in got ys more name)))
       (ap (same_name name) (sym z.0.0))
-      (go (same_name name (name_of x)) refl (λ ne. among_zip name_in got R xs ys z.1 other more name (λ n. r (ne, n))))
+      (go (same_name name (name_of x)) refl (λ ne. among_zip_where Of name_in got R xs ys z.1 other more name its (λ n. r (ne, n))))
     where
       other_name : name ≡ name_of x → same_name name (name_of x) ≡ false → ⊥
       other_name e away = let bad : true ≡ false = sym (same_self (name_of x)) ∙ ap (λ (m : List ℕ). same_name m (name_of x)) (sym e) ∙ away in cc
@@ -272,8 +262,17 @@ module _ {X A : Type 0} (name_of : X → List ℕ) (has : X → A) where
       go : (b : Bool) → same_name name (name_of x) ≡ b
           → (name ≢ name_of x → R (among name_of has xs other name) (among name_in got ys more name))
           → R (cond b (has x) (among name_of has xs other name)) (cond b (got y) (among name_in got ys more name))
-      go true is more_of = z.0.1
+      go true is more_of = z.0.1 (subst Of (is_same name (name_of x) is) its)
       go false is more_of = more_of (λ e. other_name e is)
+
+  -- for any name
+  pub among_zip : {Y B : Type 0} (name_in : Y → List ℕ) (got : Y → B) (R : A → B → Type 0) (xs : List X) (ys : List Y)
+      → AllZip (λ x y. (name_in y ≡ name_of x) × R (has x) (got y)) xs ys → (other : A) (more : B) (name : List ℕ)
+      → (NotIn (map name_of xs) name → R other more) → R (among name_of has xs other name) (among name_in got ys more name)
+  among_zip {Y} name_in got R xs ys z other more name r = among_zip_where (λ m. Unit {0}) name_in got R xs ys
+      (zip_weaker (λ (x : X) (y : Y). (name_in y ≡ name_of x) × R (has x) (got y))
+      (λ (x : X) (y : Y). (name_in y ≡ name_of x) × (Unit {0} → R (has x) (got y))) (λ x y h. (h.0, λ any. h.1)) xs ys z)
+      other more name tt r
 
 -- each finds itself, whatever else there is by name
 module _ {X A : Type 0} (name_of : X → List ℕ) (has : X → A) (other : List ℕ → A) where

@@ -19,12 +19,8 @@ use Rattle.broker_core.specs.declared.fault.CoreOpen.TheVariants as fault
 use Rattle.broker_core.specs.Carried.{GoesOn, IsPartCarried, OpenPart, holding}
 use Rattle.broker_core.specs.Hosts.{PartStandsAlone}
 use Rattle.broker_core.specs.Restarts.{IsLost, IsOpenedPart, IsRestartedPart, PartImagesStandAs}
-use Rattle.broker_core.proofs.Opening.{one_fault_left, opened_disk, restarted_disk, told_of}
+use Rattle.broker_core.proofs.Opening.{AreAlike, one_fault_left, opened_disk, restarted_disk, stored_alike, told_of}
 use Rattle.edge_io.specs.Views.{DiskView}
-
--- contents that are the same, or are read as the same frames
-abbrev pub AreAlike : List ℕ → List ℕ → Type 0
-AreAlike c x = (c ≡ x) ⊎ ((frames : List (List ℕ)) × StandsFor c frames × StandsFor x frames)
 
 -- they stand for the same log
 pub same_text : (c x : List ℕ) (b : List LogBatch) → AreAlike c x → IsLogText c b → IsLogText x b
@@ -35,26 +31,18 @@ same_text c x b (inr f) h = record {
 }
 
 -- and for the same states
-same_states : (a c b : List ℕ) (states : ShareStates) → AreAlike a c → AreStates a b states → AreStates c b states
-same_states a c b states (inl e) h = subst (λ x. AreStates x b states) e h
-same_states a c b states (inr f) h = record {
+same_states : (a b x y : List ℕ) (states : ShareStates) → AreAlike a x → AreAlike b y → AreStates a b states → AreStates x y states
+same_states a b x y states on_first on_second h = record {
   entries = h.entries;
-  stored = record {
-    frames = h.stored.frames;
-    listed = record {
-      listed = subst (λ fs. StandsFor c fs) (once a f.0 h.stored.frames f.1 h.stored.listed.listed) f.2;
-      bare = h.stored.listed.bare;
-    };
-    accepted = h.stored.accepted;
-  };
+  stored = stored_alike a b x y h.entries on_first on_second h.stored;
   is = h.is;
 }
 
-pub same_part : (conf : PartConfParts) (l x a y b : List ℕ) (batches : List LogBatch) (states : ShareStates) → AreAlike l x → AreAlike a y
-    → ArePartText conf l a b batches states → ArePartText conf x y b batches states
-same_part conf l x a y b batches states on_log on_first t = record {
+pub same_part : (conf : PartConfParts) (l x a y b z : List ℕ) (batches : List LogBatch) (states : ShareStates) → AreAlike l x → AreAlike a y → AreAlike b z
+    → ArePartText conf l a b batches states → ArePartText conf x y z batches states
+same_part conf l x a y b z batches states on_log on_first on_second t = record {
   log_is = same_text l x batches on_log t.log_is;
-  states_are = same_states a y b states on_first t.states_are;
+  states_are = same_states a b y z states on_first on_second t.states_are;
   hosted = t.hosted;
 }
 
@@ -86,18 +74,18 @@ module _ {D : Type 0} (seen : D → DiskView) where
 
   -- the images of a partition that is carried
   pub images_left : (conf : PartConfParts) (part : OpenPart D) (s : PartShardState) → part.conf ≡ conf → Carries seen holding part s → (l a b : List ℕ)
-      → (seen part.log.journal.disk).image l → (seen part.states.journal.live.disk).image a → (seen part.states.journal.idle).image b → IsLeftOf conf s l a b
+      → (seen part.log.journal.disk).image l → (seen part.states.journal.first.disk).image a → (seen part.states.journal.second.disk).image b → IsLeftOf conf s l a b
   images_left conf part s conf_is k l a b on_log on_first on_second =
       subst (λ (c : PartConfParts). IsLeftOf c s l a b) conf_is (left_of seen holding part l a b on_log on_first on_second s k)
 
   pub part_left : (conf : PartConfParts) (part : OpenPart D) (s : PartShardState) → Carried conf part s → (l a b : List ℕ)
-      → (seen part.log.journal.disk).image l → (seen part.states.journal.live.disk).image a → (seen part.states.journal.idle).image b → IsLeftOf conf s l a b
+      → (seen part.log.journal.disk).image l → (seen part.states.journal.first.disk).image a → (seen part.states.journal.second.disk).image b → IsLeftOf conf s l a b
   part_left conf part s k = images_left conf part s k.conf_is k.carries
 
   pub opened_part : (conf : PartConfParts) (log first second : D) (l a b : List ℕ) (part : OpenPart D) → (seen log).content ≡ Some l → (seen first).content ≡ Some a
       → (seen second).content ≡ Some b → IsOpened seen holding conf log first second part → Runs log part.log.journal.disk
-      → Runs first part.states.journal.live.disk → Runs second part.states.journal.idle → (seen part.log.journal.disk).starved ≡ false
-      → (seen part.states.journal.live.disk).starved ≡ false → (seen part.states.journal.idle).starved ≡ false
+      → Runs first part.states.journal.first.disk → Runs second part.states.journal.second.disk → (seen part.log.journal.disk).starved ≡ false
+      → (seen part.states.journal.first.disk).starved ≡ false → (seen part.states.journal.second.disk).starved ≡ false
       → IsOpenedPart seen conf log first second l a b part
   opened_part conf log first second l a b part is is_first is_second o runs first_runs second_runs fed first_fed second_fed = record {
     batches = part.log.batches;
@@ -112,23 +100,23 @@ module _ {D : Type 0} (seen : D → DiskView) where
     stands = o.opens l a b is is_first is_second;
     only = λ other others h. let e = o.only l a b other others is is_first is_second h in (sym e.0, sym e.1);
     on_log = opened_disk seen log part.log.journal.disk runs (told_of (seen log).content l is) fed;
-    on_first = opened_disk seen first part.states.journal.live.disk first_runs (told_of (seen first).content a is_first) first_fed;
-    on_second = opened_disk seen second part.states.journal.idle second_runs (told_of (seen second).content b is_second) second_fed;
+    on_first = opened_disk seen first part.states.journal.first.disk first_runs (told_of (seen first).content a is_first) first_fed;
+    on_second = opened_disk seen second part.states.journal.second.disk second_runs (told_of (seen second).content b is_second) second_fed;
   }
 
   -- ---- restarts
 
   pub restarted_part : (choice : ℕ) (conf : PartConfParts) (part : OpenPart D) (s : PartShardState) (log first second : D) (l a b : List ℕ) (new : OpenPart D)
-      → Carried conf part s → Lost choice part.log.journal.disk log l → Lost choice part.states.journal.live.disk first a
-      → Lost choice part.states.journal.idle second b
+      → Carried conf part s → Lost choice part.log.journal.disk log l → Lost choice part.states.journal.first.disk first a
+      → Lost choice part.states.journal.second.disk second b
       → IsOpenedPart seen conf log first second l a b new
       → IsRestartedPart seen choice conf part s new
   restarted_part choice conf part s log first second l a b new k p q r o =
       let t = part_left conf part s k l a b p.was q.was r.was in
       let e = o.only t.batches t.states t.text in
       let on_log = restarted_disk seen choice part.log.journal.disk log new.log.journal.disk l p o.on_log in
-      let on_first = restarted_disk seen choice part.states.journal.live.disk first new.states.journal.live.disk a q o.on_first in
-      let on_second = restarted_disk seen choice part.states.journal.idle second new.states.journal.idle b r o.on_second in
+      let on_first = restarted_disk seen choice part.states.journal.first.disk first new.states.journal.first.disk a q o.on_first in
+      let on_second = restarted_disk seen choice part.states.journal.second.disk second new.states.journal.second.disk b r o.on_second in
       record {
         l = l;
         a = a;
@@ -150,30 +138,30 @@ module _ {D : Type 0} (seen : D → DiskView) where
 
   -- no image came
   pub images_within : (part : OpenPart D) (log first second : D) → Within (seen part.log.journal.disk).image (seen log).image
-      → Within (seen part.states.journal.live.disk).image (seen first).image → Within (seen part.states.journal.idle).image (seen second).image
-      → PartImagesStandAs seen part.log.journal.disk part.states.journal.live.disk part.states.journal.idle log first second
+      → Within (seen part.states.journal.first.disk).image (seen first).image → Within (seen part.states.journal.second.disk).image (seen second).image
+      → PartImagesStandAs seen part.log.journal.disk part.states.journal.first.disk part.states.journal.second.disk log first second
   images_within part log first second p q r = record {
     on_log = λ c on. (c, p c on, inl refl);
     on_first = λ c on. (c, q c on, inl refl);
-    on_second = r;
+    on_second = λ c on. (c, r c on, inl refl);
   }
 
   -- nor behind that any but by an opening
   pub images_behind : (part : OpenPart D) (mid_log mid_first mid_second log first second : D) → Within (seen part.log.journal.disk).image (seen mid_log).image
-      → Within (seen part.states.journal.live.disk).image (seen mid_first).image → Within (seen part.states.journal.idle).image (seen mid_second).image
+      → Within (seen part.states.journal.first.disk).image (seen mid_first).image → Within (seen part.states.journal.second.disk).image (seen mid_second).image
       → PartImagesStandAs seen mid_log mid_first mid_second log first second
-      → PartImagesStandAs seen part.log.journal.disk part.states.journal.live.disk part.states.journal.idle log first second
+      → PartImagesStandAs seen part.log.journal.disk part.states.journal.first.disk part.states.journal.second.disk log first second
   images_behind part mid_log mid_first mid_second log first second p q r i = record {
     on_log = λ c on. (let d = i.on_log c on in (d.0, p d.0 d.1, d.2));
     on_first = λ c on. (let d = i.on_first c on in (d.0, q d.0 d.1, d.2));
-    on_second = λ c on. r c (i.on_second c on);
+    on_second = λ c on. (let d = i.on_second c on in (d.0, r d.0 d.1, d.2));
   }
 
   -- disks that have no other images than before
   pub stands_within : (conf : PartConfParts) (part : OpenPart D) (s : PartShardState) (log first second : D) → Carried conf part s
-      → Within (seen part.log.journal.disk).image (seen log).image → Within (seen part.states.journal.live.disk).image (seen first).image
-      → Within (seen part.states.journal.idle).image (seen second).image → GoesOn seen part.log.journal.disk log
-      → GoesOn seen part.states.journal.live.disk first → GoesOn seen part.states.journal.idle second
+      → Within (seen part.log.journal.disk).image (seen log).image → Within (seen part.states.journal.first.disk).image (seen first).image
+      → Within (seen part.states.journal.second.disk).image (seen second).image → GoesOn seen part.log.journal.disk log
+      → GoesOn seen part.states.journal.first.disk first → GoesOn seen part.states.journal.second.disk second
       → PartStandsAlone seen conf s log first second
   stands_within conf part s log first second k p q r on_log on_first on_second = record {
     stand = λ l a b x y z. part_left conf part s k l a b (p l x) (q a y) (r b z);
@@ -189,7 +177,7 @@ module _ {D : Type 0} (seen : D → DiskView) where
 
   -- behind three losses, the opening failed
   module _ (choice : ℕ) (conf : PartConfParts) (part : OpenPart D) (s : PartShardState) (log first second : D) (l a b : List ℕ) (k : Carried conf part s)
-      (p : Lost choice part.log.journal.disk log l) (q : Lost choice part.states.journal.live.disk first a) (r : Lost choice part.states.journal.idle second b) where
+      (p : Lost choice part.log.journal.disk log l) (q : Lost choice part.states.journal.first.disk first a) (r : Lost choice part.states.journal.second.disk second b) where
     left : IsLeftOf conf s l a b
     left = part_left conf part s k l a b p.was q.was r.was
 
@@ -202,9 +190,9 @@ module _ {D : Type 0} (seen : D → DiskView) where
         states = left.states;
         log_is = left.log_is;
         states_are = left.states_are;
-        text = subst (λ (w : List ℕ). ArePartText conf x y w left.batches left.states) (sym (r.only z (i.on_second z on_second)))
-            (same_part conf l x a y b left.batches left.states (alike choice part.log.journal.disk log l x p (i.on_log x on_log))
-            (alike choice part.states.journal.live.disk first a y q (i.on_first y on_first)) left.text);
+        text = same_part conf l x a y b z left.batches left.states (alike choice part.log.journal.disk log l x p (i.on_log x on_log))
+            (alike choice part.states.journal.first.disk first a y q (i.on_first y on_first))
+            (alike choice part.states.journal.second.disk second b z r (i.on_second z on_second)) left.text;
       };
       log_told = told;
       first_told = first_told;

@@ -1,5 +1,5 @@
 -- One slot of a hosted partition that a call changes: what is known of its disks by name, and the machine's step.
-use Rattle.std.proofs.Common.{◌≡◌, inl, refl, sym, ap, ◌∙◌, subst, ℕ, List, [], ◌∷◌, map, Bool, true, false, cond}
+use Rattle.std.proofs.Common.{◌≡◌, inl, refl, sym, ap, ◌∙◌, subst, ℕ, ◌+◌, List, [], ◌∷◌, map, Bool, true, false, cond}
 use Rattle.std.specs.Prelude.{◌&&◌, ◌||◌}
 use Rattle.std.specs.List.{flat_map}
 use Rattle.std.specs.declared.option.Option.{Option}
@@ -11,10 +11,11 @@ use Rattle.share_model.specs.declared.visit.Then.{Then}
 use Rattle.part_log.specs.Logs.{LogParts}
 use Rattle.share_coord.specs.Parts.{StoreParts}
 use Rattle.share_part.specs.Expiring.{ExpiresPart, StepsExpire}
+use Rattle.share_part.specs.Failures.{FailuresRose, failures_of}
 use Rattle.share_part.specs.Shards.{PartShardState, StepsProduce}
 use Rattle.share_part.specs.Visits.{StepsVisit, VisitsPart}
-use Rattle.broker_model.specs.Hosted.{Hosted, HoldsAt, first_of, log_of, part_disks, same_name, second_of}
-use Rattle.broker_model.specs.Shards.{Counts, Ends, PartCall, StepsPart, part_calls, reads_log, result_of}
+use Rattle.broker_model.specs.Hosted.{Hosted, HoldsAt, first_of, has_disk, log_of, log_store, part_disks, same_name, second_of, state_store}
+use Rattle.broker_model.specs.Shards.{Counts, Ends, PartCall, StepsPart, faults_before, faults_behind, part_calls, reads_log, result_of, rose_at, rose_on}
 use Rattle.broker_model.specs.Shards.PartCall.{Visits, Produces, Looks, Expires}
 use Rattle.broker_model.specs.Disks.{Facts, IsUsed, OnCalled, facts_of}
 use Rattle.broker_core.specs.declared.slot.PartSlot.{PartSlot}
@@ -55,6 +56,9 @@ called_same false f = refl
 pair : {A B : Type 0} {a c : A} {b d : B} → a ≡ c → b ≡ d → ◌≡◌ {A = A × B} (a, b) (c, d)
 pair e f = λ i. (e i, f i)
 
+sum : {a b c d : ℕ} → a ≡ c → b ≡ d → a + b ≡ c + d
+sum e f = λ i. e i + f i
+
 -- ---- three by name
 
 -- what one of the three disks of a partition has, by its name, or else this
@@ -68,28 +72,38 @@ on_log h l m a b o name used = go (same_name name (log_of h)) where
   go true = used
   go false = refl
 
-on_first : (h : Hosted) (l a c b o : Facts) (name : List ℕ) → IsUsed a c → OnCalled (same_name name (first_of h)) (three h l a b o name) (three h l c b o name)
-on_first h l a c b o name used = go (same_name name (log_of h)) (same_name name (first_of h)) where
-  go : (p q : Bool) → OnCalled q (cond p l (cond q a (cond (same_name name (second_of h)) b o))) (cond p l (cond q c (cond (same_name name (second_of h)) b o)))
-  go true q = called_same q l
-  go false true = used
-  go false false = refl
+on_states : (h : Hosted) (l a c b d o : Facts) (name : List ℕ) → IsUsed a c → IsUsed b d
+    → OnCalled (same_name name (first_of h) || same_name name (second_of h)) (three h l a b o name) (three h l c d o name)
+on_states h l a c b d o name used second_used = go (same_name name (log_of h)) (same_name name (first_of h)) (same_name name (second_of h)) where
+  go : (p q r : Bool) → OnCalled (q || r) (cond p l (cond q a (cond r b o))) (cond p l (cond q c (cond r d o)))
+  go true q r = called_same (q || r) l
+  go false true r = used
+  go false false true = second_used
+  go false false false = refl
 
-on_both : (h : Hosted) (reads : Bool) (l m a c b o : Facts) (name : List ℕ) → IsUsed a c → IsUsed l m → (reads ≡ false → m ≡ l)
-    → OnCalled ((reads && same_name name (log_of h)) || same_name name (first_of h)) (three h l a b o name) (three h m c b o name)
-on_both h reads l m a c b o name used log_used stays = go reads (same_name name (log_of h)) (same_name name (first_of h)) stays where
-  go : (r p q : Bool) → (r ≡ false → m ≡ l) → OnCalled ((r && p) || q) (cond p l (cond q a (cond (same_name name (second_of h)) b o)))
-      (cond p m (cond q c (cond (same_name name (second_of h)) b o)))
-  go true true q same = log_used
-  go true false true same = used
-  go true false false same = refl
-  go false true q same = subst (λ (f : Facts). OnCalled q l f) (sym (same refl)) (called_same q l)
-  go false false true same = used
-  go false false false same = refl
+on_three : (h : Hosted) (reads : Bool) (l m a c b d o : Facts) (name : List ℕ) → IsUsed a c → IsUsed b d → IsUsed l m → (reads ≡ false → m ≡ l)
+    → OnCalled ((reads && same_name name (log_of h)) || (same_name name (first_of h) || same_name name (second_of h)))
+    (three h l a b o name) (three h m c d o name)
+on_three h reads l m a c b d o name used second_used log_used stays =
+    go reads (same_name name (log_of h)) (same_name name (first_of h)) (same_name name (second_of h)) stays
+  where
+    go : (t p q r : Bool) → (t ≡ false → m ≡ l) → OnCalled ((t && p) || (q || r)) (cond p l (cond q a (cond r b o))) (cond p m (cond q c (cond r d o)))
+    go true true q r same = log_used
+    go true false true r same = used
+    go true false false true same = second_used
+    go true false false false same = refl
+    go false true q r same = subst (λ (f : Facts). OnCalled (q || r) l f) (sym (same refl)) (called_same (q || r) l)
+    go false false true r same = used
+    go false false false true same = second_used
+    go false false false false same = refl
 
-not_either : (x q : Bool) → (x || q) ≡ false → q ≡ false
-not_either true q is = absurd (let bad : true ≡ false = is in cc)
-not_either false q is = is
+not_left : (p q : Bool) → (p || q) ≡ false → p ≡ false
+not_left true q is = absurd (let bad : true ≡ false = is in cc)
+not_left false q is = refl
+
+not_right : (p q : Bool) → (p || q) ≡ false → q ≡ false
+not_right true q is = absurd (let bad : true ≡ false = is in cc)
+not_right false q is = is
 
 past_log : (h : Hosted) (l m a b o : ℕ) (name : List ℕ) → same_name name (log_of h) ≡ false → three h m a b o name ≡ three h l a b o name
 past_log h l m a b o name away = go (same_name name (log_of h)) away where
@@ -149,33 +163,30 @@ module _ {D : Type 0} (seen : D → DiskView) where
   -- ---- what a call uses
 
   uses_states : (h : Hosted) (was is : OpenPart D) → UsesStates seen was is → (name : List ℕ) (o : Facts)
-      → OnCalled (same_name name (first_of h)) (three h (open_facts was Log) (open_facts was StateA) (open_facts was StateB) o name)
+      → OnCalled (has_disk (state_store h) name) (three h (open_facts was Log) (open_facts was StateA) (open_facts was StateB) o name)
       (three h (open_facts is Log) (open_facts is StateA) (open_facts is StateB) o name)
   uses_states h was is u name o =
-      subst (λ (l : LogParts D). OnCalled (same_name name (first_of h)) (three h (open_facts was Log) (open_facts was StateA) (open_facts was StateB) o name)
+      subst (λ (l : LogParts D). OnCalled (has_disk (state_store h) name) (three h (open_facts was Log) (open_facts was StateA) (open_facts was StateB) o name)
       (three h (facts l.journal.disk) (open_facts is StateA) (open_facts is StateB) o name)) (sym u.log)
-      (subst (λ (b : D). OnCalled (same_name name (first_of h)) (three h (open_facts was Log) (open_facts was StateA) (open_facts was StateB) o name)
-      (three h (open_facts was Log) (open_facts is StateA) (facts b) o name)) (sym u.second)
-      (on_first h (open_facts was Log) (open_facts was StateA) (open_facts is StateA) (open_facts was StateB) o name u.used))
+      (on_states h (open_facts was Log) (open_facts was StateA) (open_facts is StateA) (open_facts was StateB) (open_facts is StateB) o name
+      u.used u.second_used)
 
   uses_log : (h : Hosted) (was is : OpenPart D) → UsesLog seen was is → (name : List ℕ) (o : Facts)
       → OnCalled (same_name name (log_of h)) (three h (open_facts was Log) (open_facts was StateA) (open_facts was StateB) o name)
       (three h (open_facts is Log) (open_facts is StateA) (open_facts is StateB) o name)
   uses_log h was is u name o =
       subst (λ (s : StoreParts D). OnCalled (same_name name (log_of h)) (three h (open_facts was Log) (open_facts was StateA) (open_facts was StateB) o name)
-      (three h (open_facts is Log) (facts s.journal.live.disk) (facts s.journal.idle) o name)) (sym u.states)
+      (three h (open_facts is Log) (facts s.journal.first.disk) (facts s.journal.second.disk) o name)) (sym u.states)
       (on_log h (open_facts was Log) (open_facts is Log) (open_facts was StateA) (open_facts was StateB) o name u.used)
 
   uses_visit : (h : Hosted) (asked : Then) (was is : OpenPart D) → UsesVisit seen asked was is → (name : List ℕ) (o : Facts)
-      → OnCalled ((reads_log asked && same_name name (log_of h)) || same_name name (first_of h))
+      → OnCalled ((reads_log asked && has_disk (log_store h) name) || has_disk (state_store h) name)
       (three h (open_facts was Log) (open_facts was StateA) (open_facts was StateB) o name)
       (three h (open_facts is Log) (open_facts is StateA) (open_facts is StateB) o name)
   uses_visit h asked was is u name o =
-      subst (λ (b : D). OnCalled ((reads_log asked && same_name name (log_of h)) || same_name name (first_of h))
-      (three h (open_facts was Log) (open_facts was StateA) (open_facts was StateB) o name)
-      (three h (open_facts is Log) (open_facts is StateA) (facts b) o name)) (sym u.second)
-      (on_both h (reads_log asked) (open_facts was Log) (open_facts is Log) (open_facts was StateA) (open_facts is StateA) (open_facts was StateB) o name
-      u.used u.log_used (λ no. ap (λ (l : LogParts D). facts l.journal.disk) (u.log no)))
+      on_three h (reads_log asked) (open_facts was Log) (open_facts is Log) (open_facts was StateA) (open_facts is StateA)
+      (open_facts was StateB) (open_facts is StateB) o name u.used u.second_used u.log_used
+      (λ no. ap (λ (l : LogParts D). facts l.journal.disk) (u.log no))
 
   open_used : (h : Hosted) (was is : OpenPart D) (did : PartCall) → Uses seen was is did → (name : List ℕ) (o : Facts)
       → OnCalled (part_calls h did name) (three h (open_facts was Log) (open_facts was StateA) (open_facts was StateB) o name)
@@ -186,26 +197,28 @@ module _ {D : Type 0} (seen : D → DiskView) where
       ap (λ (p : OpenPart D). three h (open_facts p Log) (open_facts p StateA) (open_facts p StateB) o name) u
   open_used h was is (Expires answer) u name o = uses_states h was is u name o
 
-  ends_states : (h : Hosted) (was is : OpenPart D) → UsesStates seen was is → (name : List ℕ) (o : ℕ) → same_name name (first_of h) ≡ false
+  ends_states : (h : Hosted) (was is : OpenPart D) → UsesStates seen was is → (name : List ℕ) (o : ℕ) → has_disk (state_store h) name ≡ false
       → three h (open_end is Log) (open_end is StateA) (open_end is StateB) o name ≡ three h (open_end was Log) (open_end was StateA) (open_end was StateB) o name
   ends_states h was is u name o away =
       ap (λ (l : LogParts D). three h l.journal.end (open_end is StateA) 0 o name) u.log
-      ∙ past_first h (open_end was Log) (open_end was StateA) (open_end is StateA) 0 o name away
+      ∙ past_first h (open_end was Log) (open_end was StateA) (open_end is StateA) 0 o name
+      (not_left (same_name name (first_of h)) (same_name name (second_of h)) away)
 
   ends_visit : (h : Hosted) (asked : Then) (was is : OpenPart D) → UsesVisit seen asked was is → (name : List ℕ) (o : ℕ)
-      → same_name name (first_of h) ≡ false
+      → has_disk (state_store h) name ≡ false
       → three h (open_end is Log) (open_end is StateA) (open_end is StateB) o name ≡ three h (open_end was Log) (open_end was StateA) (open_end was StateB) o name
   ends_visit h asked was is u name o away =
       ap (λ (e : ℕ). three h e (open_end is StateA) 0 o name) u.log_end
-      ∙ past_first h (open_end was Log) (open_end was StateA) (open_end is StateA) 0 o name away
+      ∙ past_first h (open_end was Log) (open_end was StateA) (open_end is StateA) 0 o name
+      (not_left (same_name name (first_of h)) (same_name name (second_of h)) away)
 
   open_ends : (h : Hosted) (was is : OpenPart D) (did : PartCall) → Uses seen was is did → (name : List ℕ) (o : ℕ)
       → part_calls h did name ≡ false
       → three h (open_end is Log) (open_end is StateA) (open_end is StateB) o name ≡ three h (open_end was Log) (open_end was StateA) (open_end was StateB) o name
   open_ends h was is (Visits visit answer unread) u name o away = ends_visit h visit.then was is u name o
-      (not_either (reads_log visit.then && same_name name (log_of h)) (same_name name (first_of h)) away)
+      (not_right (reads_log visit.then && has_disk (log_store h) name) (has_disk (state_store h) name) away)
   open_ends h was is (Produces batch produced) u name o away =
-      ap (λ (s : StoreParts D). three h (open_end is Log) s.journal.live.end 0 o name) u.states
+      ap (λ (s : StoreParts D). three h (open_end is Log) s.journal.end 0 o name) u.states
       ∙ past_log h (open_end was Log) (open_end is Log) (open_end was StateA) 0 o name away
   open_ends h was is (Looks group looked) u name o away =
       ap (λ (p : OpenPart D). three h (open_end p Log) (open_end p StateA) (open_end p StateB) o name) u
@@ -254,53 +267,54 @@ module _ {D : Type 0} (seen : D → DiskView) where
   -- counts and ends by name are those of the shard's own disks
   pub record AreOf (h : Hosted) (was is : OpenPart D) (counts : Counts) (ends : Ends) : Type 0 where
     pub log : counts (log_of h) ≡ ((seen was.log.journal.disk).faults, (seen is.log.journal.disk).faults)
-    pub first : counts (first_of h) ≡ ((seen was.states.journal.live.disk).faults, (seen is.states.journal.live.disk).faults)
+    pub before : faults_before counts (state_store h) ≡ failures_of seen was.states
+    pub behind : faults_behind counts (state_store h) ≡ failures_of seen is.states
     pub log_end : ends (log_of h) ≡ (was.log.journal.end, is.log.journal.end)
-    pub first_end : ends (first_of h) ≡ (was.states.journal.live.end, is.states.journal.live.end)
+    pub first_end : ends (first_of h) ≡ (was.states.journal.end, is.states.journal.end)
 
   pub step_named : (h : Hosted) (was is : OpenPart D) (counts : Counts) (ends : Ends) → AreOf h was is counts ends
       → IsTold (seen was.log.journal.disk).content → (now : ℕ) (old : PartShardState)
       (did : PartCall) (new : PartShardState) → StepsOn seen h.conf was is now old did new → StepsPart true counts ends now h old did new
   step_named h was is counts ends a told now old (Visits visit answer unread) new step =
-      subst (λ (c : ℕ × ℕ). StepsVisit h.conf (record { told = true; rose = Rose (counts (log_of h)).0 (counts (log_of h)).1; failed = unread })
-      c.0 c.1 (ends (first_of h)).0 (ends (first_of h)).1 old now visit answer new) (sym a.first)
+      subst (λ (n : ℕ). StepsVisit h.conf (record { told = true; rose = rose_at counts (log_of h); failed = unread })
+      n (faults_behind counts (state_store h)) (ends (first_of h)).0 (ends (first_of h)).1 old now visit answer new) (sym a.before)
+      (subst (λ (n : ℕ). StepsVisit h.conf (record { told = true; rose = rose_at counts (log_of h); failed = unread })
+      (failures_of seen was.states) n (ends (first_of h)).0 (ends (first_of h)).1 old now visit answer new) (sym a.behind)
       (subst (λ (c : ℕ × ℕ). StepsVisit h.conf (record { told = true; rose = Rose c.0 c.1; failed = unread })
-      (seen was.states.journal.live.disk).faults (seen is.states.journal.live.disk).faults (ends (first_of h)).0 (ends (first_of h)).1 old now visit answer new)
-      (sym a.log)
+      (failures_of seen was.states) (failures_of seen is.states) (ends (first_of h)).0 (ends (first_of h)).1 old now visit answer new) (sym a.log)
       (subst (λ (e : ℕ × ℕ). StepsVisit h.conf
       (record { told = true; rose = Rose (seen was.log.journal.disk).faults (seen is.log.journal.disk).faults; failed = unread })
-      (seen was.states.journal.live.disk).faults (seen is.states.journal.live.disk).faults e.0 e.1 old now visit answer new) (sym a.first_end)
+      (failures_of seen was.states) (failures_of seen is.states) e.0 e.1 old now visit answer new) (sym a.first_end)
       (subst (λ (t : Bool). StepsVisit h.conf
       (record { told = t; rose = Rose (seen was.log.journal.disk).faults (seen is.log.journal.disk).faults; failed = unread })
-      (seen was.states.journal.live.disk).faults (seen is.states.journal.live.disk).faults was.states.journal.live.end is.states.journal.live.end
-      old now visit answer new) told step)))
+      (failures_of seen was.states) (failures_of seen is.states) was.states.journal.end is.states.journal.end
+      old now visit answer new) told step))))
   step_named h was is counts ends a told now old (Produces batch produced) new step =
       subst (λ (c : ℕ × ℕ). StepsProduce (Rose c.0 c.1) (ends (log_of h)).0 old now batch (result_of produced) new) (sym a.log)
       (subst (λ (e : ℕ × ℕ). StepsProduce (Rose (seen was.log.journal.disk).faults (seen is.log.journal.disk).faults) e.0 old now batch (result_of produced) new)
       (sym a.log_end) step)
   step_named h was is counts ends a told now old (Looks group looked) new step = step
   step_named h was is counts ends a told now old (Expires answer) new step =
-      subst (λ (c : ℕ × ℕ). StepsExpire h.conf c.0 c.1 (ends (first_of h)).0 (ends (first_of h)).1 old now answer new) (sym a.first)
-      (subst (λ (e : ℕ × ℕ). StepsExpire h.conf (seen was.states.journal.live.disk).faults (seen is.states.journal.live.disk).faults e.0 e.1 old now answer new)
-      (sym a.first_end) step)
+      subst (λ (n : ℕ). StepsExpire h.conf n (faults_behind counts (state_store h)) (ends (first_of h)).0 (ends (first_of h)).1 old now answer new) (sym a.before)
+      (subst (λ (n : ℕ). StepsExpire h.conf (failures_of seen was.states) n (ends (first_of h)).0 (ends (first_of h)).1 old now answer new) (sym a.behind)
+      (subst (λ (e : ℕ × ℕ). StepsExpire h.conf (failures_of seen was.states) (failures_of seen is.states) e.0 e.1 old now answer new) (sym a.first_end) step))
 
   -- a call that was left half done, by name
   abbrev pub Halves : Counts → Ends → (now : ℕ) → Begun → Hosted → PartShardState → PartShardState → Type 0
-  Halves counts ends now (BeginsVisit visit) h old new =
-      VisitsPart h.conf (Rose (counts (first_of h)).0 (counts (first_of h)).1) (ends (first_of h)).0 old now visit new
-  Halves counts ends now BeginsExpiry h old new = ExpiresPart h.conf (counts (first_of h)).0 (counts (first_of h)).1 (ends (first_of h)).0 (ends (first_of h)).1
-      old now new
+  Halves counts ends now (BeginsVisit visit) h old new = VisitsPart h.conf (rose_on counts (state_store h)) (ends (first_of h)).0 old now visit new
+  Halves counts ends now BeginsExpiry h old new = ExpiresPart h.conf (faults_before counts (state_store h)) (faults_behind counts (state_store h))
+      (ends (first_of h)).0 (ends (first_of h)).1 old now new
 
   pub half_named : (h : Hosted) (was is : OpenPart D) (counts : Counts) (ends : Ends) → AreOf h was is counts ends → (now : ℕ) (old : PartShardState)
       (begun : Begun) (new : PartShardState) → HalvesOn seen h.conf was is now old begun new → Halves counts ends now begun h old new
   half_named h was is counts ends a now old (BeginsVisit visit) new half =
-      subst (λ (c : ℕ × ℕ). VisitsPart h.conf (Rose c.0 c.1) (ends (first_of h)).0 old now visit new) (sym a.first)
-      (subst (λ (e : ℕ × ℕ). VisitsPart h.conf (Rose (seen was.states.journal.live.disk).faults (seen is.states.journal.live.disk).faults) e.0 old now visit new)
-      (sym a.first_end) half)
+      subst (λ (n : ℕ). VisitsPart h.conf (Rose n (faults_behind counts (state_store h))) (ends (first_of h)).0 old now visit new) (sym a.before)
+      (subst (λ (n : ℕ). VisitsPart h.conf (Rose (failures_of seen was.states) n) (ends (first_of h)).0 old now visit new) (sym a.behind)
+      (subst (λ (e : ℕ × ℕ). VisitsPart h.conf (FailuresRose seen was.states is.states) e.0 old now visit new) (sym a.first_end) half))
   half_named h was is counts ends a now old BeginsExpiry new half =
-      subst (λ (c : ℕ × ℕ). ExpiresPart h.conf c.0 c.1 (ends (first_of h)).0 (ends (first_of h)).1 old now new) (sym a.first)
-      (subst (λ (e : ℕ × ℕ). ExpiresPart h.conf (seen was.states.journal.live.disk).faults (seen is.states.journal.live.disk).faults e.0 e.1 old now new)
-      (sym a.first_end) half)
+      subst (λ (n : ℕ). ExpiresPart h.conf n (faults_behind counts (state_store h)) (ends (first_of h)).0 (ends (first_of h)).1 old now new) (sym a.before)
+      (subst (λ (n : ℕ). ExpiresPart h.conf (failures_of seen was.states) n (ends (first_of h)).0 (ends (first_of h)).1 old now new) (sym a.behind)
+      (subst (λ (e : ℕ × ℕ). ExpiresPart h.conf (failures_of seen was.states) (failures_of seen is.states) e.0 e.1 old now new) (sym a.first_end) half))
 
   -- the counts and ends of two hosts of which one slot changed
   pub are_of : (old new : HostsParts D) (n : ℕ) (x y : PartSlot D) (was is : OpenPart D) → HoldsAt n (λ z. z ≡ x) old.parts → HoldsAt n (λ z. z ≡ y) new.parts
@@ -319,7 +333,8 @@ module _ {D : Type 0} (seen : D → DiskView) where
       let on_new : (place : DiskPlace) → slot_facts y place ≡ open_facts is place = λ place. ap (λ (s : PartState D). facts_at seen (part_disk s place)) t.new_is in
       record {
         log = pair (ap (λ (f : Facts). f.faults) (a.0 ∙ on_old Log)) (ap (λ (f : Facts). f.faults) (b.0 ∙ on_new Log));
-        first = pair (ap (λ (f : Facts). f.faults) (a.1 ∙ on_old StateA)) (ap (λ (f : Facts). f.faults) (b.1 ∙ on_new StateA));
+        before = sum (ap (λ (f : Facts). f.faults) (a.1 ∙ on_old StateA)) (ap (λ (f : Facts). f.faults) (a.2 ∙ on_old StateB));
+        behind = sum (ap (λ (f : Facts). f.faults) (b.1 ∙ on_new StateA)) (ap (λ (f : Facts). f.faults) (b.2 ∙ on_new StateB));
         log_end = pair (e.0 ∙ end_old Log) (f.0 ∙ end_new Log);
         first_end = pair (e.1 ∙ end_old StateA) (f.1 ∙ end_new StateA);
       }

@@ -303,7 +303,7 @@ module _ {B D : Type 0} (bay_seen : B → BayView D) (seen : D → DiskView) whe
         foreign = subst (λ (f : ForeignSlot D). IsSlot seen f opened.shard) (sym t.foreign.is_open) opened.carried;
       }
 
-      foreign_at : (name : List ℕ) → NotIn names name → F hosts name ≡ G (Some (t.foreign.store.journal.live.disk, t.foreign.store.journal.idle)) name
+      foreign_at : (name : List ℕ) → NotIn names name → F hosts name ≡ G (Some (t.foreign.store.journal.first.disk, t.foreign.store.journal.second.disk)) name
       foreign_at name n =
           among_past (λ (e : List ℕ × Option D). e.0) (λ e. facts_at seen e.1) (slots_disks hosts.parts) (G (foreign_disks hosts.foreign) name) name
           (subst (λ (l : List (List ℕ)). NotIn l name) (sym (names_of_disks hosts.parts)) (subst (λ (l : List Hosted). NotIn (part_disks l) name) (sym hosts_are) n))
@@ -317,12 +317,12 @@ module _ {B D : Type 0} (bay_seen : B → BayView D) (seen : D → DiskView) whe
       known name (inr (inl e)) =
           subst (λ (n : List ℕ). IsOpenedDisk (was n) (F hosts n)) (sym e)
           (subst (λ (f : Facts). IsOpenedDisk (was state_a) f) (sym (foreign_at state_a no_a))
-          (subst (λ (f : Facts). IsOpenedDisk f (facts_of seen t.foreign.store.journal.live.disk))
+          (subst (λ (f : Facts). IsOpenedDisk f (facts_of seen t.foreign.store.journal.first.disk))
           (ap (facts_of seen) first_is ∙ sym (tells state_a (inr (inl refl))).3) opened.on_first))
       known name (inr (inr e)) =
           subst (λ (n : List ℕ). IsOpenedDisk (was n) (F hosts n)) (sym e)
           (subst (λ (f : Facts). IsOpenedDisk (was state_b) f) (sym (foreign_at state_b no_b))
-          (subst (λ (f : Facts). IsOpenedDisk f (facts_of seen t.foreign.store.journal.idle))
+          (subst (λ (f : Facts). IsOpenedDisk f (facts_of seen t.foreign.store.journal.second.disk))
           (ap (facts_of seen) second_is ∙ sym (tells state_b (inr (inr refl))).3) opened.on_second))
 
       pub started : (m : Machine) × IsCore seen (core_of conf [] hosts) m

@@ -3,7 +3,6 @@
 -- and a partition whose append of a batch failed so for one with that batch pending.
 use Rattle.std.specs.Prelude.{◌≡◌, ◌≤◌, ◌⊎◌, ℕ, List, false, is_some, if◌then◌else◌}
 use Rattle.std.specs.declared.option.Option.{Option}
-use Rattle.edge_io.specs.Causes.{Rose}
 use Rattle.edge_io.specs.Disk.{IsTold}
 use Rattle.share_model.specs.Held.{Held}
 use Rattle.share_model.specs.declared.fault.StoreFault.{StoreFault}
@@ -12,6 +11,7 @@ use Rattle.share_model.specs.declared.foreign.ForeignOp.{ForeignOp}
 use Rattle.share_model.specs.declared.visit.Then.{Then}
 use Rattle.share_coord.specs.Parts.{StoreParts}
 use Rattle.share_coord.specs.States.{states_of}
+use Rattle.foreign_coord.specs.Once.{HasRisen}
 use Rattle.foreign_coord.specs.Shards.{ForeignShardState, Carries as CarriesForeign, StepsForeign}
 use Rattle.lock_index.specs.Windows.{WindowParts}
 use Rattle.share_part.specs.Hosting.{PartConfParts}
@@ -41,10 +41,10 @@ pub record GoesOn {D : Type 0} (seen : D → DiskView) (old new : D) : Type 0 wh
 pub record IsCarried {D : Type 0} (seen : D → DiskView)
     (store : StoreParts D) (shard : ForeignShardState) : Type 0 where
   pub carries : CarriesForeign seen store shard
-  pub told : IsTold (seen store.journal.live.disk).content
-  pub second_told : IsTold (seen store.journal.idle).content
-  pub fed : (seen store.journal.live.disk).starved ≡ false
-  pub second_fed : (seen store.journal.idle).starved ≡ false
+  pub told : IsTold (seen store.journal.first.disk).content
+  pub second_told : IsTold (seen store.journal.second.disk).content
+  pub fed : (seen store.journal.first.disk).starved ≡ false
+  pub second_fed : (seen store.journal.second.disk).starved ≡ false
 
 -- what the first and the second disk have, by the name
 abbrev pub by_name : {A : Type 0} → A → A → List ℕ → A
@@ -59,15 +59,15 @@ facts_by seen first second name = record {
   armed = by_name (seen first).armed (seen second).armed name;
 }
 
--- From the shard that the store stood for, it stands for one now to which this call led. Its journal never ends before where it did.
+-- From the shard that the store stood for, it stands for one now to which this call led.
 pub record LeadsForeign {D : Type 0} (seen : D → DiskView) (old : StoreParts D) (shard : ForeignShardState)
     (new : StoreParts D) (op : ForeignOp) (answer : ForeignAnswer) : Type 0 where
   pub after : ForeignShardState
   pub fault : Option StoreFault
   pub carried : IsCarried seen new after
-  pub step : StepsForeign (Rose (seen old.journal.live.disk).faults (seen new.journal.live.disk).faults) old.journal.live.end shard op answer fault after
-  pub end : old.journal.live.end ≤ new.journal.live.end
-  pub used : IsUsed (facts_of seen old.journal.live.disk) (facts_of seen new.journal.live.disk)
+  pub step : StepsForeign (HasRisen seen old new) old.journal.end shard op answer fault after
+  pub used : IsUsed (facts_of seen old.journal.first.disk) (facts_of seen new.journal.first.disk)
+  pub second_used : IsUsed (facts_of seen old.journal.second.disk) (facts_of seen new.journal.second.disk)
 
 -- No memory was found: it was done in the shard, or not at all. The disks tell their contents still.
 pub record HaltsForeign {D : Type 0} (seen : D → DiskView)
@@ -75,10 +75,9 @@ pub record HaltsForeign {D : Type 0} (seen : D → DiskView)
   pub after : ForeignShardState
   pub carries : CarriesForeign seen new after
   pub does : (after ≡ shard) ⊎ ((answer : ForeignAnswer) × (fault : Option StoreFault)
-      × StepsForeign (Rose (seen old.journal.live.disk).faults (seen new.journal.live.disk).faults) old.journal.live.end shard op answer fault after)
-  pub end : old.journal.live.end ≤ new.journal.live.end
-  pub told : IsTold (seen new.journal.live.disk).content
-  pub second_told : IsTold (seen new.journal.idle).content
+      × StepsForeign (HasRisen seen old new) old.journal.end shard op answer fault after)
+  pub told : IsTold (seen new.journal.first.disk).content
+  pub second_told : IsTold (seen new.journal.second.disk).content
 
 -- ---- hosted partitions
 
@@ -95,8 +94,8 @@ pub record IsPartCarried {D : Type 0} (seen : D → DiskView)
   pub conf_is : part.conf ≡ conf
   pub carries : Carries seen holding part shard
   pub log : IsFed seen part.log.journal.disk
-  pub first : IsFed seen part.states.journal.live.disk
-  pub second : IsFed seen part.states.journal.idle
+  pub first : IsFed seen part.states.journal.first.disk
+  pub second : IsFed seen part.states.journal.second.disk
 
 -- It stands for the log and the tables that it has in memory, whether its disks tell their contents or not: nothing is pending or held, and its
 -- clock is 0.
@@ -106,26 +105,26 @@ IsFresh seen part = Carries seen holding part (shard_with part.log.batches (stat
 -- its three disks go on
 pub record PartGoesOn {D : Type 0} (seen : D → DiskView) (old new : OpenPart D) : Type 0 where
   pub log : GoesOn seen old.log.journal.disk new.log.journal.disk
-  pub first : GoesOn seen old.states.journal.live.disk new.states.journal.live.disk
-  pub second : GoesOn seen old.states.journal.idle new.states.journal.idle
+  pub first : GoesOn seen old.states.journal.first.disk new.states.journal.first.disk
+  pub second : GoesOn seen old.states.journal.second.disk new.states.journal.second.disk
 
--- an expiry uses the first disk of the states alone, a batch that of the log, and a look none
+-- an expiry uses the two disks of the states alone, a batch that of the log, and a look none
 pub record UsesStates {D : Type 0} (seen : D → DiskView) (old new : OpenPart D) : Type 0 where
-  pub used : IsUsed (facts_of seen old.states.journal.live.disk) (facts_of seen new.states.journal.live.disk)
+  pub used : IsUsed (facts_of seen old.states.journal.first.disk) (facts_of seen new.states.journal.first.disk)
+  pub second_used : IsUsed (facts_of seen old.states.journal.second.disk) (facts_of seen new.states.journal.second.disk)
   pub log : new.log ≡ old.log
-  pub second : new.states.journal.idle ≡ old.states.journal.idle
 
 pub record UsesLog {D : Type 0} (seen : D → DiskView) (old new : OpenPart D) : Type 0 where
   pub used : IsUsed (facts_of seen old.log.journal.disk) (facts_of seen new.log.journal.disk)
   pub states : new.states ≡ old.states
 
--- a visit uses the first disk of the states, and a fetch that of the log besides
+-- a visit uses the two disks of the states, and a fetch that of the log besides
 pub record UsesVisit {D : Type 0} (seen : D → DiskView) (asked : Then) (old new : OpenPart D) : Type 0 where
-  pub used : IsUsed (facts_of seen old.states.journal.live.disk) (facts_of seen new.states.journal.live.disk)
+  pub used : IsUsed (facts_of seen old.states.journal.first.disk) (facts_of seen new.states.journal.first.disk)
+  pub second_used : IsUsed (facts_of seen old.states.journal.second.disk) (facts_of seen new.states.journal.second.disk)
   pub log_used : IsUsed (facts_of seen old.log.journal.disk) (facts_of seen new.log.journal.disk)
   pub log : reads_log asked ≡ false → new.log ≡ old.log
   pub log_end : new.log.journal.end ≡ old.log.journal.end
-  pub second : new.states.journal.idle ≡ old.states.journal.idle
 
 abbrev pub Uses : {D : Type 0} → (D → DiskView) → OpenPart D → OpenPart D → PartCall → Type 0
 Uses seen old new (Visits visit answer unread) = UsesVisit seen visit.then old new
@@ -153,5 +152,5 @@ pub record HaltsPart {D : Type 0} (seen : D → DiskView) (conf : PartConfParts)
       ⊎ ((begun : Begun) × Half begun × HalvesOn seen conf old new now shard begun after))
   pub ends : EndsGoOn old new
   pub log_told : IsTold (seen new.log.journal.disk).content
-  pub first_told : IsTold (seen new.states.journal.live.disk).content
-  pub second_told : IsTold (seen new.states.journal.idle).content
+  pub first_told : IsTold (seen new.states.journal.first.disk).content
+  pub second_told : IsTold (seen new.states.journal.second.disk).content

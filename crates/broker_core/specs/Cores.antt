@@ -9,13 +9,13 @@ use Rattle.session_script.specs.declared.event.Event.TheVariants.{Open, Bytes, C
 use Rattle.session_script.specs.declared.event.Outcome.{Outcome}
 use Rattle.topic_conf.specs.Configs.{ConfigParts}
 use Rattle.conn_core.specs.Conns.{ConnParts}
-use Rattle.broker_model.specs.Hosted.{IsOneOf, hosted_of, same_name, state_a, state_b}
+use Rattle.broker_model.specs.Hosted.{IsLogName, IsOneOf, hosted_of, same_name, state_a, state_b}
 use Rattle.broker_model.specs.Shards.{Counts, Ends, Shards, ShardCall}
 use Rattle.broker_model.specs.Machine.{Machine, OpensPart, StandForStates, LandAll}
 use Rattle.broker_model.specs.Disks.{IsRestarted, with_arm}
 use Rattle.broker_model.specs.Steps.{StepsTo, StopsWithin}
 use Rattle.broker_model.specs.States.{State, IsStep}
-use Rattle.broker_core.specs.Hosts.{HostsParts, AreCarried, AreHeld, AreApart, AreNamed, DisksReach, StandStill, all_names, counts_in, disks_in, ends_in, facts_in, hosted_slots}
+use Rattle.broker_core.specs.Hosts.{HostsParts, AreCarried, AreHeld, AreApart, AreNamed, LogsLater, LogsReach, StandStill, all_names, counts_in, disks_in, ends_in, facts_in, hosted_slots}
 use Rattle.edge_io.specs.Views.{DiskView}
 
 -- moments are at most 2^62 milliseconds
@@ -55,7 +55,7 @@ pub record IsArmed {D : Type 0} (seen : D → DiskView) (disk : List ℕ) (passe
       else facts_in seen (disks_in old) name)
   pub ends : (name : List ℕ) → ends_in new name ≡ ends_in old name
 
--- The power was lost with this choice, and each shard is open again. What was left of each disk reaches to where its journal ended.
+-- The power was lost with this choice, and each shard is open again. What was left of each log's disk reaches to where its journal ended.
 pub record AreReopened {D : Type 0} (seen : D → DiskView) (choice : ℕ) (old : HostsParts D) (shards : Shards)
     (new : HostsParts D) : Type 0 where
   pub after : Shards
@@ -66,7 +66,7 @@ pub record AreReopened {D : Type 0} (seen : D → DiskView) (choice : ℕ) (old 
   pub states : StandForStates (contents state_a) (contents state_b) after.foreign.states
   pub lost : (name : List ℕ) → IsOneOf (all_names (hosted_slots old.parts)) name → (facts_in seen (disks_in new) name).losses
       ≡ (facts_in seen (disks_in old) name).losses ++ (choice, contents name) ∷ []
-  pub reach : (name : List ℕ) → IsOneOf (all_names (hosted_slots old.parts)) name → ends_in old name ≤ length (contents name)
+  pub reach : (name : List ℕ) → IsLogName name → ends_in old name ≤ length (contents name)
   pub disks : (name : List ℕ) → IsOneOf (all_names (hosted_slots old.parts)) name
       → IsRestarted (facts_in seen (disks_in old) name) (facts_in seen (disks_in new) name)
 
@@ -98,12 +98,12 @@ Reaches conf counts ends old event new =
     ⊎ StopsWithin conf counts ends old event new)
 
 -- The event was done in the shards, or not at all, or in part, and the disks stand for what that left. The journals end there now, and what a
--- crash may leave of each disk reaches to the last gate of its journal, the byte before the end.
+-- crash may leave of each log's disk reaches to the last gate of its journal, the byte before the end.
 pub record StopsIn {D : Type 0} (seen : D → DiskView) (old : CoreParts D) (before : Machine) (event : Event) (new : CoreParts D) : Type 0 where
   pub after : Machine
   pub ends : List ℕ → ℕ
   pub reaches : Reaches old.conf (counts_in seen (disks_in old.hosts) (disks_in new.hosts)) (λ name. (ends_in old.hosts name, ends name))
       before event after
-  pub ends_later : (name : List ℕ) → ends_in old.hosts name ≤ ends name
+  pub ends_later : LogsLater (ends_in old.hosts) ends
   pub still : StandStill seen after.shards (disks_in new.hosts)
-  pub reach : DisksReach seen (disks_in new.hosts) (λ name. ends name - 1)
+  pub reach : LogsReach seen (disks_in new.hosts) (λ name. ends name - 1)

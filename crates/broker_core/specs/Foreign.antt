@@ -20,10 +20,10 @@ use Rattle.edge_io.specs.Views.{DiskView}
 -- A fault of the first disk was armed, or of the second, or of none, by the name.
 abbrev pub ArmsEither : {D : Type 0} → (D → DiskView) → List ℕ → ℕ → FaultMode → StoreParts D → StoreParts D → Type 0
 ArmsEither seen disk passes mode was is =
-    ((disk ≡ state_a) × ArmsAlone seen passes mode was.journal.live.disk is.journal.live.disk
-    × (is.journal.idle ≡ was.journal.idle))
-    ⊎ (((disk ≡ state_b) × ArmsAlone seen passes mode was.journal.idle is.journal.idle
-    × (is.journal.live ≡ was.journal.live))
+    ((disk ≡ state_a) × ArmsAlone seen passes mode was.journal.first.disk is.journal.first.disk
+    × (is.journal.second ≡ was.journal.second))
+    ⊎ (((disk ≡ state_b) × ArmsAlone seen passes mode was.journal.second.disk is.journal.second.disk
+    × (is.journal.first ≡ was.journal.first))
     ⊎ ((disk ≢ state_a) × (disk ≢ state_b) × (is ≡ was)))
 
 pub record ArmsForeign {D : Type 0} (seen : D → DiskView) (disk : List ℕ) (passes : ℕ) (mode : FaultMode) (old new : ForeignSlot D) : Type 0 where
@@ -32,7 +32,7 @@ pub record ArmsForeign {D : Type 0} (seen : D → DiskView) (disk : List ℕ) (p
   pub old_is : old ≡ Open was
   pub new_is : new ≡ Open is
   pub either : ArmsEither seen disk passes mode was is
-  pub end : is.journal.live.end ≡ was.journal.live.end
+  pub end : is.journal.end ≡ was.journal.end
   pub stays : (s : ForeignShardState) → Carries seen was s → Carries seen is s
 
 -- it was opened again
@@ -41,9 +41,9 @@ pub record ReopensForeign {D : Type 0} (seen : D → DiskView) (choice : ℕ) (o
   pub is : StoreParts D
   pub old_is : old ≡ Open was
   pub new_is : new ≡ Open is
-  pub first : GoesOn seen was.journal.live.disk is.journal.live.disk
-  pub second : GoesOn seen was.journal.idle is.journal.idle
-  pub images : ImagesStandAs seen was.journal.live.disk was.journal.idle is.journal.live.disk is.journal.idle
+  pub first : GoesOn seen was.journal.first.disk is.journal.first.disk
+  pub second : GoesOn seen was.journal.second.disk is.journal.second.disk
+  pub images : ImagesStandAs seen was.journal.first.disk was.journal.second.disk is.journal.first.disk is.journal.second.disk
   pub reopens : (s : ForeignShardState) → IsCarried seen was s
       → IsRestartedShard seen choice was s is
 
@@ -55,10 +55,10 @@ pub record ShutsForeign {D : Type 0} (seen : D → DiskView)
   pub second : D
   pub old_is : old ≡ Open was
   pub new_is : new ≡ Shut first second
-  pub on_first : GoesOn seen was.journal.live.disk first
-  pub on_second : GoesOn seen was.journal.idle second
-  pub images : ImagesStandAs seen was.journal.live.disk was.journal.idle first second
+  pub on_first : GoesOn seen was.journal.first.disk first
+  pub on_second : GoesOn seen was.journal.second.disk second
+  pub images : ImagesStandAs seen was.journal.first.disk was.journal.second.disk first second
   pub shuts : (s : ForeignShardState) → IsCarried seen was s
       → IsNotRestarted seen s first second × (fault ≡ event_fault.NoMemory)
-  pub device : fault ≡ event_fault.Reopen Device → Rose (seen was.journal.live.disk).faults (seen first).faults ⊎ Rose (seen was.journal.idle).faults (seen second).faults
+  pub device : fault ≡ event_fault.Reopen Device → Rose (seen was.journal.first.disk).faults (seen first).faults ⊎ Rose (seen was.journal.second.disk).faults (seen second).faults
   pub never : (f : CoreOpen) → fault ≡ event_fault.Reopen f → (f ≢ Bay) × (f ≢ NoMemory)

@@ -34,8 +34,8 @@ use Rattle.share_part.specs.Hosting.{PartConfParts}
 use Rattle.share_part.specs.Leaving.{IsLeftOf}
 use Rattle.share_part.specs.Shards.{PartShardState, Carries}
 use Rattle.share_part.specs.Visits.{VisitsPart}
-use Rattle.broker_model.specs.Hosted.{ChangesAt, Hosted, first_of, log_of, part_disks, second_of, state_a, state_b, same_name}
-use Rattle.broker_model.specs.Shards.{Counts, Ends, HostedPart, PartCall, Shards, ShardCall, StepsShards, answered_by, calls, fault_of_expiry, fault_of_release}
+use Rattle.broker_model.specs.Hosted.{ChangesAt, Hosted, IsLogName, IsOneOf, first_of, log_of, part_disks, second_of, state_a, state_b, state_store, same_name}
+use Rattle.broker_model.specs.Shards.{Counts, Ends, HostedPart, PartCall, Shards, ShardCall, StepsShards, answered_by, calls, fault_of_expiry, fault_of_release, faults_before, faults_behind, rose_on}
 use Rattle.broker_model.specs.Shards.ShardCall.{CallPart}
 use Rattle.broker_model.specs.Shards.PartCall.{Expires}
 use Rattle.broker_model.specs.Machine.{StandWith}
@@ -162,15 +162,15 @@ pub record LeftDisks (D : Type 0) : Type 0 where
   pub foreign : Option (D × D)
 
 abbrev pub foreign_disks : {D : Type 0} → ForeignSlot D → Option (D × D)
-foreign_disks (foreign.Open store) = Some (store.journal.live.disk, store.journal.idle)
+foreign_disks (foreign.Open store) = Some (store.journal.first.disk, store.journal.second.disk)
 foreign_disks (foreign.Shut first second) = Some (first, second)
 foreign_disks foreign.Gone = None
 
 -- one of a partition's three
 abbrev pub open_disk : {D : Type 0} → OpenPart D → DiskPlace → D
 open_disk shard Log = shard.log.journal.disk
-open_disk shard StateA = shard.states.journal.live.disk
-open_disk shard StateB = shard.states.journal.idle
+open_disk shard StateA = shard.states.journal.first.disk
+open_disk shard StateB = shard.states.journal.second.disk
 
 abbrev pub shut_disk : {D : Type 0} → (log first second : D) → DiskPlace → D
 shut_disk log first second Log = log
@@ -216,15 +216,15 @@ abbrev pub facts_in : {D : Type 0} → (D → DiskView) → LeftDisks D → Disk
 facts_in seen left name =
     facts_among seen left.parts (foreign_facts seen left.foreign name) name
 
--- where the journals end, by the names of their disks; nothing is written on the second disk of states
+-- where the journals end: that of a log by the name of its disk, and the live one of states by the name of their first disk
 abbrev pub foreign_end : {D : Type 0} → ForeignSlot D → List ℕ → ℕ
-foreign_end (foreign.Open store) name = by_name store.journal.live.end 0 name
+foreign_end (foreign.Open store) name = by_name store.journal.end 0 name
 foreign_end (foreign.Shut first second) name = 0
 foreign_end foreign.Gone name = 0
 
 abbrev pub open_end : {D : Type 0} → OpenPart D → DiskPlace → ℕ
 open_end shard Log = shard.log.journal.end
-open_end shard StateA = shard.states.journal.live.end
+open_end shard StateA = shard.states.journal.end
 open_end shard StateB = 0
 
 abbrev pub part_end : {D : Type 0} → PartState D → DiskPlace → ℕ
@@ -259,9 +259,13 @@ abbrev pub ReachesTo : {D : Type 0} → (D → DiskView) → Option D → (end :
 ReachesTo seen None end = Unit {0}
 ReachesTo seen (Some disk) end = (c : List ℕ) → (seen disk).image c → end ≤ length c
 
--- what a crash may leave of each disk reaches to where the journal on it ends
-abbrev pub DisksReach : {D : Type 0} → (D → DiskView) → LeftDisks D → (ends : List ℕ → ℕ) → Type 0
-DisksReach seen left ends = (name : List ℕ) → ReachesTo seen (disk_in left name) (ends name)
+-- what a crash may leave of each log's disk reaches to where the journal on it ends
+abbrev pub LogsReach : {D : Type 0} → (D → DiskView) → LeftDisks D → (ends : List ℕ → ℕ) → Type 0
+LogsReach seen left ends = (name : List ℕ) → IsLogName name → ReachesTo seen (disk_in left name) (ends name)
+
+-- no log's journal ends before where it did; the live one of states may, behind a checkpoint
+abbrev pub LogsLater : (old new : List ℕ → ℕ) → Type 0
+LogsLater old new = (name : List ℕ) → IsLogName name → old name ≤ new name
 
 -- the counts of faults of the disk of this name, in the one and in the other
 abbrev pub counts_in : {D : Type 0} → (D → DiskView) → LeftDisks D → LeftDisks D → Counts
@@ -342,17 +346,17 @@ abbrev pub Did : Counts → Ends → (now : ℕ) → Part → PartAnswer → Sha
 Did counts ends now part answer old call new = (did : ShardCall) × (call ≡ Some did) × (answered_by did ≡ Some (record { part = part; answer = answer }))
     × StepsShards counts ends now old did new
 
--- From these shards, they stand for those now that this relation leads to, by a call or none. No journal ends before where it did.
+-- From these shards, they stand for those now that this relation leads to, by a call or none.
 pub record Leads {D : Type 0} (seen : D → DiskView) (old : HostsParts D) (shards : Shards)
     (new : HostsParts D) (Does : Shards → Option ShardCall → Shards → Type 0) : Type 0 where
   pub after : Shards
   pub call : Option ShardCall
   pub carried : AreCarried seen new after
   pub does : Does shards call after
-  pub disks : (name : List ℕ) → OnCalled (calls call name) (facts_in seen (disks_in old) name)
-      (facts_in seen (disks_in new) name)
+  pub disks : (name : List ℕ) → IsOneOf (all_names (hosted_slots old.parts)) name → OnCalled (calls call name)
+      (facts_in seen (disks_in old) name) (facts_in seen (disks_in new) name)
   pub ends : (name : List ℕ) → calls call name ≡ false → ends_in new name ≡ ends_in old name
-  pub ends_later : (name : List ℕ) → ends_in old name ≤ ends_in new name
+  pub ends_later : LogsLater (ends_in old) (ends_in new)
 
 -- The same from each state of the shards that they stood for, by the counts of faults of their disks and the ends of their journals.
 abbrev pub LeadsBy : {D : Type 0} → (D → DiskView) → (old new : HostsParts D) → (Counts → Ends → Shards → Option ShardCall → Shards → Type 0) → Type 0
@@ -370,7 +374,7 @@ abbrev pub IsHalfDone : Counts → Ends → (now : ℕ) → Part → Shards → 
 IsHalfDone counts ends now (Foreign op) old new = ⊥
 IsHalfDone counts ends now (Produce shard batch) old new = ⊥
 IsHalfDone counts ends now (PartVisit shard visit) old new = IsLeftIn shard
-    (λ h a b. VisitsPart h.conf (Rose (counts (first_of h)).0 (counts (first_of h)).1) (ends (first_of h)).0 a now visit b) old new
+    (λ h a b. VisitsPart h.conf (rose_on counts (state_store h)) (ends (first_of h)).0 a now visit b) old new
 IsHalfDone counts ends now (Look shard group) old new = ⊥
 IsHalfDone counts ends now (Heartbeat request) old new = ⊥
 
@@ -386,16 +390,17 @@ HalvesServe conf counts ends now (Some conn) old new = HalvesNext counts ends no
 -- an expiry at this moment was left behind some of the groups
 abbrev pub HalvesExpiry : Counts → Ends → (now shard : ℕ) → Shards → Shards → Type 0
 HalvesExpiry counts ends now shard old new =
-    IsLeftIn shard (λ h a b. ExpiresPart h.conf (counts (first_of h)).0 (counts (first_of h)).1 (ends (first_of h)).0 (ends (first_of h)).1 a now b) old new
+    IsLeftIn shard (λ h a b. ExpiresPart h.conf (faults_before counts (state_store h)) (faults_behind counts (state_store h))
+    (ends (first_of h)).0 (ends (first_of h)).1 a now b) old new
 
 -- No memory was found: nothing was done in the shards, or it was done whole, or left in its midst. The disks stand for what that left, and
--- reach to where the journals end, which is never before where they did.
+-- those of logs reach to where the journals end.
 pub record Halts {D : Type 0} (seen : D → DiskView) (old : HostsParts D) (shards : Shards) (new : HostsParts D)
     (Does : Shards → Option ShardCall → Shards → Type 0) (Within : Shards → Shards → Type 0) : Type 0 where
   pub after : Shards
   pub still : StandStill seen after (disks_in new)
-  pub ends_later : (name : List ℕ) → ends_in old name ≤ ends_in new name
-  pub reach : DisksReach seen (disks_in new) (ends_in new)
+  pub ends_later : LogsLater (ends_in old) (ends_in new)
+  pub reach : LogsReach seen (disks_in new) (ends_in new)
   pub does : (after ≡ shards) ⊎ (((call : Option ShardCall) × Does shards call after) ⊎ Within shards after)
 
 -- the same from each state of the shards that they stood for
@@ -511,11 +516,11 @@ abbrev pub ArmsPlace : {D : Type 0} → (D → DiskView) → (passes : ℕ) → 
 ArmsPlace seen passes mode was is Log =
     ArmsAlone seen passes mode was.log.journal.disk is.log.journal.disk × (is.states ≡ was.states)
 ArmsPlace seen passes mode was is StateA =
-    ArmsAlone seen passes mode was.states.journal.live.disk is.states.journal.live.disk
-    × (is.states.journal.idle ≡ was.states.journal.idle) × (is.log ≡ was.log)
+    ArmsAlone seen passes mode was.states.journal.first.disk is.states.journal.first.disk
+    × (is.states.journal.second ≡ was.states.journal.second) × (is.log ≡ was.log)
 ArmsPlace seen passes mode was is StateB =
-    ArmsAlone seen passes mode was.states.journal.idle is.states.journal.idle
-    × (is.states.journal.live ≡ was.states.journal.live) × (is.log ≡ was.log)
+    ArmsAlone seen passes mode was.states.journal.second.disk is.states.journal.second.disk
+    × (is.states.journal.first ≡ was.states.journal.first) × (is.log ≡ was.log)
 
 -- a fault of a disk of a slot was armed, and nothing else has changed
 pub record ArmsSlot {D : Type 0} (seen : D → DiskView) (place : DiskPlace) (passes : ℕ) (mode : FaultMode) (old new : PartSlot D) : Type 0 where
@@ -526,6 +531,6 @@ pub record ArmsSlot {D : Type 0} (seen : D → DiskView) (place : DiskPlace) (pa
   pub topic : new.topic ≡ old.topic
   pub conf : new.conf ≡ old.conf
   pub arms_disk : ArmsPlace seen passes mode was is place
-  pub ends : (is.log.journal.end ≡ was.log.journal.end) × (is.states.journal.live.end ≡ was.states.journal.live.end)
+  pub ends : (is.log.journal.end ≡ was.log.journal.end) × (is.states.journal.end ≡ was.states.journal.end)
   pub part_conf : is.conf ≡ was.conf
   pub stays : (s : PartShardState) → Carries seen holding was s → Carries seen holding is s

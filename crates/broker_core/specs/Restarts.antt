@@ -7,7 +7,7 @@ use Rattle.edge_io.specs.declared.fault.Armed.TheVariants.{Nothing}
 use Rattle.edge_io.specs.declared.name.DiskPlace.{DiskPlace}
 use Rattle.edge_io.specs.Armed.{RunsOn, Spends}
 use Rattle.edge_io.specs.Causes.{Rose}
-use Rattle.edge_io.specs.Disk.{IsTold, Within}
+use Rattle.edge_io.specs.Disk.{IsTold}
 use Rattle.edge_io.specs.Names.{hosted_name}
 use Rattle.gate_journal.specs.Frames.{StandsAs}
 use Rattle.share_model.specs.ForeignRules.{ShareStates}
@@ -49,13 +49,13 @@ pub record IsOpened {D : Type 0} (seen : D → DiskView)
   pub stands : StandForStates a b shard.states
   pub only : (states : ShareStates) → StandForStates a b states → shard.states ≡ states
   pub nothing : shard.pending ≡ None
-  pub on_first : IsOpenedDisk (facts_of seen first) (facts_of seen store.journal.live.disk)
-  pub on_second : IsOpenedDisk (facts_of seen second) (facts_of seen store.journal.idle)
+  pub on_first : IsOpenedDisk (facts_of seen first) (facts_of seen store.journal.first.disk)
+  pub on_second : IsOpenedDisk (facts_of seen second) (facts_of seen store.journal.second.disk)
 
--- each image of the first disk is one that it had or stands for the frames of one, and each image of the second is one that it had
+-- each image of the two disks is one that its disk had, or stands for the frames of one
 pub record ImagesStandAs {D : Type 0} (seen : D → DiskView) (first second new_first new_second : D) : Type 0 where
   pub on_first : (a : List ℕ) → (seen new_first).image a → StandsAs (seen first).image a
-  pub on_second : Within (seen second).image (seen new_second).image
+  pub on_second : (b : List ℕ) → (seen new_second).image b → StandsAs (seen second).image b
 
 -- an image of the one disk beside one of the other stands for this shard, with or without its pending write
 abbrev pub ImagesStand : {D : Type 0} → (D → DiskView) → ForeignShardState → D → D → Type 0
@@ -97,11 +97,11 @@ pub record IsRestartedShard {D : Type 0} (seen : D → DiskView)
   pub carried : IsCarried seen new after
   pub lands : Lands shard after
   pub stands : StandForStates a b after.states
-  pub were : (seen old.journal.live.disk).image a × (seen old.journal.idle).image b
-  pub lost : (seen new.journal.live.disk).losses ≡ (seen old.journal.live.disk).losses ++ (choice, a) ∷ []
-  pub second_lost : (seen new.journal.idle).losses ≡ (seen old.journal.idle).losses ++ (choice, b) ∷ []
-  pub on_first : IsRestarted (facts_of seen old.journal.live.disk) (facts_of seen new.journal.live.disk)
-  pub on_second : IsRestarted (facts_of seen old.journal.idle) (facts_of seen new.journal.idle)
+  pub were : (seen old.journal.first.disk).image a × (seen old.journal.second.disk).image b
+  pub lost : (seen new.journal.first.disk).losses ≡ (seen old.journal.first.disk).losses ++ (choice, a) ∷ []
+  pub second_lost : (seen new.journal.second.disk).losses ≡ (seen old.journal.second.disk).losses ++ (choice, b) ∷ []
+  pub on_first : IsRestarted (facts_of seen old.journal.first.disk) (facts_of seen new.journal.first.disk)
+  pub on_second : IsRestarted (facts_of seen old.journal.second.disk) (facts_of seen new.journal.second.disk)
 
 -- It was not opened again: the pending write landed, or didn't, or the power was not lost. The disks tell their contents.
 pub record IsNotRestarted {D : Type 0} (seen : D → DiskView) (shard : ForeignShardState)
@@ -124,15 +124,14 @@ pub record IsOpenedPart {D : Type 0} (seen : D → DiskView) (conf : PartConfPar
   pub stands : ArePartText conf l a b batches states
   pub only : (other : List Batch) (others : ShareStates) → ArePartText conf l a b other others → (batches ≡ other) × (states ≡ others)
   pub on_log : IsOpenedDisk (facts_of seen log) (facts_of seen part.log.journal.disk)
-  pub on_first : IsOpenedDisk (facts_of seen first) (facts_of seen part.states.journal.live.disk)
-  pub on_second : IsOpenedDisk (facts_of seen second) (facts_of seen part.states.journal.idle)
+  pub on_first : IsOpenedDisk (facts_of seen first) (facts_of seen part.states.journal.first.disk)
+  pub on_second : IsOpenedDisk (facts_of seen second) (facts_of seen part.states.journal.second.disk)
 
--- each image of the log's disk and of the first of the states is one that it had or stands for the frames of one, and each of the second
--- is one that it had
+-- each image of the three disks is one that its disk had, or stands for the frames of one
 pub record PartImagesStandAs {D : Type 0} (seen : D → DiskView) (log first second new_log new_first new_second : D) : Type 0 where
   pub on_log : (l : List ℕ) → (seen new_log).image l → StandsAs (seen log).image l
   pub on_first : (a : List ℕ) → (seen new_first).image a → StandsAs (seen first).image a
-  pub on_second : Within (seen second).image (seen new_second).image
+  pub on_second : (b : List ℕ) → (seen new_second).image b → StandsAs (seen second).image b
 
 -- no power of its three disks was lost, and no fault was armed on them
 pub record PartRunsOn {D : Type 0} (seen : D → DiskView) (log first second new_log new_first new_second : D) : Type 0 where
@@ -163,14 +162,14 @@ pub record IsRestartedPart {D : Type 0} (seen : D → DiskView)
   pub log_is : IsDoneOr shard.log.batches (and_pending shard.log.batches shard.log.pending) batches
   pub states_are : IsDoneOr shard.states shard.pending states
   pub stands : ArePartText conf l a b batches states
-  pub were : (seen old.log.journal.disk).image l × (seen old.states.journal.live.disk).image a × (seen old.states.journal.idle).image b
+  pub were : (seen old.log.journal.disk).image l × (seen old.states.journal.first.disk).image a × (seen old.states.journal.second.disk).image b
   pub log_lost : (seen new.log.journal.disk).losses ≡ (seen old.log.journal.disk).losses ++ (choice, l) ∷ []
-  pub first_lost : (seen new.states.journal.live.disk).losses ≡ (seen old.states.journal.live.disk).losses ++ (choice, a) ∷ []
-  pub second_lost : (seen new.states.journal.idle).losses ≡ (seen old.states.journal.idle).losses ++ (choice, b) ∷ []
+  pub first_lost : (seen new.states.journal.first.disk).losses ≡ (seen old.states.journal.first.disk).losses ++ (choice, a) ∷ []
+  pub second_lost : (seen new.states.journal.second.disk).losses ≡ (seen old.states.journal.second.disk).losses ++ (choice, b) ∷ []
   pub on_log : IsRestarted (facts_of seen old.log.journal.disk) (facts_of seen new.log.journal.disk)
-  pub on_first : IsRestarted (facts_of seen old.states.journal.live.disk)
-      (facts_of seen new.states.journal.live.disk)
-  pub on_second : IsRestarted (facts_of seen old.states.journal.idle) (facts_of seen new.states.journal.idle)
+  pub on_first : IsRestarted (facts_of seen old.states.journal.first.disk)
+      (facts_of seen new.states.journal.first.disk)
+  pub on_second : IsRestarted (facts_of seen old.states.journal.second.disk) (facts_of seen new.states.journal.second.disk)
 
 -- the shard in a slot was opened again
 pub record ReopensSlot {D : Type 0} (seen : D → DiskView) (choice : ℕ) (old new : PartSlot D) : Type 0 where
@@ -181,8 +180,8 @@ pub record ReopensSlot {D : Type 0} (seen : D → DiskView) (choice : ℕ) (old 
   pub topic : new.topic ≡ old.topic
   pub conf : new.conf ≡ old.conf
   pub goes : PartGoesOn seen was is
-  pub images : PartImagesStandAs seen was.log.journal.disk was.states.journal.live.disk was.states.journal.idle
-      is.log.journal.disk is.states.journal.live.disk is.states.journal.idle
+  pub images : PartImagesStandAs seen was.log.journal.disk was.states.journal.first.disk was.states.journal.second.disk
+      is.log.journal.disk is.states.journal.first.disk is.states.journal.second.disk
   pub reopens : (s : PartShardState) → IsPartCarried seen old.conf was s
       → IsRestartedPart seen choice old.conf was s is
 
@@ -198,13 +197,13 @@ pub record ShutsSlot {D : Type 0} (seen : D → DiskView)
   pub topic : new.topic ≡ old.topic
   pub conf : new.conf ≡ old.conf
   pub on_log : GoesOn seen was.log.journal.disk log
-  pub on_first : GoesOn seen was.states.journal.live.disk first
-  pub on_second : GoesOn seen was.states.journal.idle second
-  pub images : PartImagesStandAs seen was.log.journal.disk was.states.journal.live.disk was.states.journal.idle log first second
+  pub on_first : GoesOn seen was.states.journal.first.disk first
+  pub on_second : GoesOn seen was.states.journal.second.disk second
+  pub images : PartImagesStandAs seen was.log.journal.disk was.states.journal.first.disk was.states.journal.second.disk log first second
   pub shuts : (s : PartShardState) → IsPartCarried seen old.conf was s
       → PartStandsAlone seen old.conf s log first second × (fault ≡ event_fault.NoMemory)
   pub device : fault ≡ event_fault.Reopen Device → Rose (seen was.log.journal.disk).faults (seen log).faults
-      ⊎ (Rose (seen was.states.journal.live.disk).faults (seen first).faults ⊎ Rose (seen was.states.journal.idle).faults (seen second).faults)
+      ⊎ (Rose (seen was.states.journal.first.disk).faults (seen first).faults ⊎ Rose (seen was.states.journal.second.disk).faults (seen second).faults)
   pub never : (f : CoreOpen) → fault ≡ event_fault.Reopen f → (f ≢ Bay) × (f ≢ NoMemory)
 
 -- shards up to one were opened again, that one was not, and those behind it are as they were

@@ -84,16 +84,16 @@ pub record TakesPart {B D : Type 0} (bay_seen : B → BayView D) (seen : D → D
   pub parts : OpenPart D
   pub is_open : slot.state ≡ part.Open parts
   pub on_log : IsTakenFrom bay_seen seen (log_of h) old new parts.log.journal.disk
-  pub on_first : IsTakenFrom bay_seen seen (first_of h) old new parts.states.journal.live.disk
-  pub on_second : IsTakenFrom bay_seen seen (second_of h) old new parts.states.journal.idle
+  pub on_first : IsTakenFrom bay_seen seen (first_of h) old new parts.states.journal.first.disk
+  pub on_second : IsTakenFrom bay_seen seen (second_of h) old new parts.states.journal.second.disk
   pub opens : (l x y : List ℕ) → (seen on_log.given).content ≡ Some l → (seen on_first.given).content ≡ Some x → (seen on_second.given).content ≡ Some y
       → IsOpenedPart seen h.conf on_log.given on_first.given on_second.given l x y parts
   pub fresh : IsFresh seen parts
-  pub images : PartImagesStandAs seen on_log.given on_first.given on_second.given parts.log.journal.disk parts.states.journal.live.disk
-      parts.states.journal.idle
-  pub runs : PartRunsOn seen on_log.given on_first.given on_second.given parts.log.journal.disk parts.states.journal.live.disk
-      parts.states.journal.idle
-  pub fed : AreFed seen parts.log.journal.disk parts.states.journal.live.disk parts.states.journal.idle
+  pub images : PartImagesStandAs seen on_log.given on_first.given on_second.given parts.log.journal.disk parts.states.journal.first.disk
+      parts.states.journal.second.disk
+  pub runs : PartRunsOn seen on_log.given on_first.given on_second.given parts.log.journal.disk parts.states.journal.first.disk
+      parts.states.journal.second.disk
+  pub fed : AreFed seen parts.log.journal.disk parts.states.journal.first.disk parts.states.journal.second.disk
   pub are_out : (m : List ℕ) → IsOneOf (disks_of h) m → (bay_seen new).out m ≡ true
   pub others : (m : List ℕ) → NotIn (disks_of h) m → SameSlot bay_seen m old new
   pub moves : Moves bay_seen old new
@@ -149,8 +149,8 @@ pub record TakesForeign {B D : Type 0} (bay_seen : B → BayView D) (seen : D �
   pub second_told : IsAsTold ((bay_seen old).disk state_b) second
   pub first_noted : (bay_seen new).taken state_a ≡ (seen first).faults
   pub second_noted : (bay_seen new).taken state_b ≡ (seen second).faults
-  pub first_counted : (seen first).faults ≤ (seen store.journal.live.disk).faults
-  pub second_counted : (seen second).faults ≤ (seen store.journal.idle).faults
+  pub first_counted : (seen first).faults ≤ (seen store.journal.first.disk).faults
+  pub second_counted : (seen second).faults ≤ (seen store.journal.second.disk).faults
   pub opens : (a b : List ℕ) → (seen first).content ≡ Some a → (seen second).content ≡ Some b
       → IsOpened seen first second a b store
   pub first_out : (bay_seen new).out state_a ≡ true

@@ -192,19 +192,19 @@ pub fn open_part<D: Disk>(
         Rose (D.seen disks.0).faults (D.seen e.0.0).faults ⊎ (Rose (D.seen disks.1).faults (D.seen e.0.1).faults ⊎ Rose (D.seen disks.2).faults (D.seen e.0.2).faults)) }
     ensures no_bay { IfErr result (λ e. e.1 ≢ CoreOpen.Bay) }
     ensures images { MatchResult result
-        (λ part. PartImagesStandAs D.seen disks.0 disks.1 disks.2 part.log.journal.disk part.states.journal.live.disk part.states.journal.idle)
+        (λ part. PartImagesStandAs D.seen disks.0 disks.1 disks.2 part.log.journal.disk part.states.journal.first.disk part.states.journal.second.disk)
         (λ e. PartImagesStandAs D.seen disks.0 disks.1 disks.2 e.0.0 e.0.1 e.0.2) }
     ensures runs { MatchResult result
-        (λ part. PartRunsOn D.seen disks.0 disks.1 disks.2 part.log.journal.disk part.states.journal.live.disk part.states.journal.idle)
+        (λ part. PartRunsOn D.seen disks.0 disks.1 disks.2 part.log.journal.disk part.states.journal.first.disk part.states.journal.second.disk)
         (λ e. PartRunsOn D.seen disks.0 disks.1 disks.2 e.0.0 e.0.1 e.0.2) }
     ensures fed { MatchResult result
-        (λ part. AreFed D.seen part.log.journal.disk part.states.journal.live.disk part.states.journal.idle)
+        (λ part. AreFed D.seen part.log.journal.disk part.states.journal.first.disk part.states.journal.second.disk)
         (λ e. IsOfDevice e.1 → AreFed D.seen e.0.0 e.0.1 e.0.2) }
     ensures log { MatchResult result (λ part. GoesOn D.seen disks.0 part.log.journal.disk)
         (λ e. GoesOn D.seen disks.0 e.0.0) }
-    ensures first { MatchResult result (λ part. GoesOn D.seen disks.1 part.states.journal.live.disk)
+    ensures first { MatchResult result (λ part. GoesOn D.seen disks.1 part.states.journal.first.disk)
         (λ e. GoesOn D.seen disks.1 e.0.1) }
-    ensures second { MatchResult result (λ part. GoesOn D.seen disks.2 part.states.journal.idle)
+    ensures second { MatchResult result (λ part. GoesOn D.seen disks.2 part.states.journal.second.disk)
         (λ e. GoesOn D.seen disks.2 e.0.2) }
 {
     match PartShard::open(alloc, disks, conf) {
@@ -238,18 +238,18 @@ pub fn restart_part<D: Disk>(
     ensures err { IfErr result (λ e. (s : PartShardState) → IsPartCarried D.seen conf part s →
         PartStandsAlone D.seen conf s e.0.0 e.0.1 e.0.2 × (e.1 ≡ CoreOpen.NoMemory)) }
     ensures images { MatchResult result
-        (λ new. PartImagesStandAs D.seen part.log.journal.disk part.states.journal.live.disk part.states.journal.idle
-        new.log.journal.disk new.states.journal.live.disk new.states.journal.idle)
-        (λ e. PartImagesStandAs D.seen part.log.journal.disk part.states.journal.live.disk part.states.journal.idle e.0.0 e.0.1 e.0.2) }
+        (λ new. PartImagesStandAs D.seen part.log.journal.disk part.states.journal.first.disk part.states.journal.second.disk
+        new.log.journal.disk new.states.journal.first.disk new.states.journal.second.disk)
+        (λ e. PartImagesStandAs D.seen part.log.journal.disk part.states.journal.first.disk part.states.journal.second.disk e.0.0 e.0.1 e.0.2) }
     ensures device { IfErr result (λ e. e.1 ≡ CoreOpen.Device → Rose (D.seen part.log.journal.disk).faults (D.seen e.0.0).faults
-        ⊎ (Rose (D.seen part.states.journal.live.disk).faults (D.seen e.0.1).faults ⊎ Rose (D.seen part.states.journal.idle).faults (D.seen e.0.2).faults)) }
+        ⊎ (Rose (D.seen part.states.journal.first.disk).faults (D.seen e.0.1).faults ⊎ Rose (D.seen part.states.journal.second.disk).faults (D.seen e.0.2).faults)) }
     ensures no_bay { IfErr result (λ e. e.1 ≢ CoreOpen.Bay) }
     ensures log { MatchResult result (λ new. GoesOn D.seen part.log.journal.disk new.log.journal.disk)
         (λ e. GoesOn D.seen part.log.journal.disk e.0.0) }
-    ensures first { MatchResult result (λ new. GoesOn D.seen part.states.journal.live.disk new.states.journal.live.disk)
-        (λ e. GoesOn D.seen part.states.journal.live.disk e.0.1) }
-    ensures second { MatchResult result (λ new. GoesOn D.seen part.states.journal.idle new.states.journal.idle)
-        (λ e. GoesOn D.seen part.states.journal.idle e.0.2) }
+    ensures first { MatchResult result (λ new. GoesOn D.seen part.states.journal.first.disk new.states.journal.first.disk)
+        (λ e. GoesOn D.seen part.states.journal.first.disk e.0.1) }
+    ensures second { MatchResult result (λ new. GoesOn D.seen part.states.journal.second.disk new.states.journal.second.disk)
+        (λ e. GoesOn D.seen part.states.journal.second.disk e.0.2) }
 {
     let (mut log, mut first, mut second) = part.into_disks();
     if let Err(fault) = lose(choice, &mut log) {

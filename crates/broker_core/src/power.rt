@@ -3,7 +3,7 @@ ghost use Rattle.std.specs.Prelude.{◌≡◌, ◌≢◌, ◌-◌, IfErr, OnOk, 
 ghost use Rattle.std.specs.List.{AllZip};
 ghost use Rattle.edge_io.specs.Names.{IsTopicName};
 ghost use Rattle.broker_model.specs.Shards.{Shards};
-ghost use Rattle.broker_core.specs.Hosts.{AreApart, AreCarried, AreHeld, AreNamed, AreOpen, AreOpenParts, DisksReach, GoOn, IsOpen, IsOpenState, OneRose, StandStill, StaysHosted, disks_in, ends_in, hosted_slots, parts_of};
+ghost use Rattle.broker_core.specs.Hosts.{AreApart, AreCarried, AreHeld, AreNamed, AreOpen, AreOpenParts, GoOn, IsOpen, IsOpenState, LogsReach, OneRose, StandStill, StaysHosted, disks_in, ends_in, hosted_slots, parts_of};
 ghost use Rattle.broker_core.specs.Restarts.{ReopensSlot, ShutsSlot, StopsAt};
 ghost use Rattle.broker_core.specs.Cores.{AreReopened};
 ghost use Rattle.broker_core.specs.Foreign.{ReopensForeign, ShutsForeign};
@@ -105,7 +105,7 @@ pub fn lose_power<D: Disk + Drop>(
         AreReopened D.seen choice (parts_of hosts.old) s (parts_of hosts.new)) }
     ensures stopped { IfErr result (λ e. (s : Shards) → AreCarried D.seen (parts_of hosts.old) s →
         StandStill D.seen s (disks_in (parts_of hosts.new))
-        × DisksReach D.seen (disks_in (parts_of hosts.new)) (λ name. ends_in (parts_of hosts.old) name - 1) × (e ≡ CoreFault.NoMemory)) }
+        × LogsReach D.seen (disks_in (parts_of hosts.new)) (λ name. ends_in (parts_of hosts.old) name - 1) × (e ≡ CoreFault.NoMemory)) }
     ensures device { result ≡ Err (CoreFault.Reopen CoreOpen.Device) →
         OneRose D.seen (disks_in (parts_of hosts.old)) (disks_in (parts_of hosts.new)) }
     ensures never { (f : CoreOpen) → result ≡ Err (CoreFault.Reopen f) → (f ≢ CoreOpen.Bay) × (f ≢ CoreOpen.NoMemory) }

@@ -26,8 +26,8 @@ pub fn act<D: Disk>(op: &ForeignOp, shard: &mut ForeignShard<D>) -> Result<Forei
     ensures stopped { OnErr result ((s : ForeignShardState) → IsCarried D.seen shard.old s →
         HaltsForeign D.seen shard.old s shard.new op.now) }
     ensures tellable { IfOk result (λ answer. All IsTellable answer.runs) }
-    ensures first { GoesOn D.seen shard.old.journal.live.disk shard.new.journal.live.disk }
-    ensures second { shard.new.journal.idle ≡ shard.old.journal.idle }
+    ensures first { GoesOn D.seen shard.old.journal.first.disk shard.new.journal.first.disk }
+    ensures second { GoesOn D.seen shard.old.journal.second.disk shard.new.journal.second.disk }
 {
     let answer = shard.act(op)?;
     if shard.starved() {
@@ -74,14 +74,14 @@ pub fn open<D: Disk>(
         (a b : List ℕ) → (D.seen first).content ≡ Some a → (D.seen second).content ≡ Some b → IsDamagedState a b name place) }
     ensures device { IfErr result (λ e. e.2 ≡ CoreOpen.Device → Rose (D.seen first).faults (D.seen e.0).faults ⊎ Rose (D.seen second).faults (D.seen e.1).faults) }
     ensures no_bay { IfErr result (λ e. e.2 ≢ CoreOpen.Bay) }
-    ensures images { MatchResult result (λ new. ImagesStandAs D.seen first second new.journal.live.disk new.journal.idle)
+    ensures images { MatchResult result (λ new. ImagesStandAs D.seen first second new.journal.first.disk new.journal.second.disk)
         (λ e. ImagesStandAs D.seen first second e.0 e.1) }
     ensures runs { MatchResult result
-        (λ new. RunsOn D.seen first new.journal.live.disk × RunsOn D.seen second new.journal.idle)
+        (λ new. RunsOn D.seen first new.journal.first.disk × RunsOn D.seen second new.journal.second.disk)
         (λ e. RunsOn D.seen first e.0 × RunsOn D.seen second e.1) }
     ensures fed { IfErr result (λ e. IsOfDevice e.2 → ((D.seen e.0).starved ≡ false) × ((D.seen e.1).starved ≡ false)) }
-    ensures first { MatchResult result (λ new. GoesOn D.seen first new.journal.live.disk) (λ e. GoesOn D.seen first e.0) }
-    ensures second { MatchResult result (λ new. GoesOn D.seen second new.journal.idle) (λ e. GoesOn D.seen second e.1) }
+    ensures first { MatchResult result (λ new. GoesOn D.seen first new.journal.first.disk) (λ e. GoesOn D.seen first e.0) }
+    ensures second { MatchResult result (λ new. GoesOn D.seen second new.journal.second.disk) (λ e. GoesOn D.seen second e.1) }
 {
     match ForeignShard::open(alloc, first, second) {
         Ok(shard) => {
@@ -111,15 +111,15 @@ pub fn restart<D: Disk>(
     ensures err { IfErr result (λ e. (s : ForeignShardState) → IsCarried D.seen shard s →
         IsNotRestarted D.seen s e.0 e.1 × (e.2 ≡ CoreOpen.NoMemory)) }
     ensures images { MatchResult result
-        (λ new. ImagesStandAs D.seen shard.journal.live.disk shard.journal.idle new.journal.live.disk new.journal.idle)
-        (λ e. ImagesStandAs D.seen shard.journal.live.disk shard.journal.idle e.0 e.1) }
+        (λ new. ImagesStandAs D.seen shard.journal.first.disk shard.journal.second.disk new.journal.first.disk new.journal.second.disk)
+        (λ e. ImagesStandAs D.seen shard.journal.first.disk shard.journal.second.disk e.0 e.1) }
     ensures device { IfErr result (λ e. e.2 ≡ CoreOpen.Device →
-        Rose (D.seen shard.journal.live.disk).faults (D.seen e.0).faults ⊎ Rose (D.seen shard.journal.idle).faults (D.seen e.1).faults) }
+        Rose (D.seen shard.journal.first.disk).faults (D.seen e.0).faults ⊎ Rose (D.seen shard.journal.second.disk).faults (D.seen e.1).faults) }
     ensures no_bay { IfErr result (λ e. e.2 ≢ CoreOpen.Bay) }
-    ensures first { MatchResult result (λ new. GoesOn D.seen shard.journal.live.disk new.journal.live.disk)
-        (λ e. GoesOn D.seen shard.journal.live.disk e.0) }
-    ensures second { MatchResult result (λ new. GoesOn D.seen shard.journal.idle new.journal.idle)
-        (λ e. GoesOn D.seen shard.journal.idle e.1) }
+    ensures first { MatchResult result (λ new. GoesOn D.seen shard.journal.first.disk new.journal.first.disk)
+        (λ e. GoesOn D.seen shard.journal.first.disk e.0) }
+    ensures second { MatchResult result (λ new. GoesOn D.seen shard.journal.second.disk new.journal.second.disk)
+        (λ e. GoesOn D.seen shard.journal.second.disk e.1) }
 {
     let (mut first, mut second) = shard.into_disks();
     if let Err(_) = first.power_loss(choice) {

@@ -30,14 +30,16 @@ returns-in_err-answer-in-Open-clause-stopped g c = on_err c.from_residual.result
     (record { parts = c.args.hosts.now.parts.items; members = c.args.hosts.now.members; foreign = Open c.act.new.shard }) s _ _ _ _
     (λ a call b d. (d.0, (d.1.0, d.1.1, d.1.2 ∙ ap (λ part. Some (record { part = part; answer = d.0 })) (sym c.in-Foreign.is), d.1.3)))
     (λ a b w. w)
-    (foreign_halts g.D.Disk.seen (parts_of c.args.hosts.now) c.in-Open.shard c.act.new.shard c.in-Open.is c.act.ensures.second c.requires.apart
+    (foreign_halts g.D.Disk.seen (parts_of c.args.hosts.now) c.in-Open.shard c.act.new.shard c.in-Open.is c.requires.apart
+    c.act.ensures.first c.act.ensures.second
     c.args.now c.in-Foreign.op _ c.in_err-answer-in-Open.ensures.stopped s k))
 
 pub returns-in_ok-answer-in-Open-clause-ok : goal.returns-in_ok-answer-in-Open-clause-ok
 returns-in_ok-answer-in-Open-clause-ok g c = λ s k. leads_to g.D.Disk.seen
     (parts_of c.args.hosts.now) (record { parts = c.args.hosts.now.parts.items; members = c.args.hosts.now.members; foreign = Open c.act.new.shard }) s _ _
     (λ a call b d. (d.0, d.1, d.2 ∙ ap (λ part. Some (record { part = part; answer = AnswerForeign c.in_ok-answer-in-Open.answer })) (sym c.in-Foreign.is), d.3))
-    (foreign_leads g.D.Disk.seen (parts_of c.args.hosts.now) c.in-Open.shard c.act.new.shard c.in-Open.is c.act.ensures.second c.requires.apart
+    (foreign_leads g.D.Disk.seen (parts_of c.args.hosts.now) c.in-Open.shard c.act.new.shard c.in-Open.is c.requires.apart
+    c.act.ensures.first c.act.ensures.second
     c.args.now c.in-Foreign.op c.in_ok-answer-in-Open.answer c.in_ok-answer-in-Open.ensures.ok s k)
 
 pub returns-in_ok-produced-in-Produce-clause-disks : goal.returns-in_ok-produced-in-Produce-clause-disks

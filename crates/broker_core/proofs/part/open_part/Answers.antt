@@ -1,4 +1,6 @@
-use Rattle.std.proofs.Common.{◌≡◌, false}
+use Rattle.std.proofs.Common.{◌≡◌, false, subst, sym, List, ℕ}
+use Rattle.gate_journal.specs.Frames.{StandsAs}
+use Rattle.broker_core.proofs.Images.{reopened_images}
 use Rattle.broker_core.proofs.Reopens.{fed_three, opened_part}
 use Rattle.broker_core.proofs.part.open_part.Goals as goal
 
@@ -8,7 +10,7 @@ returns-else-starved-clause-opens g c = λ l a b is is_first is_second.
     let fed = fed_three c.starved.result _ _ _ not c.starved.ensures in
     opened_part g.D.Disk.seen
     c.args.conf c.args.disks.0 c.args.disks.1 c.args.disks.2 l a b c.in-Ok.part is is_first is_second c.in-Ok.ensures.opened
-    c.in-Ok.ensures.runs c.in-Ok.ensures.both.runs c.in-Ok.ensures.both.second_runs fed.0 fed.1 fed.2)
+    c.in-Ok.ensures.runs c.in-Ok.ensures.both.one.runs c.in-Ok.ensures.both.two.runs fed.0 fed.1 fed.2)
 
 pub returns-else-starved-clause-fresh : goal.returns-else-starved-clause-fresh
 returns-else-starved-clause-fresh g c = c.in-Ok.ensures.opened.carries
@@ -25,3 +27,22 @@ pub returns-else-one_starved-clause-damaged : goal.returns-else-one_starved-clau
 returns-else-one_starved-clause-damaged g c = λ name place damaged l a b is is_first is_second.
     (let why = c.fault_of_open-fault.ensures.damaged name place damaged in
     (why.0, why.2, c.in-Err.ensures.refused.damaged why.0 place why.1 l a b is is_first is_second))
+
+pub returns-then-starved-clause-images : goal.returns-then-starved-clause-images
+returns-then-starved-clause-images g c =
+    let is = c.into_disks.ensures in
+    record {
+      on_log = subst (λ (d : g.row.D.Denot). (x : List ℕ) → (g.D.Disk.seen d).image x → StandsAs (g.D.Disk.seen c.args.disks.0).image x) (sym is.0)
+          (reopened_images g.D.Disk.seen g.met.D.Disk.counts_now _ _ c.in-Ok.ensures.log);
+      on_first = subst (λ (d : g.row.D.Denot). (x : List ℕ) → (g.D.Disk.seen d).image x → StandsAs (g.D.Disk.seen c.args.disks.1).image x) (sym is.1)
+          (reopened_images g.D.Disk.seen g.met.D.Disk.counts_now _ _ c.in-Ok.ensures.both.one.any_moment);
+      on_second = subst (λ (d : g.row.D.Denot). (x : List ℕ) → (g.D.Disk.seen d).image x → StandsAs (g.D.Disk.seen c.args.disks.2).image x) (sym is.2)
+          (reopened_images g.D.Disk.seen g.met.D.Disk.counts_now _ _ c.in-Ok.ensures.both.two.any_moment);
+    }
+
+pub returns-else-starved-clause-images : goal.returns-else-starved-clause-images
+returns-else-starved-clause-images g c = record {
+  on_log = reopened_images g.D.Disk.seen g.met.D.Disk.counts_now _ _ c.in-Ok.ensures.log;
+  on_first = reopened_images g.D.Disk.seen g.met.D.Disk.counts_now _ _ c.in-Ok.ensures.both.one.any_moment;
+  on_second = reopened_images g.D.Disk.seen g.met.D.Disk.counts_now _ _ c.in-Ok.ensures.both.two.any_moment;
+}

@@ -1,4 +1,5 @@
 use Rattle.std.proofs.Common.{◌≡◌, false, rules}
+use Rattle.broker_core.proofs.Images.{reopened_images}
 use Rattle.broker_core.proofs.Leading.{fed_both}
 use Rattle.broker_core.proofs.Opening.{opened}
 use Rattle.broker_core.proofs.shard.open.Goals as goal
@@ -9,7 +10,7 @@ returns-else-starved-clause-opens g c = λ a b is is_second.
     let fed = fed_both c.starved.result _ _ no c.starved.ensures in
     opened g.D.Disk.seen
     c.args.first c.args.second a b c.in-Ok.shard is is_second c.in-Ok.ensures.opened.opens c.in-Ok.ensures.opened.only c.in-Ok.ensures.carries
-    c.in-Ok.ensures.both.runs c.in-Ok.ensures.both.second_runs fed.0 fed.1)
+    c.in-Ok.ensures.both.one.runs c.in-Ok.ensures.both.two.runs fed.0 fed.1)
 
 pub returns-else-starved-3-clause-recovers : goal.returns-else-starved-3-clause-recovers
 returns-else-starved-3-clause-recovers g c = λ a b states is is_second stands name place damaged.
@@ -20,3 +21,15 @@ pub returns-else-starved-3-clause-damaged : goal.returns-else-starved-3-clause-d
 returns-else-starved-3-clause-damaged g c = λ name place damaged a b is is_second.
     (let why = c.fault_of_open.ensures.damaged name place damaged in
     (why.0, why.2, c.in-Err.ensures.refused.damaged why.0 place why.1 a b is is_second))
+
+pub returns-then-starved-2-clause-images : goal.returns-then-starved-2-clause-images
+returns-then-starved-2-clause-images g c = record {
+  on_first = reopened_images g.D.Disk.seen g.met.D.Disk.counts_now _ _ c.in-Err.ensures.both.one.any_moment;
+  on_second = reopened_images g.D.Disk.seen g.met.D.Disk.counts_now _ _ c.in-Err.ensures.both.two.any_moment;
+}
+
+pub returns-else-starved-3-clause-images : goal.returns-else-starved-3-clause-images
+returns-else-starved-3-clause-images g c = record {
+  on_first = reopened_images g.D.Disk.seen g.met.D.Disk.counts_now _ _ c.in-Err.ensures.both.one.any_moment;
+  on_second = reopened_images g.D.Disk.seen g.met.D.Disk.counts_now _ _ c.in-Err.ensures.both.two.any_moment;
+}
