@@ -60,8 +60,8 @@ module _ {D : Type 0} (seen : D → DiskView) where
     pub conf : new.conf ≡ old.conf
     pub own : new.part.conf ≡ old.part.conf
     pub log : told new.part.log.journal.disk ≡ told old.part.log.journal.disk
-    pub first : told new.part.states.journal.live.disk ≡ told old.part.states.journal.live.disk
-    pub second : told new.part.states.journal.idle ≡ told old.part.states.journal.idle
+    pub first : told new.part.states.journal.first.disk ≡ told old.part.states.journal.first.disk
+    pub second : told new.part.states.journal.second.disk ≡ told old.part.states.journal.second.disk
 
   pub part_stays : (h : Host D) (es : List (Entry PartEvent PartAnswer)) (g : Host D) → Leads (ActsPart seen) h es g → StaysPart h g
   part_stays h [] g l =
@@ -74,7 +74,7 @@ module _ {D : Type 0} (seen : D → DiskView) where
         own = r.own ∙ a.goes_on.conf;
         log = r.log ∙ a.goes_on.log.told;
         first = r.first ∙ a.goes_on.first.told;
-        second = r.second ∙ ap told a.goes_on.second;
+        second = r.second ∙ a.goes_on.second.told;
       }
 
   pub same_hosted : (h : Host D) (es : List (Entry PartEvent PartAnswer)) (g : Host D) → Leads (ActsPart seen) h es g
@@ -129,13 +129,13 @@ module _ {D : Type 0} (seen : D → DiskView) where
       (r.0, ((m, n.0), record { acts = a; moves = n.1; found = states_found m n.0 n.2 }, r.1), r.2)
 
   states_told : (h : ForeignHost D) (es : List (Entry ForeignEvent StateAnswer)) (g : ForeignHost D) → Leads (ActsForeign seen) h es g
-      → (told g.foreign.journal.live.disk ≡ told h.foreign.journal.live.disk) × (told g.foreign.journal.idle ≡ told h.foreign.journal.idle)
+      → (told g.foreign.journal.first.disk ≡ told h.foreign.journal.first.disk) × (told g.foreign.journal.second.disk ≡ told h.foreign.journal.second.disk)
   states_told h [] g l = (
-    ap (λ (x : ForeignHost D). told x.foreign.journal.live.disk) (sym l),
-    ap (λ (x : ForeignHost D). told x.foreign.journal.idle) (sym l),
+    ap (λ (x : ForeignHost D). told x.foreign.journal.first.disk) (sym l),
+    ap (λ (x : ForeignHost D). told x.foreign.journal.second.disk) (sym l),
   )
   states_told h (e ∷ es) g (m, a, more) =
-      let r = states_told m es g more in (r.0 ∙ a.first.told, r.1 ∙ ap told a.second)
+      let r = states_told m es g more in (r.0 ∙ a.first.told, r.1 ∙ a.second.told)
 
   pub leaves_foreign : (lock : LockParts (ForeignHost D)) (last : ForeignHost D) → Ends (ActsForeign seen) lock last → LeavesForeign seen lock last
   leaves_foreign lock last e =

@@ -30,17 +30,17 @@ module _ {D : Type 0} (seen : D → DiskView) where
       is : hosted_slot (slot_of h) ≡ p.hosted
       is = (λ i. record { topic = left.0.same.0 i; conf = left.0.same.1 i }) ∙ sym k.0.hosted
 
-      still : (t : PartShardState) → PartStandsAlone seen l.first.conf t h.part.log.journal.disk h.part.states.journal.live.disk h.part.states.journal.idle
-          → PartStill seen (log_of (hosted_slot (slot_of h)), Some h.part.log.journal.disk) (first_of (hosted_slot (slot_of h)), Some h.part.states.journal.live.disk)
-          (second_of (hosted_slot (slot_of h)), Some h.part.states.journal.idle) (record { hosted = p.hosted; shard = t })
+      still : (t : PartShardState) → PartStandsAlone seen l.first.conf t h.part.log.journal.disk h.part.states.journal.first.disk h.part.states.journal.second.disk
+          → PartStill seen (log_of (hosted_slot (slot_of h)), Some h.part.log.journal.disk) (first_of (hosted_slot (slot_of h)), Some h.part.states.journal.first.disk)
+          (second_of (hosted_slot (slot_of h)), Some h.part.states.journal.second.disk) (record { hosted = p.hosted; shard = t })
       still t alone = record {
         log = h.part.log.journal.disk;
-        first = h.part.states.journal.live.disk;
-        second = h.part.states.journal.idle;
+        first = h.part.states.journal.first.disk;
+        second = h.part.states.journal.second.disk;
         log_is = λ i. (log_of (is i), Some h.part.log.journal.disk);
-        first_is = λ i. (first_of (is i), Some h.part.states.journal.live.disk);
-        second_is = λ i. (second_of (is i), Some h.part.states.journal.idle);
-        alone = subst (λ (c : PartConfParts). PartStandsAlone seen c t h.part.log.journal.disk h.part.states.journal.live.disk h.part.states.journal.idle)
+        first_is = λ i. (first_of (is i), Some h.part.states.journal.first.disk);
+        second_is = λ i. (second_of (is i), Some h.part.states.journal.second.disk);
+        alone = subst (λ (c : PartConfParts). PartStandsAlone seen c t h.part.log.journal.disk h.part.states.journal.first.disk h.part.states.journal.second.disk)
             (sym (ap (λ (x : Hosted). x.conf) k.0.hosted)) alone;
       }
 

@@ -36,14 +36,14 @@ pub record LeavesPart {D : Type 0} (seen : D → DiskView) (lock : LockParts (Ho
       × IsHistory seen (lock.first, s) ends.pass.seen (last, t) × Carries seen holding last.part t
   pub stands : (s : PartShardState) → IsPartCarried seen lock.first.conf lock.first.part s → (t : PartShardState)
       × IsHistory seen (lock.first, s) ends.pass.seen (last, t)
-      × PartStandsAlone seen lock.first.conf t last.part.log.journal.disk last.part.states.journal.live.disk last.part.states.journal.idle
+      × PartStandsAlone seen lock.first.conf t last.part.log.journal.disk last.part.states.journal.first.disk last.part.states.journal.second.disk
 
 -- the same of foreign state
 pub record LeavesForeign {D : Type 0} (seen : D → DiskView) (lock : LockParts (ForeignHost D)) (last : ForeignHost D) : Type 0 where
   pub ends : Ends (ActsForeign seen) lock last
   pub stands : (s : ForeignShardState) → IsCarried seen lock.first.foreign s → (t : ForeignShardState)
       × Leads (StepsStates seen) (lock.first, s) ends.pass.seen (last, t)
-      × StandAlone seen t last.foreign.journal.live.disk last.foreign.journal.idle
+      × StandAlone seen t last.foreign.journal.first.disk last.foreign.journal.second.disk
 
 pub record AreLeft {D : Type 0} (seen : D → DiskView) (shared : SharedParts D) (last : ShardParts D) : Type 0 where
   pub parts : AllZip (LeavesPart seen) shared.parts last.parts

@@ -5,8 +5,8 @@
 use Rattle.std.proofs.Common.{inl, inr}
 use Rattle.std.specs.Prelude.{◌≡◌, ◌⊎◌, ℕ, List, [], ◌∷◌, Some, Ok, Err}
 use Rattle.std.specs.declared.option.Option.{Option}
-use Rattle.edge_io.specs.Causes.{Rose}
 use Rattle.edge_io.specs.Views.{DiskView}
+use Rattle.foreign_coord.specs.Once.{HasRisen}
 use Rattle.foreign_coord.specs.Shards.{ForeignShardState, StepsForeign}
 use Rattle.share_model.specs.declared.fault.StoreFault.{StoreFault}
 use Rattle.share_part.specs.Leaving.{IsLeftOf}
@@ -39,8 +39,8 @@ MovesPart seen old new event (Err fault) s t = (t ≡ s)
 
 -- a crash now finds the log and the tables of this state, each with or without its pending write
 abbrev pub FindsPart : {D : Type 0} → (D → DiskView) → Host D → PartShardState → Type 0
-FindsPart seen host s = (l a b : List ℕ) → (seen host.part.log.journal.disk).image l → (seen host.part.states.journal.live.disk).image a
-    → (seen host.part.states.journal.idle).image b → IsLeftOf host.part.conf s l a b
+FindsPart seen host s = (l a b : List ℕ) → (seen host.part.log.journal.disk).image l → (seen host.part.states.journal.first.disk).image a
+    → (seen host.part.states.journal.second.disk).image b → IsLeftOf host.part.conf s l a b
 
 -- An act on a partition in memory, and on the state for which it stands. What a crash finds within it is a part of the act; behind it a crash
 -- finds the state that it leads to.
@@ -53,13 +53,13 @@ pub record StepsPart {D : Type 0} (seen : D → DiskView) (old : Host D × PartS
 abbrev pub MovesForeign : {D : Type 0} → (D → DiskView) → (old new : ForeignHost D) → ForeignEvent → StateAnswer → ForeignShardState → ForeignShardState
     → Type 0
 MovesForeign seen old new event (Ok answer) s t = (fault : Option StoreFault)
-    × StepsForeign (Rose (seen old.foreign.journal.live.disk).faults (seen new.foreign.journal.live.disk).faults) old.foreign.journal.live.end s event.op
-    answer fault t
+    × StepsForeign (HasRisen seen old.foreign new.foreign) old.foreign.journal.end s event.op answer fault t
 MovesForeign seen old new event (Err fault) s t = t ≡ s
 
 -- a crash now finds these states, with or without the pending write
 abbrev pub FindsStates : {D : Type 0} → (D → DiskView) → ForeignHost D → ForeignShardState → Type 0
-FindsStates seen host s = (a b : List ℕ) → (seen host.foreign.journal.live.disk).image a → (seen host.foreign.journal.idle).image b → StandWith s a b
+FindsStates seen host s =
+    (a b : List ℕ) → (seen host.foreign.journal.first.disk).image a → (seen host.foreign.journal.second.disk).image b → StandWith s a b
 
 -- the same of an act on foreign state
 pub record StepsStates {D : Type 0} (seen : D → DiskView) (old : ForeignHost D × ForeignShardState) (event : ForeignEvent) (answer : StateAnswer)

@@ -94,8 +94,8 @@ module _ {D : Type 0} (seen : D → DiskView) where
       → BothRose seen (foreign_disks slot) c
   both_rise (foreign.Open store) None c opened p rose = absurd p
   both_rise (foreign.Open store) (Some b) None opened p rose = absurd rose
-  both_rise (foreign.Open store) (Some b) (Some c) opened p (inl rose) = inl (rose_then store.journal.live.disk b.0 c.0 p.0 rose)
-  both_rise (foreign.Open store) (Some b) (Some c) opened p (inr rose) = inr (rose_then store.journal.idle b.1 c.1 p.1 rose)
+  both_rise (foreign.Open store) (Some b) (Some c) opened p (inl rose) = inl (rose_then store.journal.first.disk b.0 c.0 p.0 rose)
+  both_rise (foreign.Open store) (Some b) (Some c) opened p (inr rose) = inr (rose_then store.journal.second.disk b.1 c.1 p.1 rose)
   both_rise (foreign.Shut first second) b c opened p rose = absurd opened
   both_rise foreign.Gone b c opened p rose = absurd opened
 

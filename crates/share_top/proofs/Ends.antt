@@ -16,7 +16,7 @@ use Rattle.topic_conf.specs.declared.topic.Topic.{Topic}
 use Rattle.topic_conf.specs.Topics.{IsTopicList}
 use Rattle.topic_conf.specs.Configs.{ConfigParts}
 use Rattle.topic_conf.proofs.Lists.{have_disks}
-use Rattle.broker_model.specs.Hosted.{IsOneOf, IsTaken, disks_of, first_of, hosted_from, hosted_in, hosted_of, log_of, part_disks, same_name, second_of, state_a, state_b}
+use Rattle.broker_model.specs.Hosted.{IsLogName, IsOneOf, IsTaken, disks_of, first_of, hosted_from, hosted_in, hosted_of, log_of, part_disks, same_name, second_of, state_a, state_b}
 use Rattle.broker_model.specs.Shards.{Shards, HostedPart, hosted_by}
 use Rattle.broker_model.specs.Machine.{Machine, StandWith, StandsFor, StandsForPart}
 use Rattle.broker_model.specs.Disks.{Facts, Disks, facts_of}
@@ -27,7 +27,7 @@ use Rattle.broker_core.specs.declared.fault.CoreOpen.{CoreOpen}
 use Rattle.broker_core.specs.declared.fault.CoreOpen.TheVariants as open_fault
 use Rattle.broker_core.specs.declared.slot.PartSlot.{PartSlot}
 use Rattle.broker_core.specs.Bays.{IsOfDevice, StaysAs, TellsDisks, TellsStill, IsFirst, ArePutBack, HoldsIf, BothHold, HasName}
-use Rattle.broker_core.specs.Hosts.{LeftDisks, GoOn, DiskGoesOn, DisksReach, IsPartSlot, StandStill, ForeignStill, PartStill, PartsStill, ReachesTo, among, disk_in, disks_in, facts_at, facts_in, facts_among, foreign_disk, foreign_facts, hosted_slot, hosted_slots, slots_disks}
+use Rattle.broker_core.specs.Hosts.{LeftDisks, GoOn, DiskGoesOn, LogsReach, IsPartSlot, StandStill, ForeignStill, PartStill, PartsStill, ReachesTo, among, disk_in, disks_in, facts_at, facts_in, facts_among, foreign_disk, foreign_facts, hosted_slot, hosted_slots, slots_disks}
 use Rattle.broker_core.specs.Cores.{CoreParts, IsCore, state_of}
 use Rattle.broker_core.specs.Restarts.{IsDamagedDisk, IsOpenedDisk}
 use Rattle.broker_core.proofs.Opening.{is_told}
@@ -458,7 +458,7 @@ module _ {B D : Type 0} (bay_seen : B → BayView D) (seen : D → DiskView) whe
       (same : core.conf ≡ conf) (opens : Opens conf old core) (still : TellsStill bay_seen old mid) (goes : GoOn seen (disks_in core.hosts) left)
       (back : ArePutBack bay_seen mid new left) where
     abbrev Before : Ending → State → Type 0
-    Before Ends last = Ends (λ shards. StandStill seen shards left) (λ ends. DisksReach seen left ends) (facts_in seen left) last
+    Before Ends last = Ends (λ shards. StandStill seen shards left) (λ ends. LogsReach seen left ends) (facts_in seen left) last
 
     told_in : (contents : List ℕ → List ℕ) (was : Disks) → Tells conf old contents was → (name : List ℕ) → IsTaken conf name → is_some ((bay_seen mid).disk name) ≡ true
     told_in contents was t name taken = still name (ap is_some (t name taken).1)
@@ -493,10 +493,10 @@ module _ {B D : Type 0} (bay_seen : B → BayView D) (seen : D → DiskView) whe
       facts_of_disk seen left name ∙ ap (facts_at seen) k.3,
     )
 
-    -- its content reaches to the ends to which the disks do
-    reaches_at : (ends : List ℕ → ℕ) → DisksReach seen left ends → (name : List ℕ) → Found name → ends name ≤ length (text_in new name)
-    reaches_at ends reached name k =
-        (subst (λ (found : Option D). ReachesTo seen found (ends name)) k.3 (reached name)) (text_in new name) (is_text mid new read name k.0 k.1 k.2)
+    -- its content reaches to the ends to which the logs' disks do
+    reaches_at : (ends : List ℕ → ℕ) → LogsReach seen left ends → (name : List ℕ) → IsLogName name → Found name → ends name ≤ length (text_in new name)
+    reaches_at ends reached name log k =
+        (subst (λ (found : Option D). ReachesTo seen found (ends name)) k.3 (reached name log)) (text_in new name) (is_text mid new read name k.0 k.1 k.2)
 
     -- they have the names of the configuration's
     left_names : (m : Machine) → IsCore seen core m → hosted_by m.shards.parts ≡ hosted_of conf → names_in left.parts ≡ part_disks (hosted_of conf)
@@ -510,7 +510,7 @@ module _ {B D : Type 0} (bay_seen : B → BayView D) (seen : D → DiskView) whe
         let o = opens contents was t in
         let r : Ran conf (began o.0 core) events Says (Before Ends) =
         subst (λ (c : ConfigParts). Ran c (began o.0 core) events Says (Before Ends)) same (from o.0 o.1) in
-        let some = is.some (λ shards. StandStill seen shards left) (λ ends. DisksReach seen left ends) (facts_in seen left) r.last r.ends in
+        let some = is.some (λ shards. StandStill seen shards left) (λ ends. LogsReach seen left ends) (facts_in seen left) r.last r.ends in
         let told = told_in contents was t in
         let names : names_in left.parts ≡ part_disks (hosted_of conf) = left_names o.0 o.1 o.2.opens.hosts in
         let found : (name : List ℕ) → IsTaken conf name → Found name = λ name taken. found_at some.0 some.1 name (told name taken)
@@ -527,13 +527,13 @@ module _ {B D : Type 0} (bay_seen : B → BayView D) (seen : D → DiskView) whe
               run = r.run;
               events_are = r.events_are;
               tells = r.tells;
-              ends = is.along (λ shards. StandStill seen shards left) (StandsFor (text_in new)) (λ ends. DisksReach seen left ends)
+              ends = is.along (λ shards. StandStill seen shards left) (StandsFor (text_in new)) (λ ends. LogsReach seen left ends)
                   (ReachTo conf (text_in new)) (facts_in seen left) r.last
                   (λ shards stands. all_stand mid new read left shards back
                   (λ name one. told name (inl (subst (λ (l : List (List ℕ)). IsOneOf l name)
                   (sym (names_still seen left.parts shards.parts stands.parts) ∙ names) one)))
                   (told state_a (inr (inl refl))) (told state_b (inr (inr refl))) stands)
-                  (λ ends reached name taken. reaches_at ends reached name (found name taken)) r.ends;
+                  (λ ends reached name taken log. reaches_at ends reached name log (found name taken)) r.ends;
             };
             holds = holds conf (began o.0 core) r.last r.steps r.run;
             well = openings_well conf contents o.0 o.2.opens;

@@ -8,7 +8,7 @@ use Rattle.broker_model.specs.Machine.{Machine}
 use Rattle.broker_model.specs.Disks.{Disks}
 use Rattle.broker_model.specs.States.{State, IsStep}
 use Rattle.broker_model.specs.Runs.{Step, outcomes_of}
-use Rattle.broker_core.specs.Hosts.{DisksReach, LeftDisks, StandStill, disks_in, ends_in, facts_in}
+use Rattle.broker_core.specs.Hosts.{LeftDisks, LogsReach, StandStill, disks_in, ends_in, facts_in}
 use Rattle.broker_core.specs.Cores.{CoreParts, IsCore, Reaches, state_of}
 use Rattle.broker_core.proofs.Leading.{still_all}
 use Rattle.broker_core.proofs.Reaching.{reach_all, reach_less}
@@ -69,7 +69,7 @@ module _ {D : Type 0} (seen : D → DiskView) where
   core_still core m k = still_all seen core.hosts m.shards k.shards
 
   abbrev Reach : LeftDisks D → (List ℕ → ℕ) → Type 0
-  Reach left ends = DisksReach seen left ends
+  Reach left ends = LogsReach seen left ends
 
   core_reach : (core : CoreParts D) (m : Machine) → Stands core m → Reach (disks_in core.hosts) (ends_in core.hosts)
   core_reach core m k = reach_all seen core.hosts m.shards k.shards
@@ -98,7 +98,7 @@ module _ {D : Type 0} (seen : D → DiskView) where
       ends = ends_in core.hosts;
       reaches = inl refl;
       later = λ name taken. omega arith;
-      ends_later = λ name taken. omega arith;
+      ends_later = λ name taken log. omega arith;
       stands = core_still core g.machine g.core;
       reach = reach_less seen (disks_in core.hosts) (ends_in core.hosts) (core_reach core g.machine g.core);
     };
@@ -135,7 +135,7 @@ module _ {D : Type 0} (seen : D → DiskView) where
           ends = h.stops.ends;
           reaches = reached conf Next core next same g.machine h.stops.after h.stops.ends e comes h.stops.reaches;
           later = λ name taken. counts_later seen (disks_in core.hosts) (disks_in next.hosts) h.disks name;
-          ends_later = λ name taken. h.stops.ends_later name;
+          ends_later = λ name taken log. h.stops.ends_later name log;
           stands = h.stops.still;
           reach = h.stops.reach;
         };

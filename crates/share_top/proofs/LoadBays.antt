@@ -109,6 +109,7 @@ module _ (input : InputChange) (output : OutputChange) (E F : LoadEnding) (R S :
       log = w.log;
       batches = w.batches;
       next = w.next;
+      at = w.at;
       begins = w.begins;
       no_room = w.no_room;
       ends = f w.log w.batches None w.ends;

@@ -17,12 +17,13 @@ use Rattle.session_script.specs.Output.{malformed_line}
 use Rattle.share_model.specs.Logs.{Batch, end_of}
 use Rattle.share_model.specs.Pending.{WithPending}
 use Rattle.part_log.specs.Logs.{IsAdded, IsUnwritten, IsLogText, IsStoredLog, LogParts, MayFollow, Keeps as KeepsLog, frames_of}
+use Rattle.part_log.specs.Shards.{HasNoRoomAt}
 use Rattle.part_log.proofs.Rising.{sound_more}
 use Rattle.share_top.specs.declared.load.Stop.{Stop}
 use Rattle.share_top.specs.declared.load.Stop.TheVariants.{Refused, Read, Full, Device, NoMemory}
 use Rattle.share_top.specs.Changes.{InputChange}
 use Rattle.share_top.specs.Segments.{Begins, IsSegment, IsRefused, HasNoBatch, segment_of}
-use Rattle.share_top.specs.Loading.{LoadEnding, IsWhole, IsRefusedSegment, IsBegunSegment, HasNoRoom, WithLine, WithPlace, loaded_line}
+use Rattle.share_top.specs.Loading.{LoadEnding, IsWhole, IsRefusedSegment, IsBegunSegment, WithLine, WithPlace, loaded_line}
 use Rattle.share_top.specs.Loads.{IsNext, LoadsNext, HasLoaded, IsGrown, AtPlace, LoadsAll}
 use Rattle.share_top.proofs.SegmentReads.{same_consumes}
 use Rattle.edge_io.specs.Views.{DiskView}
@@ -232,14 +233,16 @@ module _ {D : Type 0} (seen : D → DiskView) (first log new : LogParts D) (left
       ends = same e;
     },
   )
-  stopped Full (t, e, (b, n, room)) = record {
+  stopped Full (t, e, (b, end, n, room)) = record {
     log = first.batches;
     batches = h.batches;
     next = b;
+    at = end;
     begins = begins_next t b n;
     no_room =
-        let end : log.journal.end ≡ length (blocks (frames_of log.batches)) + 1 = end_of_writer seen log.journal log.journal.mending (frames_of log.batches) h.kept.stands.mends in
-        subst (λ (l : List Batch). HasNoRoom l b) h.added (omega (arith, end, room));
+        let is : log.journal.end ≡ length (blocks (frames_of log.batches)) + 1 = end_of_writer seen log.journal log.journal.mending (frames_of log.batches) h.kept.stands.mends in
+        subst (λ (l : List Batch). HasNoRoomAt (length (blocks (frames_of l)) + 1) l b end) h.added
+        (subst (λ (n : ℕ). HasNoRoomAt n log.batches b end) is room);
     ends = same e;
   }
   stopped Device (t, (b, n, w), r) = (rose _ _ _ disks r, unwritten t b n w)

@@ -1,5 +1,5 @@
 -- One batch of a segment is added to the log, or refused.
-use Rattle.std.proofs.Common.{◌≡◌, ◌≢◌, ◌+◌, ◌<◌, ◌≤◌, ◌^◌, ◌↔◌, inl, inr, ⊎_elim, ℕ, List, [], ◌++◌, Bool, true, false, Option, Some, None, IfSome, Result, Err, length, refl, sym, ap, ◌∙◌, arith}
+use Rattle.std.proofs.Common.{◌≡◌, ◌≢◌, ◌+◌, ◌<◌, ◌≤◌, ◌^◌, ◌↔◌, inl, inr, ℕ, List, [], ◌++◌, Bool, true, false, Option, Some, None, IfSome, Result, Err, length, refl, sym, ap, ◌∙◌, arith}
 use Rattle.std.proofs.Common.{take, drop, length-append}
 use Rattle.std.proofs.lemmas.List.{take-append-le, take-append-drop, length-take}
 use Rattle.std.proofs.Math.Seq.{take-append_seam}
@@ -14,7 +14,7 @@ use Rattle.share_model.specs.declared.fault.StoreFault.TheVariants as store_faul
 use Rattle.share_model.specs.Logs.{Batch, end_of}
 use Rattle.part_log.specs.Batches.{IsStored, batch_in}
 use Rattle.part_log.specs.Logs.{AddsOnce, LogParts, MayFollow}
-use Rattle.part_log.proofs.Frames.{bounds, faulty_none, only_by}
+use Rattle.part_log.proofs.Frames.{faulty_none, only_by}
 use Rattle.share_top.specs.declared.load.Stop.{Stop}
 use Rattle.share_top.specs.Changes.{InputChange}
 use Rattle.share_top.specs.Segments.{HasNoBatch}
@@ -108,12 +108,10 @@ module _ {D : Type 0} (seen : D → DiskView) (old new : LogParts D) (u v : Unre
       let said = once.device is in
       (takes, (batch_in bytes_in, next_is v.place size v.pending front old.batches said.0.follows, said.0), said.2)
   stops batch behind fits (log_fault.Store (store_fault.Full end)) hungry is =
-      let f = fits end is in
-      let room : 2 ^ 62 < old.journal.end + (length bytes_in + 5) =
-      ⊎_elim (λ h. absurd (omega (arith, h.0, (bounds (batch_in bytes_in) f.stored).below))) (λ h. h.1) (once.full end is) in (
+      let f = fits end is in (
         takes,
         once.unchanged (log_fault.Store (store_fault.Full end)) is (λ e. cc),
-        (batch_in bytes_in, next_is v.place size v.pending front old.batches f, room),
+        (batch_in bytes_in, end, next_is v.place size v.pending front old.batches f, once.full end is),
       )
   stops batch behind fits log_fault.NoMemory hungry is = (takes, inl (once.unchanged log_fault.NoMemory is (λ e. cc)))
 

@@ -29,7 +29,7 @@ pub record DoesCommand {B D : Type 0} (bay_seen : B → BayView D) (seen : D →
   pub load_runs : LoadRuns bay_seen seen words old new
   -- where the disks stand for logs and states, and the bay is sound or no count of it and its disks rose, a script is done
   pub complete : Completes bay_seen seen old new words input output number
-  -- where no count rose, a segment whose batches may stand behind the log is loaded, or memory or the journal's room ended
+  -- where no count rose, a segment whose batches may stand behind the log is loaded, or memory or the log's room ended
   pub load_completes : LoadCompletes bay_seen seen old new words input output number
   -- where the words are those of a dump, it writes what the disks stand for, and these stand for it behind it
   pub dumps : (conf : ConfigParts) → AreDumpStateWords (texts words) conf → DumpsState bay_seen seen old new conf input output number

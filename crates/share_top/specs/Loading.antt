@@ -14,6 +14,7 @@ use Rattle.gate_journal.specs.Frames.{StandsAs, blocks}
 use Rattle.share_model.specs.Logs.{Batch, end_of}
 use Rattle.share_model.specs.Pending.{WithPending}
 use Rattle.part_log.specs.Logs.{IsLogText, IsNoLogText, and_pending, frames_of}
+use Rattle.part_log.specs.Shards.{HasNoRoomAt}
 use Rattle.session_script.specs.Output.{malformed_line, damaged_line}
 use Rattle.topic_conf.specs.declared.topic.Topic.{Topic}
 use Rattle.topic_conf.specs.Configs.{ConfigParts}
@@ -29,10 +30,6 @@ use Rattle.edge_io.specs.Views.{DiskView, BayView}
 -- the last line of a load: how many batches were added, and where the log ends
 abbrev pub loaded_line : ℕ → ℕ → List ℕ
 loaded_line count end = codes "loaded" ++ 32 ∷ (decimal count ++ 32 ∷ (decimal end ++ 10 ∷ []))
-
--- the journal of this log has no room for the frame of this batch: its last gate stands behind the frames, and five bytes more are written
-abbrev pub HasNoRoom : List Batch → Batch → Type 0
-HasNoRoom log b = 2 ^ 62 < length (blocks (frames_of log)) + 1 + (length b.bytes + 5)
 
 -- ---- what was read. `Ends` is said of the log at entry, of the batches of the segment that were added to it, and of the one whose write
 -- is pending, if one is.
@@ -73,13 +70,15 @@ pub record IsBegunSegment (input : InputChange) (Ends : LoadEnding) : Type 0 whe
   pub begins : IfSome input.left (λ text. (rest : List ℕ) × Begins text log (batches ++ option_to_list pending) rest)
   pub ends : Ends log batches pending
 
--- the journal has no room for the batch behind these
+-- The log has no room for the batch behind these: the batch's offsets reach 2^62, or its frame would end past 2^62 bytes behind the log's
+-- journal, which ends with a gate, the byte behind the frames. `at` is where the log or the journal ends.
 pub record IsFullSegment (input : InputChange) (Ends : LoadEnding) : Type 0 where
   pub log : List Batch
   pub batches : List Batch
   pub next : Batch
+  pub at : ℕ
   pub begins : IfSome input.left (λ text. (rest : List ℕ) × Begins text log (batches ++ next ∷ []) rest)
-  pub no_room : HasNoRoom (log ++ batches) next
+  pub no_room : HasNoRoomAt (length (blocks (frames_of (log ++ batches))) + 1) (log ++ batches) next at
   pub ends : Ends log batches None
 
 -- and of the count of the batches and the log's end
@@ -103,7 +102,7 @@ IsLoaded input output Ends Rises ReadFault = Rose input.faults input.faults_afte
 -- the output took a front of the last line
 IsLoaded input output Ends Rises WriteFault = Rose output.faults output.faults_after
     × (IsWhole input (WithLine Ends (λ line. WritesFrontOf line output)) ⊎ IsRefusedSegment input (WithPlace Ends (λ line. WritesFrontOf line output)))
--- those before the one that couldn't be stored were, and that one is pending, if one is; or the journal has no room for it
+-- those before the one that couldn't be stored were, and that one is pending, if one is; or the log has no room for it
 IsLoaded input output Ends Rises Device = Keeps output.held output.held_after × ((Rises × IsBegunSegment input Ends) ⊎ IsFullSegment input Ends)
 IsLoaded input output Ends Rises NoMemory = Keeps output.held output.held_after × IsBegunSegment input Ends
 -- the others don't come
@@ -192,7 +191,7 @@ LoadsWith bay_seen seen old new words input output number =
     × (((status ≡ NoMemory) × input.Same × output.Same × (new ≡ old))
     ⊎ ((name : List ℕ) × IsLogDisk conf.topics shard name × IsLoad bay_seen seen name old new input output status))
 
--- A segment whose batches may stand behind the log is loaded, where no count rose, memory is found and the journal has room; it hasn't
+-- A segment whose batches may stand behind the log is loaded, where no count rose, memory is found and the log has room; it hasn't
 -- with 7 alone.
 abbrev pub LoadCompletes : {B D : Type 0} → (B → BayView D) → (D → DiskView)
     → B → B → List (String Global) → InputChange → OutputChange → ℕ → Type 0

@@ -19,6 +19,7 @@ use Rattle.share_model.specs.declared.fault.StoreFault.TheVariants as store_faul
 use Rattle.share_model.specs.Logs.{Batch}
 use Rattle.share_model.specs.Pending.{WithPending}
 use Rattle.part_log.specs.Logs.{IsAdded, IsUnwritten, IsLogText, LogParts, MayFollow, Keeps, and_pending}
+use Rattle.part_log.specs.Shards.{HasNoRoomAt}
 use Rattle.share_top.specs.declared.load.Stop.{Stop}
 use Rattle.share_top.specs.declared.load.Stop.TheVariants.{Refused, Read, Full, Device, NoMemory}
 use Rattle.share_top.specs.Changes.{InputChange, OutputChange}
@@ -55,7 +56,7 @@ LoadsNext seen old new unread now input (Err (Refused place)) = Takes unread now
 LoadsNext seen old new unread now input (Err Read) = Takes unread now input.left input.left_after [] × (new ≡ old)
     × HasNoBatch now.place old.batches now.pending × Rose input.faults input.faults_after
 LoadsNext seen old new unread now input (Err Full) = Takes unread now input.left input.left_after [] × (new ≡ old)
-    × ((b : Batch) × IsNext old.batches now b × (2 ^ 62 < old.journal.end + (length b.bytes + 5)))
+    × ((b : Batch) × (at : ℕ) × IsNext old.batches now b × HasNoRoomAt old.journal.end old.batches b at)
 LoadsNext seen old new unread now input (Err Device) = Takes unread now input.left input.left_after []
     × ((b : Batch) × IsNext old.batches now b × IsUnwritten seen old new b) × Rose (seen old.journal.disk).faults (seen new.journal.disk).faults
 LoadsNext seen old new unread now input (Err NoMemory) = Takes unread now input.left input.left_after []

@@ -13,7 +13,7 @@ use Rattle.session_script.specs.declared.event.Outcome.{Outcome}
 use Rattle.session_script.specs.Output.{damaged_line}
 use Rattle.session_script.specs.Telling.{told_in_all, told_so_far}
 use Rattle.topic_conf.specs.Configs.{ConfigParts}
-use Rattle.broker_model.specs.Hosted.{IsTaken}
+use Rattle.broker_model.specs.Hosted.{IsLogName, IsTaken}
 use Rattle.broker_model.specs.Shards.{Counts, Ends, Shards, ShardCall}
 use Rattle.broker_model.specs.Machine.{Machine, StandsFor}
 use Rattle.broker_model.specs.Disks.{Disks}
@@ -57,11 +57,11 @@ WritesThenFront conf summary line output outcomes = WritesFrontOf (told_so_far c
 
 -- ---- what a run leaves on the disks
 
--- what is known of the disks behind a run, for which shards they stand, and to which ends of journals they reach, by its last state
+-- what is known of the disks behind a run, for which shards they stand, and to which ends of journals those of logs reach, by its last state
 abbrev pub Ending : Type 1
 Ending = (Shards → Type 0) → ((List ℕ → ℕ) → Type 0) → Disks → State → Type 0
 
--- what is known is what the last state has, its shards are those for which the disks stand, and its journals end within them
+-- what is known is what the last state has, its shards are those for which the disks stand, and its logs' journals end within their disks
 pub record Leaves (conf : ConfigParts) (Stand : Shards → Type 0) (Reach : (List ℕ → ℕ) → Type 0) (now : Disks) (last : State) : Type 0 where
   pub known : (name : List ℕ) → IsTaken conf name → now name ≡ last.disks name
   pub stands : Stand last.machine.shards
@@ -83,14 +83,14 @@ DoesMore conf last now ends event after =
     ⊎ StopsWithin conf (counts_since last now) (ends_since last ends) last.machine event after
 
 -- The disks stand for the last state's shards, or for those of the next event, done or left within, of whose outcomes nothing was written.
--- They reach to the last byte before where the journals end: a power loss after which no memory was found may leave that one out.
+-- Those of logs reach to the last byte before where their journals end: a power loss after which no memory was found may leave that one out.
 pub record LeavesWithin (conf : ConfigParts) (Next : Event → Type 0) (Stand : Shards → Type 0) (Reach : (List ℕ → ℕ) → Type 0) (now : Disks)
     (last : State) : Type 0 where
   pub after : Machine
   pub ends : List ℕ → ℕ
   pub reaches : (after ≡ last.machine) ⊎ ((event : Event) × Next event × DoesMore conf last now ends event after)
   pub later : (name : List ℕ) → IsTaken conf name → faults_of last name ≤ (now name).faults
-  pub ends_later : (name : List ℕ) → IsTaken conf name → last.ends name ≤ ends name
+  pub ends_later : (name : List ℕ) → IsTaken conf name → IsLogName name → last.ends name ≤ ends name
   pub stands : Stand after.shards
   pub reach : Reach (λ name. ends name - 1)
 

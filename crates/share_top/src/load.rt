@@ -31,7 +31,7 @@ pub enum Stop {
     Refused { place: u64 },
     /// The input failed.
     Read,
-    /// The journal has no room.
+    /// The log has no room.
     Full,
     /// The disk failed.
     Device,
