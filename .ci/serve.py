@@ -52,16 +52,20 @@ def within(holds, what):
 
 
 class Server:
-    """The program as a server over a folder. Its lines on standard error are kept as they come."""
+    """The program as a server over a folder, with so many bytes of addresses. Its lines on standard error are kept."""
 
-    def __init__(self, folder, *words, partitions=1, port=0):
+    def __init__(self, folder, *words, partitions=1, port=0, addresses=resource.RLIM_INFINITY):
         self.lines = []
         self.words = [PROGRAM, "serve", "--dir", folder, "--listen", f"127.0.0.1:{port}", "--advertise",
                       "localhost:9092", "--reset", "earliest", *words, f"orders:{partitions}:{ORDERS}"]
         self.process = subprocess.Popen(self.words, stdin=subprocess.DEVNULL, stdout=subprocess.PIPE,
-                                        stderr=subprocess.PIPE, text=True)
+                                        stderr=subprocess.PIPE, text=True, preexec_fn=lambda: self._bound(addresses))
         self._reader = threading.Thread(target=self._read, daemon=True)
         self._reader.start()
+
+    @staticmethod
+    def _bound(addresses):
+        resource.setrlimit(resource.RLIMIT_AS, (addresses, addresses))
 
     def _read(self):
         for line in self.process.stderr:
@@ -347,8 +351,18 @@ class ServeCase(unittest.TestCase):
             time.sleep(0.001)
         self.assertEqual(bad.recv(1), b"")
         self.assertEqual(good.produce(b"b"), (0, 1))
-        self.assertTrue(self.is_closed_on(self.raw(server), bytes.fromhex("7fffffff")))
+        overlong = self.raw(server)
+        addresses = ["%s:%d" % stream.getsockname() for stream in (bad, overlong)]
+        self.assertTrue(self.is_closed_on(overlong, bytes.fromhex("7fffffff")))
         self.assertEqual(len(good.fetch()), 2)
+        within(lambda: len(server.lines) > 2, "the lines of the two connections that were closed")
+        said = "closed, as what it sent is no request, or no memory was found for it"
+        self.assertEqual(server.lines[1:], [f"sharebroker: {address}: {said}" for address in addresses])
+
+    def test_more_workers_than_the_system_starts_threads_for(self):
+        status, lines = self.unheard("--workers", "256", addresses=1 << 30).ended()
+        self.assertEqual((status, len(lines)), (10, 1), lines)
+        self.assertRegex(lines[0], r"^sharebroker: start thread: .* \(os error \d+\)$")
 
     def test_two_hundred_connections(self):
         server = self.server("--workers", "64")
@@ -376,6 +390,20 @@ class ServeCase(unittest.TestCase):
         for thread in threads:
             thread.join(PATIENCE)
         self.assertEqual(failures, [])
+
+    def test_closed_connections_have_ten_lines_a_second_and_a_count_of_the_rest(self):
+        server = self.server("--accept", "200", "--workers", "1")
+        begun = int(time.time())
+        for _ in range(200):
+            with socket.create_connection(("127.0.0.1", server.port), PATIENCE) as stream:
+                self.assertTrue(self.is_closed_on(stream, bytes.fromhex("7fffffff")))
+        status, lines = server.ended()
+        seconds = int(time.time()) - begun + 1
+        closed = [line for line in lines if ": closed, as " in line]
+        more = [int(found[1]) for found in map(re.compile(r"sharebroker: (\d+) more faults$").match, lines) if found]
+        self.assertEqual((status, len(closed) + len(more)), (0, len(lines) - 1), lines)
+        self.assertEqual(len(closed) + sum(more), 200, lines)
+        self.assertLessEqual(len(closed), 10 * seconds, lines)
 
     def test_a_server_that_accepts_three_links(self):
         server = self.server("--accept", "3", "--workers", "2")
@@ -420,6 +448,16 @@ class ServeCase(unittest.TestCase):
         self.assertEqual(answers, [(0, number + 1) for number in range(len(answers))])
         self.assertEqual(self.member(server, "b").fetch(1), [(0, b"0", 1)])
 
+    def test_a_frame_of_many_entries_takes_less_than_32_times_its_size(self):
+        server = self.server("--workers", "1")
+        stream = self.raw(server)
+        self.assertEqual(replied(stream, sixteen_million_groups(10)), 10 * 23 + 11)
+        most = size_of(server.process.pid) + 32 * (16 << 20)
+        resource.prlimit(server.process.pid, resource.RLIMIT_AS, (most, most))
+        for _ in range(2):
+            self.assertEqual(replied(stream, sixteen_million_groups()), 16_000_000 * 23 + 14)
+            self.assertEqual(replied(stream, two_million_partitions()), 2_000_000 * 22 + 39)
+
 
 def size_of(process):
     """How many bytes of addresses a process has."""
@@ -441,9 +479,22 @@ def framed(*pieces):
     return struct.pack(">I", len(body)) + body
 
 
-def sixteen_million_groups():
+def replied(stream, frame):
+    """How many bytes the reply to a frame has behind its size, all of which come."""
+    stream.sendall(frame)
+    room = memoryview(bytearray(1 << 20))
+    head = stream.recv(4, socket.MSG_WAITALL)
+    left = size = struct.unpack(">I", head)[0]
+    while left:
+        count = stream.recv_into(room[:min(left, len(room))])
+        if count == 0:
+            raise ConnectionLost(f"{left} of {size} bytes are missing")
+        left -= count
+    return size
+
+
+def sixteen_million_groups(count=16_000_000):
     """FindCoordinator of 16 million groups whose names are empty."""
-    count = 16_000_000
     return framed(bytes.fromhex("000a000400000001ffff00" "00"), uvarint(count + 1), b"\1" * count, b"\0")
 
 

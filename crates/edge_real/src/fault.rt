@@ -19,6 +19,7 @@ pub enum SystemCall {
     Sync,
     Bind,
     Accept,
+    StartThread,
 }
 
 impl fmt::Display for SystemCall {
@@ -37,6 +38,7 @@ impl fmt::Display for SystemCall {
             SystemCall::Sync => "sync",
             SystemCall::Bind => "bind",
             SystemCall::Accept => "accept",
+            SystemCall::StartThread => "start thread",
         };
         f.write_str(words)
     }

@@ -15,9 +15,8 @@ use std::net::SocketAddr;
 /// A link over a stream, as a TCP socket. It tells no bytes.
 ///
 /// A call that a signal interrupts is tried again; a write that takes nothing of a piece is a fault. Each fault is
-/// told with the peer's address.
-#[derive(Drop)]
-pub struct TcpLink<S, N> {
+/// told with the peer's address, and so is the drop of a link that has neither ended nor had a fault.
+pub struct TcpLink<S, N: SocketNotices> {
     stream: S,
     peer: SocketAddr,
     notices: N,
@@ -25,7 +24,7 @@ pub struct TcpLink<S, N> {
     faults: u64,
 }
 
-impl<S, N> Model for TcpLink<S, N> {
+impl<S, N: SocketNotices> Model for TcpLink<S, N> {
     ghost use Rattle.edge_real.specs.Streams.{Reading};
 
     ghost Value = { Reading };
@@ -50,6 +49,21 @@ impl<S, N: SocketNotices> TcpLink<S, N> {
     // Tells what the system said of a call that was not done.
     fn tell(&self, call: SystemCall, error: io::Error) {
         self.notices.failed(self.peer, SystemFault { call, error });
+    }
+}
+
+impl<S: Drop, N: SocketNotices + Drop> Drop for TcpLink<S, N> {
+    fn drop(self) {
+        if !self.ended && self.faults == 0 {
+            self.notices.closed(self.peer);
+        }
+        let TcpLink {
+            stream: _stream,
+            peer: _,
+            notices: _notices,
+            ended: _,
+            faults: _,
+        } = self;
     }
 }
 

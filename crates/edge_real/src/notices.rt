@@ -12,6 +12,9 @@ pub trait SocketNotices: Sized {
     /// A call on the socket of this peer was not done.
     fn failed(&self, peer: SocketAddr, fault: SystemFault);
 
+    /// This peer's socket is closed, which the peer hadn't ended and on which no call has failed.
+    fn closed(&self, peer: SocketAddr);
+
     /// What a link tells its faults by. The link may go to another thread.
     fn for_link(&self) -> Self;
 }
@@ -26,6 +29,8 @@ impl SocketNotices for NoNotices {
     fn waiting(&self, _fault: SystemFault) {}
 
     fn failed(&self, _peer: SocketAddr, _fault: SystemFault) {}
+
+    fn closed(&self, _peer: SocketAddr) {}
 
     fn for_link(&self) -> NoNotices {
         NoNotices

@@ -1,15 +1,18 @@
 ghost use Rattle.std.specs.Prelude.{◌≡◌, ◌≤◌};
 ghost use Rattle.edge_io.specs.Causes.{Rose, raised};
 
+use crate::fault::{SystemCall, SystemFault};
 use edge_io::Spawner;
 use std::marker::Model;
 use std::thread::Threads;
+use std_io::io::last_error;
 
 /// Starts each job in a thread of the system, and counts those for which there was none.
 #[derive(Drop)]
 pub struct ThreadSpawner<R> {
     rt: R,
     faults: u64,
+    last: Option<SystemFault>,
 }
 
 impl<R> Model for ThreadSpawner<R> {
@@ -25,7 +28,16 @@ impl<R> ThreadSpawner<R> {
     pub fn new(rt: R) -> ThreadSpawner<R>
         ensures { result ≡ 0 }
     {
-        ThreadSpawner { rt, faults: 0 }
+        ThreadSpawner {
+            rt,
+            faults: 0,
+            last: None,
+        }
+    }
+
+    /// What the system said when it started no thread for the last job that was refused.
+    pub fn last_fault(&self) -> Option<SystemFault> {
+        self.last
     }
 }
 
@@ -43,6 +55,11 @@ impl<R: Threads> Spawner for ThreadSpawner<R> {
         ensures rises { Rose self.old self.new }
         ensures counted { self.new ≡ raised self.old }
     {
+        // Nothing has called the system since it refused the thread.
+        self.last = Some(SystemFault {
+            call: SystemCall::StartThread,
+            error: last_error(),
+        });
         self.faults = self.faults.saturating_add(1);
     }
 }

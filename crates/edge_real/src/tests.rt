@@ -24,6 +24,8 @@ impl SocketNotices for Port {
 
     fn failed(&self, _peer: SocketAddr, _fault: SystemFault) {}
 
+    fn closed(&self, _peer: SocketAddr) {}
+
     fn for_link(&self) -> Port {
         Port { port: None }
     }

@@ -39,14 +39,15 @@ pub const NO_SCRIPT: &str =
 pub const NO_SEGMENT: &str =
     "a batch of the input is refused; the last line of the output names its place, and those before it are stored";
 
-/// The last faults of the standard streams, of the folder of disks, and of the socket that listens at an address, as
-/// the operating system told them.
+/// The last faults of the standard streams, of the folder of disks, of the socket that listens at an address, and of
+/// starting a thread, as the operating system told them.
 #[derive(Drop)]
 pub struct Faults<'a> {
     input: Option<SystemFault>,
     output: Option<SystemFault>,
     folder: Option<FolderFault<'a>>,
     listener: Option<(&'a Address, SystemFault)>,
+    spawner: Option<SystemFault>,
 }
 
 impl<'a> Faults<'a> {
@@ -61,6 +62,7 @@ impl<'a> Faults<'a> {
             output: output.last_fault(),
             folder,
             listener: None,
+            spawner: None,
         }
     }
 
@@ -71,6 +73,11 @@ impl<'a> Faults<'a> {
             None => None,
         };
         Faults { listener, ..self }
+    }
+
+    /// The same with the last fault of starting a thread.
+    pub fn with_spawner(self, spawner: Option<SystemFault>) -> Faults<'a> {
+        Faults { spawner, ..self }
     }
 }
 
@@ -107,6 +114,14 @@ fn tell_listener(rt: &HostRuntime, fault: Option<(&Address, SystemFault)>) {
     };
 }
 
+// A line that no thread was started, and what the operating system said.
+fn tell_spawner(rt: &HostRuntime, fault: Option<SystemFault>) {
+    let _ = match fault {
+        Some(fault) => eprintln!(rt; "sharebroker: {fault}"),
+        None => eprintln!(rt; "sharebroker: the system started no further thread"),
+    };
+}
+
 // The usage text, behind a line.
 fn tell_usage(rt: &HostRuntime) {
     tell(rt, "bad words");
@@ -130,7 +145,7 @@ pub fn tell_status(rt: &HostRuntime, status: u8, malformed: &str, faults: Faults
         DEVICE => tell_device(rt, faults.folder),
         NO_MEMORY => tell(rt, "out of memory"),
         LISTENER => tell_listener(rt, faults.listener),
-        SPAWNER => tell(rt, "the system started no further thread"),
+        SPAWNER => tell_spawner(rt, faults.spawner),
         _ => {}
     }
     status

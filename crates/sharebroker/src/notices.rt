@@ -101,15 +101,23 @@ impl Teller {
         }
     }
 
-    /// Tells a fault of a socket or a file, if this second has room for its line.
-    pub fn tell_fault(&self, of: &str, fault: SystemFault) {
+    // Whether this second has room for one more line. How many had none before is told.
+    fn admits(&self) -> bool {
         let Some(pace) = &self.pace else {
-            return;
+            return false;
         };
         if !pace.admits(seconds(&self.rt)) {
-            return;
+            return false;
         }
         self.tell_left_out();
+        true
+    }
+
+    /// Tells a fault of a socket or a file, if this second has room for its line.
+    pub fn tell_fault(&self, of: &str, fault: SystemFault) {
+        if !self.admits() {
+            return;
+        }
         let rt = &self.rt;
         let _ = eprintln!(rt; "sharebroker: {of}: {fault}");
     }
@@ -136,6 +144,16 @@ impl SocketNotices for Teller {
             return;
         };
         self.tell_fault(peer.as_str(), fault);
+    }
+
+    fn closed(&self, peer: SocketAddr) {
+        if !self.admits() {
+            return;
+        }
+        let rt = &self.rt;
+        let _ = eprintln!(rt;
+            "sharebroker: {peer}: closed, as what it sent is no request, or no memory was found for it"
+        );
     }
 
     fn for_link(&self) -> Teller {

@@ -96,9 +96,8 @@ pub fn serve_over_tcp<
         &mut spawner,
     );
     teller.tell_left_out();
-    let faults = Faults::of(input, output, bay.last_fault()).with_listener(
-        listen,
-        listener.last_fault(),
-    );
+    let faults = Faults::of(input, output, bay.last_fault())
+        .with_listener(listen, listener.last_fault())
+        .with_spawner(spawner.last_fault());
     tell_status(rt, status, NO_SEGMENT, faults)
 }
