@@ -2,6 +2,7 @@
 use crate::adapters::Adapters;
 use crate::formats::Formats;
 use crate::links::Links;
+use crate::runs::StoredRuns;
 use crate::stores::Stores;
 use crate::texts::Texts;
 use crate::windows::Windows;
@@ -16,6 +17,7 @@ enum Layer {
     Adapters,
     Links,
     Windows,
+    Runs,
     Texts,
 }
 
@@ -27,6 +29,7 @@ pub struct Case {
     adapters: Adapters,
     links: Links,
     windows: Windows,
+    runs: StoredRuns,
     texts: Texts,
 }
 
@@ -37,6 +40,7 @@ fn layer_of(name: &str) -> Option<Layer> {
         "adapters" => Some(Layer::Adapters),
         "links" => Some(Layer::Links),
         "windows" => Some(Layer::Windows),
+        "runs" => Some(Layer::Runs),
         "texts" => Some(Layer::Texts),
         _ => None,
     }
@@ -59,6 +63,7 @@ impl Case {
             adapters: Adapters::None,
             links: Links::new(alloc)?,
             windows: Windows::new(alloc),
+            runs: StoredRuns::new(alloc),
             texts: Texts::new(alloc),
         })
     }
@@ -83,6 +88,7 @@ impl Case {
             Layer::Adapters => self.adapters.told(alloc, kind, words),
             Layer::Links => self.links.told(alloc, kind, words),
             Layer::Windows => self.windows.told(alloc, kind, words),
+            Layer::Runs => self.runs.told(alloc, kind, words),
             Layer::Texts => self.texts.told(alloc, kind, words),
         }
     }
@@ -94,6 +100,7 @@ impl Rows for Case {
         self.adapters.set(Adapters::None);
         self.links.set(Links::new(alloc)?);
         self.windows.set(Windows::new(alloc));
+        self.runs.set(StoredRuns::new(alloc));
         self.texts.set(Texts::new(alloc));
         self.formats.begin(alloc)
     }

@@ -15,7 +15,7 @@ use crate::acks::ack_told;
 use crate::batches::{batch_told, made_told, placed_told, record_of, unchecked_told};
 use crate::kinds::wire_told;
 use crate::plain::is_text;
-use crate::records::record_told;
+use crate::records::{record_told, update_told};
 use crate::sessions::session_told;
 use crate::values::{name_told, order_told, state_told, sum_told, topic_told};
 use crc_castagnoli::crc32c;
@@ -55,6 +55,7 @@ fn words_told(alloc: Global, kind: &str, words: &str) -> io::Result<String> {
         "acks" => ack_told(alloc, words),
         "key" => is_text(alloc, words, order_told(words)),
         "state-number" => is_text(alloc, words, state_told(words)),
+        "update-of" => is_text(alloc, words, update_told(alloc, words)?.as_str()),
         _ => {
             let told = topic_told(alloc, kind, words)?;
             is_text(alloc, words, told.as_str())
@@ -126,7 +127,13 @@ impl Formats {
             "begins-fetch" | "begins-ack" | "closes" => {
                 session_told(alloc, kind, bytes, &mut self.sessions)
             }
-            "acks" | "key" | "state-number" | "topic-named" | "topic-of-id" | "shard-of" => {
+            "acks"
+            | "key"
+            | "state-number"
+            | "update-of"
+            | "topic-named"
+            | "topic-of-id"
+            | "shard-of" => {
                 let (words, _) = text.split_once(" is ").unwrap_or((text, ""));
                 words_told(alloc, kind, words)
             }

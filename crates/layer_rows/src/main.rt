@@ -1,8 +1,8 @@
 //! Worked examples of the lower layers: formats, stores on disks in memory, what adapters ask of the system, links
-//! and clocks in memory, windows, and texts.
+//! and clocks in memory, windows, runs, and texts.
 //!
 //! A line `layer NAME` before the cases of a file says which they are about: `formats`, `stores`, `adapters`,
-//! `links`, `windows` or `texts`. The head of the file with that name in `src/` says which lines there are.
+//! `links`, `windows`, `runs` or `texts`. The head of the file with that name in `src/` says which lines there are.
 #![tactic(auto)]
 
 mod acks;
@@ -20,6 +20,7 @@ mod logs;
 mod messages;
 mod plain;
 mod records;
+mod runs;
 mod sessions;
 mod stores;
 mod streams;

@@ -75,11 +75,14 @@ pub fn plain<V: Debug>(alloc: Global, value: &V) -> io::Result<String> {
         text,
         &[
             ("[ {", "[{"),
+            // A list of texts that are kept as they are spelled stands in no `Items`.
+            ("\"] }", "\"] ;"),
             ("{ list: [", "["),
             ("{ bytes: [", "["),
             ("] }", "]"),
             ("{ string: ", ""),
             ("\" }", "\""),
+            ("\"] ;", "\"] }"),
         ],
     )
 }

@@ -1,5 +1,6 @@
 // A case as far as it was read.
-use crate::judge::{judge_again, judge_bay, judge_count, judge_run, judge_settings, script_of};
+use crate::judge::{judge_again, judge_bay, judge_count, judge_runs, judge_settings, script_of};
+use crate::runs::{Flip, MarkLine, push_flips};
 use edge_io::{DiskName, FaultMode};
 use row_text::{Rows, Taken, bytes_of, without_blanks};
 use std::alloc::Global;
@@ -18,6 +19,8 @@ pub struct Case {
     pub disks: Vec<DiskLine>,
     pub arms: Vec<ArmLine>,
     pub left: Vec<DiskLine>,
+    pub marks: Vec<MarkLine>,
+    pub flips: Vec<Flip>,
 }
 
 /// A disk, and a content of it.
@@ -62,7 +65,7 @@ fn push_bytewise(alloc: Global, out: &mut String, text: &str) -> io::Result<()> 
 }
 
 /// A word, and the text behind it.
-fn field(text: &str) -> (&str, &str) {
+pub fn field(text: &str) -> (&str, &str) {
     text.split_once(' ').unwrap_or((text, ""))
 }
 
@@ -139,6 +142,15 @@ fn words_of(alloc: Global, text: &str) -> io::Result<Vec<String>> {
     Ok(words)
 }
 
+/// A line of a mark and the words that stand in its place.
+fn mark_line(alloc: Global, text: &str) -> io::Result<MarkLine> {
+    let (mark, words) = field(text);
+    Ok(MarkLine {
+        mark: String::from_str(alloc, mark)?,
+        words: words_of(alloc, words)?,
+    })
+}
+
 impl Case {
     pub fn new(alloc: Global) -> Case {
         Case {
@@ -153,6 +165,8 @@ impl Case {
             disks: Vec::new(alloc),
             arms: Vec::new(alloc),
             left: Vec::new(alloc),
+            marks: Vec::new(alloc),
+            flips: Vec::new(alloc),
         }
     }
 
@@ -167,6 +181,8 @@ impl Case {
             "disk" => self.disks.push(disk_line(alloc, text)?)?,
             "armed" => self.arms.push(arm_line(text))?,
             "left" => self.left.push(disk_line(alloc, text)?)?,
+            "with" => self.marks.push(mark_line(alloc, text)?)?,
+            "flip" => push_flips(alloc, &mut self.flips, self.disks.len() as u64, text)?,
             ">" => push_line(&mut self.script, text)?,
             "send" => push_bytes(alloc, &mut self.script, "bytes", text)?,
             "bytewise" => push_bytewise(alloc, &mut self.script, text)?,
@@ -194,12 +210,14 @@ impl Rows for Case {
         self.disks = Vec::new(alloc);
         self.arms = Vec::new(alloc);
         self.left = Vec::new(alloc);
+        self.marks = Vec::new(alloc);
+        self.flips = Vec::new(alloc);
         Ok(())
     }
 
     fn take(&mut self, rt: &HostRuntime, kind: &str, text: &str) -> io::Result<Taken> {
         let differs = match kind {
-            "status" => judge_run(rt, self, text)?,
+            "status" => judge_runs(rt, self, text)?,
             "lines" => judge_count(rt, self, text)?,
             "gen" => {
                 self.script = script_of(rt, text)?;

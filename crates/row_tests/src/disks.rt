@@ -4,6 +4,7 @@ ghost use Rattle.edge_mem.specs.Seen.{bay_view};
 ghost use Rattle.share_top.specs.Loading.{NoneIsOut};
 
 use crate::case::{ArmLine, Case, DiskLine};
+use crate::runs::content_of_run;
 use edge_io::{Bay, Disk, DiskName};
 use edge_mem::{MemBay, MemDisk};
 use row_text::compared;
@@ -11,19 +12,17 @@ use std::alloc::Global;
 use std::io;
 
 /// Gives a disk this content.
-fn fill(alloc: Global, bay: &mut MemBay, line: &DiskLine) -> io::Result<()>
+fn fill(alloc: Global, bay: &mut MemBay, name: &DiskName, bytes: Vec<u8>)
     requires { NoneIsOut bay_view bay.old }
     ensures { NoneIsOut bay_view bay.new }
 {
-    let name = &line.name;
-    let Ok(disk) = MemDisk::new(alloc, line.bytes.as_slice().to_vec(alloc)?) else {
-        return Ok(());
+    let Ok(disk) = MemDisk::new(alloc, bytes) else {
+        return;
     };
     let Ok(_) = bay.take(name) else {
-        return Ok(());
+        return;
     };
     bay.put_back(name, disk);
-    Ok(())
 }
 
 /// Arms a fault of a disk.
@@ -38,8 +37,8 @@ fn arm(bay: &mut MemBay, line: &ArmLine)
     bay.put_back(&line.name, disk);
 }
 
-/// The bay of a case.
-pub fn bay_of(alloc: Global, case: &Case) -> io::Result<MemBay>
+/// The bay of a run of a case.
+pub fn bay_of(alloc: Global, case: &Case, run: u64) -> io::Result<MemBay>
     ensures { IfOk result (λ bay. NoneIsOut bay_view bay) }
 {
     let taken = (case.disks.len() as u64).saturating_add(case.arms.len() as u64);
@@ -48,8 +47,11 @@ pub fn bay_of(alloc: Global, case: &Case) -> io::Result<MemBay>
         failing.push(call.saturating_add(taken))?;
     }
     let mut bay = MemBay::new(alloc, failing);
-    for disk in &case.disks {
-        fill(alloc, &mut bay, disk)?;
+    let mut number: u64 = 0;
+    for line in &case.disks {
+        let bytes = content_of_run(alloc, case, line, number, run)?;
+        fill(alloc, &mut bay, &line.name, bytes);
+        number = number.saturating_add(1);
     }
     for fault in &case.arms {
         arm(&mut bay, fault);

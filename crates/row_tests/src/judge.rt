@@ -5,6 +5,7 @@ ghost use Rattle.share_top.specs.Loading.{NoneIsOut};
 
 use crate::case::Case;
 use crate::disks::{bay_of, compared_disks};
+use crate::runs::{runs_of, script_of_run};
 use edge_mem::{MemBay, MemSink, MemSource};
 use row_text::compared;
 use session_script::{ScriptReader, Taken, write_event};
@@ -62,16 +63,17 @@ fn run_commands(
     Ok(format!(in alloc; "{ended} {next}")?)
 }
 
-// Runs the session of a case, and the command that it has behind it.
-fn run_case(rt: &HostRuntime, case: &Case) -> io::Result<Ran>
+// A run of the session of a case, and of the command that it has behind it.
+fn run_case(rt: &HostRuntime, case: &Case, run: u64) -> io::Result<Ran>
     ensures { IfOk result (λ ran. NoneIsOut bay_view ran.bay) }
 {
     let alloc = rt.alloc();
-    let mut given = case.script.as_bytes().to_vec(alloc)?;
+    let script = script_of_run(alloc, case, run)?;
+    let mut given = script.as_bytes().to_vec(alloc)?;
     given.extend_from_slice(&case.segment)?;
     let mut input = MemSource::new(given, case.read_faults.as_slice().to_vec(alloc)?);
     let mut output = MemSink::new(alloc, case.write_faults.as_slice().to_vec(alloc)?);
-    let mut bay = bay_of(alloc, case)?;
+    let mut bay = bay_of(alloc, case, run)?;
     let status = run_commands(alloc, case, &mut input, &mut output, &mut bay)?;
     Ok(Ran {
         status,
@@ -88,10 +90,10 @@ fn judged(alloc: Global, given: &str, wanted: &str) -> io::Result<Option<String>
     Ok(Some(format!(in alloc; "the status is {given}, and {wanted} is wanted")?))
 }
 
-/// Runs the session of a case.
-pub fn judge_run(rt: &HostRuntime, case: &Case, status: &str) -> io::Result<Option<String>> {
+// A run of the session of a case.
+fn judge_run(rt: &HostRuntime, case: &Case, run: u64, status: &str) -> io::Result<Option<String>> {
     let alloc = rt.alloc();
-    let mut ran = run_case(rt, case)?;
+    let mut ran = run_case(rt, case, run)?;
     if let Some(why) = judged(alloc, ran.status.as_str(), status)? {
         return Ok(Some(why));
     }
@@ -102,10 +104,21 @@ pub fn judge_run(rt: &HostRuntime, case: &Case, status: &str) -> io::Result<Opti
     compared_disks(alloc, &mut ran.bay, case)
 }
 
+/// Runs the session of a case, as often as its lines say.
+pub fn judge_runs(rt: &HostRuntime, case: &Case, status: &str) -> io::Result<Option<String>> {
+    for run in 0..runs_of(case) {
+        if let Some(why) = judge_run(rt, case, run, status)? {
+            let why = why.as_str();
+            return Ok(Some(format!(in rt.alloc(); "in run {run}, {why}")?));
+        }
+    }
+    Ok(None)
+}
+
 /// Runs the session of a case, and counts its lines.
 pub fn judge_count(rt: &HostRuntime, case: &Case, wanted: &str) -> io::Result<Option<String>> {
     let alloc = rt.alloc();
-    let ran = run_case(rt, case)?;
+    let ran = run_case(rt, case, 0)?;
     if let Some(why) = judged(alloc, ran.status.as_str(), "0")? {
         return Ok(Some(why));
     }

@@ -16,6 +16,8 @@
 //! | `read-fault N`, `write-fault N` | the call of the input or output that fails, counted from 0 |
 //! | `bay-fault N` | the call for a disk that fails, counted from 0; of a replay the disks of the partitions come first, in their order, of each its `log`, `state-a` and `state-b`, and then `foreign/state-a` and `foreign/state-b`; of a load there is the log alone |
 //! | `disk NAME HEX ..` | the content of a disk before the run; one that has no such line is empty |
+//! | `flip XX FIRST LAST` | the session is run once for each byte, from place FIRST to LAST, of the disk of the line before it; in that run this byte is changed, by an exclusive or with XX; further such lines add to the bytes |
+//! | `with MARK WORD ..` | the session is run once for each WORD, which stands in place of MARK in the script; of two such lines once for each pair, and so on |
 //! | `armed NAME N MODE` | a fault of a disk that is armed before the run |
 //! | `left NAME HEX ..` | the content that a disk is wanted to have behind the run |
 //! | `< LINE` | a line that is wanted |
@@ -31,6 +33,7 @@
 mod case;
 mod disks;
 mod judge;
+mod runs;
 
 use case::Case;
 use row_text::run_files;

@@ -1,5 +1,5 @@
 // The cases of the files that the arguments name.
-use crate::text::expanded;
+use crate::text::{expanded, numbered};
 use std::alloc::Global;
 use std::{env, fs, io};
 
@@ -85,7 +85,7 @@ fn parted(line: &str) -> (&str, &str) {
     line.split_once(' ').unwrap_or((line, ""))
 }
 
-/// Takes a line some times.
+/// Takes a line some times, with the number of the time in place of each `{#}`.
 fn take_times<R: Rows>(
     rt: &HostRuntime,
     rows: &mut R,
@@ -95,7 +95,8 @@ fn take_times<R: Rows>(
 ) -> io::Result<()> {
     let (kind, text) = parted(line);
     let text = expanded(rt.alloc(), text)?;
-    for _ in 0..count {
+    for time in 0..count {
+        let text = numbered(rt.alloc(), text.as_str(), time.saturating_add(1))?;
         let taken = rows.take(rt, kind, text.as_str())?;
         tally.note(rt, line, taken)?;
     }

@@ -40,6 +40,12 @@ pub fn expanded(alloc: Global, text: &str) -> io::Result<String> {
     Ok(out)
 }
 
+/// A text in which each `{#}` has become a number, in sixteen hexadecimal digits.
+pub fn numbered(alloc: Global, text: &str, number: u64) -> io::Result<String> {
+    let digits = hex::encode(alloc, &number.to_be_bytes())?;
+    Ok(text.replace(alloc, "{#}", digits.as_str())?)
+}
+
 /// A text without its blanks.
 pub fn without_blanks(alloc: Global, text: &str) -> io::Result<String> {
     let mut out = String::new(alloc);
