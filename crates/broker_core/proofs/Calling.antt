@@ -186,7 +186,8 @@ module _ {D : Type 0} (seen : D → DiskView) where
       was = e_is;
       is = f_is;
       step = step_named seen (hosted_slot x) was is (N old (with_parts old ys)) (ends_over old (with_parts old ys)) (of_slot was is t)
-          told now e.shard did f.shard step;
+          told now e.shard did f.shard step.step;
+      quiet = λ none. subst (λ (c : ℕ × ℕ). c.1 ≡ c.0) (sym (of_slot was is t).log) (step.quiet none told);
     }
 
     pub on_disks : (did : PartCall) (was is : OpenPart D) → T x y was is → Uses seen was is did → (name : List ℕ)

@@ -11,6 +11,7 @@ use Rattle.edge_io.specs.Disk.{IsTold}
 use Rattle.share_model.specs.ForeignRules.{share_state_at}
 use Rattle.share_model.specs.declared.fault.LogFault.{LogFault}
 use Rattle.share_model.specs.declared.fault.LogFault.TheVariants.{Batch as BadBatch, Behind, Store as Unstored, NoMemory}
+use Rattle.share_model.specs.declared.fault.StoreFault.TheVariants.{Device}
 use Rattle.share_model.specs.declared.hold.Grant.{Grant}
 use Rattle.share_model.specs.declared.visit.ExpireAnswer.{ExpireAnswer}
 use Rattle.share_model.specs.declared.visit.Then.{Then}
@@ -25,7 +26,7 @@ use Rattle.part_log.proofs.Looking.{carries_on}
 use Rattle.share_part.specs.Hosting.{PartConfParts, AreHosted, key_of}
 use Rattle.share_part.specs.Failures.{RunOnBoth}
 use Rattle.share_part.specs.Following.{IsFetch}
-use Rattle.share_part.specs.Once.{AcksStand, Expired, ExpiresOnce, PartStands, Produced as ProducedSo, Visited, VisitsOnce}
+use Rattle.share_part.specs.Once.{AcksStand, Expired, ExpiresOnce, PartStands, Produced as ProducedSo, ReadsBatches, Visited, VisitsOnce}
 use Rattle.share_part.specs.Shards.{Carries, IsPendingHosted, IsUntouched, PartShardState}
 use Rattle.share_part.specs.Walks.{IsSmallGrant}
 use Rattle.call_fold.specs.Parts.{IsTellableGrant}
@@ -36,6 +37,7 @@ use Rattle.broker_model.specs.Shards.{PartCall, look_at, reads_log, result_of}
 use Rattle.broker_model.specs.Shards.PartCall.{Visits, Produces, Looks, Expires}
 use Rattle.broker_model.specs.Acting.{Begun, EndsGoOn, StepsOn}
 use Rattle.broker_model.specs.Disks.{IsUsed, facts_of}
+use Rattle.broker_model.proofs.Quiets.{steps_batch, steps_still, steps_visit}
 use Rattle.broker_core.specs.Carried.{GoesOn, HaltsPart, IsPartCarried, LeadsPart, OpenPart, PartGoesOn, Uses, holding}
 use Rattle.broker_model.specs.Acting.Begun.{BeginsVisit, BeginsExpiry}
 use Rattle.edge_io.specs.Views.{DiskView}
@@ -192,30 +194,44 @@ module _ {D : Type 0} (seen : D → DiskView) where
     second_told = o.runs.1.told ∙ k.second.told;
   }
 
+  visit_steps : (old new : OpenPart D) (now : ℕ) (visit : Visit) (answer : VisitAnswer) (unread : Bool) → ReadsBatches seen (unread ≡ true) old.log new.log
+      → Visited seen holding now visit old new unread answer → Steps old new now (Visits visit answer unread)
+  visit_steps old new now visit answer unread reads visited t k =
+      let r = visited t k in (r.0, r.1, steps_visit seen old new old.conf now t r.0 visit answer unread reads r.2)
+
+  expiry_steps : (old new : OpenPart D) (now : ℕ) (answer : ExpireAnswer) → new.log ≡ old.log → Expired seen holding now old new answer
+      → Steps old new now (Expires answer)
+  expiry_steps old new now answer log expired t k =
+      let r = expired t k in (r.0, r.1, steps_still seen old new old.conf now t r.0 (Expires answer) log r.2)
+
   not_fetch : (asked : Then) → reads_log asked ≡ false → IsFetch asked → ⊥
   not_fetch Nothing reads fetch = fetch
   not_fetch Release reads fetch = fetch
   not_fetch (Fetch records bytes first) reads fetch = let bad : true ≡ false = reads in cc
 
   pub visit_leads : (old new : OpenPart D) (now : ℕ) (visit : Visit) (answer : VisitAnswer) (unread : Bool) → OnStates old new
-      → ((IsFetch visit.then → ⊥) → new.log ≡ old.log) → Visited seen holding now visit old new unread answer → Fed new
+      → ((IsFetch visit.then → ⊥) → new.log ≡ old.log) → ReadsBatches seen (unread ≡ true) old.log new.log
+      → Visited seen holding now visit old new unread answer → Fed new
       → (s : PartShardState) → Carried old.conf old s → LeadsPart seen old.conf now (Visits visit answer unread) old s new
-  visit_leads old new now visit answer unread o others steps fed = states_lead old new now (Visits visit answer unread) o steps fed (λ u. record {
-    used = u.first;
-    second_used = u.second;
-    log_used = u.log;
-    log = λ no. others (not_fetch visit.then no);
-    log_end = o.log_end;
-  })
+  visit_leads old new now visit answer unread o others reads steps fed =
+      states_lead old new now (Visits visit answer unread) o (visit_steps old new now visit answer unread reads steps) fed (λ u. record {
+        used = u.first;
+        second_used = u.second;
+        log_used = u.log;
+        log = λ no. others (not_fetch visit.then no);
+        log_end = o.log_end;
+      })
 
   abbrev pub IsVisit : Visit → PartCall → Type 0
   IsVisit visit did = (answer : VisitAnswer) × (unread : Bool) × (did ≡ Visits visit answer unread)
 
   pub visit_whole : (old new : OpenPart D) (now : ℕ) (visit : Visit) (answer : VisitAnswer) (unread : Bool) (Half : Begun → Type 0) → OnStates old new
-      → Visited seen holding now visit old new unread answer → (s : PartShardState) → Carried old.conf old s
+      → ReadsBatches seen (unread ≡ true) old.log new.log → Visited seen holding now visit old new unread answer
+      → (s : PartShardState) → Carried old.conf old s
       → HaltsPart seen old.conf now (IsVisit visit) Half old s new
-  visit_whole old new now visit answer unread Half o steps =
-      states_whole old new now (Visits visit answer unread) (IsVisit visit) Half (answer, unread, refl) o steps
+  visit_whole old new now visit answer unread Half o reads steps =
+      states_whole old new now (Visits visit answer unread) (IsVisit visit) Half (answer, unread, refl) o
+      (visit_steps old new now visit answer unread reads steps)
 
   -- where nothing of it has changed, it stands for what it stood for
   untouched : (old new : OpenPart D) → IsUntouched seen holding old new → (s : PartShardState) → Carries seen holding old s → Carries seen holding new s
@@ -254,15 +270,17 @@ module _ {D : Type 0} (seen : D → DiskView) where
       → Expired seen holding now old new answer → Fed new → (s : PartShardState) → Carried old.conf old s
       → LeadsPart seen old.conf now (Expires answer) old s new
   expire_leads old new now answer o log steps fed =
-      states_lead old new now (Expires answer) o steps fed (λ u. record { used = u.first; second_used = u.second; log = log })
+      states_lead old new now (Expires answer) o (expiry_steps old new now answer log steps) fed
+      (λ u. record { used = u.first; second_used = u.second; log = log })
 
   abbrev pub IsExpiry : PartCall → Type 0
   IsExpiry did = (answer : ExpireAnswer) × (did ≡ Expires answer)
 
-  pub expire_whole : (old new : OpenPart D) (now : ℕ) (answer : ExpireAnswer) (Half : Begun → Type 0) → OnStates old new
+  pub expire_whole : (old new : OpenPart D) (now : ℕ) (answer : ExpireAnswer) (Half : Begun → Type 0) → OnStates old new → new.log ≡ old.log
       → Expired seen holding now old new answer → (s : PartShardState) → Carried old.conf old s
       → HaltsPart seen old.conf now IsExpiry Half old s new
-  expire_whole old new now answer Half o steps = states_whole old new now (Expires answer) IsExpiry Half (answer, refl) o steps
+  expire_whole old new now answer Half o log steps =
+      states_whole old new now (Expires answer) IsExpiry Half (answer, refl) o (expiry_steps old new now answer log steps)
 
   pub expire_refused : (old new : OpenPart D) (now : ℕ) → OnStates old new
       → ((new ≡ old) ⊎ ((t : PartShardState) → Carries seen holding old t → PartStands seen holding now old new t))
@@ -307,17 +325,28 @@ module _ {D : Type 0} (seen : D → DiskView) where
   second_told : (old new : OpenPart D) → OnLog old new → IsTold (seen old.states.journal.second.disk).content → IsTold (seen new.states.journal.second.disk).content
   second_told old new o told = ap (λ (t : StoreParts D). is_some (seen t.journal.second.disk).content) o.states ∙ told
 
+  -- where no device fault is told, none of its calls failed
+  abbrev Quiet : OpenPart D → OpenPart D → Result ℕ LogFault → Type 0
+  Quiet old new added = added ≢ Err (Unstored Device) → IsTold (seen old.log.journal.disk).content
+      → (seen new.log.journal.disk).faults ≡ (seen old.log.journal.disk).faults
+
   abbrev Adds : OpenPart D → OpenPart D → (now : ℕ) → List ℕ → Result ℕ LogFault → Type 0
   Adds old new now batch added = added ≢ Err NoMemory → ProducedSo seen holding now batch old new added
+
+  batch_steps : (old new : OpenPart D) (now : ℕ) (batch : List ℕ) (produced : Produced) → Quiet old new (result_of produced)
+      → ProducedSo seen holding now batch old new (result_of produced) → Steps old new now (Produces batch produced)
+  batch_steps old new now batch produced quiet added t k =
+      let r = added t k in (r.0, r.1, steps_batch seen old new old.conf now t r.0 batch produced quiet r.2)
 
   abbrev pub IsBatch : List ℕ → PartCall → Type 0
   IsBatch batch did = (produced : Produced) × (did ≡ Produces batch produced)
 
   pub produce_leads : (old new : OpenPart D) (now : ℕ) (batch : List ℕ) (added : Result ℕ LogFault) (produced : Produced) → result_of produced ≡ added
-      → OnLog old new → Adds old new now batch added → Fed new → (s : PartShardState) → Carried old.conf old s
+      → OnLog old new → Quiet old new added → Adds old new now batch added → Fed new → (s : PartShardState) → Carried old.conf old s
       → LeadsPart seen old.conf now (Produces batch produced) old s new
-  produce_leads old new now batch added produced is o steps fed s k =
-      let r = subst (λ (x : Result ℕ LogFault). ProducedSo seen holding now batch old new x) (sym is) (steps (not_memory produced added is)) s k.carries in
+  produce_leads old new now batch added produced is o quiet steps fed s k =
+      let r = batch_steps old new now batch produced (subst (Quiet old new) (sym is) quiet)
+      (subst (λ (x : Result ℕ LogFault). ProducedSo seen holding now batch old new x) (sym is) (steps (not_memory produced added is))) s k.carries in
       record {
         after = r.0;
         carried = record {
@@ -338,10 +367,10 @@ module _ {D : Type 0} (seen : D → DiskView) where
   abbrev HaltsBatch : OpenPart D → OpenPart D → (now : ℕ) → List ℕ → PartShardState → Type 0
   HaltsBatch old new now batch s = HaltsPart seen old.conf now (IsBatch batch) (λ begun. ⊥) old s new
 
-  produced_whole : (old new : OpenPart D) (now : ℕ) (batch : List ℕ) (produced : Produced) → OnLog old new
+  produced_whole : (old new : OpenPart D) (now : ℕ) (batch : List ℕ) (produced : Produced) → OnLog old new → Quiet old new (result_of produced)
       → ProducedSo seen holding now batch old new (result_of produced) → (s : PartShardState) → Carried old.conf old s → HaltsBatch old new now batch s
-  produced_whole old new now batch produced o steps s k =
-      let r = steps s k.carries in
+  produced_whole old new now batch produced o quiet steps s k =
+      let r = batch_steps old new now batch produced quiet steps s k.carries in
       record {
         after = r.0;
         conf_is = o.conf;
@@ -354,16 +383,16 @@ module _ {D : Type 0} (seen : D → DiskView) where
       }
 
   pub produce_halts : (old new : OpenPart D) (now : ℕ) (batch : List ℕ) (added : Result ℕ LogFault) → ((end : ℕ) → added ≢ Err (Behind end))
-      → OnLog old new → Adds old new now batch added → (added ≡ Err NoMemory → new ≡ old) → (s : PartShardState) → Carried old.conf old s
+      → OnLog old new → Quiet old new added → Adds old new now batch added → (added ≡ Err NoMemory → new ≡ old) → (s : PartShardState) → Carried old.conf old s
       → HaltsBatch old new now batch s
-  produce_halts old new now batch (Ok base) behind o steps same s k =
-      produced_whole old new now batch (Base base) o (steps (λ e. let never : ⊥ = cc in never)) s k
-  produce_halts old new now batch (Err (BadBatch f)) behind o steps same s k =
-      produced_whole old new now batch (Batch f) o (steps (λ e. let never : ⊥ = cc in never)) s k
-  produce_halts old new now batch (Err (Unstored f)) behind o steps same s k =
-      produced_whole old new now batch (Store f) o (steps (λ e. let never : ⊥ = cc in never)) s k
-  produce_halts old new now batch (Err (Behind end)) behind o steps same s k = absurd (behind end refl)
-  produce_halts old new now batch (Err NoMemory) behind o steps same s k = record {
+  produce_halts old new now batch (Ok base) behind o quiet steps same s k =
+      produced_whole old new now batch (Base base) o quiet (steps (λ e. let never : ⊥ = cc in never)) s k
+  produce_halts old new now batch (Err (BadBatch f)) behind o quiet steps same s k =
+      produced_whole old new now batch (Batch f) o quiet (steps (λ e. let never : ⊥ = cc in never)) s k
+  produce_halts old new now batch (Err (Unstored f)) behind o quiet steps same s k =
+      produced_whole old new now batch (Store f) o quiet (steps (λ e. let never : ⊥ = cc in never)) s k
+  produce_halts old new now batch (Err (Behind end)) behind o quiet steps same s k = absurd (behind end refl)
+  produce_halts old new now batch (Err NoMemory) behind o quiet steps same s k = record {
     after = s;
     conf_is = o.conf;
     carries = subst (λ (p : OpenPart D). Carries seen holding p s) (sym (same refl)) k.carries;
@@ -382,10 +411,8 @@ module _ {D : Type 0} (seen : D → DiskView) where
   look_leads conf now group looked is told s k = record {
     after = s;
     carried = k;
-    step = (
-      told ∙ (λ i. look_at (share_state_at (sym k.carries.states i) (key_of (k.conf_is i) group))),
-      refl,
-    );
+    step = steps_still seen is is conf now s s (Looks group looked) refl
+        (told ∙ (λ i. look_at (share_state_at (sym k.carries.states i) (key_of (k.conf_is i) group))), refl);
     ends = record { log = omega arith };
     used = refl;
   }

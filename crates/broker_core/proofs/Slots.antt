@@ -21,7 +21,7 @@ use Rattle.broker_model.specs.Disks.{Facts, IsUsed, OnCalled, facts_of}
 use Rattle.broker_core.specs.declared.slot.PartSlot.{PartSlot}
 use Rattle.broker_core.specs.declared.slot.PartState.{PartState}
 use Rattle.broker_core.specs.declared.slot.PartState.TheVariants as part
-use Rattle.broker_model.specs.Acting.{Begun, HalvesOn, StepsOn}
+use Rattle.broker_model.specs.Acting.{Begun, HalvesOn, TakesStep}
 use Rattle.broker_core.specs.Carried.{OpenPart, Uses, UsesLog, UsesStates, UsesVisit}
 use Rattle.broker_model.specs.Acting.Begun.{BeginsVisit, BeginsExpiry}
 use Rattle.broker_core.specs.Hosts.{AreDistinct, HostsParts, among, counts_in, disks_in, ends_in, ends_over, facts_at, facts_in, foreign_disks, foreign_end, foreign_facts, hosted_slot, hosted_slots, open_disk, open_end, part_disk, part_end, slot_disks, slot_ends, slots_disks}
@@ -274,7 +274,7 @@ module _ {D : Type 0} (seen : D → DiskView) where
 
   pub step_named : (h : Hosted) (was is : OpenPart D) (counts : Counts) (ends : Ends) → AreOf h was is counts ends
       → IsTold (seen was.log.journal.disk).content → (now : ℕ) (old : PartShardState)
-      (did : PartCall) (new : PartShardState) → StepsOn seen h.conf was is now old did new → StepsPart true counts ends now h old did new
+      (did : PartCall) (new : PartShardState) → TakesStep seen h.conf was is now old did new → StepsPart true counts ends now h old did new
   step_named h was is counts ends a told now old (Visits visit answer unread) new step =
       subst (λ (n : ℕ). StepsVisit h.conf (record { told = true; rose = rose_at counts (log_of h); failed = unread })
       n (faults_behind counts (state_store h)) (ends (first_of h)).0 (ends (first_of h)).1 old now visit answer new) (sym a.before)

@@ -21,6 +21,7 @@ use Rattle.broker_model.proofs.Exclusive.{exclusive}
 use Rattle.broker_model.proofs.Taken.{all_taken}
 use Rattle.broker_model.proofs.Passing.{passes_closed}
 use Rattle.broker_model.proofs.Fails.{covers_both, step_counts}
+use Rattle.broker_model.proofs.Quiets.{all_told}
 use Rattle.broker_model.proofs.Stores.{has_first, has_second, same_self, store_taken}
 
 -- ---- losses
@@ -275,6 +276,7 @@ module _ (conf : ConfigParts) (first last : State) (steps : List Step) (run : Is
               rises conf name taken first last before after s (subst (λ (l : List Step). IsRun conf first l last) split run) none rise;
           once = λ before between after s split one free.
               once conf name taken first last before between after s (subst (λ (l : List Step). IsRun conf first l last) split run) one free;
+          told = λ log. all_told conf name taken log first last steps run;
           ends = l.ends name taken;
         };
         stores = λ store is. record { covered = (covered conf store is first last steps run).1; fails = fails store is };

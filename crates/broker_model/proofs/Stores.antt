@@ -16,7 +16,7 @@ same_self a = go (same_name a a) refl where
   go true is = refl
   go false is = absurd (other_text a a (sym is) refl)
 
-is_same : (a b : List ℕ) → same_name a b ≡ true → a ≡ b
+pub is_same : (a b : List ℕ) → same_name a b ≡ true → a ≡ b
 is_same a b is = same_text a b (sym is)
 
 or_first : (b : Bool) → (true || b) ≡ true
@@ -26,11 +26,11 @@ or_second : (b : Bool) → (b || true) ≡ true
 or_second true = refl
 or_second false = refl
 
-one_of : (a b : Bool) → (a || b) ≡ true → (a ≡ true) ⊎ (b ≡ true)
+pub one_of : (a b : Bool) → (a || b) ≡ true → (a ≡ true) ⊎ (b ≡ true)
 one_of true b is = inl refl
 one_of false b is = inr is
 
-both_of : (a b : Bool) → (a && b) ≡ true → (a ≡ true) × (b ≡ true)
+pub both_of : (a b : Bool) → (a && b) ≡ true → (a ≡ true) × (b ≡ true)
 both_of true b is = (refl, is)
 both_of false b is = absurd (true≢false (sym is))
 

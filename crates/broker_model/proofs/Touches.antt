@@ -101,7 +101,7 @@ module _ (conf : ConfigParts) (counts : Counts) (ends : Ends) (old new : Machine
 
 -- ---- disks
 
-disk_apart : (name : List ℕ) (event : Event) (call : Option ShardCall) (old new : Facts) → NoPower event → NoArm name event → calls call name ≡ false
+pub disk_apart : (name : List ℕ) (event : Event) (call : Option ShardCall) (old new : Facts) → NoPower event → NoArm name event → calls call name ≡ false
     → OnDisk name event call old new → new ≡ old
 disk_apart name (Open conn) call old new free unarmed away d = d
 disk_apart name (Bytes conn bytes) call old new free unarmed away d = d

@@ -104,6 +104,49 @@ answered_by (CallForeign op answer fault) = Some (record { part = Foreign op; an
 answered_by (CallPart shard hosted did) = answered_by_part shard did
 answered_by (CallMembers did) = answered_by_members did
 
+-- ---- which writes and readings of a call fail
+
+-- how many writes or readings failed on a device
+abbrev pub faults_met : Option StoreFault → ℕ
+faults_met None = 0
+faults_met (Some Device) = 1
+faults_met (Some (Full end)) = 0
+
+abbrev pub store_fault_of_ack : AckOutcome → Option StoreFault
+store_fault_of_ack acknowledged = None
+store_fault_of_ack (Malformed fault) = None
+store_fault_of_ack (NotHeld offset) = None
+store_fault_of_ack (ack_store fault) = Some fault
+
+abbrev pub store_fault_of_then : ThenOutcome → Option StoreFault
+store_fault_of_then followed = None
+store_fault_of_then (then_store fault) = Some fault
+
+abbrev pub store_fault_of_log : Produced → Option StoreFault
+store_fault_of_log (Base base) = None
+store_fault_of_log (Batch fault) = None
+store_fault_of_log (Store fault) = Some fault
+
+abbrev pub store_fault_of_expiry : ExpireAnswer → Option StoreFault
+store_fault_of_expiry (freed_all freed) = None
+store_fault_of_expiry (freed_some freed group fault) = Some fault
+
+-- Of a visit its acknowledgements may fail, and what follows them, unless that was the reading of a batch. An expiry ends at
+-- the first write that fails.
+abbrev pub state_faults_met : PartCall → ℕ
+state_faults_met (Visits visit answer unread) = faults_met (store_fault_of_ack answer.ack)
+    + (if unread then 0 else faults_met (store_fault_of_then answer.then))
+state_faults_met (Produces batch produced) = 0
+state_faults_met (Looks group looked) = 0
+state_faults_met (Expires answer) = faults_met (store_fault_of_expiry answer)
+
+-- of a batch its write may fail, and of a fetch the reading of a batch, which ends it
+abbrev pub log_faults_met : PartCall → ℕ
+log_faults_met (Visits visit answer unread) = if unread then faults_met (store_fault_of_then answer.then) else 0
+log_faults_met (Produces batch produced) = faults_met (store_fault_of_log produced)
+log_faults_met (Looks group looked) = 0
+log_faults_met (Expires answer) = 0
+
 -- ---- steps
 
 -- of each disk, by its name, its count of faults at entry of a step and behind it
@@ -151,11 +194,13 @@ StepsPart told counts ends now h old (Looks group looked) new =
 StepsPart told counts ends now h old (Expires answer) new =
     StepsExpire h.conf (faults_before counts (state_store h)) (faults_behind counts (state_store h)) (ends (first_of h)).0 (ends (first_of h)).1 old now answer new
 
--- this partition's shard does, and the log's disk tells its content
+-- This partition's shard does, and the log's disk tells its content. The answer tells each failed call of that disk: where it tells none,
+-- the count stands. A call of a state disk may fail untold, in a checkpoint.
 pub record StepsHosted (counts : Counts) (ends : Ends) (now : ℕ) (hosted : Hosted) (did : PartCall) (old new : HostedPart) : Type 0 where
   pub was : old.hosted ≡ hosted
   pub is : new.hosted ≡ hosted
   pub step : StepsPart true counts ends now hosted old.shard did new.shard
+  pub quiet : log_faults_met did ≡ 0 → faults_behind counts (log_store hosted) ≡ faults_before counts (log_store hosted)
 
 abbrev pub StepsMembers : ℕ → Memberships → MembersCall → Memberships → Type 0
 StepsMembers now old (Beats request reply) new =
@@ -197,7 +242,7 @@ faults_told (CallForeign op answer fault) = []
 faults_told (CallPart shard hosted did) = faults_of_part shard did
 faults_told (CallMembers did) = []
 
--- ---- which disks are called, and how many of their writes and readings fail
+-- ---- which disks are called, and how many writes and readings fail on each
 
 -- a fetch reads batches
 abbrev pub reads_log : Then → Bool
@@ -218,47 +263,6 @@ calls None name = false
 calls (Some (CallForeign op answer fault)) name = has_disk foreign_store name
 calls (Some (CallPart shard hosted did)) name = part_calls hosted did name
 calls (Some (CallMembers did)) name = false
-
--- how many writes or readings failed on a device
-abbrev pub faults_met : Option StoreFault → ℕ
-faults_met None = 0
-faults_met (Some Device) = 1
-faults_met (Some (Full end)) = 0
-
-abbrev pub store_fault_of_ack : AckOutcome → Option StoreFault
-store_fault_of_ack acknowledged = None
-store_fault_of_ack (Malformed fault) = None
-store_fault_of_ack (NotHeld offset) = None
-store_fault_of_ack (ack_store fault) = Some fault
-
-abbrev pub store_fault_of_then : ThenOutcome → Option StoreFault
-store_fault_of_then followed = None
-store_fault_of_then (then_store fault) = Some fault
-
-abbrev pub store_fault_of_log : Produced → Option StoreFault
-store_fault_of_log (Base base) = None
-store_fault_of_log (Batch fault) = None
-store_fault_of_log (Store fault) = Some fault
-
-abbrev pub store_fault_of_expiry : ExpireAnswer → Option StoreFault
-store_fault_of_expiry (freed_all freed) = None
-store_fault_of_expiry (freed_some freed group fault) = Some fault
-
--- Of a visit its acknowledgements may fail, and what follows them, unless that was the reading of a batch. An expiry ends at
--- the first write that fails.
-abbrev pub state_faults_met : PartCall → ℕ
-state_faults_met (Visits visit answer unread) = faults_met (store_fault_of_ack answer.ack)
-    + (if unread then 0 else faults_met (store_fault_of_then answer.then))
-state_faults_met (Produces batch produced) = 0
-state_faults_met (Looks group looked) = 0
-state_faults_met (Expires answer) = faults_met (store_fault_of_expiry answer)
-
--- of a batch its write may fail, and of a fetch the reading of a batch, which ends it
-abbrev pub log_faults_met : PartCall → ℕ
-log_faults_met (Visits visit answer unread) = if unread then faults_met (store_fault_of_then answer.then) else 0
-log_faults_met (Produces batch produced) = faults_met (store_fault_of_log produced)
-log_faults_met (Looks group looked) = 0
-log_faults_met (Expires answer) = 0
 
 -- on the disks of this store
 abbrev pub part_faults_met : Hosted → PartCall → StoreDisks → ℕ

@@ -16,7 +16,7 @@ use Rattle.share_part.specs.Shards.{PartShardState}
 use Rattle.share_part.specs.Visits.{StepsVisit, VisitsPart}
 use Rattle.shard_lock.specs.History.{Leads}
 use Rattle.shard_lock.specs.declared.shard.Entry.{Entry}
-use Rattle.broker_model.specs.Acting.{Begun, HalvesOn, StepsOn}
+use Rattle.broker_model.specs.Acting.{Begun, HalvesOn, TakesStep}
 use Rattle.broker_model.specs.Acting.Begun.{BeginsVisit, BeginsExpiry}
 use Rattle.broker_core.proofs.Places.{differs, same_self}
 use Rattle.broker_model.specs.Hosted.{Hosted, first_of, log_of, same_name, second_of, state_store}
@@ -101,7 +101,7 @@ module _ {D : Type 0} (seen : D → DiskView) where
     behind = λ i. (by_first i).1 + (by_second i).1
 
     visit_alone : (now : ℕ) (s : PartShardState) (visit : Visit) (answer : VisitAnswer) (unread : Bool) (t : PartShardState)
-        → StepsOn seen old.part.conf old.part new.part now s (Visits visit answer unread) t
+        → TakesStep seen old.part.conf old.part new.part now s (Visits visit answer unread) t
         → StepsAlone (of_host topic old) s (Called (Visits visit answer unread)) t
     visit_alone now s visit answer unread t p = (
       told,
@@ -115,7 +115,7 @@ module _ {D : Type 0} (seen : D → DiskView) where
           (failures_of seen old.part.states) (failures_of seen new.part.states) (ends []).0 (ends []).1 s now visit answer t) (sym by_log) p),
     )
 
-    call_alone : (now : ℕ) (s : PartShardState) (did : PartCall) (t : PartShardState) → StepsOn seen old.part.conf old.part new.part now s did t
+    call_alone : (now : ℕ) (s : PartShardState) (did : PartCall) (t : PartShardState) → TakesStep seen old.part.conf old.part new.part now s did t
         → StepsAlone (of_host topic old) s (Called did) t
     call_alone now s (Visits visit answer unread) t p = visit_alone now s visit answer unread t p
     call_alone now s (Produces batch produced) t p = (told, log_counts, log_ends, now, p)
@@ -142,7 +142,7 @@ module _ {D : Type 0} (seen : D → DiskView) where
 
     act_alone : (event : PartEvent) (answer : PartAnswer) (s t : PartShardState) (p : MovesPart seen old new event answer s t)
         → StepsAlone (of_host topic old) s (act_of seen old new event answer s t p) t
-    act_alone event (Ok told) s t p = call_alone event.now s p.0 t p.3
+    act_alone event (Ok told) s t p = call_alone event.now s p.0 t p.3.step
     act_alone event (Err fault) s t (inl same) = same
     act_alone event (Err fault) s t (inr half) = half_alone event.now s t half.0 half.2
 

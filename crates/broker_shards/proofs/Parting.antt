@@ -2,13 +2,15 @@
 use Rattle.std.proofs.Common.{◌≡◌, ◌≢◌, ◌≤◌, ◌⊎◌, arith, inl, inr, refl, sym, ap, ◌∙◌, subst, ℕ, List, Bool, Result, Err}
 use Rattle.std.specs.List.{AllByRecursion}
 use Rattle.edge_io.specs.Armed.{RunsOn}
+use Rattle.edge_io.specs.Disk.{IsTold}
 use Rattle.edge_io.specs.Views.{DiskView}
 use Rattle.edge_io.proofs.Runs.{runs_none}
 use Rattle.flex_fields.specs.declared.fault.NoMemory.{NoMemory as want}
 use Rattle.share_model.specs.ForeignRules.{share_state_at}
 use Rattle.share_model.specs.Held.{Held}
 use Rattle.share_model.specs.declared.fault.LogFault.{LogFault}
-use Rattle.share_model.specs.declared.fault.LogFault.TheVariants.{NoMemory}
+use Rattle.share_model.specs.declared.fault.LogFault.TheVariants.{Store, NoMemory}
+use Rattle.share_model.specs.declared.fault.StoreFault.TheVariants.{Device}
 use Rattle.share_model.specs.declared.visit.ExpireAnswer.{ExpireAnswer}
 use Rattle.share_model.specs.declared.visit.Visit.{Visit}
 use Rattle.share_model.specs.declared.visit.VisitAnswer.{VisitAnswer}
@@ -20,7 +22,7 @@ use Rattle.share_coord.specs.Holding.{Holds}
 use Rattle.share_coord.specs.States.{states_of}
 use Rattle.share_part.specs.Failures.{RunOnBoth}
 use Rattle.share_part.specs.Hosting.{PartConfParts, AreHosted, key_of}
-use Rattle.share_part.specs.Once.{AcksStand, Expired, PartStands, Produced as ProducedSo, Visited}
+use Rattle.share_part.specs.Once.{AcksStand, Expired, PartStands, Produced as ProducedSo, ReadsBatches, Visited}
 use Rattle.share_part.specs.Shards.{Carries, IsPendingHosted, IsUntouched, PartParts, PartShardState}
 use Rattle.share_part.specs.Walks.{IsSmallGrant}
 use Rattle.call_fold.specs.Parts.{HasTellableBase, IsTellableLook}
@@ -29,6 +31,7 @@ use Rattle.call_fold.specs.declared.part.Produced.{Produced}
 use Rattle.broker_model.specs.Acting.Begun.{BeginsVisit, BeginsExpiry}
 use Rattle.broker_model.specs.Shards.{look_at, result_of}
 use Rattle.broker_model.specs.Shards.PartCall.{Visits, Produces, Looks, Expires}
+use Rattle.broker_model.proofs.Quiets.{steps_batch, steps_still, steps_visit}
 use Rattle.broker_shards.specs.Acts.{ActsOnPart, ActsPart, Answers, FindsNoMemory, GoesOnPart}
 use Rattle.broker_shards.specs.Crashes.{FoundWithin}
 use Rattle.broker_shards.specs.Hosts.{Host, Window, holding}
@@ -79,29 +82,43 @@ module _ {D W : Type 0} (seen : D → DiskView) (holding : W → Held) (old new 
 
   -- ---- what is answered
 
-  pub visited : (now : ℕ) (visit : Visit) (answer : VisitAnswer) (unread : Bool) → Visited seen holding now visit old new unread answer
+  pub visited : (now : ℕ) (visit : Visit) (answer : VisitAnswer) (unread : Bool) → ReadsBatches seen (unread ≡ true) old.log new.log
+      → Visited seen holding now visit old new unread answer
       → AllByRecursion IsSmallGrant answer.grants → Answers seen holding now (asks.Visit visit) (tells.Visit answer) old new
-  visited now visit answer unread steps small = record {
+  visited now visit answer unread reads steps small = record {
     did = Visits visit answer unread;
     asks = refl;
     tells = refl;
     tellable = record { grants = grants_told answer.grants small };
-    steps = steps;
+    steps = λ s k. let r = steps s k in (r.0, r.1, steps_visit seen old new old.conf now s r.0 visit answer unread reads r.2);
   }
 
-  pub expired : (now : ℕ) (answer : ExpireAnswer) → Expired seen holding now old new answer
+  pub expired : (now : ℕ) (answer : ExpireAnswer) → new.log ≡ old.log → Expired seen holding now old new answer
       → Answers seen holding now asks.Expire (tells.Expire answer) old new
-  expired now answer steps = record { did = Expires answer; asks = refl; tells = refl; tellable = tt; steps = steps }
+  expired now answer log steps = record {
+    did = Expires answer;
+    asks = refl;
+    tells = refl;
+    tellable = tt;
+    steps = λ s k. let r = steps s k in (r.0, r.1, steps_still seen old new old.conf now s r.0 (Expires answer) log r.2);
+  }
+
+  -- where no device fault is told, no call of the log's disk failed
+  abbrev Quiet : Result ℕ LogFault → Type 0
+  Quiet result = result ≢ Err (Store Device) → IsTold (seen old.log.journal.disk).content
+      → (seen new.log.journal.disk).faults ≡ (seen old.log.journal.disk).faults
 
   pub added : (now : ℕ) (batch : List ℕ) (result : Result ℕ LogFault) (produced : Produced) → result_of produced ≡ result → HasTellableBase produced
-      → (result ≢ Err NoMemory → ProducedSo seen holding now batch old new result)
+      → Quiet result → (result ≢ Err NoMemory → ProducedSo seen holding now batch old new result)
       → Answers seen holding now (asks.Produce batch) (tells.Produce produced) old new
-  added now batch result produced is fair steps = record {
+  added now batch result produced is fair quiet steps = record {
     did = Produces batch produced;
     asks = refl;
     tells = refl;
     tellable = fair;
-    steps = subst (λ (x : Result ℕ LogFault). ProducedSo seen holding now batch old new x) (sym is) (steps (not_memory produced result is));
+    steps = λ s k.
+        let r = subst (λ (x : Result ℕ LogFault). ProducedSo seen holding now batch old new x) (sym is) (steps (not_memory produced result is)) s k in
+        (r.0, r.1, steps_batch seen old new old.conf now s r.0 batch produced (subst Quiet (sym is) quiet) r.2);
   }
 
   -- ---- want of memory
@@ -145,7 +162,12 @@ module _ {D W : Type 0} (seen : D → DiskView) (holding : W → Held) (part : P
     asks = refl;
     tells = refl;
     tellable = fair;
-    steps = λ s k. (s, k, (told ∙ ap (λ states. look_at (share_state_at states (key_of part.conf group))) (sym k.states), refl));
+    steps = λ s k. (
+      s,
+      k,
+      steps_still seen part part part.conf now s s (Looks group looked) refl
+          (told ∙ ap (λ states. look_at (share_state_at states (key_of part.conf group))) (sym k.states), refl),
+    );
   }
 
   pub look_refused : (group : List ℕ) (now : ℕ) → FindsNoMemory seen holding now (asks.Look group) part part

@@ -12,7 +12,6 @@ use Rattle.share_model.specs.Held.{Held}
 use Rattle.share_model.specs.Logs.{Batch, end_of}
 use Rattle.share_model.specs.declared.fault.LogFault.{LogFault}
 use Rattle.share_model.specs.declared.fault.LogFault.TheVariants.{Batch as BadBatch, Behind, Store, NoMemory}
-use Rattle.share_model.specs.declared.fault.StoreFault.{StoreFault}
 use Rattle.share_model.specs.declared.fault.StoreFault.TheVariants.{Device, Full}
 use Rattle.part_log.specs.Logs.{AddsOnce, IsAdded, IsStoredLog, IsWithin, Keeps, LogParts, MayFollow, frames_of}
 use Rattle.part_log.specs.Shards.{LogShardState, CarriesLog, IsLogOf, StepsLog, at_end}
@@ -195,16 +194,17 @@ module _ {D W : Type 0} (seen : D → DiskView) (holding : W → Held) (now : �
   sound : result ≡ Err (Store Device) → StarvesUnarmed seen old.log.journal.disk log.journal.disk
   sound is = (once.device is).3
 
-  -- no device call failed, where none is told
+  -- no device call failed, where no device fault is told
   abbrev Quiet : Type 0
   Quiet = IsQuiet seen old.log.journal.disk log.journal.disk
 
   quiet_same : log ≡ old.log → Quiet
   quiet_same same = λ told. ap (λ (l : LogParts D). (seen l.journal.disk).faults) same
 
-  quiet : (r : Result ℕ LogFault) → AddsOnce seen old.log log (at_end old.log.batches bytes) r → ((fault : StoreFault) → r ≢ Err (Store fault)) → Quiet
+  quiet : (r : Result ℕ LogFault) → AddsOnce seen old.log log (at_end old.log.batches bytes) r → r ≢ Err (Store Device) → Quiet
   quiet (Ok base) o none = o.quiet
-  quiet (Err (Store fault)) o none = absurd (none fault refl)
+  quiet (Err (Store Device)) o none = absurd (none refl)
+  quiet (Err (Store (Full at))) o none = quiet_same (o.unchanged (Store (Full at)) refl (λ e. let clash : ⊥ = cc in clash))
   quiet (Err (BadBatch fault)) o none = quiet_same (o.unchanged (BadBatch fault) refl (λ e. let clash : ⊥ = cc in clash))
   quiet (Err (Behind at)) o none = quiet_same (o.unchanged (Behind at) refl (λ e. let clash : ⊥ = cc in clash))
   quiet (Err NoMemory) o none = quiet_same (o.unchanged NoMemory refl (λ e. let clash : ⊥ = cc in clash))

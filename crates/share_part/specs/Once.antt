@@ -171,8 +171,8 @@ pub record ProducesOnce {D W : Type 0} (seen : D → DiskView) (holding : W → 
     (before after : PartParts D W) (result : Result ℕ LogFault) : Type 0 where
   pub steps : result ≢ Err log_memory → Produced seen holding now bytes before after result
   pub memory : result ≡ Err log_memory → after ≡ before
-  -- where it tells no store fault, no call of the log's disk failed
-  pub quiet : ((fault : StoreFault) → result ≢ Err (log_store fault)) → IsQuiet seen before.log.journal.disk after.log.journal.disk
+  -- where it tells no device fault, no call of the log's disk failed
+  pub quiet : result ≢ Err (log_store Device) → IsQuiet seen before.log.journal.disk after.log.journal.disk
   pub sound : result ≡ Err (log_store Device) → StarvesUnarmed seen before.log.journal.disk after.log.journal.disk
   -- at each moment since it began a crash leaves the log at entry, with or without its pending batch, or with this one
   pub any_moment : (old : PartShardState) → Carries seen holding before old → LeavesOnly seen before.log.journal.disk after.log.journal.disk

@@ -8,7 +8,7 @@ pub returns-then-starved-clause-stopped : goal.returns-then-starved-clause-stopp
 returns-then-starved-clause-stopped g c = produce_halts g.D.Disk.seen
     c.args.part.now c.produce-added.new.self c.args.now c.args.batch.now c.produce-added.result c.produce-added.ensures.behind
     (record { runs = c.produce-added.ensures.runs; ends = c.produce-added.ensures.once.ends; states = c.produce-added.ensures.once.states; conf = c.produce-added.ensures.once.conf })
-    c.produce-added.ensures.once.steps c.produce-added.ensures.once.memory
+    c.produce-added.ensures.once.quiet c.produce-added.ensures.once.steps c.produce-added.ensures.once.memory
 
 pub returns-then-starved-clause-disks : goal.returns-then-starved-clause-disks
 returns-then-starved-clause-disks g c = log_goes g.D.Disk.seen c.args.part.now c.produce-added.new.self
@@ -21,7 +21,7 @@ returns-clause-ok g c =
     (λ produced is s k. produce_leads g.D.Disk.seen
     c.args.part.now c.produce-added.new.self c.args.now c.args.batch.now c.produce-added.result produced is
     (record { runs = c.produce-added.ensures.runs; ends = c.produce-added.ensures.once.ends; states = c.produce-added.ensures.once.states; conf = c.produce-added.ensures.once.conf })
-    c.produce-added.ensures.once.steps (fed_three c.starved.result _ _ _ no c.starved.ensures) s k)
+    c.produce-added.ensures.once.quiet c.produce-added.ensures.once.steps (fed_three c.starved.result _ _ _ no c.starved.ensures) s k)
     c.told.ensures.ok
 
 pub returns-clause-stopped : goal.returns-clause-stopped
@@ -29,7 +29,7 @@ returns-clause-stopped g c = on_err_weaker c.told.result
     (λ is. produce_halts g.D.Disk.seen
     c.args.part.now c.produce-added.new.self c.args.now c.args.batch.now c.produce-added.result c.produce-added.ensures.behind
     (record { runs = c.produce-added.ensures.runs; ends = c.produce-added.ensures.once.ends; states = c.produce-added.ensures.once.states; conf = c.produce-added.ensures.once.conf })
-    c.produce-added.ensures.once.steps c.produce-added.ensures.once.memory)
+    c.produce-added.ensures.once.quiet c.produce-added.ensures.once.steps c.produce-added.ensures.once.memory)
     c.told.ensures.memory
 
 pub returns-clause-disks : goal.returns-clause-disks

@@ -20,7 +20,7 @@ returns-then-starved-clause-stopped g c =
     let is : c.visit.result ≡ Ok c.in_ok-answer.answer = search rules in
     let steps : Visited g.D.Disk.seen holding c.args.now c.args.visit.now c.args.part.now c.visit.new.self c.visit.ensures.once.unread c.in_ok-answer.answer = subst (λ r. IfOk r (Visited g.D.Disk.seen holding c.args.now c.args.visit.now c.args.part.now c.visit.new.self c.visit.ensures.once.unread)) is c.visit.ensures.once.steps in
     visit_whole g.D.Disk.seen c.args.part.now c.visit.new.self c.args.now c.args.visit.now c.in_ok-answer.answer c.visit.ensures.once.unread _
-    (visit_on g.D.Disk.seen c.args.part.now c.visit.new.self c.args.now c.args.visit.now c.visit.result c.visit.ensures.once c.visit.ensures.runs) steps
+    (visit_on g.D.Disk.seen c.args.part.now c.visit.new.self c.args.now c.args.visit.now c.visit.result c.visit.ensures.once c.visit.ensures.runs) c.visit.ensures.once.log steps
 
 pub returns-clause-ok : goal.returns-clause-ok
 returns-clause-ok g c =
@@ -29,5 +29,5 @@ returns-clause-ok g c =
     let steps : Visited g.D.Disk.seen holding c.args.now c.args.visit.now c.args.part.now c.visit.new.self c.visit.ensures.once.unread c.in_ok-answer.answer = subst (λ r. IfOk r (Visited g.D.Disk.seen holding c.args.now c.args.visit.now c.args.part.now c.visit.new.self c.visit.ensures.once.unread)) is c.visit.ensures.once.steps in (
       c.visit.ensures.once.unread,
       visit_leads g.D.Disk.seen c.args.part.now c.visit.new.self c.args.now c.args.visit.now c.in_ok-answer.answer c.visit.ensures.once.unread
-          (visit_on g.D.Disk.seen c.args.part.now c.visit.new.self c.args.now c.args.visit.now c.visit.result c.visit.ensures.once c.visit.ensures.runs) c.visit.ensures.once.others steps (fed_three c.starved.result _ _ _ no c.starved.ensures),
+          (visit_on g.D.Disk.seen c.args.part.now c.visit.new.self c.args.now c.args.visit.now c.visit.result c.visit.ensures.once c.visit.ensures.runs) c.visit.ensures.once.others c.visit.ensures.once.log steps (fed_three c.starved.result _ _ _ no c.starved.ensures),
     )

@@ -4,7 +4,7 @@ use Rattle.broker_shards.proofs.Parting.{expired, expiry_refused, states_go, sti
 use Rattle.broker_shards.proofs.part.expire.Goals as goal
 
 pub returns-in-Ok-clause-acts : goal.returns-in-Ok-clause-acts
-returns-in-Ok-clause-acts g c = expired g.D.Disk.seen holding c.args.part.now c.expire.new.self c.args.now c.in-Ok.answer c.in-Ok.ensures.once.steps
+returns-in-Ok-clause-acts g c = expired g.D.Disk.seen holding c.args.part.now c.expire.new.self c.args.now c.in-Ok.answer c.in-Ok.ensures.once.log c.in-Ok.ensures.once.steps
 
 pub returns-in-Ok-clause-goes_on : goal.returns-in-Ok-clause-goes_on
 returns-in-Ok-clause-goes_on g c = let once = c.in-Ok.ensures.once in

@@ -5,7 +5,7 @@ use Rattle.broker_shards.proofs.part.produce.Goals as goal
 
 pub returns-in-Ok-clause-acts : goal.returns-in-Ok-clause-acts
 returns-in-Ok-clause-acts g c = added g.D.Disk.seen holding c.args.part.now c.produce-added.new.self c.args.now c.args.batch.now
-    c.produce-added.result c.in-Ok.told c.in-Ok.ensures.ok c.in-Ok.ensures.tellable c.produce-added.ensures.once.steps
+    c.produce-added.result c.in-Ok.told c.in-Ok.ensures.ok c.in-Ok.ensures.tellable c.produce-added.ensures.once.quiet c.produce-added.ensures.once.steps
 
 pub returns-in-Ok-clause-goes_on : goal.returns-in-Ok-clause-goes_on
 returns-in-Ok-clause-goes_on g c = let once = c.produce-added.ensures.once in

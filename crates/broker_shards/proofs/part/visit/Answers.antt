@@ -5,7 +5,7 @@ use Rattle.broker_shards.proofs.part.visit.Goals as goal
 
 pub returns-in-Ok-clause-acts : goal.returns-in-Ok-clause-acts
 returns-in-Ok-clause-acts g c = visited g.D.Disk.seen holding c.args.part.now c.visit.new.self c.args.now c.args.visit.now c.in-Ok.answer
-    c.in-Ok.ensures.once.unread c.in-Ok.ensures.once.steps c.in-Ok.ensures.ranges
+    c.in-Ok.ensures.once.unread c.in-Ok.ensures.once.log c.in-Ok.ensures.once.steps c.in-Ok.ensures.ranges
 
 pub returns-in-Ok-clause-goes_on : goal.returns-in-Ok-clause-goes_on
 returns-in-Ok-clause-goes_on g c = let once = c.in-Ok.ensures.once in
