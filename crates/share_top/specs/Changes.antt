@@ -3,7 +3,8 @@
 use Rattle.std.specs.Prelude.{◌≡◌, ℕ, List, Bool}
 use Rattle.std.specs.declared.option.Option.{Option}
 
--- of an input: what it has left, `None` where it doesn't tell; whether it has ended; its count of faults; and that it was not touched
+-- of an input: what it has left, `None` where it doesn't tell; whether it has ended; its count of faults; and that it
+-- was not touched
 pub record InputChange : Type 1 where
   pub left : Option (List ℕ)
   pub left_after : Option (List ℕ)

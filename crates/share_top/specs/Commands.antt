@@ -27,11 +27,13 @@ pub record DoesCommand {B D : Type 0} (bay_seen : B → BayView D) (seen : D →
   -- a disk that isn't the command's is as it was, and a load arms no fault of its disk and loses no power
   pub others : LeavesOthers bay_seen words old new
   pub load_runs : LoadRuns bay_seen seen words old new
-  -- where the disks stand for logs and states, and the bay is sound or no count of it and its disks rose, a script is done
+  -- where the disks stand for logs and states, and the bay is sound or no count of it and its disks rose, a script is
+  -- done
   pub complete : Completes bay_seen seen old new words input output number
   -- where no count rose, a segment whose batches may stand behind the log is loaded, or memory or the log's room ended
   pub load_completes : LoadCompletes bay_seen seen old new words input output number
   -- where the words are those of a dump, it writes what the disks stand for, and these stand for it behind it
-  pub dumps : (conf : ConfigParts) → AreDumpStateWords (texts words) conf → DumpsState bay_seen seen old new conf input output number
+  pub dumps : (conf : ConfigParts) → AreDumpStateWords (texts words) conf
+      → DumpsState bay_seen seen old new conf input output number
   -- where they are those of `gen`, it writes the script of the number
   pub generates : (n : ℕ) → AreGenWords (texts words) n → Generates n (input.Same × (new ≡ old)) output number

@@ -1,6 +1,6 @@
 -- What is stored of share groups, as `dump-state` writes it (this project's own; docs/SCRIPT.md shows it).
--- For example where `g` released the one record of partition 0 of `orders` once, it writes `table 67 orders/0 start 0`, `run 0 0 available 1`
--- and `end`.
+-- For example where `g` released the one record of partition 0 of `orders` once, it writes `table 67 orders/0 start 0`,
+-- `run 0 0 available 1` and `end`.
 use Rattle.std.specs.Prelude.{◌≡◌, ◌≢◌, ◌⊎◌, ℕ, List, [], ◌∷◌, ◌++◌, codes}
 use Rattle.std.specs.List.{flat_map}
 use Rattle.std.specs.Io.KnownBytes.{Appends}
@@ -34,15 +34,17 @@ part_text p = tables_text p.hosted.topic p.hosted.conf.part p.shard.states
 abbrev pub foreign_texts : ShareStates → List ℕ
 foreign_texts states = flat_map (λ e. foreign_text e.0 e.1) states
 
--- those of each hosted partition in the order of the configuration, then foreign state, and the last line; 10 is a line feed
+-- those of each hosted partition in the order of the configuration, then foreign state, and the last line; 10 is a line
+-- feed
 abbrev pub dump_text : Shards → List ℕ
 dump_text shards = flat_map part_text shards.parts ++ (foreign_texts shards.foreign.states ++ (codes "end" ++ 10 ∷ []))
 
 -- ---- the disks
 
--- The disks stand for a broker at entry, and behind the call for the same, with nothing pending; no power of theirs was lost, and no
--- fault was armed. This is said of its text.
-pub record IsDumped (conf : ConfigParts) (Says : List ℕ → Type 0) (contents : List ℕ → List ℕ) (was : Disks) (left : List ℕ → List ℕ) (now : Disks)
+-- The disks stand for a broker at entry, and behind the call for the same, with nothing pending; no power of theirs was
+-- lost, and no fault was armed. This is said of its text.
+pub record IsDumped (conf : ConfigParts) (Says : List ℕ → Type 0) (contents : List ℕ → List ℕ) (was : Disks)
+    (left : List ℕ → List ℕ) (now : Disks)
     : Type 0 where
   pub machine : Machine
   pub opens : Opening conf contents machine
@@ -68,7 +70,8 @@ IsWritten output Dumped Damaged = ⊥
 IsWritten output Dumped Device = ⊥
 
 -- a dump over the disks of a bay
-abbrev pub IsDump : {B D : Type 0} → (B → BayView D) → (D → DiskView) → B → B → ConfigParts → OutputChange → Status → Type 0
+abbrev pub IsDump : {B D : Type 0} → (B → BayView D) → (D → DiskView) → B → B → ConfigParts → OutputChange → Status
+    → Type 0
 IsDump bay_seen seen old new conf output status =
     IsWritten output (λ Says. OverBay bay_seen seen conf old new (IsDumped conf Says)) status
     ⊎ (DisksStay bay_seen seen (status ≡ Device) old new
@@ -86,7 +89,8 @@ pub record DumpsState {B D : Type 0} (bay_seen : B → BayView D) (seen : D → 
   pub unread : input.Same
   -- over a sound bay no disk fails it
   pub sound : IsSound bay_seen seen old → number ≢ 7
-  -- where the disks stand for logs and states, the bay is sound or no count of it and its disks rose, and the output's didn't rise, the
-  -- text is written whole, or no memory was found
-  pub complete : HoldsStates bay_seen seen conf old → IsSound bay_seen seen old ⊎ (CountRose bay_seen seen conf old new → ⊥)
+  -- where the disks stand for logs and states, the bay is sound or no count of it and its disks rose, and the output's
+  -- didn't rise, the text is written whole, or no memory was found
+  pub complete : HoldsStates bay_seen seen conf old → IsSound bay_seen seen old
+      ⊎ (CountRose bay_seen seen conf old new → ⊥)
       → (Rose output.faults output.faults_after → ⊥) → (number ≡ 0) ⊎ (number ≡ 8)

@@ -1,6 +1,6 @@
 -- The loading of a segment into the log of one partition (this project's own).
--- For example a segment of a batch of 69 bytes with base 0 and one of 61 bytes with base 1000000000000 and last delta 4, loaded into an
--- empty log, ends with status 0 and the line `loaded 2 1000000000005`.
+-- For example a segment of a batch of 69 bytes with base 0 and one of 61 bytes with base 1000000000000 and last delta
+-- 4, loaded into an empty log, ends with status 0 and the line `loaded 2 1000000000005`.
 use Rattle.std.specs.Prelude.{◌≡◌, ◌⊎◌, ◌<◌, ◌≤◌, ◌+◌, ◌-◌, ◌^◌, ℕ, List, [], ◌∷◌, ◌++◌, true, false, Some, None, IfSome, String, length, codes}
 use Rattle.std.specs.declared.option.Option.{Option}
 use Rattle.std.specs.declared.alloc.Global.{Global}
@@ -70,8 +70,9 @@ pub record IsBegunSegment (input : InputChange) (Ends : LoadEnding) : Type 0 whe
   pub begins : IfSome input.left (λ text. (rest : List ℕ) × Begins text log (batches ++ option_to_list pending) rest)
   pub ends : Ends log batches pending
 
--- The log has no room for the batch behind these: the batch's offsets reach 2^62, or its frame would end past 2^62 bytes behind the log's
--- journal, which ends with a gate, the byte behind the frames. `at` is where the log or the journal ends.
+-- The log has no room for the batch behind these: the batch's offsets reach 2^62, or its frame would end past 2^62
+-- bytes behind the log's journal, which ends with a gate, the byte behind the frames. `at` is where the log or the
+-- journal ends.
 pub record IsFullSegment (input : InputChange) (Ends : LoadEnding) : Type 0 where
   pub log : List Batch
   pub batches : List Batch
@@ -83,27 +84,34 @@ pub record IsFullSegment (input : InputChange) (Ends : LoadEnding) : Type 0 wher
 
 -- and of the count of the batches and the log's end
 abbrev pub WithLine : LoadEnding → (List ℕ → Type 0) → LoadEnding
-WithLine Ends Tells log batches pending = Ends log batches pending × Tells (loaded_line (length batches) (end_of (log ++ batches)))
+WithLine Ends Tells log batches pending = Ends log batches pending
+    × Tells (loaded_line (length batches) (end_of (log ++ batches)))
 
 -- and of the place behind the batches
 abbrev pub WithPlace : LoadEnding → (List ℕ → Type 0) → LoadEnding
-WithPlace Ends Tells log batches pending = Ends log batches pending × Tells (malformed_line (length (segment_of batches)))
+WithPlace Ends Tells log batches pending = Ends log batches pending
+    × Tells (malformed_line (length (segment_of batches)))
 
 -- ---- what each status says
 
--- The log was opened. `Ends` is said of what was read and of the log, and `Rises` says that a count of the disk or the bay rose.
+-- The log was opened. `Ends` is said of what was read and of the log, and `Rises` says that a count of the disk or the
+-- bay rose.
 abbrev pub IsLoaded : InputChange → OutputChange → LoadEnding → Type 0 → Status → Type 0
 -- the batches of the segment were added
 IsLoaded input output Ends Rises Done = IsWhole input (WithLine Ends (Appends output.held output.held_after))
 -- those before the first one that was refused were, and the last line names the first byte of that
-IsLoaded input output Ends Rises Malformed = IsRefusedSegment input (WithPlace Ends (Appends output.held output.held_after))
+IsLoaded input output Ends Rises Malformed =
+    IsRefusedSegment input (WithPlace Ends (Appends output.held output.held_after))
 -- those that the input gave whole were
-IsLoaded input output Ends Rises ReadFault = Rose input.faults input.faults_after × Keeps output.held output.held_after × IsCutSegment input Ends
+IsLoaded input output Ends Rises ReadFault = Rose input.faults input.faults_after × Keeps output.held output.held_after
+    × IsCutSegment input Ends
 -- the output took a front of the last line
 IsLoaded input output Ends Rises WriteFault = Rose output.faults output.faults_after
-    × (IsWhole input (WithLine Ends (λ line. WritesFrontOf line output)) ⊎ IsRefusedSegment input (WithPlace Ends (λ line. WritesFrontOf line output)))
+    × (IsWhole input (WithLine Ends (λ line. WritesFrontOf line output))
+    ⊎ IsRefusedSegment input (WithPlace Ends (λ line. WritesFrontOf line output)))
 -- those before the one that couldn't be stored were, and that one is pending, if one is; or the log has no room for it
-IsLoaded input output Ends Rises Device = Keeps output.held output.held_after × ((Rises × IsBegunSegment input Ends) ⊎ IsFullSegment input Ends)
+IsLoaded input output Ends Rises Device = Keeps output.held output.held_after
+    × ((Rises × IsBegunSegment input Ends) ⊎ IsFullSegment input Ends)
 IsLoaded input output Ends Rises NoMemory = Keeps output.held output.held_after × IsBegunSegment input Ends
 -- the others don't come
 IsLoaded input output Ends Rises Damaged = ⊥
@@ -114,7 +122,8 @@ IsLoaded input output Ends Rises Spawner = ⊥
 -- The log was not opened. `Damages` says of a place that the content of the disk isn't a log's, by this place.
 abbrev pub IsNotLoaded : OutputChange → List ℕ → (ℕ → Type 0) → Type 0 → Status → Type 0
 -- all that was written is the line that names the disk, or a front of that
-IsNotLoaded output disk Damages Rises Damaged = (place : ℕ) × Damages place × Appends output.held output.held_after (damaged_line disk place)
+IsNotLoaded output disk Damages Rises Damaged = (place : ℕ) × Damages place
+    × Appends output.held output.held_after (damaged_line disk place)
 IsNotLoaded output disk Damages Rises WriteFault = Rose output.faults output.faults_after
     × ((place : ℕ) × Damages place × WritesFrontOf (damaged_line disk place) output)
 -- nothing was written
@@ -136,19 +145,23 @@ NoneIsOut bay_seen bay = (name : List ℕ) → (bay_seen bay).out name ≡ false
 
 -- the disk of the log of a shard's partition
 abbrev pub IsLogDisk : List Topic → ℕ → List ℕ → Type 0
-IsLogDisk topics shard name = (topic : Topic) × (number : ℕ) × IsPartitionOf topics shard topic number × (name ≡ hosted_name topic.name number Log)
+IsLogDisk topics shard name = (topic : Topic) × (number : ℕ) × IsPartitionOf topics shard topic number
+    × (name ≡ hosted_name topic.name number Log)
 
 -- where a bay tells the disk of this name, it tells it behind the call as well
 abbrev pub OverDisk : {B D : Type 0} → (B → BayView D) → (D → DiskView) → List ℕ → B → B
     → (D → List ℕ → D → List ℕ → Type 0) → Type 0
-OverDisk bay_seen seen name old new P = (d : _) (c : List ℕ) → (bay_seen old).disk name ≡ Some d → (seen d).content ≡ Some c →
+OverDisk bay_seen seen name old new P = (d : _) (c : List ℕ) → (bay_seen old).disk name ≡ Some d
+    → (seen d).content ≡ Some c →
     (e : _) × (left : List ℕ) × ((bay_seen new).disk name ≡ Some e) × ((seen e).content ≡ Some left) × P d c e left
 
--- The disk stood for the log. A crash behind the call leaves the log with these batches, with or without the pending one; so does a read.
+-- The disk stood for the log. A crash behind the call leaves the log with these batches, with or without the pending
+-- one; so does a read.
 pub record IsStored {D : Type 0} (seen : D → DiskView) (log batches : List Batch) (pending : Option Batch)
     (content : List ℕ) (now : D) (left : List ℕ) : Type 0 where
   pub before : IsLogText content log
-  pub images : (c : List ℕ) → (seen now).image c → WithPending (IsLogText c) (log ++ batches) (and_pending (log ++ batches) pending)
+  pub images : (c : List ℕ) → (seen now).image c
+      → WithPending (IsLogText c) (log ++ batches) (and_pending (log ++ batches) pending)
   pub read : (seen now).image left
 
 abbrev pub StoresIn : {B D : Type 0} → (B → BayView D) → (D → DiskView) → List ℕ → B → B → LoadEnding
@@ -157,20 +170,26 @@ StoresIn bay_seen seen name old new log batches pending =
 
 -- a crash behind the call leaves what one before it might have left, or what stands for the same frames
 abbrev pub StaysIn : {B D : Type 0} → (B → BayView D) → (D → DiskView) → List ℕ → B → B → Type 0
-StaysIn bay_seen seen name old new = OverDisk bay_seen seen name old new (λ d c e left. (x : List ℕ) → (seen e).image x → StandsAs (seen d).image x)
+StaysIn bay_seen seen name old new =
+    OverDisk bay_seen seen name old new (λ d c e left. (x : List ℕ) → (seen e).image x → StandsAs (seen d).image x)
 
 -- the content of the disk isn't a log's, by this place
 abbrev pub DamagesIn : {B D : Type 0} → (B → BayView D) → (D → DiskView) → List ℕ → B → ℕ → Type 0
-DamagesIn bay_seen seen name old place = (d : _) (c : List ℕ) → (bay_seen old).disk name ≡ Some d → (seen d).content ≡ Some c → IsNoLogText c place
+DamagesIn bay_seen seen name old place = (d : _) (c : List ℕ) → (bay_seen old).disk name ≡ Some d
+    → (seen d).content ≡ Some c → IsNoLogText c place
 
--- the bay's count of faults rose, in which are those of the disk; or the disk was taken with one at its last value, as the bay notes it
+-- the bay's count of faults rose, in which are those of the disk; or the disk was taken with one at its last value, as
+-- the bay notes it
 abbrev pub DiskCountRose : {B D : Type 0} → (B → BayView D) → List ℕ → B → B → Type 0
-DiskCountRose bay_seen name old new = Rose (bay_seen old).faults (bay_seen new).faults ⊎ (2 ^ 64 - 1 ≤ (bay_seen new).taken name)
+DiskCountRose bay_seen name old new = Rose (bay_seen old).faults (bay_seen new).faults
+    ⊎ (2 ^ 64 - 1 ≤ (bay_seen new).taken name)
 
 -- So it did where memory was found: no call on the disk found none, and the bay has found it at each.
-pub record FailsWithMemory {B D : Type 0} (bay_seen : B → BayView D) (seen : D → DiskView) (name : List ℕ) (old new : B) : Type 0 where
+pub record FailsWithMemory {B D : Type 0} (bay_seen : B → BayView D) (seen : D → DiskView) (name : List ℕ)
+    (old new : B) : Type 0 where
   pub rose : DiskCountRose bay_seen name old new
-  pub disk : (d e : D) → (bay_seen old).disk name ≡ Some d → (bay_seen new).disk name ≡ Some e → (seen e).starved ≡ true → (seen d).starved ≡ true
+  pub disk : (d e : D) → (bay_seen old).disk name ≡ Some d → (bay_seen new).disk name ≡ Some e → (seen e).starved ≡ true
+      → (seen d).starved ≡ true
   pub bay : (bay_seen new).starved ≡ false
 
 -- a load on the disk of this name
@@ -187,17 +206,20 @@ IsLoad bay_seen seen name old new input output status =
 abbrev pub LoadsWith : {B D : Type 0} → (B → BayView D) → (D → DiskView)
     → B → B → List (String Global) → InputChange → OutputChange → ℕ → Type 0
 LoadsWith bay_seen seen old new words input output number =
-    (conf : ConfigParts) (shard : ℕ) → AreLoadWords (texts words) conf shard → (status : Status) × (number ≡ status_number status)
+    (conf : ConfigParts) (shard : ℕ) → AreLoadWords (texts words) conf shard → (status : Status)
+    × (number ≡ status_number status)
     × (((status ≡ NoMemory) × input.Same × output.Same × (new ≡ old))
     ⊎ ((name : List ℕ) × IsLogDisk conf.topics shard name × IsLoad bay_seen seen name old new input output status))
 
--- A segment whose batches may stand behind the log is loaded, where no count rose, memory is found and the log has room; it hasn't
--- with 7 alone.
+-- A segment whose batches may stand behind the log is loaded, where no count rose, memory is found and the log has
+-- room; it hasn't with 7 alone.
 abbrev pub LoadCompletes : {B D : Type 0} → (B → BayView D) → (D → DiskView)
     → B → B → List (String Global) → InputChange → OutputChange → ℕ → Type 0
 LoadCompletes bay_seen seen old new words input output number =
-    (conf : ConfigParts) (shard : ℕ) (name : List ℕ) → AreLoadWords (texts words) conf shard → IsLogDisk conf.topics shard name
+    (conf : ConfigParts) (shard : ℕ) (name : List ℕ) → AreLoadWords (texts words) conf shard
+    → IsLogDisk conf.topics shard name
     → (DiskCountRose bay_seen name old new → ⊥)
     → (Rose input.faults input.faults_after → ⊥) → (Rose output.faults output.faults_after → ⊥)
-    → (d : _) (c : List ℕ) (log batches : List Batch) → (bay_seen old).disk name ≡ Some d → (seen d).content ≡ Some c → IsLogText c log
+    → (d : _) (c : List ℕ) (log batches : List Batch) → (bay_seen old).disk name ≡ Some d → (seen d).content ≡ Some c
+    → IsLogText c log
     → IfSome input.left (λ text. IsSegment text log batches → (number ≡ 0) ⊎ ((number ≡ 7) ⊎ (number ≡ 8)))

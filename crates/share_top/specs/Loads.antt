@@ -46,26 +46,32 @@ pub record IsNext (log : List Batch) (unread : Unread) (b : Batch) : Type 0 wher
   pub within : unread.place + length b.bytes ≤ longest
 
 -- The batch at the front was added and taken, or the segment ended, or it was stopped there.
-abbrev pub LoadsNext : {D : Type 0} → (D → DiskView) → LogParts D → LogParts D → Unread → Unread → InputChange → Result Bool Stop → Type 0
+abbrev pub LoadsNext : {D : Type 0} → (D → DiskView) → LogParts D → LogParts D → Unread → Unread → InputChange
+    → Result Bool Stop → Type 0
 LoadsNext seen old new unread now input (Ok true) =
     (b : Batch) × Takes unread now input.left input.left_after b.bytes × (now.place ≤ longest) × IsAdded seen old new b
 LoadsNext seen old new unread now input (Ok false) =
-    Takes unread now input.left input.left_after [] × (now.pending ≡ []) × IsAtEnd input.left_after × (input.ended ≡ true) × (new ≡ old)
-LoadsNext seen old new unread now input (Err (Refused place)) = Takes unread now input.left input.left_after [] × (place ≡ now.place) × (new ≡ old)
-    × IfSome input.left_after (λ more. HasNoBatch now.place old.batches (now.pending ++ more) × (now.pending ++ more ≢ []))
+    Takes unread now input.left input.left_after [] × (now.pending ≡ []) × IsAtEnd input.left_after
+    × (input.ended ≡ true) × (new ≡ old)
+LoadsNext seen old new unread now input (Err (Refused place)) = Takes unread now input.left input.left_after []
+    × (place ≡ now.place) × (new ≡ old)
+    × IfSome input.left_after (λ more. HasNoBatch now.place old.batches (now.pending ++ more)
+    × (now.pending ++ more ≢ []))
 LoadsNext seen old new unread now input (Err Read) = Takes unread now input.left input.left_after [] × (new ≡ old)
     × HasNoBatch now.place old.batches now.pending × Rose input.faults input.faults_after
 LoadsNext seen old new unread now input (Err Full) = Takes unread now input.left input.left_after [] × (new ≡ old)
     × ((b : Batch) × (at : ℕ) × IsNext old.batches now b × HasNoRoomAt old.journal.end old.batches b at)
 LoadsNext seen old new unread now input (Err Device) = Takes unread now input.left input.left_after []
-    × ((b : Batch) × IsNext old.batches now b × IsUnwritten seen old new b) × Rose (seen old.journal.disk).faults (seen new.journal.disk).faults
+    × ((b : Batch) × IsNext old.batches now b × IsUnwritten seen old new b)
+    × Rose (seen old.journal.disk).faults (seen new.journal.disk).faults
 LoadsNext seen old new unread now input (Err NoMemory) = Takes unread now input.left input.left_after []
     × ((new ≡ old) ⊎ ((b : Batch) × IsNext old.batches now b × IsUnwritten seen old new b))
 
 -- ---- all batches
 
 -- the input gave these bytes, which are those of batches that were added and what is pending
-pub record HasLoaded {D : Type 0} (seen : D → DiskView) (first log : LogParts D) (left now : Option (List ℕ)) (unread : Unread) : Type 0 where
+pub record HasLoaded {D : Type 0} (seen : D → DiskView) (first log : LogParts D) (left now : Option (List ℕ))
+    (unread : Unread) : Type 0 where
   pub given : List ℕ
   pub batches : List Batch
   pub consumed : Consumes left now given
@@ -75,16 +81,19 @@ pub record HasLoaded {D : Type 0} (seen : D → DiskView) (first log : LogParts 
   pub kept : Keeps seen log None
 
 -- the log was this one, has these batches more, and a crash leaves it with or without the pending one
-pub record IsGrown {D : Type 0} (seen : D → DiskView) (first new : LogParts D) (log batches : List Batch) (pending : Option Batch) : Type 0 where
+pub record IsGrown {D : Type 0} (seen : D → DiskView) (first new : LogParts D) (log batches : List Batch)
+    (pending : Option Batch) : Type 0 where
   pub was : log ≡ first.batches
   pub has : new.batches ≡ log ++ batches
-  pub images : (c : List ℕ) → (seen new.journal.disk).image c → WithPending (IsLogText c) (log ++ batches) (and_pending (log ++ batches) pending)
+  pub images : (c : List ℕ) → (seen new.journal.disk).image c
+      → WithPending (IsLogText c) (log ++ batches) (and_pending (log ++ batches) pending)
 
 -- and the place is that behind the batches
 abbrev pub AtPlace : ℕ → LoadEnding → LoadEnding
 AtPlace place Ends log batches pending = Ends log batches pending × (place ≡ length (segment_of batches))
 
--- A call on the disk failed where memory was found: neither the disk nor its bay, which `starved` tells of, has found none.
+-- A call on the disk failed where memory was found: neither the disk nor its bay, which `starved` tells of, has found
+-- none.
 pub record FailsFed {D : Type 0} (seen : D → DiskView) (starved : Bool) (old new : D) : Type 0 where
   pub rose : Rose (seen old).faults (seen new).faults
   pub disk : (seen new).starved ≡ false
@@ -103,7 +112,8 @@ LoadsAll input Ends Rises (Err NoMemory) = IsBegunSegment input Ends
 
 -- why the log of this disk was not opened, as it is told
 abbrev pub IsLogRefusal : List ℕ → OpenFault → OutputChange → Status → Type 0
-IsLogRefusal disk fault output status.Damaged = (place : ℕ) × (fault ≡ open_fault.Damaged place) × Appends output.held output.held_after (damaged_line disk place)
+IsLogRefusal disk fault output status.Damaged = (place : ℕ) × (fault ≡ open_fault.Damaged place)
+    × Appends output.held output.held_after (damaged_line disk place)
 IsLogRefusal disk fault output status.WriteFault = Rose output.faults output.faults_after
     × ((place : ℕ) × (fault ≡ open_fault.Damaged place) × WritesFrontOf (damaged_line disk place) output)
 IsLogRefusal disk fault output status.Device = (fault ≡ open_fault.Device) × KeepsText output.held output.held_after

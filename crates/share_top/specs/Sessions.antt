@@ -1,6 +1,8 @@
--- A recorded session on the disks of a bay: all that is promised of it is said of one run of the broker. This project's own.
--- For example the session `power 5` on empty disks is a run of one step, from the opening of empty logs, no tables and no keys to the
--- opening of the contents that are each disk's one loss, with choice 5; and what was written is its outcome's line `restarted`.
+-- A recorded session on the disks of a bay: all that is promised of it is said of one run of the broker. This project's
+-- own.
+-- For example the session `power 5` on empty disks is a run of one step, from the opening of empty logs, no tables and
+-- no keys to the opening of the contents that are each disk's one loss, with choice 5; and what was written is its
+-- outcome's line `restarted`.
 use Rattle.std.specs.Prelude.{◌≡◌, ◌⊎◌, ◌≤◌, ◌-◌, ◌++◌, ℕ, List, Bool}
 use Rattle.std.specs.List.{AllByRecursion}
 use Rattle.std.specs.declared.option.Option.{Option}
@@ -42,7 +44,8 @@ WritesFront conf summary output outcomes = WritesFrontOf (told_so_far conf.topic
 
 -- what is told of them in all, or a front of it
 abbrev pub WritesAll : ConfigParts → Bool → OutputChange → List Outcome → Type 0
-WritesAll conf summary output outcomes = Appends output.held output.held_after (told_in_all conf.topics summary outcomes)
+WritesAll conf summary output outcomes =
+    Appends output.held output.held_after (told_in_all conf.topics summary outcomes)
 
 abbrev pub WritesAllFront : ConfigParts → Bool → OutputChange → List Outcome → Type 0
 WritesAllFront conf summary output outcomes = WritesFrontOf (told_in_all conf.topics summary outcomes) output
@@ -53,16 +56,20 @@ WritesThen conf summary line output outcomes =
     Appends output.held output.held_after (told_so_far conf.topics summary outcomes ++ line)
 
 abbrev pub WritesThenFront : ConfigParts → Bool → List ℕ → OutputChange → List Outcome → Type 0
-WritesThenFront conf summary line output outcomes = WritesFrontOf (told_so_far conf.topics summary outcomes ++ line) output
+WritesThenFront conf summary line output outcomes =
+    WritesFrontOf (told_so_far conf.topics summary outcomes ++ line) output
 
 -- ---- what a run leaves on the disks
 
--- what is known of the disks behind a run, for which shards they stand, and to which ends of journals those of logs reach, by its last state
+-- what is known of the disks behind a run, for which shards they stand, and to which ends of journals those of logs
+-- reach, by its last state
 abbrev pub Ending : Type 1
 Ending = (Shards → Type 0) → ((List ℕ → ℕ) → Type 0) → Disks → State → Type 0
 
--- what is known is what the last state has, its shards are those for which the disks stand, and its logs' journals end within their disks
-pub record Leaves (conf : ConfigParts) (Stand : Shards → Type 0) (Reach : (List ℕ → ℕ) → Type 0) (now : Disks) (last : State) : Type 0 where
+-- what is known is what the last state has, its shards are those for which the disks stand, and its logs' journals end
+-- within their disks
+pub record Leaves (conf : ConfigParts) (Stand : Shards → Type 0) (Reach : (List ℕ → ℕ) → Type 0) (now : Disks)
+    (last : State) : Type 0 where
   pub known : (name : List ℕ) → IsTaken conf name → now name ≡ last.disks name
   pub stands : Stand last.machine.shards
   pub reach : Reach last.ends
@@ -82,9 +89,11 @@ DoesMore conf last now ends event after =
     × StepsTo conf (counts_since last now) (ends_since last ends) last.machine event call outcomes after)
     ⊎ StopsWithin conf (counts_since last now) (ends_since last ends) last.machine event after
 
--- The disks stand for the last state's shards, or for those of the next event, done or left within, of whose outcomes nothing was written.
--- Those of logs reach to the last byte before where their journals end: a power loss after which no memory was found may leave that one out.
-pub record LeavesWithin (conf : ConfigParts) (Next : Event → Type 0) (Stand : Shards → Type 0) (Reach : (List ℕ → ℕ) → Type 0) (now : Disks)
+-- The disks stand for the last state's shards, or for those of the next event, done or left within, of whose outcomes
+-- nothing was written. Those of logs reach to the last byte before where their journals end: a power loss after which
+-- no memory was found may leave that one out.
+pub record LeavesWithin (conf : ConfigParts) (Next : Event → Type 0) (Stand : Shards → Type 0)
+    (Reach : (List ℕ → ℕ) → Type 0) (now : Disks)
     (last : State) : Type 0 where
   pub after : Machine
   pub ends : List ℕ → ℕ
@@ -97,7 +106,8 @@ pub record LeavesWithin (conf : ConfigParts) (Next : Event → Type 0) (Stand : 
 -- ---- one run
 
 -- From this state a run goes over these events. `Tells` is said of its outcomes, and `Ends` of its last state.
-pub record Ran (conf : ConfigParts) (first : State) (events : List Event) (Tells : List Outcome → Type 0) (Ends : State → Type 0) : Type 0 where
+pub record Ran (conf : ConfigParts) (first : State) (events : List Event) (Tells : List Outcome → Type 0)
+    (Ends : State → Type 0) : Type 0 where
   pub steps : List Step
   pub last : State
   pub run : IsRun conf first steps last
@@ -105,16 +115,16 @@ pub record Ran (conf : ConfigParts) (first : State) (events : List Event) (Tells
   pub tells : Tells (outcomes_of steps)
   pub ends : Ends last
 
--- The session of these events, on disks that had these contents, of which this was known, and that were left with these contents, of
--- which this is known now.
+-- The session of these events, on disks that had these contents, of which this was known, and that were left with these
+-- contents, of which this is known now.
 pub record IsSession (conf : ConfigParts) (events : List Event) (Tells : List Outcome → Type 0) (Ends : Ending)
     (contents : List ℕ → List ℕ) (was : Disks) (left : List ℕ → List ℕ) (now : Disks) : Type 0 where
   pub first : State
   -- it begins with the opening of the contents
   pub opens : IsFirst conf contents was first
   pub ran : Ran conf first events Tells (Ends (StandsFor left) (ReachTo conf left) now)
-  -- its losses, arms and counts, and what it promises of records: locks are exclusive, starts pass what was acknowledged or archived alone,
-  -- and an acknowledgement of what its member holds is refused by the store alone
+  -- its losses, arms and counts, and what it promises of records: locks are exclusive, starts pass what was
+  -- acknowledged or archived alone, and an acknowledgement of what its member holds is refused by the store alone
   pub holds : HoldsOfRun conf first ran.steps ran.last
   -- its partitions begin well, which is the premise of what `holds` says of starts
   pub well : AllByRecursion IsWell first.machine.shards.parts
@@ -143,8 +153,10 @@ HoldsStates bay_seen seen conf bay = (contents : List ℕ → List ℕ) × (was 
 
 -- one of these disks isn't store text, and this holds of the line that names it and the place of its fault
 abbrev pub NamesDamage : ConfigParts → (List ℕ → List ℕ) → (List ℕ → Type 0) → Type 0
-NamesDamage conf contents Says = (disk : List ℕ) × (place : ℕ) × IsDamagedDisk conf contents disk place × Says (damaged_line disk place)
+NamesDamage conf contents Says = (disk : List ℕ) × (place : ℕ) × IsDamagedDisk conf contents disk place
+    × Says (damaged_line disk place)
 
--- the bay's count of faults rose, in which are those of its disks; or a disk was taken with one at its last value, as the bay notes it
+-- the bay's count of faults rose, in which are those of its disks; or a disk was taken with one at its last value, as
+-- the bay notes it
 abbrev pub CountRose : {B D : Type 0} → (B → BayView D) → (D → DiskView) → ConfigParts → B → B → Type 0
 CountRose bay_seen seen conf old new = Rose (bay_seen old).faults (bay_seen new).faults ⊎ HasLastCount bay_seen conf new

@@ -10,4 +10,5 @@ abbrev pub slot_text : {D : Type 0} → PartSlot D → List ℕ
 slot_text slot = tables_text slot.topic slot.conf.part (states_in slot.state)
 
 abbrev pub core_text : {D : Type 0} → HostsParts D → List ℕ
-core_text hosts = flat_map slot_text hosts.parts ++ (foreign_texts (states_at hosts.foreign) ++ (codes "end" ++ 10 ∷ []))
+core_text hosts =
+    flat_map slot_text hosts.parts ++ (foreign_texts (states_at hosts.foreign) ++ (codes "end" ++ 10 ∷ []))
