@@ -1,7 +1,7 @@
 -- The shard of a hosted partition in memory takes the machine's step, by the counts of faults of its own disks and the ends of its own
 -- journals; or it is left between two writes of a call. This project's own.
--- For example a batch is answered with a fault of its device exactly where a call of the log's disk failed, acknowledgements only where
--- one of both state disks' calls did, and a call that only looks leaves all as it was.
+-- For example a batch is answered with a fault of its device exactly where a call of the log's disk failed,
+-- acknowledgements only where one of both state disks' calls did, and a call that only looks leaves all as it was.
 use Rattle.std.specs.Prelude.{◌≡◌, ◌≤◌, ℕ}
 use Rattle.edge_io.specs.Causes.{Rose}
 use Rattle.edge_io.specs.Disk.{IsTold}
@@ -34,10 +34,10 @@ TakesStep seen conf old new now shard (Looks group looked) after =
 TakesStep seen conf old new now shard (Expires answer) after =
     StepsExpire conf (failures_of seen old.states) (failures_of seen new.states) old.states.journal.end new.states.journal.end shard now answer after
 
--- It takes that step, and its answer tells each failed call of the log's disk: where it tells none, none failed, if that disk tells its
--- content.
-pub record StepsOn {D W : Type 0} (seen : D → DiskView) (conf : PartConfParts) (old new : PartParts D W) (now : ℕ) (shard : PartShardState)
-    (did : PartCall) (after : PartShardState) : Type 0 where
+-- It takes that step, and its answer tells each failed call of the log's disk: where it tells none, none failed, if
+-- that disk tells its content.
+pub record StepsOn {D W : Type 0} (seen : D → DiskView) (conf : PartConfParts) (old new : PartParts D W) (now : ℕ)
+    (shard : PartShardState) (did : PartCall) (after : PartShardState) : Type 0 where
   pub step : TakesStep seen conf old new now shard did after
   pub quiet : log_faults_met did ≡ 0 → IsTold (seen old.log.journal.disk).content
       → (seen new.log.journal.disk).faults ≡ (seen old.log.journal.disk).faults

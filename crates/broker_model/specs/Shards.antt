@@ -194,8 +194,8 @@ StepsPart told counts ends now h old (Looks group looked) new =
 StepsPart told counts ends now h old (Expires answer) new =
     StepsExpire h.conf (faults_before counts (state_store h)) (faults_behind counts (state_store h)) (ends (first_of h)).0 (ends (first_of h)).1 old now answer new
 
--- This partition's shard does, and the log's disk tells its content. The answer tells each failed call of that disk: where it tells none,
--- the count stands. A call of a state disk may fail untold, in a checkpoint.
+-- This partition's shard does, and the log's disk tells its content. The answer tells each failed call of that disk:
+-- where it tells none, the count stands. A call of a state disk may fail untold, in a checkpoint.
 pub record StepsHosted (counts : Counts) (ends : Ends) (now : ℕ) (hosted : Hosted) (did : PartCall) (old new : HostedPart) : Type 0 where
   pub was : old.hosted ≡ hosted
   pub is : new.hosted ≡ hosted
