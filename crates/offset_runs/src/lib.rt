@@ -2,6 +2,7 @@
 #![tactic(auto)]
 
 mod change;
+mod complete;
 mod joining;
 mod overlay;
 mod parts;
@@ -9,5 +10,6 @@ mod runs;
 mod search;
 mod shift;
 
+pub use complete::complete_rows_are_counted_by_offsets;
 pub use joining::touches;
 pub use runs::Runs;

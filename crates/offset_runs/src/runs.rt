@@ -1,6 +1,7 @@
-ghost use Rattle.std.specs.Prelude.{◌≡◌, ◌≤◌, ◌+◌, ◌*◌, [], length, OnOk, OnErr, IsOk, IfSome};
+ghost use Rattle.std.specs.Prelude.{◌≡◌, ◌≤◌, ◌+◌, ◌*◌, ◌^◌, List, pos, [], length, OnOk, OnErr, IsOk, IfSome};
 
 use crate::change::{cut_front, put_over};
+use crate::complete::{complete_between, complete_laid};
 use crate::overlay::overlay;
 use crate::search::find_row;
 use share_model::{NoMemory, Row, Run, RunList};
@@ -40,7 +41,11 @@ impl Model for Runs {
 
 impl Runs {
     ghost use Rattle.share_model.specs.Runs.{IsCanonical, row_at};
+    ghost use Rattle.share_model.specs.ShareStates.{AreLaid};
+    ghost use Rattle.share_model.specs.declared.run.Run.{Run};
     ghost use Rattle.offset_runs.specs.Changes.{PutsRange, CutsBelow, Overlays};
+    ghost use Rattle.offset_runs.specs.Complete.{complete_rows};
+    ghost use Rattle.offset_runs.specs.Parts.{EndsBelow};
 
     /// No rows. It takes no memory.
     pub fn new(alloc: Global) -> Runs
@@ -145,6 +150,26 @@ impl Runs {
     {
         self.list.clear();
         overlay(&mut self.list, &under.list, &over.list);
+    }
+
+    /// How many rows are complete: acknowledged or archived. It goes over all runs. Offsets are below 2^63.
+    pub fn complete(&self) -> u64
+        requires { EndsBelow self.now.list (2 ^ 63) }
+        ensures { result ≡ complete_rows self.now.list }
+    {
+        complete_between(&self.list, 0, 1 << 63)
+    }
+
+    /// How many rows are complete once others are laid over these, and those below an offset go; so many of these are.
+    /// It goes over the runs of the others and over those of these that are covered or go, and finds each place in the
+    /// logarithm of the number of these. Offsets are below 2^63.
+    pub fn complete_laid(&self, complete: u64, over: &Runs, start: u64) -> u64
+        requires now { complete ≡ complete_rows self.now.list }
+        requires low { EndsBelow self.now.list (2 ^ 63) }
+        requires low_over { EndsBelow over.now.list (2 ^ 63) }
+        ensures { (laid : List Run) → AreLaid (pos start) self.now.list over.now.list laid → result ≡ complete_rows laid }
+    {
+        complete_laid(&self.list, complete, &over.list, start)
     }
 
     /// The rows of canonical runs. It takes no memory.
