@@ -7,6 +7,7 @@ use Rattle.gate_journal.specs.Frames.{IsFrame}
 use Rattle.share_model.specs.Keys.{KeyParts}
 use Rattle.share_model.specs.ShareStates.{AreLaid, AreWritten, start_after}
 use Rattle.share_model.specs.declared.run.Run.{Run}
+use Rattle.offset_runs.specs.Complete.{complete_rows}
 use Rattle.state_records.specs.Spelling.{record_bytes}
 use Rattle.state_records.specs.States.{IsKey, StateParts}
 use Rattle.state_records.specs.declared.record.StateRecord.{StateRecord}
@@ -46,9 +47,13 @@ if_some P Q (Some f) g h = g f h
 
 -- ---- a write
 
-abbrev update_record : KeyParts → ℕ → ℤ → ℤ → ℤ → List Run → StateRecord
-update_record key n state leader start runs =
-    Update (record { key = key; snapshot = n; state_epoch = state; leader_epoch = leader; start = start; runs = runs })
+abbrev update_record : KeyParts → ℕ → ℤ → ℤ → ℤ → ℕ → List Run → StateRecord
+update_record key n state leader start complete runs =
+    Update (record { key = key; snapshot = n; state_epoch = state; leader_epoch = leader; start = start; complete = Some complete; runs = runs })
+
+abbrev snapshot_record : KeyParts → ℕ → ℤ → ℤ → ℤ → ℕ → List Run → StateRecord
+snapshot_record key n state leader start complete runs =
+    Snapshot (record { key = key; snapshot = n; state_epoch = state; leader_epoch = leader; start = start; complete = Some complete; runs = runs })
 
 abbrev kept_by : ℤ → ℤ → ℤ → List Run → ℕ → ℕ → Kept
 kept_by state leader start runs n m = record {
@@ -58,19 +63,27 @@ kept_by state leader start runs n m = record {
 }
 
 -- what is behind a checkpoint, if one is tried
-abbrev pub IsFreshUpdate : KeyParts → ℤ → ℤ → ℤ → List Run → Fresh → Type 0
-IsFreshUpdate key state leader start over f = (f.written ≡ Update (record { key = key; snapshot = 0; state_epoch = state; leader_epoch = leader; start = start; runs = over }))
+abbrev pub IsFreshUpdate : KeyParts → ℤ → ℤ → ℤ → ℕ → List Run → Fresh → Type 0
+IsFreshUpdate key state leader start complete over f = (f.written ≡ Update (record {
+  key = key;
+  snapshot = 0;
+  state_epoch = state;
+  leader_epoch = leader;
+  start = start;
+  complete = Some complete;
+  runs = over;
+}))
     × (f.snapshot ≡ 0) × (f.updates ≡ 1)
 
 module _ (key : KeyParts) (known : Kept) (state leader start : ℤ) (runs over rows : List Run) (is_key : IsKey key)
     (are_written : AreWritten runs over) (are_laid : AreLaid (start_after known.view.start start) known.view.runs over rows)
-    (few_over : length over ≤ 1000000) (few : length rows ≤ 1000000) (plain : StateRecord) (kept : Kept) (fresh : Option Fresh)
-    (is_fresh : IfSome fresh (IsFreshUpdate key state leader start over)) where
+    (few_over : length over ≤ 1000000) (few : length rows ≤ 1000000) (complete : ℕ) (counted : complete ≡ complete_rows rows)
+    (plain : StateRecord) (kept : Kept) (fresh : Option Fresh) (is_fresh : IfSome fresh (IsFreshUpdate key state leader start complete over)) where
   view_start : ℤ
   view_start = start_after known.view.start start
 
   -- behind a checkpoint
-  behind_kept : (f : Fresh) → IsFreshUpdate key state leader start over f → kept.view ≡ record { state_epoch = state; leader_epoch = leader; start = start_after known.view.start start; runs = rows }
+  behind_kept : (f : Fresh) → IsFreshUpdate key state leader start complete over f → kept.view ≡ record { state_epoch = state; leader_epoch = leader; start = start_after known.view.start start; runs = rows }
       → fresh ≡ Some f → fresh_kept kept fresh ≡ kept_by state leader (start_after known.view.start start) rows 0 1
   behind_kept f h view is =
       ap (fresh_kept kept) is ∙ λ i. record { view = view i; snapshot = h.1 i; updates = h.2 i }
@@ -80,7 +93,7 @@ module _ (key : KeyParts) (known : Kept) (state leader start : ℤ) (runs over r
       → Follows (renewed old) one (with_kept (renewed old) key (fresh_kept kept fresh))
   behind_follows view old at one is =
       let f = fresh_of fresh one is in
-      let h = at_some (IsFreshUpdate key state leader start over) fresh f.0 f.1 is_fresh in
+      let h = at_some (IsFreshUpdate key state leader start complete over) fresh f.0 f.1 is_fresh in
       subst (λ (k : Kept). Follows (renewed old) one (with_kept (renewed old) key k)) (sym (behind_kept f.0 h view f.1))
       (subst (λ (r : StateRecord). Follows (renewed old) r (with_kept (renewed old) key (kept_by state leader (start_after known.view.start start) rows 0 1)))
       (sym (f.2 ∙ h.0)) (record {
@@ -90,6 +103,7 @@ module _ (key : KeyParts) (known : Kept) (state leader start : ℤ) (runs over r
         same = refl;
         laid = are_laid;
         few = few;
+        told = counted;
         is = refl;
       }))
 
@@ -98,7 +112,7 @@ module _ (key : KeyParts) (known : Kept) (state leader start : ℤ) (runs over r
       → IsWritten old key state leader start runs (with_kept (renewed old) key (fresh_kept kept fresh))
   behind_written view old at none one is =
       let f = fresh_of fresh one is in
-      let h = at_some (IsFreshUpdate key state leader start over) fresh f.0 f.1 is_fresh in
+      let h = at_some (IsFreshUpdate key state leader start complete over) fresh f.0 f.1 is_fresh in
       record {
         granted = none;
         checkpointed = true;
@@ -116,7 +130,7 @@ module _ (key : KeyParts) (known : Kept) (state leader start : ℤ) (runs over r
   behind_record : (old : Entries) → kept_at old key ≡ Some known → (one : StateRecord) → record_of fresh ≡ Some one → IsWriteRecord old key state leader start runs one
   behind_record old at one is =
       let f = fresh_of fresh one is in
-      let h = at_some (IsFreshUpdate key state leader start over) fresh f.0 f.1 is_fresh in
+      let h = at_some (IsFreshUpdate key state leader start complete over) fresh f.0 f.1 is_fresh in
       record {
         checkpointed = true;
         kept = known;
@@ -125,15 +139,15 @@ module _ (key : KeyParts) (known : Kept) (state leader start : ℤ) (runs over r
         known = at;
         are_written = are_written;
         are_laid = are_laid;
-        is = f.2 ∙ h.0;
+        is = f.2 ∙ (h.0 ∙ ap (λ (n : ℕ). update_record key 0 state leader start n over) counted);
       }
 
   behind_fits : IfSome (record_of fresh) FitsFrame
-  behind_fits = fit_fresh fresh (if_some (IsFreshUpdate key state leader start over) (λ f. FitsFrame f.written) fresh
+  behind_fits = fit_fresh fresh (if_some (IsFreshUpdate key state leader start complete over) (λ f. FitsFrame f.written) fresh
       (λ f h. fits_update f.written _ h.0 is_key few_over) is_fresh)
 
   -- stored as an update
-  module _ (low : known.updates < 500) (plain_is : plain ≡ update_record key known.snapshot state leader start over)
+  module _ (low : known.updates < 500) (plain_is : plain ≡ update_record key known.snapshot state leader start (complete_rows rows) over)
       (kept_is : kept ≡ kept_by state leader (start_after known.view.start start) rows known.snapshot (known.updates + 1)) where
     view_is : kept.view ≡ record { state_epoch = state; leader_epoch = leader; start = start_after known.view.start start; runs = rows }
     view_is = ap (λ (k : Kept). k.view) kept_is
@@ -152,6 +166,7 @@ module _ (key : KeyParts) (known : Kept) (state leader start : ℤ) (runs over r
           same = refl;
           laid = are_laid;
           few = few;
+          told = refl;
           is = ap (λ (n : ℕ). with_kept old key (kept_by state leader (start_after known.view.start start) rows known.snapshot n)) (omega (arith, low));
         }))
 
@@ -188,14 +203,8 @@ module _ (key : KeyParts) (known : Kept) (state leader start : ℤ) (runs over r
       known = at;
       are_written = are_written;
       are_laid = are_laid;
-      is = is ∙ (plain_is ∙ ap (λ (b : Bool). if b then update_record key known.snapshot state leader start over else Snapshot (record {
-        key = key;
-        snapshot = known.snapshot + 1;
-        state_epoch = state;
-        leader_epoch = leader;
-        start = start_after known.view.start start;
-        runs = rows;
-      })) (sym low_test));
+      is = is ∙ (plain_is ∙ ap (λ (b : Bool). if b then update_record key known.snapshot state leader start (complete_rows rows) over
+          else snapshot_record key (known.snapshot + 1) state leader (start_after known.view.start start) (complete_rows rows) rows) (sym low_test));
     }
 
     pub planned_update : IsPlanned key known state leader start runs plain kept fresh
@@ -207,14 +216,7 @@ module _ (key : KeyParts) (known : Kept) (state leader start : ℤ) (runs over r
     }
 
   -- stored as a snapshot
-  module _ (high : 500 ≤ known.updates) (plain_is : plain ≡ Snapshot (record {
-    key = key;
-    snapshot = known.snapshot + 1;
-    state_epoch = state;
-    leader_epoch = leader;
-    start = start_after known.view.start start;
-    runs = rows;
-  }))
+  module _ (high : 500 ≤ known.updates) (plain_is : plain ≡ snapshot_record key (known.snapshot + 1) state leader (start_after known.view.start start) (complete_rows rows) rows)
       (kept_is : kept ≡ kept_by state leader (start_after known.view.start start) rows (known.snapshot + 1) 0) where
     view_is_too : kept.view ≡ record { state_epoch = state; leader_epoch = leader; start = start_after known.view.start start; runs = rows }
     view_is_too = ap (λ (k : Kept). k.view) kept_is
@@ -231,6 +233,7 @@ module _ (key : KeyParts) (known : Kept) (state leader start : ℤ) (runs over r
           next = sym (ap next_snapshot at);
           laid = laid_again (start_after known.view.start start) known.view.runs over rows are_laid;
           few = few;
+          told = refl;
           is = refl;
         }))
 
@@ -267,14 +270,8 @@ module _ (key : KeyParts) (known : Kept) (state leader start : ℤ) (runs over r
       known = at;
       are_written = are_written;
       are_laid = are_laid;
-      is = is ∙ (plain_is ∙ ap (λ (b : Bool). if b then update_record key known.snapshot state leader start over else Snapshot (record {
-        key = key;
-        snapshot = known.snapshot + 1;
-        state_epoch = state;
-        leader_epoch = leader;
-        start = start_after known.view.start start;
-        runs = rows;
-      })) (sym high_test));
+      is = is ∙ (plain_is ∙ ap (λ (b : Bool). if b then update_record key known.snapshot state leader start (complete_rows rows) over
+          else snapshot_record key (known.snapshot + 1) state leader (start_after known.view.start start) (complete_rows rows) rows) (sym high_test));
     }
 
     pub planned_snapshot : IsPlanned key known state leader start runs plain kept fresh

@@ -19,7 +19,7 @@ use Rattle.share_coord.specs.Stored.{Entries, Accepts, AreAccepted, Follows, kep
 use Rattle.share_coord.specs.Views.{IsKeptState}
 use Rattle.share_coord.specs.declared.view.Kept.{Kept}
 use Rattle.share_coord.proofs.Keys.{all_at, all_with, all_without, keys_total}
-use Rattle.share_coord.proofs.Spans.{laid_again, laid_stored}
+use Rattle.share_coord.proofs.Spans.{complete_low, laid_again, laid_stored}
 use Rattle.share_coord.proofs.Taken.{start_fit}
 
 -- ---- keys in order
@@ -139,6 +139,7 @@ valid_snapshot e key fit = record {
   state_epoch = fit.state.state_epoch;
   leader_epoch = fit.state.leader_epoch;
   start = fit.state.start;
+  complete = complete_low e.1.view.runs fit.state.runs;
   runs = fit.state.runs;
   few = let few = fit.state.few in omega (arith, few);
 }
@@ -156,6 +157,7 @@ one_renewed es e below key fit =
         next = sym (ap next_snapshot (absent (renewed es) e.0 under));
         laid = fit.laid;
         few = fit.state.few;
+        told = refl;
         is = renewed_push es e ∙ sym (at_end (renewed es) e.0 (renewed_kept e.1) under);
       };
     }

@@ -1,11 +1,11 @@
 -- A record fits a frame.
-use Rattle.std.proofs.Common.{◌≡◌, ◌≤◌, ◌*◌, refl, sym, subst, arith, List, [], ◌∷◌, ◌++◌, length, length-append, w32, w64}
+use Rattle.std.proofs.Common.{◌≡◌, ◌≤◌, ◌*◌, refl, sym, subst, arith, ℕ, List, [], ◌∷◌, ◌++◌, length, length-append, Option, Some, None, w32, w64}
 use Rattle.std.specs.Int.{to_be_bytes}
 use Rattle.std.specs.List.{flat_map}
 use Rattle.gate_journal.specs.Frames.{IsFrame}
 use Rattle.share_model.specs.Keys.{KeyParts}
 use Rattle.share_model.specs.declared.run.Run.{Run}
-use Rattle.state_records.specs.Spelling.{epoch_number, start_number, key_bytes, run_bytes, runs_bytes, state_bytes, record_bytes}
+use Rattle.state_records.specs.Spelling.{complete_bytes, epoch_number, start_number, key_bytes, run_bytes, runs_bytes, state_bytes, record_bytes}
 use Rattle.state_records.specs.States.{StateParts, IsKey}
 use Rattle.state_records.specs.declared.record.StateRecord.{StateRecord}
 use Rattle.state_records.specs.declared.record.StateRecord.TheVariants.{Snapshot, Update, Removal}
@@ -21,6 +21,10 @@ runs_size : (runs : List Run) → length (flat_map run_bytes runs) ≡ 19 * leng
 runs_size [] = refl
 runs_size (x ∷ xs) = omega (arith, runs_size xs, run_size x, length-append (run_bytes x) (flat_map run_bytes xs))
 
+complete_size : (complete : Option ℕ) → length (complete_bytes complete) ≤ 8
+complete_size None = omega arith
+complete_size (Some n) = let size : length (to_be_bytes w64 n) ≡ 8 = refl in omega (arith, size)
+
 state_size : (state : StateParts) → IsKey state.key → length state.runs ≤ 1000000 → length (state_bytes state) ≤ 19000400
 state_size state is few =
     omega (
@@ -28,9 +32,12 @@ state_size state is few =
       key_size state.key is,
       runs_size state.runs,
       few,
+      complete_size state.complete,
+      length-append (complete_bytes state.complete) (runs_bytes state.runs),
       length-append (key_bytes state.key)
           (to_be_bytes w64 state.snapshot ++ (to_be_bytes w32 (epoch_number state.state_epoch)
-          ++ (to_be_bytes w32 (epoch_number state.leader_epoch) ++ (to_be_bytes w64 (start_number state.start) ++ runs_bytes state.runs)))),
+          ++ (to_be_bytes w32 (epoch_number state.leader_epoch) ++ (to_be_bytes w64 (start_number state.start)
+          ++ (complete_bytes state.complete ++ runs_bytes state.runs))))),
     )
 
 pub update_fits : (r : StateRecord) (state : StateParts) → r ≡ Update state → IsKey state.key → length state.runs ≤ 1000000 → IsFrame (record_bytes r)

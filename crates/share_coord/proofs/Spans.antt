@@ -1,16 +1,21 @@
 -- Runs whose offsets and counts fit, by their rows.
-use Rattle.std.proofs.Common.{◌≡◌, ◌<◌, ◌≤◌, ◌^◌, ⊎_elim, refl, sym, ap, ◌∙◌, subst, arith, ℕ, ℤ, List, [], ◌∷◌}
+use Rattle.std.proofs.Common.{◌≡◌, ◌<◌, ◌≤◌, ◌^◌, ⊎_elim, refl, sym, ap, ◌∙◌, subst, arith, ℕ, ℤ, pos, negsuc, List, [], ◌∷◌}
 use Rattle.std.proofs.Common.{Option, Some, None, Bool, true, false, nat_le, ◌&&◌, if◌then◌else◌}
 use Rattle.std.proofs.lemmas.Bool.{cases_lt}
 use Rattle.std.proofs.lemmas.Bool.Decides.{nat_tests}
 use Rattle.std.specs.List.{AllByRecursion, list_all}
 use Rattle.std.specs.Option.{option_or}
+use Rattle.share_model.specs.ForeignRules.{size_of}
 use Rattle.share_model.specs.Runs.{IsCanonical, row_at, row_of}
 use Rattle.share_model.specs.ShareStates.{is_writable, last_row, AreWritten, AreLaid, is_below}
 use Rattle.share_model.specs.declared.row.Row.{Row}
 use Rattle.share_model.specs.declared.run.Run.{Run}
 use Rattle.share_model.proofs.Lookups.{row_at-here, row_at-beyond, row_at-none}
 use Rattle.share_model.proofs.OneList.{one_list}
+use Rattle.offset_runs.specs.Complete.{complete_rows}
+use Rattle.offset_runs.specs.Parts.{EndsBelow}
+use Rattle.offset_runs.proofs.Cuts.{no_lt}
+use Rattle.offset_runs.proofs.Tallies.{between_fits, rows_between}
 use Rattle.state_records.specs.States.{IsStoredRun, AreStoredRuns}
 use Rattle.share_coord.proofs.Keys.{some_none, some_is}
 use Rattle.share_coord.proofs.Written.{or_none}
@@ -110,3 +115,23 @@ nothing_laid start = record { canonical = tt; rows = λ o. none (is_below o star
     none : (b : Bool) → ◌≡◌ {A = Option Row} None (if b then None else None)
     none true = refl
     none false = refl
+
+-- ---- complete rows
+
+pub stored_ends : (runs : List Run) → AllByRecursion IsStoredRun runs → EndsBelow runs (2 ^ 63)
+stored_ends [] stored = tt
+stored_ends (x ∷ xs) stored = (stored.0.0, stored_ends xs stored.1)
+
+pub complete_low : (runs : List Run) → AreStoredRuns runs → complete_rows runs < 2 ^ 64
+complete_low runs stored =
+    let ends = stored_ends runs stored.1 in
+    let few = between_fits runs 0 (2 ^ 63) (2 ^ 63) stored.0 ends in
+    omega (arith, few, rows_between runs (2 ^ 63) ends)
+
+-- from an offset, and not below where no start was given
+pub laid_from : (start : ℤ) (under over laid : List Run) → AreLaid start under over laid → AreLaid (pos (size_of start)) under over laid
+laid_from (pos n) under over laid is = is
+laid_from (negsuc n) under over laid is = record {
+  canonical = is.canonical;
+  rows = λ o. is.rows o ∙ ap (λ (b : Bool). if b then None else option_or (row_at over o) (row_at under o)) (sym (no_lt o 0 (omega arith)));
+}

@@ -5,6 +5,7 @@ use Rattle.std.specs.Option.{IfSome, option_copied, option_map}
 use Rattle.share_model.specs.Keys.{KeyParts}
 use Rattle.share_model.specs.ShareStates.{AreLaid}
 use Rattle.share_model.specs.declared.run.Run.{Run}
+use Rattle.offset_runs.specs.Complete.{complete_rows}
 use Rattle.state_records.specs.States.{IsKey}
 use Rattle.state_records.specs.declared.record.StateRecord.{StateRecord}
 use Rattle.state_records.specs.declared.record.StateRecord.TheVariants.{Snapshot}
@@ -20,7 +21,8 @@ use Rattle.share_coord.proofs.Planning.{at_some, fit_fresh, fits_snapshot, fresh
 use Rattle.share_coord.proofs.Spans.{nothing_laid}
 
 abbrev initial : KeyParts → ℕ → ℤ → ℤ → List Run → StateRecord
-initial key n state start runs = Snapshot (record { key = key; snapshot = n; state_epoch = state; leader_epoch = pos 0; start = start; runs = runs })
+initial key n state start runs =
+    Snapshot (record { key = key; snapshot = n; state_epoch = state; leader_epoch = pos 0; start = start; complete = Some (complete_rows runs); runs = runs })
 
 abbrev first_of : ℤ → ℤ → List Run → ℕ → Kept
 first_of state start runs n = record { view = record { state_epoch = state; leader_epoch = pos 0; start = start; runs = runs }; snapshot = n; updates = 0 }
@@ -33,6 +35,7 @@ IsFreshInit key state start is_known f = (f.written ≡ Snapshot (record {
   state_epoch = state;
   leader_epoch = pos 0;
   start = start;
+  complete = Some 0;
   runs = [];
 })) × (f.snapshot ≡ (if is_known then 1 else 0)) × (f.updates ≡ 0)
 
@@ -67,6 +70,7 @@ module _ (old : Entries) (key : KeyParts) (state start : ℤ) (runs : List Run) 
     next = is;
     laid = nothing_laid start;
     few = omega arith;
+    told = refl;
     is = refl;
   }
 

@@ -1,14 +1,16 @@
 -- The records that opening takes, one after another.
-use Rattle.std.proofs.Common.{◌≡◌, ◌<◌, ◌≤◌, ◌+◌, refl, sym, ap, ◌∙◌, subst, arith, ℕ, ℤ, pos, negsuc, List, [], ◌∷◌, ◌++◌, length, Option, Some, None, if◌then◌else◌, to_z, of_z, w32, w64}
-use Rattle.std.specs.Prelude.{min}
+use Rattle.std.proofs.Common.{◌≡◌, ◌<◌, ◌≤◌, ◌↔◌, ◌+◌, refl, sym, ap, ◌∙◌, subst, arith, ℕ, ℤ, pos, negsuc, List, [], ◌∷◌, ◌++◌, length, Option, Some, None, if◌then◌else◌, to_z, of_z, w32, w64}
+use Rattle.std.specs.Prelude.{min, Bool, true, false, IfSome}
+use Rattle.offset_runs.specs.Complete.{complete_rows}
 use Rattle.share_model.specs.Runs.{IsCanonical, row_at}
 use Rattle.share_model.specs.ShareStates.{ShareState, AreLaid, start_after, is_below}
 use Rattle.share_model.specs.declared.run.Run.{Run}
 use Rattle.state_records.specs.States.{StateParts, IsEpoch, IsStart, AreStoredRuns}
 use Rattle.state_records.proofs.Signed.{epoch_same, start_same}
 use Rattle.share_coord.specs.Views.{IsKeptState}
-use Rattle.share_coord.specs.Stored.{Entries, IsSnapshotted, IsUpdated, kept_at, with_kept, next_snapshot}
+use Rattle.share_coord.specs.Stored.{Entries, IsSnapshotted, IsUpdated, Tells, kept_at, with_kept, next_snapshot}
 use Rattle.share_coord.specs.declared.view.Kept.{Kept}
+use Rattle.share_coord.proofs.Keys.{clash}
 use Rattle.share_coord.proofs.Spans.{cut_laid, laid_once}
 
 made : ℤ → ℤ → ℤ → List Run → ℕ → ℕ → Kept
@@ -48,7 +50,7 @@ module _ (old : Entries) (state : StateParts) (s : IsEpoch state.state_epoch) (l
       (cut_laid (to_z w64 (of_z w64 state.start)) state.runs cut canonical rows)
 
   pub snapshot_taken : (cut : List Run) (new : Entries) → state.snapshot ≡ next_snapshot (kept_at old state.key) → AreLaid state.start [] state.runs cut
-      → length cut ≤ 1000000
+      → length cut ≤ 1000000 → Tells state.complete cut
       → new ≡ with_kept old state.key (record {
         view = record {
           state_epoch = to_z w32 (of_z w32 state.state_epoch);
@@ -61,11 +63,12 @@ module _ (old : Entries) (state : StateParts) (s : IsEpoch state.state_epoch) (l
       })
       → IsSnapshotted old state new
   unfolding made
-  snapshot_taken cut new next laid few is = record {
+  snapshot_taken cut new next laid few told is = record {
     runs = cut;
     next = next;
     laid = laid;
     few = few;
+    told = told;
     is = is ∙ ap (with_kept old state.key) (made_same state.start cut state.snapshot 0 t);
   }
 
@@ -81,7 +84,7 @@ module _ (old : Entries) (state : StateParts) (s : IsEpoch state.state_epoch) (l
 
   pub update_taken : (kept : Kept) (start : ℤ) (rows : List Run) (n : ℕ) (new : Entries) → kept_at old state.key ≡ Some kept → state.snapshot ≡ kept.snapshot
       → IsStart kept.view.start → start ≡ start_after kept.view.start state.start
-      → AreLaid (start_after kept.view.start state.start) kept.view.runs state.runs rows → length rows ≤ 1000000 → n ≡ min (kept.updates + 1) 500
+      → AreLaid (start_after kept.view.start state.start) kept.view.runs state.runs rows → length rows ≤ 1000000 → Tells state.complete rows → n ≡ min (kept.updates + 1) 500
       → new ≡ with_kept old state.key (record {
         view = record {
           state_epoch = to_z w32 (of_z w32 state.state_epoch);
@@ -94,13 +97,14 @@ module _ (old : Entries) (state : StateParts) (s : IsEpoch state.state_epoch) (l
       })
       → IsUpdated old state new
   unfolding made
-  update_taken kept start rows n new known same k is laid few updates e = record {
+  update_taken kept start rows n new known same k is laid few told updates e = record {
     kept = kept;
     runs = rows;
     known = known;
     same = same;
     laid = laid;
     few = few;
+    told = told;
     is = e ∙ ap (with_kept old state.key) (made_same start rows state.snapshot n (subst IsStart (sym is) (start_fit kept.view.start state.start k t))
         ∙ (ap (λ (z : ℤ). made state.state_epoch state.leader_epoch z rows state.snapshot n) is
         ∙ (ap (λ (m : ℕ). made state.state_epoch state.leader_epoch (start_after kept.view.start state.start) rows m n) same
@@ -115,6 +119,12 @@ too_many_snapshot old state cut laid many new is =
     let few = is.few in
     omega (arith, same, many, few)
 
+-- another number than that of the rows
+pub untold_snapshot : (old : Entries) (state : StateParts) (cut : List Run) → AreLaid state.start [] state.runs cut → (Tells state.complete cut → ⊥)
+    → (new : Entries) → IsSnapshotted old state new → ⊥
+untold_snapshot old state cut laid untold new is =
+    untold (subst (λ (l : List Run). Tells state.complete l) (laid_once state.start [] state.runs is.runs cut is.laid laid) is.told)
+
 some_kept : Option Kept → Kept → Kept
 some_kept None d = d
 some_kept (Some k) d = k
@@ -128,6 +138,25 @@ too_many_update old state kept rows known laid many new is =
     let same = ap (λ (l : List Run). length l) (laid_once (start_after kept.view.start state.start) kept.view.runs state.runs rows is.runs laid theirs) in
     let few = is.few in
     omega (arith, same, many, few)
+
+pub untold_update : (old : Entries) (state : StateParts) (kept : Kept) (rows : List Run) → kept_at old state.key ≡ Some kept
+    → AreLaid (start_after kept.view.start state.start) kept.view.runs state.runs rows → (Tells state.complete rows → ⊥) → (new : Entries) → IsUpdated old state new → ⊥
+unfolding some_kept
+untold_update old state kept rows known laid untold new is =
+    let one : kept ≡ is.kept = ap (λ (o : Option Kept). some_kept o kept) (sym known ∙ is.known) in
+    let theirs = subst (λ (k : Kept). AreLaid (start_after k.view.start state.start) k.view.runs state.runs is.runs) (sym one) is.laid in
+    untold (subst (λ (l : List Run). Tells state.complete l) (laid_once (start_after kept.view.start state.start) kept.view.runs state.runs is.runs rows theirs laid) is.told)
+
+-- a test that fails
+pub not_told : (b : Bool) (complete : Option ℕ) (rows : List Run) (n : ℕ) → (b ≡ true) ↔ IfSome complete (λ m. m ≡ n) → n ≡ complete_rows rows → b ≡ false
+    → Tells complete rows → ⊥
+not_told b complete rows n test count fails told =
+    let same : IfSome complete (λ m. m ≡ n) = subst (λ (k : ℕ). IfSome complete (λ m. m ≡ k)) (sym count) told in
+    let is : b ≡ true = test.1 same in
+    clash (sym is ∙ fails)
+
+pub is_told : (b : Bool) (complete : Option ℕ) (rows : List Run) (n : ℕ) → (b ≡ true) ↔ IfSome complete (λ m. m ≡ n) → n ≡ complete_rows rows → b ≡ true → Tells complete rows
+is_told b complete rows n test count holds = subst (λ (k : ℕ). IfSome complete (λ m. m ≡ k)) count (test.0 holds)
 
 -- ---- frames in their order
 

@@ -12,6 +12,7 @@ use Rattle.share_model.specs.Keys.{KeyParts}
 use Rattle.share_model.specs.ShareStates.{AreWritten, AreLaid, start_after}
 use Rattle.share_model.specs.declared.fault.StoreFault.TheVariants.{Device, Full}
 use Rattle.share_model.specs.declared.run.Run.{Run}
+use Rattle.offset_runs.specs.Complete.{complete_rows}
 use Rattle.state_records.specs.Spelling.{record_bytes}
 use Rattle.state_records.specs.declared.record.StateRecord.{StateRecord}
 use Rattle.state_records.specs.declared.record.StateRecord.TheVariants.{Snapshot, Update}
@@ -30,11 +31,12 @@ init_record old key state_epoch start = Snapshot (record {
   state_epoch = state_epoch;
   leader_epoch = pos 0;
   start = start;
+  complete = Some 0;
   runs = [];
 })
 
 -- A write stores an update with the numbers as they were given and the rows that it writes; behind 500 updates it
--- stores a snapshot of all that the key then has.
+-- stores a snapshot of all that the key then has. Either tells how many rows of the key are complete then.
 abbrev pub write_record : KeyParts → Kept → ℤ → ℤ → ℤ → (written laid : List Run) → StateRecord
 write_record key kept state_epoch leader_epoch start written laid = if nat_lt kept.updates 500
     then Update (record {
@@ -43,6 +45,7 @@ write_record key kept state_epoch leader_epoch start written laid = if nat_lt ke
       state_epoch = state_epoch;
       leader_epoch = leader_epoch;
       start = start;
+      complete = Some (complete_rows laid);
       runs = written;
     })
     else Snapshot (record {
@@ -51,6 +54,7 @@ write_record key kept state_epoch leader_epoch start written laid = if nat_lt ke
       state_epoch = state_epoch;
       leader_epoch = leader_epoch;
       start = start_after kept.view.start start;
+      complete = Some (complete_rows laid);
       runs = laid;
     })
 

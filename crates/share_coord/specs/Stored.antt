@@ -4,11 +4,12 @@
 -- A snapshot gives its key this state, whatever it had. An update sets both epochs, the start unless it is -1, and the rows of its
 -- runs. A removal takes its key away. Rows below the start go, also those of a snapshot, and at most 1000000 runs are left. The
 -- first snapshot of a key has snapshot epoch 0 and each later one has one more; an update has the epoch of its key's last
--- snapshot; a key that was removed begins anew. A head stands before all records or nowhere, and a seal once, behind a head and the
+-- snapshot; a key that was removed begins anew. A record of version 1 tells how many rows its key then has that are acknowledged or
+-- archived; one that tells another number breaks the rules. A head stands before all records or nowhere, and a seal once, behind a head and the
 -- snapshots that follow it, or nowhere; neither changes a state. Records that break these rules stand for nothing.
 -- Worked example: the snapshot of `g1` with snapshot epoch 0, state epoch 3, start 7 and no runs stands for that one key, also between
 -- a head and a seal; a second snapshot with snapshot epoch 0 behind it stands for nothing, and so does a second seal.
-use Rattle.std.specs.Prelude.{◌≡◌, ◌⊎◌, ◌≤◌, ◌+◌, ℕ, min, List, [], ◌∷◌, ◌++◌, length, map, Some, None, Bool, true, false, if◌then◌else◌}
+use Rattle.std.specs.Prelude.{◌≡◌, ◌⊎◌, ◌≤◌, ◌+◌, ℕ, min, List, [], ◌∷◌, ◌++◌, length, map, Some, None, IfSome, Bool, true, false, if◌then◌else◌}
 use Rattle.std.specs.declared.option.Option.{Option}
 use Rattle.std.specs.BTreeMap.{insert_entry, is_at}
 use Rattle.std.specs.Map.{lookup, remove_entry}
@@ -16,6 +17,7 @@ use Rattle.gate_journal.specs.Frames.{blocks}
 use Rattle.share_model.specs.Keys.{KeyParts, key_cmp}
 use Rattle.share_model.specs.ShareStates.{ShareState, AreLaid, start_after}
 use Rattle.share_model.specs.declared.run.Run.{Run}
+use Rattle.offset_runs.specs.Complete.{complete_rows}
 use Rattle.state_records.specs.States.{StateParts}
 use Rattle.state_records.specs.Spelling.{IsRecord, record_bytes}
 use Rattle.state_records.specs.declared.record.StateRecord.{StateRecord}
@@ -61,11 +63,16 @@ update_of kept state runs = record {
   updates = min (kept.updates + 1) 500;
 }
 
+-- the number that a record tells, if it tells one, is that of the complete rows of these runs
+abbrev pub Tells : Option ℕ → List Run → Type 0
+Tells complete runs = IfSome complete (λ n. n ≡ complete_rows runs)
+
 pub record IsSnapshotted (old : Entries) (state : StateParts) (new : Entries) : Type 0 where
   pub runs : List Run
   pub next : state.snapshot ≡ next_snapshot (kept_at old state.key)
   pub laid : AreLaid state.start [] state.runs runs
   pub few : length runs ≤ 1000000
+  pub told : Tells state.complete runs
   pub is : new ≡ with_kept old state.key (snapshot_of state runs)
 
 pub record IsUpdated (old : Entries) (state : StateParts) (new : Entries) : Type 0 where
@@ -75,6 +82,7 @@ pub record IsUpdated (old : Entries) (state : StateParts) (new : Entries) : Type
   pub same : state.snapshot ≡ kept.snapshot
   pub laid : AreLaid (start_after kept.view.start state.start) kept.view.runs state.runs runs
   pub few : length runs ≤ 1000000
+  pub told : Tells state.complete runs
   pub is : new ≡ with_kept old state.key (update_of kept state runs)
 
 pub record IsRemoved (old : Entries) (key : KeyParts) (new : Entries) : Type 0 where
@@ -194,6 +202,7 @@ snapshot_record key view = Snapshot (record {
   state_epoch = view.state_epoch;
   leader_epoch = view.leader_epoch;
   start = view.start;
+  complete = Some (complete_rows view.runs);
   runs = view.runs;
 })
 

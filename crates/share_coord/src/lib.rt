@@ -19,6 +19,7 @@ pub use coord::Coord;
 pub use coord_checkpoint::CoordOpen;
 pub use fault::CoordFault;
 pub use laws::a_write_stores_one_record;
+pub use rows::complete_of;
 pub use states::States;
 pub use store::Store;
 pub use view::{Kept, StateView};

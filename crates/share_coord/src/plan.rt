@@ -2,6 +2,7 @@
 ghost use Rattle.std.specs.Prelude.{◌≡◌, ◌≢◌, ◌⊎◌, ◌<◌, ◌≤◌, ◌+◌, ◌^◌, ℕ, List, length, true, Some, None, IfOk, IfErr, IfSome, []};
 ghost use Rattle.std.specs.List.{list_all};
 ghost use Rattle.share_model.specs.ShareStates.{is_writable, start_after};
+ghost use Rattle.offset_runs.specs.Complete.{complete_rows};
 ghost use Rattle.state_records.specs.States.{IsKey, IsEpoch, IsStart, AreStoredRuns};
 ghost use Rattle.state_records.specs.declared.record.StateRecord.TheVariants.{Snapshot as snapshot_record, Update as update_record};
 ghost use Rattle.share_coord.specs.Stored.{Entries, kept_at};
@@ -9,7 +10,7 @@ ghost use Rattle.share_coord.specs.Calls.{IsTooMany};
 ghost use Rattle.share_coord.specs.Planning.{IsPlanned};
 
 use crate::fault::CoordFault;
-use crate::rows::{laid, start_after, written};
+use crate::rows::{complete_after, laid, start_after, written};
 use crate::view::{Kept, StateView};
 use flex_fields::Items;
 use offset_runs::Runs;
@@ -73,13 +74,21 @@ pub(crate) fn key_fits(key: &Key)
 }
 
 // An update with the rows that are written.
-fn update(numbers: &Numbers, kept: &Kept, start: i64, over: Runs, rows: Runs) -> Change
+fn update(
+    numbers: &Numbers,
+    kept: &Kept,
+    start: i64,
+    over: Runs,
+    rows: Runs,
+    complete: u64,
+) -> Change
     requires ranges { IsEpoch numbers.now.state_epoch × IsEpoch numbers.now.leader_epoch × IsStart numbers.now.start }
     requires start { IsStart start }
     requires over { AreStoredRuns over.list }
     requires few { length over.list ≤ 1000000 }
     requires rows { AreStoredRuns rows.list }
     requires few_rows { length rows.list ≤ 1000000 }
+    requires counted { complete ≡ complete_rows rows.list }
     requires updates { kept.now.updates < 500 }
     ensures written { result.written ≡ update_record (record {
       key = numbers.now.key;
@@ -87,6 +96,7 @@ fn update(numbers: &Numbers, kept: &Kept, start: i64, over: Runs, rows: Runs) ->
       state_epoch = numbers.now.state_epoch;
       leader_epoch = numbers.now.leader_epoch;
       start = numbers.now.start;
+      complete = Some (complete_rows rows.list);
       runs = over.list;
     }) }
     ensures kept { result.kept ≡ record {
@@ -102,6 +112,7 @@ fn update(numbers: &Numbers, kept: &Kept, start: i64, over: Runs, rows: Runs) ->
             state_epoch: numbers.state_epoch,
             leader_epoch: numbers.leader_epoch,
             start: numbers.start,
+            complete: Some(complete),
             runs: Items::new(over.into_vec()),
         }),
         kept: Kept {
@@ -109,6 +120,7 @@ fn update(numbers: &Numbers, kept: &Kept, start: i64, over: Runs, rows: Runs) ->
                 state_epoch: numbers.state_epoch,
                 leader_epoch: numbers.leader_epoch,
                 start,
+                complete,
                 runs: rows,
             },
             snapshot: kept.snapshot,
@@ -124,17 +136,20 @@ pub(crate) fn snapshot(
     snapshot: u64,
     start: i64,
     rows: Runs,
+    complete: u64,
 ) -> Result<Change, NoMemory>
     requires ranges { IsEpoch numbers.now.state_epoch × IsEpoch numbers.now.leader_epoch }
     requires start { IsStart start }
     requires rows { AreStoredRuns rows.list }
     requires few_rows { length rows.list ≤ 1000000 }
+    requires counted { complete ≡ complete_rows rows.list }
     ensures written { IfOk result (λ c. c.written ≡ snapshot_record (record {
       key = numbers.now.key;
       snapshot = snapshot;
       state_epoch = numbers.now.state_epoch;
       leader_epoch = numbers.now.leader_epoch;
       start = start;
+      complete = Some (complete_rows rows.list);
       runs = rows.list;
     })) }
     ensures kept { IfOk result (λ c. c.kept ≡ record {
@@ -151,6 +166,7 @@ pub(crate) fn snapshot(
             state_epoch: numbers.state_epoch,
             leader_epoch: numbers.leader_epoch,
             start,
+            complete: Some(complete),
             runs: Items::new(copy),
         }),
         kept: Kept {
@@ -158,6 +174,7 @@ pub(crate) fn snapshot(
                 state_epoch: numbers.state_epoch,
                 leader_epoch: numbers.leader_epoch,
                 start,
+                complete,
                 runs: rows,
             },
             snapshot,
@@ -167,7 +184,12 @@ pub(crate) fn snapshot(
 }
 
 // Behind a checkpoint a write is always stored as an update.
-fn fresh_update(alloc: Global, numbers: &Numbers, over: &Runs) -> Result<Fresh, NoMemory>
+fn fresh_update(
+    alloc: Global,
+    numbers: &Numbers,
+    over: &Runs,
+    complete: u64,
+) -> Result<Fresh, NoMemory>
     requires ranges { IsEpoch numbers.now.state_epoch × IsEpoch numbers.now.leader_epoch × IsStart numbers.now.start }
     requires over { AreStoredRuns over.now.list }
     requires few { length over.now.list ≤ 1000000 }
@@ -177,6 +199,7 @@ fn fresh_update(alloc: Global, numbers: &Numbers, over: &Runs) -> Result<Fresh, 
       state_epoch = numbers.now.state_epoch;
       leader_epoch = numbers.now.leader_epoch;
       start = numbers.now.start;
+      complete = Some complete;
       runs = over.now.list;
     })) }
     ensures numbers { IfOk result (λ f. (f.snapshot ≡ 0) × (f.updates ≡ 1)) }
@@ -189,6 +212,7 @@ fn fresh_update(alloc: Global, numbers: &Numbers, over: &Runs) -> Result<Fresh, 
             state_epoch: numbers.state_epoch,
             leader_epoch: numbers.leader_epoch,
             start: numbers.start,
+            complete: Some(complete),
             runs: Items::new(copy),
         }),
         snapshot: 0,
@@ -201,6 +225,7 @@ fn fresh_where(
     alloc: Global,
     numbers: &Numbers,
     over: &Runs,
+    complete: u64,
     tries: bool,
 ) -> Result<Option<Fresh>, NoMemory>
     requires ranges { IsEpoch numbers.now.state_epoch × IsEpoch numbers.now.leader_epoch × IsStart numbers.now.start }
@@ -212,13 +237,14 @@ fn fresh_where(
       state_epoch = numbers.now.state_epoch;
       leader_epoch = numbers.now.leader_epoch;
       start = numbers.now.start;
+      complete = Some complete;
       runs = over.now.list;
     })) × (f.snapshot ≡ 0) × (f.updates ≡ 1))) }
 {
     if !tries {
         return Ok(None);
     }
-    let fresh = fresh_update(alloc, numbers, over)?;
+    let fresh = fresh_update(alloc, numbers, over, complete)?;
     Ok(Some(fresh))
 }
 
@@ -231,6 +257,7 @@ pub(crate) fn fresh_snapshot(alloc: Global, numbers: &Numbers, snapshot: u64) ->
       state_epoch = numbers.now.state_epoch;
       leader_epoch = numbers.now.leader_epoch;
       start = numbers.now.start;
+      complete = Some 0;
       runs = [];
     }) }
     ensures numbers { (result.snapshot ≡ snapshot) × (result.updates ≡ 0) }
@@ -242,6 +269,7 @@ pub(crate) fn fresh_snapshot(alloc: Global, numbers: &Numbers, snapshot: u64) ->
             state_epoch: numbers.state_epoch,
             leader_epoch: numbers.leader_epoch,
             start: numbers.start,
+            complete: Some(0),
             runs: Items::new(Vec::new(alloc)),
         }),
         snapshot,
@@ -279,16 +307,17 @@ pub(crate) fn planned(
     if count > MAX_RUNS {
         return Err(CoordFault::TooMany { runs: count as u64 });
     }
-    let Ok(fresh) = fresh_where(alloc, numbers, &over, tries) else {
+    let complete = complete_after(&kept.view.runs, kept.view.complete(), &over, start);
+    let Ok(fresh) = fresh_where(alloc, numbers, &over, complete, tries) else {
         return Err(CoordFault::NoMemory);
     };
     if kept.updates < 500 {
         return Ok(Changes {
-            change: update(numbers, kept, start, over, rows),
+            change: update(numbers, kept, start, over, rows, complete),
             fresh,
         });
     }
-    match snapshot(alloc, numbers, kept.snapshot + 1, start, rows) {
+    match snapshot(alloc, numbers, kept.snapshot + 1, start, rows, complete) {
         Ok(change) => Ok(Changes { change, fresh }),
         Err(_) => Err(CoordFault::NoMemory),
     }

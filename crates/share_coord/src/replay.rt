@@ -6,7 +6,7 @@ ghost use Rattle.coord_checkpoint.specs.Openings.{frames_in};
 ghost use Rattle.share_coord.specs.Replaying.{HasRefused};
 ghost use Rattle.share_coord.specs.Stored.{Entries, IsSnapshotted, IsUpdated, Follows, AreAccepted, AreTaken, is_passed, next_snapshot, records_from, walked};
 
-use crate::rows::{cut_at, laid, start_after};
+use crate::rows::{complete_after, complete_of, cut_at, laid, start_after};
 use crate::view::{Kept, StateView};
 use crate::walk::Walk;
 use coord_checkpoint::StateVisit;
@@ -30,6 +30,16 @@ fn is_next(known: Option<&Kept>, snapshot: u64) -> bool
     }
 }
 
+// Whether a record tells this number of complete rows, or none.
+fn tells(told: Option<u64>, complete: u64) -> bool
+    ensures { (result ≡ true) ↔ IfSome told (λ n. n ≡ complete) }
+{
+    match told {
+        Some(number) => number == complete,
+        None => true,
+    }
+}
+
 fn take_snapshot(map: &mut BTreeMap<Key, Kept>, state: KeyState) -> Result<bool, NoMemory>
     ensures taken { result ≡ Ok true → IsSnapshotted map.old.entries state map.new.entries }
     ensures refused { result ≡ Ok false → (new : Entries) → IsSnapshotted map.old.entries state new → ⊥ }
@@ -44,6 +54,7 @@ fn take_snapshot(map: &mut BTreeMap<Key, Kept>, state: KeyState) -> Result<bool,
         state_epoch,
         leader_epoch,
         start,
+        complete: told,
         runs,
     } = state;
     let mut rows = Runs::from_list(runs);
@@ -51,11 +62,16 @@ fn take_snapshot(map: &mut BTreeMap<Key, Kept>, state: KeyState) -> Result<bool,
     if rows.list().len() > MAX_RUNS {
         return Ok(false);
     }
+    let complete = complete_of(&rows);
+    if !tells(told, complete) {
+        return Ok(false);
+    }
     let kept = Kept {
         view: StateView {
             state_epoch,
             leader_epoch,
             start,
+            complete,
             runs: rows,
         },
         snapshot,
@@ -95,11 +111,17 @@ fn take_update(
         state_epoch,
         leader_epoch,
         start: given,
+        complete: told,
         runs,
     } = state;
     let start = start_after(kept.view.start, given);
-    let rows = laid(alloc, &kept.view.runs, &Runs::from_list(runs), start)?;
+    let over = Runs::from_list(runs);
+    let rows = laid(alloc, &kept.view.runs, &over, start)?;
     if rows.list().len() > MAX_RUNS {
+        return Ok(false);
+    }
+    let complete = complete_after(&kept.view.runs, kept.view.complete(), &over, start);
+    if !tells(told, complete) {
         return Ok(false);
     }
     let updates = one_more(kept.updates);
@@ -108,6 +130,7 @@ fn take_update(
             state_epoch,
             leader_epoch,
             start,
+            complete,
             runs: rows,
         },
         snapshot,

@@ -1,7 +1,11 @@
 // The rows that a write leaves.
 ghost use Rattle.std.specs.Prelude.{◌≡◌, ◌≤◌, ℕ, List, None, length, IfOk, if◌then◌else◌};
 ghost use Rattle.share_model.specs.Runs.{IsCanonical, row_at};
+ghost use Rattle.share_model.specs.ForeignRules.{size_of};
 ghost use Rattle.share_model.specs.ShareStates.{AreWritten, AreLaid, is_below, start_after};
+ghost use Rattle.share_model.specs.declared.run.Run.{Run};
+ghost use Rattle.offset_runs.specs.Complete.{complete_rows};
+ghost use Rattle.state_records.specs.States.{AreStoredRuns};
 
 use flex_fields::Items;
 use offset_runs::Runs;
@@ -72,4 +76,29 @@ pub(crate) fn laid(alloc: Global, under: &Runs, over: &Runs, start: i64) -> Resu
     cut_at(&mut out, start);
     canonical(&out);
     Ok(out)
+}
+
+// The offset of a start, or 0 where none was given.
+fn offset_of(start: i64) -> u64
+    ensures { result ≡ size_of start }
+{
+    if start < 0 { 0 } else { start as u64 }
+}
+
+// How many rows are complete once others are laid over these from a start on; so many of these are.
+pub(crate) fn complete_after(under: &Runs, complete: u64, over: &Runs, start: i64) -> u64
+    requires now { complete ≡ complete_rows under.now.list }
+    requires under { AreStoredRuns under.now.list }
+    requires over { AreStoredRuns over.now.list }
+    ensures { (laid : List Run) → AreLaid start under.now.list over.now.list laid → result ≡ complete_rows laid }
+{
+    under.complete_laid(complete, over, offset_of(start))
+}
+
+/// How many rows are complete: acknowledged or archived. It goes over all runs.
+pub fn complete_of(runs: &Runs) -> u64
+    requires { AreStoredRuns runs.now.list }
+    ensures { result ≡ complete_rows runs.now.list }
+{
+    runs.complete()
 }

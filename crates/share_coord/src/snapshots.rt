@@ -51,6 +51,7 @@ fn first_snapshot(alloc: Global, key: &Key, view: &StateView) -> Result<StateRec
         state_epoch: view.state_epoch,
         leader_epoch: view.leader_epoch,
         start: view.start,
+        complete: Some(view.complete()),
         runs: Items::new(copy),
     }))
 }

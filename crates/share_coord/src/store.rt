@@ -119,6 +119,7 @@ fn first_where(alloc: Global, numbers: &Numbers, is_known: bool, tries: bool) ->
       state_epoch = numbers.now.state_epoch;
       leader_epoch = numbers.now.leader_epoch;
       start = numbers.now.start;
+      complete = Some 0;
       runs = [];
     })) × (f.snapshot ≡ (if is_known then 1 else 0)) × (f.updates ≡ 0)) }
 {
@@ -267,7 +268,8 @@ impl<D: Disk> Store<D> {
             leader_epoch: 0,
             start,
         };
-        let Ok(change) = snapshot(self.alloc, &numbers, next, start, Runs::new(self.alloc)) else {
+        let Ok(change) = snapshot(self.alloc, &numbers, next, start, Runs::new(self.alloc), 0)
+        else {
             return Err(CoordFault::NoMemory);
         };
         let fresh = first_where(self.alloc, &numbers, is_known, tried.due);

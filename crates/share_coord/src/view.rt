@@ -5,17 +5,21 @@ use std::marker::Model;
 
 /// The state of a key: KIP-932's epochs and start offset of a share partition, and its stored rows.
 ///
-/// The epochs are at least 0, `start` is an offset or -1, and the rows are at most 1000000 runs, with offsets below
-/// 2^63 and counts below 2^15. A contract sees the record of the fields.
+/// The epochs are at least 0, `start` is an offset or -1, `complete` is how many rows are acknowledged or archived, and
+/// the rows are at most 1000000 runs, with offsets below 2^63 and counts below 2^15. A contract sees the record of the
+/// fields but `complete`, which is `complete_rows` of the runs.
 #[derive(Drop)]
 pub struct StateView {
     pub state_epoch: i32,
     pub leader_epoch: i32,
     pub start: i64,
+    pub complete: u64,
     pub runs: Runs,
 }
 
 impl Model for StateView {
+    ghost use Rattle.std.specs.Prelude.{◌≡◌};
+    ghost use Rattle.offset_runs.specs.Complete.{complete_rows};
     ghost use Rattle.share_model.specs.ShareStates.{ShareState};
     ghost use Rattle.share_coord.specs.Views.{IsKeptState};
 
@@ -23,11 +27,20 @@ impl Model for StateView {
 
     ghost view = { λ v. record { state_epoch = v.state_epoch; leader_epoch = v.leader_epoch; start = v.start; runs = v.runs.list } };
 
-    ghost invariant = { λ v. IsKeptState (record { state_epoch = v.state_epoch; leader_epoch = v.leader_epoch; start = v.start; runs = v.runs.list }) };
+    ghost invariant = { λ v. IsKeptState (record { state_epoch = v.state_epoch; leader_epoch = v.leader_epoch; start = v.start; runs = v.runs.list })
+        × (v.complete ≡ complete_rows v.runs.list) };
 }
 
 impl StateView {
+    ghost use Rattle.offset_runs.specs.Complete.{complete_rows};
     ghost use Rattle.share_coord.specs.Views.{IsKeptState};
+
+    /// How many rows are acknowledged or archived.
+    pub fn complete(&self) -> u64
+        ensures { result ≡ complete_rows self.now.runs }
+    {
+        self.complete
+    }
 
     /// The numbers are in their ranges, as those of each state that is kept are.
     pub fn known(&self)

@@ -1,6 +1,6 @@
 -- How the readers of a state and of a record fail.
 use Rattle.std.proofs.Common.{◌≡◌, ℕ, ℤ, pos, zero, suc, ◌+◌, ◌-◌, ◌^◌, ◌<◌, ◌≤◌, ◌⊎◌, inl, inr, List, [], ◌∷◌, ◌++◌}
-use Rattle.std.proofs.Common.{length, take, get_or, None, Result, Ok, Err, refl, sym, ap, subst, ◌∙◌, append_assoc, arith}
+use Rattle.std.proofs.Common.{length, take, get_or, Option, Some, None, Result, Ok, Err, refl, sym, ap, subst, ◌∙◌, append_assoc, arith}
 use Rattle.std.specs.Prelude.{nat_lt}
 use Rattle.std.specs.Int.{w16, w32, w64, to_be_bytes}
 use Rattle.std.specs.List.{flat_map}
@@ -10,14 +10,15 @@ use Rattle.share_model.specs.Keys.{KeyParts}
 use Rattle.share_model.specs.Names.{IsName}
 use Rattle.share_model.specs.declared.run.Run.{Run}
 use Rattle.state_records.specs.States.{StateParts, IsEpoch, IsStart, IsKey, IsState}
-use Rattle.state_records.specs.Spelling.{name_bytes, key_bytes, epoch_number, start_number, run_bytes, counted_runs, runs_bytes, counted_state, state_bytes}
-use Rattle.state_records.specs.Faults.{LeavesTooFew, IsRunsField, IsFieldIn, key_sizes}
+use Rattle.state_records.specs.Spelling.{name_bytes, key_bytes, version_of, complete_bytes, epoch_number, start_number, run_bytes, counted_runs, runs_bytes, counted_state}
+use Rattle.state_records.specs.Spelling.{state_bytes}
+use Rattle.state_records.specs.Faults.{LeavesTooFew, IsRunsField, IsFieldIn, key_sizes, complete_sizes, state_sizes}
 use Rattle.flex_fields.specs.Reading.{At}
 use Rattle.state_records.specs.Reading.{then_at, raw_at, number_at, below_at, name_at, key_of, key_at, epoch_at, start_of, start_at}
-use Rattle.state_records.specs.Reading.{runs_at, all_runs_at, state_of_parts, state_at}
-use Rattle.state_records.proofs.Spells.{IsBytes, bind_ok, Spells, then_spells, raw_spells, number_spells, wide64}
+use Rattle.state_records.specs.Reading.{runs_at, complete_at, all_runs_at, state_of_parts, state_at}
+use Rattle.state_records.proofs.Spells.{IsBytes, bind_ok, ok_is, Spells, then_spells, raw_spells, number_spells, wide64}
 use Rattle.state_records.proofs.Stored.{low32, all32, AreAllRuns, all_runs_spells}
-use Rattle.state_records.proofs.Records.{Parts, name_spells, key_spells, epoch_spells, start_spells}
+use Rattle.state_records.proofs.Records.{Parts, FitsVersion, FitsState, name_spells, key_spells, epoch_spells, start_spells, complete_spells}
 use Rattle.state_records.proofs.Begins.{bind_err, not_both, agrees, take-behind, Front, Fails, Inside, then_field, whole_field, one_reading, then_fails, field_fails, as_fails}
 use Rattle.state_records.proofs.FieldFaults.{FailsHere, Moving, number_here, number_moves, raw_here, raw_moves, only_here, only_moves, as_here, as_moves}
 use Rattle.state_records.proofs.FieldFaults.{found_here, found_moves, name_here, name_moves}
@@ -283,67 +284,123 @@ key_fails = record {
   none = key_triple.none;
 }
 
+-- ---- the number of complete rows
+
+-- it is a field of eight bytes where it is told
+abbrev pub complete_field : Option ℕ → ℕ → ℕ → Type 0
+complete_field None p e = ⊥
+complete_field (Some n) p e = whole_field (to_be_bytes w64) n p e
+
+complete_whole : (c : Option ℕ) (p e : ℕ) → complete_field c p e → whole_field complete_bytes c p e
+complete_whole None p e f = absurd f
+complete_whole (Some n) p e f = f
+
+complete_ahead : (c : Option ℕ) (p e : ℕ) → complete_field c p e → p ≤ e
+complete_ahead None p e f = absurd f
+complete_ahead (Some n) p e f = omega (arith, f.0)
+
+nothing_moves : Moving (complete_at 0)
+unfolding complete_at
+nothing_moves at x after ok =
+    let made : Option ℕ × At = (None, at) in
+    ap (λ (z : Option ℕ × At). z.1.place + length z.1.left) (sym (ok_is made (x, after) ok))
+
+nothing_stays : (at : At) (place : ℕ) → complete_at 0 at ≡ Err place → ⊥
+unfolding complete_at
+nothing_stays at place err = absurd cc
+
+told_fails : Fails (complete_at 1) complete_bytes (FitsVersion 1) (whole_field complete_bytes) complete_bytes (FitsVersion 1)
+unfolding complete_at
+told_fails = field_fails (complete_at 1) complete_bytes (FitsVersion 1) (complete_spells 1 (omega arith)) (Some 0) (omega arith, refl)
+    (as_here (λ k. Some k) (number_at w64) (number_here w64)) (as_moves (λ k. Some k) (number_at w64) (number_moves w64))
+
+complete_fails : (version : ℕ) → version < 2 → Fails (complete_at version) complete_bytes (FitsVersion version) complete_field complete_bytes (FitsVersion version)
+complete_fails zero low = record {
+  some = None;
+  some_good = (tt, refl);
+  ahead = complete_ahead;
+  moves = nothing_moves;
+  front = λ at place bytes err. absurd (nothing_stays at place err);
+  none = λ at place bytes err x e more rest fits field within same. nothing_stays at place err;
+}
+complete_fails (suc zero) low = record {
+  some = told_fails.some;
+  some_good = told_fails.some_good;
+  ahead = complete_ahead;
+  moves = told_fails.moves;
+  front = told_fails.front;
+  none = λ at place bytes err x e more rest fits field within same. told_fails.none at place bytes err x e more rest fits (complete_whole x _ e field) within same;
+}
+complete_fails (suc (suc n)) low = absurd (omega (arith, low))
+
+complete_inside : (version : ℕ) → Inside complete_bytes (FitsVersion version) complete_field
+complete_inside version None p e fits f = absurd f
+complete_inside version (Some n) p e fits f = let size : length (to_be_bytes w64 n) ≡ 8 = refl in omega (arith, f.0, size)
+
 -- ---- a state
 
-abbrev S5 : ℤ × List Run → List ℕ
-S5 x = start_bytes x.0 ++ runs_bytes x.1
+abbrev Kept6 : Type 0
+Kept6 = Option ℕ × List Run
 
-abbrev F5 : ℤ × List Run → Type 0
-F5 x = IsStart x.0 × AreAllRuns x.1
+abbrev S6 : Kept6 → List ℕ
+S6 x = complete_bytes x.0 ++ runs_bytes x.1
 
-abbrev field5 : ℤ × List Run → ℕ → ℕ → Type 0
-field5 = then_field start_bytes (whole_field start_bytes) all_field
+abbrev F6 : ℕ → Kept6 → Type 0
+F6 version x = FitsVersion version x.0 × AreAllRuns x.1
+
+abbrev field6 : Kept6 → ℕ → ℕ → Type 0
+field6 = then_field complete_bytes complete_field all_field
+
+abbrev Shown6 : Type 0
+Shown6 = Option ℕ × (ℕ × List Run)
+
+abbrev show6 : Shown6 → List ℕ
+show6 x = complete_bytes x.0 ++ all_shown x.1
+
+abbrev good6 : ℕ → Shown6 → Type 0
+good6 version x = FitsVersion version x.0 × all_good x.1
+
+abbrev Kept5 : Type 0
+Kept5 = ℤ × Kept6
+
+abbrev S5 : Kept5 → List ℕ
+S5 x = start_bytes x.0 ++ S6 x.1
+
+abbrev F5 : ℕ → Kept5 → Type 0
+F5 version x = IsStart x.0 × F6 version x.1
+
+abbrev field5 : Kept5 → ℕ → ℕ → Type 0
+field5 = then_field start_bytes (whole_field start_bytes) field6
 
 abbrev Shown5 : Type 0
-Shown5 = ℤ × (ℕ × List Run)
+Shown5 = ℤ × Shown6
 
 abbrev show5 : Shown5 → List ℕ
-show5 x = start_bytes x.0 ++ all_shown x.1
+show5 x = start_bytes x.0 ++ show6 x.1
 
-abbrev good5 : Shown5 → Type 0
-good5 x = IsStart x.0 × all_good x.1
-
-abbrev read5 : At → Result ((ℤ × List Run) × At) ℕ
-read5 = then_at start_at all_runs_at
-
-spells5 : Spells read5 S5 F5
-spells5 = then_spells start_at all_runs_at start_bytes runs_bytes IsStart AreAllRuns start_spells all_runs_spells
-
-fails5 : Fails read5 S5 F5 field5 show5 good5
-fails5 = then_fails start_at all_runs_at start_bytes runs_bytes IsStart AreAllRuns (whole_field start_bytes) all_field all_shown all_good start_spells start_inside start_fails all_fails
-
-inside5 : Inside S5 F5 field5
-inside5 = then_inside start_bytes runs_bytes IsStart AreAllRuns (whole_field start_bytes) all_field start_inside all_inside
+abbrev good5 : ℕ → Shown5 → Type 0
+good5 version x = IsStart x.0 × good6 version x.1
 
 abbrev Kept4 : Type 0
-Kept4 = ℤ × (ℤ × List Run)
+Kept4 = ℤ × Kept5
 
 abbrev S4 : Kept4 → List ℕ
 S4 x = epoch_bytes x.0 ++ S5 x.1
 
-abbrev F4 : Kept4 → Type 0
-F4 x = IsEpoch x.0 × F5 x.1
+abbrev F4 : ℕ → Kept4 → Type 0
+F4 version x = IsEpoch x.0 × F5 version x.1
 
 abbrev field4 : Kept4 → ℕ → ℕ → Type 0
 field4 = then_field epoch_bytes (whole_field epoch_bytes) field5
 
-abbrev show4 : ℤ × Shown5 → List ℕ
+abbrev Shown4 : Type 0
+Shown4 = ℤ × Shown5
+
+abbrev show4 : Shown4 → List ℕ
 show4 x = epoch_bytes x.0 ++ show5 x.1
 
-abbrev good4 : ℤ × Shown5 → Type 0
-good4 x = IsEpoch x.0 × good5 x.1
-
-abbrev read4 : At → Result (Kept4 × At) ℕ
-read4 = then_at epoch_at read5
-
-spells4 : Spells read4 S4 F4
-spells4 = then_spells epoch_at read5 epoch_bytes S5 IsEpoch F5 epoch_spells spells5
-
-fails4 : Fails read4 S4 F4 field4 show4 good4
-fails4 = then_fails epoch_at read5 epoch_bytes S5 IsEpoch F5 (whole_field epoch_bytes) field5 show5 good5 epoch_spells epoch_inside epoch_fails fails5
-
-inside4 : Inside S4 F4 field4
-inside4 = then_inside epoch_bytes S5 IsEpoch F5 (whole_field epoch_bytes) field5 epoch_inside inside5
+abbrev good4 : ℕ → Shown4 → Type 0
+good4 version x = IsEpoch x.0 × good5 version x.1
 
 abbrev Kept3 : Type 0
 Kept3 = ℤ × Kept4
@@ -351,29 +408,20 @@ Kept3 = ℤ × Kept4
 abbrev S3 : Kept3 → List ℕ
 S3 x = epoch_bytes x.0 ++ S4 x.1
 
-abbrev F3 : Kept3 → Type 0
-F3 x = IsEpoch x.0 × F4 x.1
+abbrev F3 : ℕ → Kept3 → Type 0
+F3 version x = IsEpoch x.0 × F4 version x.1
 
 abbrev field3 : Kept3 → ℕ → ℕ → Type 0
 field3 = then_field epoch_bytes (whole_field epoch_bytes) field4
 
 abbrev Shown3 : Type 0
-Shown3 = ℤ × (ℤ × Shown5)
+Shown3 = ℤ × Shown4
 
 abbrev show3 : Shown3 → List ℕ
 show3 x = epoch_bytes x.0 ++ show4 x.1
 
-abbrev good3 : Shown3 → Type 0
-good3 x = IsEpoch x.0 × good4 x.1
-
-abbrev read3 : At → Result (Kept3 × At) ℕ
-read3 = then_at epoch_at read4
-
-fails3 : Fails read3 S3 F3 field3 show3 good3
-fails3 = then_fails epoch_at read4 epoch_bytes S4 IsEpoch F4 (whole_field epoch_bytes) field4 show4 good4 epoch_spells epoch_inside epoch_fails fails4
-
-inside3 : Inside S3 F3 field3
-inside3 = then_inside epoch_bytes S4 IsEpoch F4 (whole_field epoch_bytes) field4 epoch_inside inside4
+abbrev good3 : ℕ → Shown3 → Type 0
+good3 version x = IsEpoch x.0 × good4 version x.1
 
 abbrev Kept2 : Type 0
 Kept2 = ℕ × Kept3
@@ -384,8 +432,8 @@ IsSnapshot n = n < 2 ^ 64
 abbrev S2 : Kept2 → List ℕ
 S2 x = to_be_bytes w64 x.0 ++ S3 x.1
 
-abbrev F2 : Kept2 → Type 0
-F2 x = IsSnapshot x.0 × F3 x.1
+abbrev F2 : ℕ → Kept2 → Type 0
+F2 version x = IsSnapshot x.0 × F3 version x.1
 
 abbrev field2 : Kept2 → ℕ → ℕ → Type 0
 field2 = then_field (to_be_bytes w64) (whole_field (to_be_bytes w64)) field3
@@ -396,24 +444,14 @@ Shown2 = ℕ × Shown3
 abbrev show2 : Shown2 → List ℕ
 show2 x = to_be_bytes w64 x.0 ++ show3 x.1
 
-abbrev good2 : Shown2 → Type 0
-good2 x = IsSnapshot x.0 × good3 x.1
-
-abbrev read2 : At → Result (Kept2 × At) ℕ
-read2 = then_at (number_at w64) read3
-
-fails2 : Fails read2 S2 F2 field2 show2 good2
-fails2 = then_fails (number_at w64) read3 (to_be_bytes w64) S3 IsSnapshot F3 (whole_field (to_be_bytes w64)) field3 show3 good3
-    (number_spells w64 (2 ^ 64) wide64) snapshot_inside snapshot_fails fails3
-
-inside2 : Inside S2 F2 field2
-inside2 = then_inside (to_be_bytes w64) S3 IsSnapshot F3 (whole_field (to_be_bytes w64)) field3 snapshot_inside inside3
+abbrev good2 : ℕ → Shown2 → Type 0
+good2 version x = IsSnapshot x.0 × good3 version x.1
 
 abbrev S1 : Parts → List ℕ
 S1 x = key_bytes x.0 ++ S2 x.1
 
-abbrev F1 : Parts → Type 0
-F1 x = IsKey x.0 × F2 x.1
+abbrev F1 : ℕ → Parts → Type 0
+F1 version x = IsKey x.0 × F2 version x.1
 
 abbrev field1 : Parts → ℕ → ℕ → Type 0
 field1 = then_field key_bytes key_field field2
@@ -424,36 +462,114 @@ Shown1 = KeyParts × Shown2
 abbrev show1 : Shown1 → List ℕ
 show1 x = key_bytes x.0 ++ show2 x.1
 
-abbrev good1 : Shown1 → Type 0
-good1 x = IsKey x.0 × good2 x.1
+abbrev good1 : ℕ → Shown1 → Type 0
+good1 version x = IsKey x.0 × good2 version x.1
 
-abbrev read1 : At → Result (Parts × At) ℕ
-read1 = then_at key_at read2
+module _ (version : ℕ) (low : version < 2) where
+  abbrev read6 : At → Result (Kept6 × At) ℕ
+  read6 = then_at (complete_at version) all_runs_at
 
-fails1 : Fails read1 S1 F1 field1 show1 good1
-fails1 = then_fails key_at read2 key_bytes S2 IsKey F2 key_field field2 show2 good2 key_spells key_inside key_fails fails2
+  spells6 : Spells read6 S6 (F6 version)
+  spells6 = then_spells (complete_at version) all_runs_at complete_bytes runs_bytes (FitsVersion version) AreAllRuns (complete_spells version low) all_runs_spells
 
-inside1 : Inside S1 F1 field1
-inside1 = then_inside key_bytes S2 IsKey F2 key_field field2 key_inside inside2
+  fails6 : Fails read6 S6 (F6 version) field6 show6 (good6 version)
+  fails6 = then_fails (complete_at version) all_runs_at complete_bytes runs_bytes (FitsVersion version) AreAllRuns complete_field all_field all_shown all_good
+      (complete_spells version low) (complete_inside version) (complete_fails version low) all_fails
+
+  inside6 : Inside S6 (F6 version) field6
+  inside6 = then_inside complete_bytes runs_bytes (FitsVersion version) AreAllRuns complete_field all_field (complete_inside version) all_inside
+
+  abbrev read5 : At → Result (Kept5 × At) ℕ
+  read5 = then_at start_at read6
+
+  spells5 : Spells read5 S5 (F5 version)
+  spells5 = then_spells start_at read6 start_bytes S6 IsStart (F6 version) start_spells spells6
+
+  fails5 : Fails read5 S5 (F5 version) field5 show5 (good5 version)
+  fails5 = then_fails start_at read6 start_bytes S6 IsStart (F6 version) (whole_field start_bytes) field6 show6 (good6 version) start_spells start_inside start_fails fails6
+
+  inside5 : Inside S5 (F5 version) field5
+  inside5 = then_inside start_bytes S6 IsStart (F6 version) (whole_field start_bytes) field6 start_inside inside6
+
+  abbrev read4 : At → Result (Kept4 × At) ℕ
+  read4 = then_at epoch_at read5
+
+  spells4 : Spells read4 S4 (F4 version)
+  spells4 = then_spells epoch_at read5 epoch_bytes S5 IsEpoch (F5 version) epoch_spells spells5
+
+  fails4 : Fails read4 S4 (F4 version) field4 show4 (good4 version)
+  fails4 = then_fails epoch_at read5 epoch_bytes S5 IsEpoch (F5 version) (whole_field epoch_bytes) field5 show5 (good5 version) epoch_spells epoch_inside epoch_fails fails5
+
+  inside4 : Inside S4 (F4 version) field4
+  inside4 = then_inside epoch_bytes S5 IsEpoch (F5 version) (whole_field epoch_bytes) field5 epoch_inside inside5
+
+  abbrev read3 : At → Result (Kept3 × At) ℕ
+  read3 = then_at epoch_at read4
+
+  fails3 : Fails read3 S3 (F3 version) field3 show3 (good3 version)
+  fails3 = then_fails epoch_at read4 epoch_bytes S4 IsEpoch (F4 version) (whole_field epoch_bytes) field4 show4 (good4 version) epoch_spells epoch_inside epoch_fails fails4
+
+  inside3 : Inside S3 (F3 version) field3
+  inside3 = then_inside epoch_bytes S4 IsEpoch (F4 version) (whole_field epoch_bytes) field4 epoch_inside inside4
+
+  abbrev read2 : At → Result (Kept2 × At) ℕ
+  read2 = then_at (number_at w64) read3
+
+  fails2 : Fails read2 S2 (F2 version) field2 show2 (good2 version)
+  fails2 = then_fails (number_at w64) read3 (to_be_bytes w64) S3 IsSnapshot (F3 version) (whole_field (to_be_bytes w64)) field3 show3 (good3 version)
+      (number_spells w64 (2 ^ 64) wide64) snapshot_inside snapshot_fails fails3
+
+  inside2 : Inside S2 (F2 version) field2
+  inside2 = then_inside (to_be_bytes w64) S3 IsSnapshot (F3 version) (whole_field (to_be_bytes w64)) field3 snapshot_inside inside3
+
+  abbrev pub read1 : At → Result (Parts × At) ℕ
+  read1 = then_at key_at read2
+
+  pub fails1 : Fails read1 S1 (F1 version) field1 show1 (good1 version)
+  fails1 = then_fails key_at read2 key_bytes S2 IsKey (F2 version) key_field field2 show2 (good2 version) key_spells key_inside key_fails fails2
+
+  pub inside1 : Inside S1 (F1 version) field1
+  inside1 = then_inside key_bytes S2 IsKey (F2 version) key_field field2 key_inside inside2
 
 -- a state, and a number of runs that stands before its runs
 abbrev pub state_shown : StateParts × ℕ → List ℕ
 state_shown x = counted_state x.1 x.0
 
-abbrev pub state_good : StateParts × ℕ → Type 0
-state_good x = IsState x.0 × IsCounted x.1 x.0.runs
+abbrev pub state_good : ℕ → StateParts × ℕ → Type 0
+state_good version x = FitsState version x.0 × IsCounted x.1 x.0.runs
 
 shown_state : Shown1 → StateParts × ℕ
 shown_state x = (
-  record { key = x.0; snapshot = x.1.0; state_epoch = x.1.1.0; leader_epoch = x.1.1.1.0; start = x.1.1.1.1.0; runs = x.1.1.1.1.1.1 },
-  x.1.1.1.1.1.0,
+  record {
+    key = x.0;
+    snapshot = x.1.0;
+    state_epoch = x.1.1.0;
+    leader_epoch = x.1.1.1.0;
+    start = x.1.1.1.1.0;
+    complete = x.1.1.1.1.1.0;
+    runs = x.1.1.1.1.1.1.1;
+  },
+  x.1.1.1.1.1.1.0,
 )
 
-good_state : (x : Shown1) → good1 x → state_good (shown_state x)
+good_state : (version : ℕ) (x : Shown1) → good1 version x → state_good version (shown_state x)
 unfolding shown_state
-good_state x h =
-    let all = h.1.1.1.1.1 in (
-      record { key = h.0; snapshot = h.1.0; state_epoch = h.1.1.0; leader_epoch = h.1.1.1.0; start = h.1.1.1.1.0; runs = all.0.stored; few = all.0.few },
+good_state version x h =
+    let told = h.1.1.1.1.1.0 in
+    let all = h.1.1.1.1.1.1 in (
+      (
+        record {
+          key = h.0;
+          snapshot = h.1.0;
+          state_epoch = h.1.1.0;
+          leader_epoch = h.1.1.1.0;
+          start = h.1.1.1.1.0;
+          complete = told.0;
+          runs = all.0.stored;
+          few = all.0.few;
+        },
+        told.1,
+      ),
       all.1,
     )
 
@@ -461,31 +577,35 @@ same_state : (x : Shown1) → state_shown (shown_state x) ≡ show1 x
 unfolding shown_state
 same_state x = refl
 
+abbrev pub state_fields : StateParts → Parts
+state_fields s = (s.key, (s.snapshot, (s.state_epoch, (s.leader_epoch, (s.start, (s.complete, s.runs))))))
+
 abbrev pub state_field : StateParts → ℕ → ℕ → Type 0
-state_field s = field1 (s.key, (s.snapshot, (s.state_epoch, (s.leader_epoch, (s.start, s.runs)))))
+state_field s = field1 (state_fields s)
 
-state_fields : StateParts → Parts
-state_fields s = (s.key, (s.snapshot, (s.state_epoch, (s.leader_epoch, (s.start, s.runs)))))
+parts_fit : (version : ℕ) (s : StateParts) → FitsState version s → F1 version (state_fields s)
+parts_fit version s h =
+    (h.0.key, (h.0.snapshot, (h.0.state_epoch, (h.0.leader_epoch, (h.0.start, ((h.0.complete, h.1), record { stored = h.0.runs; few = h.0.few }))))))
 
-state_parts : Fails state_at state_bytes IsState state_field show1 good1
-unfolding state_at state_fields
-state_parts = as_fails state_of_parts state_fields read1 S1 state_bytes F1 IsState field1 show1 good1
-    (λ s h. ((h.key, (h.snapshot, (h.state_epoch, (h.leader_epoch, (h.start, record { stored = h.runs; few = h.few }))))), refl)) fails1
+state_parts : (version : ℕ) → version < 2 → Fails (state_at version) state_bytes (FitsState version) state_field show1 (good1 version)
+unfolding state_at
+state_parts version low = as_fails state_of_parts state_fields (read1 version low) S1 state_bytes (F1 version) (FitsState version) field1 show1 (good1 version)
+    (λ s h. (parts_fit version s h, refl)) (fails1 version low)
 
-pub state_fails : Fails state_at state_bytes IsState state_field state_shown state_good
-state_fails = record {
-  some = shown_state state_parts.some;
-  some_good = good_state state_parts.some state_parts.some_good;
-  ahead = state_parts.ahead;
-  moves = state_parts.moves;
-  front = λ at place bytes err. shown_as shown_state show1 state_shown good1 state_good same_state good_state at place (state_parts.front at place bytes err);
-  none = state_parts.none;
-}
+pub state_fails : (version : ℕ) → version < 2 → Fails (state_at version) state_bytes (FitsState version) state_field state_shown (state_good version)
+state_fails version low =
+    let parts = state_parts version low in
+    record {
+      some = shown_state parts.some;
+      some_good = good_state version parts.some parts.some_good;
+      ahead = parts.ahead;
+      moves = parts.moves;
+      front = λ at place bytes err. shown_as shown_state show1 state_shown (good1 version) (state_good version) same_state (good_state version) at place (parts.front at place bytes err);
+      none = parts.none;
+    }
 
-pub state_inside : Inside state_bytes IsState state_field
-state_inside s p e h f =
-    inside1 (s.key, (s.snapshot, (s.state_epoch, (s.leader_epoch, (s.start, s.runs))))) p e
-    (h.key, (h.snapshot, (h.state_epoch, (h.leader_epoch, (h.start, record { stored = h.runs; few = h.few }))))) f
+pub state_inside : (version : ℕ) → version < 2 → Inside state_bytes (FitsState version) state_field
+state_inside version low s p e h f = inside1 version low (state_fields s) p e (parts_fit version s h) f
 
 -- ---- fields told by their sizes
 
@@ -522,7 +642,17 @@ key_split key sizes n p e field =
           ]
     ]
 
-tail_field : (s : StateParts) (p e : ℕ) → IsFieldIn (8 ∷ 4 ∷ 4 ∷ 8 ∷ 4 ∷ []) (length s.runs) p e → field2 (s.snapshot, (s.state_epoch, (s.leader_epoch, (s.start, s.runs)))) p e
+-- the number of complete rows, if it is told, and the runs
+complete_tail : (c : Option ℕ) (runs : List Run) (p e : ℕ) → IsFieldIn (complete_sizes c (4 ∷ [])) (length runs) p e → field6 (c, runs) p e
+complete_tail None runs p e field =
+    let from : p ≡ p - 0 = omega arith in
+    let to : e ≡ e - 0 = omega arith in
+    inr (omega arith, (omega arith, subst (λ (q : ℕ). all_field runs (p - 0) q) to (subst (λ (q : ℕ). all_field runs q e) from field)))
+complete_tail (Some n) runs p e (inl f) = inl f
+complete_tail (Some n) runs p e (inr f) = inr (f.0, (f.1, f.2))
+
+tail_field : (s : StateParts) (p e : ℕ) → IsFieldIn (8 ∷ 4 ∷ 4 ∷ 8 ∷ complete_sizes s.complete (4 ∷ [])) (length s.runs) p e
+    → field2 (s.snapshot, (s.state_epoch, (s.leader_epoch, (s.start, (s.complete, s.runs))))) p e
 tail_field s p e (inl f) = inl f
 tail_field s p e (inr f) = inr (
   f.0,
@@ -542,7 +672,7 @@ tail_field s p e (inr f) = inr (
                 h.1,
                 elim h.2 [
                   | inl i ↦ inl i
-                  | inr i ↦ inr (i.0, (i.1, i.2))
+                  | inr i ↦ inr (i.0, (i.1, complete_tail s.complete s.runs (p - 8 - 4 - 4 - 8) (e - 8 - 4 - 4 - 8) i.2))
                 ],
               ),
             )
@@ -553,8 +683,8 @@ tail_field s p e (inr f) = inr (
   ),
 )
 
-pub of_state_field : (s : StateParts) (p e : ℕ) → IsFieldIn (key_sizes s.key (8 ∷ 4 ∷ 4 ∷ 8 ∷ 4 ∷ [])) (length s.runs) p e → state_field s p e
-of_state_field s p e field = elim (key_split s.key (8 ∷ 4 ∷ 4 ∷ 8 ∷ 4 ∷ []) (length s.runs) p e field) [
+pub of_state_field : (s : StateParts) (p e : ℕ) → IsFieldIn (state_sizes s) (length s.runs) p e → state_field s p e
+of_state_field s p e field = elim (key_split s.key (8 ∷ 4 ∷ 4 ∷ 8 ∷ complete_sizes s.complete (4 ∷ [])) (length s.runs) p e field) [
   | inl f ↦ inl f
   | inr f ↦ inr (f.0, (f.1.0, tail_field s (p - length (key_bytes s.key)) (e - length (key_bytes s.key)) f.1.1))
 ]

@@ -1,7 +1,7 @@
 -- State records: what is read is spelled so, and what is spelled so is read.
 use Rattle.std.proofs.Common.{◌≡◌, ℕ, ℤ, pos, negsuc, ◌-◌, ◌^◌, ◌<◌, ◌≤◌, Bool, true, false, cond, List, ◌++◌, length}
-use Rattle.std.proofs.Common.{take, drop, Some, None, Ok, Err, refl, sym, ap, subst, ◌∙◌, append_assoc, arith}
-use Rattle.std.specs.Prelude.{nat_lt, ◌==◌}
+use Rattle.std.proofs.Common.{zero, suc, take, drop, Option, Some, None, Ok, Err, refl, sym, ap, subst, ◌∙◌, append_assoc, arith}
+use Rattle.std.specs.Prelude.{nat_lt, ◌==◌, IfSome}
 use Rattle.std.specs.Int.{w16, w32, w64, to_be_bytes}
 use Rattle.std.specs.Str.{is_utf8}
 use Rattle.std.proofs.lemmas.Bool.Decides.{nat_tests}
@@ -10,11 +10,11 @@ use Rattle.share_model.specs.Keys.{KeyParts}
 use Rattle.share_model.specs.Names.{IsName}
 use Rattle.share_model.specs.declared.run.Run.{Run}
 use Rattle.state_records.specs.States.{StateParts, IsEpoch, IsStart, IsKey, IsState}
-use Rattle.state_records.specs.Spelling.{name_bytes, key_bytes, epoch_number, start_number, runs_bytes, state_bytes}
+use Rattle.state_records.specs.Spelling.{name_bytes, key_bytes, version_of, complete_bytes, epoch_number, start_number, runs_bytes, state_bytes}
 use Rattle.flex_fields.specs.Reading.{At, past}
 use Rattle.state_records.specs.Reading.{then_at, raw_at, number_at, below_at, is_name, name_at, key_of, key_at}
-use Rattle.state_records.specs.Reading.{epoch_at, start_of, start_at, all_runs_at, state_of_parts, state_at}
-use Rattle.state_records.proofs.Spells.{IsBytes-drop, bind_ok, guard_else, guard_then, ok_is, Takes, Takes-then, Spells}
+use Rattle.state_records.specs.Reading.{epoch_at, start_of, start_at, complete_at, all_runs_at, state_of_parts, state_at}
+use Rattle.state_records.proofs.Spells.{IsBytes, IsBytes-drop, bind_ok, guard_else, guard_then, ok_is, Takes, Takes-then, Again, Spells}
 use Rattle.state_records.proofs.Spells.{then_spells, as_spells, found_spells, raw_spells, number_spells, wide16, wide64}
 use Rattle.state_records.proofs.Stored.{lt_no, yes_lt, no_lt, low32, AreAllRuns, all_runs_spells}
 
@@ -93,33 +93,99 @@ unfolding start_at
 start_spells =
     found_spells start_of start_number (number_at w64) (to_be_bytes w64) (λ n. n < 2 ^ 64) IsStart start_decoded start_coded (number_spells w64 (2 ^ 64) wide64)
 
+-- ---- the number of complete rows
+
+-- what version 0 leaves out, and version 1 tells
+abbrev pub FitsVersion : ℕ → Option ℕ → Type 0
+FitsVersion version complete = IfSome complete (λ n. n < 2 ^ 64) × (version_of complete ≡ version)
+
+nothing_again : (at : At) (x : Option ℕ) (rest : List ℕ) → version_of x ≡ 0 → at.left ≡ complete_bytes x ++ rest → Again (complete_at 0) at x rest
+unfolding complete_at
+nothing_again at None rest version e = record { after = at; is = refl; left = e }
+nothing_again at (Some n) rest version e = absurd (omega (arith, version))
+
+number_in : Option ℕ → ℕ
+number_in None = 0
+number_in (Some n) = n
+
+number_back : (c : Option ℕ) → FitsVersion 1 c → (number_in c < 2 ^ 64) × (Some (number_in c) ≡ c) × (to_be_bytes w64 (number_in c) ≡ complete_bytes c)
+unfolding number_in
+number_back None fits = absurd (omega (arith, fits.1))
+number_back (Some n) fits = (fits.0, refl, refl)
+
+told_spells : Spells (complete_at 1) complete_bytes (FitsVersion 1)
+unfolding complete_at
+told_spells = as_spells (λ k. Some k) number_in (number_at w64) (to_be_bytes w64) complete_bytes (λ n. n < 2 ^ 64) (FitsVersion 1)
+    (λ n. refl) (λ n h. (h, refl)) number_back (number_spells w64 (2 ^ 64) wide64)
+
+nothing_takes : (at : At) (x : Option ℕ) (after : At) → IsBytes at.left → complete_at 0 at ≡ Ok (x, after) → Takes at.left (complete_bytes x) after.left × FitsVersion 0 x
+unfolding complete_at
+nothing_takes at x after bytes e =
+    let made : Option ℕ × At = (None, at) in
+    subst (λ (z : Option ℕ × At). Takes at.left (complete_bytes z.0) z.1.left × FitsVersion 0 z.0) (ok_is made (x, after) e)
+    (record { parts = refl; rest_fits = bytes }, (tt, refl))
+
+pub complete_spells : (version : ℕ) → version < 2 → Spells (complete_at version) complete_bytes (FitsVersion version)
+complete_spells zero low = record { takes = nothing_takes; again = λ at x rest fits e. nothing_again at x rest fits.1 e }
+complete_spells (suc zero) low = told_spells
+complete_spells (suc (suc n)) low = absurd (omega (arith, low))
+
+-- ---- a state
+
 abbrev pub Parts : Type 0
-Parts = KeyParts × (ℕ × (ℤ × (ℤ × (ℤ × List Run))))
+Parts = KeyParts × (ℕ × (ℤ × (ℤ × (ℤ × (Option ℕ × List Run)))))
 
 parts_of : StateParts → Parts
-parts_of s = (s.key, (s.snapshot, (s.state_epoch, (s.leader_epoch, (s.start, s.runs)))))
+parts_of s = (s.key, (s.snapshot, (s.state_epoch, (s.leader_epoch, (s.start, (s.complete, s.runs))))))
 
-pub state_spells : Spells state_at state_bytes IsState
+-- a state whose records are of this version
+abbrev pub FitsState : ℕ → StateParts → Type 0
+FitsState version s = IsState s × (version_of s.complete ≡ version)
+
+pub state_spells : (version : ℕ) → version < 2 → Spells (state_at version) state_bytes (FitsState version)
 unfolding state_at parts_of
-state_spells =
-    let s5 = then_spells start_at all_runs_at (λ z. to_be_bytes w64 (start_number z)) runs_bytes IsStart AreAllRuns start_spells all_runs_spells in
-    let s4 = then_spells epoch_at (then_at start_at all_runs_at) (λ z. to_be_bytes w32 (epoch_number z)) (λ x. to_be_bytes w64 (start_number x.0) ++ runs_bytes x.1)
-    IsEpoch (λ x. IsStart x.0 × AreAllRuns x.1) epoch_spells s5 in
-    let s3 = then_spells epoch_at (then_at epoch_at (then_at start_at all_runs_at)) (λ z. to_be_bytes w32 (epoch_number z))
-    (λ x. to_be_bytes w32 (epoch_number x.0) ++ (to_be_bytes w64 (start_number x.1.0) ++ runs_bytes x.1.1))
-    IsEpoch (λ x. IsEpoch x.0 × (IsStart x.1.0 × AreAllRuns x.1.1)) epoch_spells s4 in
-    let s2 = then_spells (number_at w64) (then_at epoch_at (then_at epoch_at (then_at start_at all_runs_at))) (to_be_bytes w64)
-    (λ x. to_be_bytes w32 (epoch_number x.0) ++ (to_be_bytes w32 (epoch_number x.1.0) ++ (to_be_bytes w64 (start_number x.1.1.0) ++ runs_bytes x.1.1.1)))
-    (λ n. n < 2 ^ 64) (λ x. IsEpoch x.0 × (IsEpoch x.1.0 × (IsStart x.1.1.0 × AreAllRuns x.1.1.1))) (number_spells w64 (2 ^ 64) wide64) s3 in
-    let s1 = then_spells key_at (then_at (number_at w64) (then_at epoch_at (then_at epoch_at (then_at start_at all_runs_at)))) key_bytes
-    (λ x. to_be_bytes w64 x.0 ++ (to_be_bytes w32 (epoch_number x.1.0) ++ (to_be_bytes w32 (epoch_number x.1.1.0) ++ (to_be_bytes w64 (start_number x.1.1.1.0) ++ runs_bytes x.1.1.1.1))))
-    IsKey (λ x. (x.0 < 2 ^ 64) × (IsEpoch x.1.0 × (IsEpoch x.1.1.0 × (IsStart x.1.1.1.0 × AreAllRuns x.1.1.1.1)))) key_spells s2 in
-    as_spells state_of_parts parts_of (then_at key_at (then_at (number_at w64) (then_at epoch_at (then_at epoch_at (then_at start_at all_runs_at)))))
-    (λ x. key_bytes x.0 ++ (to_be_bytes w64 x.1.0 ++
-    (to_be_bytes w32 (epoch_number x.1.1.0) ++ (to_be_bytes w32 (epoch_number x.1.1.1.0) ++ (to_be_bytes w64 (start_number x.1.1.1.1.0) ++ runs_bytes x.1.1.1.1.1)))))
+state_spells version low =
+    let complete = complete_at version in
+    let s6 = then_spells complete all_runs_at complete_bytes runs_bytes (FitsVersion version) AreAllRuns (complete_spells version low) all_runs_spells in
+    let s5 = then_spells start_at (then_at complete all_runs_at) (λ z. to_be_bytes w64 (start_number z)) (λ x. complete_bytes x.0 ++ runs_bytes x.1)
+    IsStart (λ x. FitsVersion version x.0 × AreAllRuns x.1) start_spells s6 in
+    let s4 = then_spells epoch_at (then_at start_at (then_at complete all_runs_at)) (λ z. to_be_bytes w32 (epoch_number z))
+    (λ x. to_be_bytes w64 (start_number x.0) ++ (complete_bytes x.1.0 ++ runs_bytes x.1.1))
+    IsEpoch (λ x. IsStart x.0 × (FitsVersion version x.1.0 × AreAllRuns x.1.1)) epoch_spells s5 in
+    let s3 = then_spells epoch_at (then_at epoch_at (then_at start_at (then_at complete all_runs_at))) (λ z. to_be_bytes w32 (epoch_number z))
+    (λ x. to_be_bytes w32 (epoch_number x.0) ++ (to_be_bytes w64 (start_number x.1.0) ++ (complete_bytes x.1.1.0 ++ runs_bytes x.1.1.1)))
+    IsEpoch (λ x. IsEpoch x.0 × (IsStart x.1.0 × (FitsVersion version x.1.1.0 × AreAllRuns x.1.1.1))) epoch_spells s4 in
+    let s2 = then_spells (number_at w64) (then_at epoch_at (then_at epoch_at (then_at start_at (then_at complete all_runs_at)))) (to_be_bytes w64)
+    (λ x. to_be_bytes w32 (epoch_number x.0) ++ (to_be_bytes w32 (epoch_number x.1.0) ++ (to_be_bytes w64 (start_number x.1.1.0)
+    ++ (complete_bytes x.1.1.1.0 ++ runs_bytes x.1.1.1.1))))
+    (λ n. n < 2 ^ 64) (λ x. IsEpoch x.0 × (IsEpoch x.1.0 × (IsStart x.1.1.0 × (FitsVersion version x.1.1.1.0 × AreAllRuns x.1.1.1.1)))) (number_spells w64 (2 ^ 64) wide64) s3 in
+    let s1 = then_spells key_at (then_at (number_at w64) (then_at epoch_at (then_at epoch_at (then_at start_at (then_at complete all_runs_at))))) key_bytes
+    (λ x. to_be_bytes w64 x.0 ++ (to_be_bytes w32 (epoch_number x.1.0) ++ (to_be_bytes w32 (epoch_number x.1.1.0) ++ (to_be_bytes w64 (start_number x.1.1.1.0)
+    ++ (complete_bytes x.1.1.1.1.0 ++ runs_bytes x.1.1.1.1.1)))))
+    IsKey (λ x. (x.0 < 2 ^ 64) × (IsEpoch x.1.0 × (IsEpoch x.1.1.0 × (IsStart x.1.1.1.0 × (FitsVersion version x.1.1.1.1.0 × AreAllRuns x.1.1.1.1.1))))) key_spells s2 in
+    as_spells state_of_parts parts_of (then_at key_at (then_at (number_at w64) (then_at epoch_at (then_at epoch_at (then_at start_at (then_at complete all_runs_at))))))
+    (λ x. key_bytes x.0 ++ (to_be_bytes w64 x.1.0 ++ (to_be_bytes w32 (epoch_number x.1.1.0) ++ (to_be_bytes w32 (epoch_number x.1.1.1.0)
+    ++ (to_be_bytes w64 (start_number x.1.1.1.1.0) ++ (complete_bytes x.1.1.1.1.1.0 ++ runs_bytes x.1.1.1.1.1.1))))))
     state_bytes
-    (λ x. IsKey x.0 × ((x.1.0 < 2 ^ 64) × (IsEpoch x.1.1.0 × (IsEpoch x.1.1.1.0 × (IsStart x.1.1.1.1.0 × AreAllRuns x.1.1.1.1.1))))) IsState
+    (λ x. IsKey x.0 × ((x.1.0 < 2 ^ 64) × (IsEpoch x.1.1.0 × (IsEpoch x.1.1.1.0 × (IsStart x.1.1.1.1.0 × (FitsVersion version x.1.1.1.1.1.0 × AreAllRuns x.1.1.1.1.1.1))))))
+    (FitsState version)
     (λ x. refl)
-    (λ x f. record { key = f.0; snapshot = f.1.0; state_epoch = f.1.1.0; leader_epoch = f.1.1.1.0; start = f.1.1.1.1.0; runs = f.1.1.1.1.1.stored; few = f.1.1.1.1.1.few })
-    (λ s h. ((h.key, (h.snapshot, (h.state_epoch, (h.leader_epoch, (h.start, record { stored = h.runs; few = h.few }))))), refl, refl))
+    (λ x f. (
+      record {
+        key = f.0;
+        snapshot = f.1.0;
+        state_epoch = f.1.1.0;
+        leader_epoch = f.1.1.1.0;
+        start = f.1.1.1.1.0;
+        complete = f.1.1.1.1.1.0.0;
+        runs = f.1.1.1.1.1.1.stored;
+        few = f.1.1.1.1.1.1.few;
+      },
+      f.1.1.1.1.1.0.1,
+    ))
+    (λ s h. (
+      (h.0.key, (h.0.snapshot, (h.0.state_epoch, (h.0.leader_epoch, (h.0.start, ((h.0.complete, h.1), record { stored = h.0.runs; few = h.0.few })))))),
+      refl,
+      refl,
+    ))
     s1

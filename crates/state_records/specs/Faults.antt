@@ -2,11 +2,12 @@
 -- fault begins some record, and no record has what stands at it.
 -- For example 53 bytes of a snapshot of 54 are wrong at byte 50: the bytes before begin that snapshot, and the number of runs
 -- there, which is a field of four bytes, is cut. Where 05 stands in front there is a fault at 0, since no record begins with it.
-use Rattle.std.specs.Prelude.{◌≡◌, ◌⊎◌, ◌+◌, ◌-◌, ◌^◌, ◌<◌, ◌≤◌, ℕ, zero, suc, List, [], ◌∷◌, ◌++◌, length, take}
+use Rattle.std.specs.Prelude.{◌≡◌, ◌⊎◌, ◌+◌, ◌-◌, ◌^◌, ◌<◌, ◌≤◌, ℕ, zero, suc, List, [], ◌∷◌, ◌++◌, length, take, Option, Some, None}
 use Rattle.std.specs.Int.{w64, to_be_bytes}
 use Rattle.share_model.specs.Keys.{KeyParts}
 use Rattle.share_model.specs.declared.run.Run.{Run}
-use Rattle.state_records.specs.Spelling.{key_bytes, counted_state, record_bytes, IsRecord}
+use Rattle.state_records.specs.States.{StateParts}
+use Rattle.state_records.specs.Spelling.{key_bytes, version_of, counted_state, record_bytes, IsRecord}
 use Rattle.state_records.specs.declared.record.StateRecord.{StateRecord}
 use Rattle.state_records.specs.declared.record.StateRecord.TheVariants.{Snapshot, Update, Removal, Head, Seal}
 
@@ -19,8 +20,8 @@ runs_of Seal = []
 
 -- the bytes of a record, but with this number of runs before its runs
 abbrev pub counted_bytes : ℕ → StateRecord → List ℕ
-counted_bytes count (Snapshot state) = 0 ∷ 0 ∷ counted_state count state
-counted_bytes count (Update state) = 1 ∷ 0 ∷ counted_state count state
+counted_bytes count (Snapshot state) = 0 ∷ version_of state.complete ∷ counted_state count state
+counted_bytes count (Update state) = 1 ∷ version_of state.complete ∷ counted_state count state
 counted_bytes count (Removal key) = 2 ∷ 0 ∷ key_bytes key
 counted_bytes count (Head generation) = 3 ∷ 0 ∷ to_be_bytes w64 generation
 counted_bytes count Seal = 4 ∷ 0 ∷ []
@@ -60,10 +61,19 @@ IsFieldIn (size ∷ sizes) n from to = ((from ≡ 0) × (to ≡ size)) ⊎ ((siz
 abbrev pub key_sizes : KeyParts → List ℕ → List ℕ
 key_sizes key sizes = (2 + length key.group) ∷ length key.topic ∷ 4 ∷ sizes
 
--- the key, the snapshot epoch, both other epochs, the start and the number of runs; or the generation; or nothing
+-- the number of complete rows, if it is told, before others
+abbrev pub complete_sizes : Option ℕ → List ℕ → List ℕ
+complete_sizes None sizes = sizes
+complete_sizes (Some complete) sizes = 8 ∷ sizes
+
+-- the key, the snapshot epoch, both other epochs, the start, the number of complete rows and the number of runs
+abbrev pub state_sizes : StateParts → List ℕ
+state_sizes state = key_sizes state.key (8 ∷ 4 ∷ 4 ∷ 8 ∷ complete_sizes state.complete (4 ∷ []))
+
+-- those of a state; or the key; or the generation; or nothing
 abbrev pub body_sizes : StateRecord → List ℕ
-body_sizes (Snapshot state) = key_sizes state.key (8 ∷ 4 ∷ 4 ∷ 8 ∷ 4 ∷ [])
-body_sizes (Update state) = key_sizes state.key (8 ∷ 4 ∷ 4 ∷ 8 ∷ 4 ∷ [])
+body_sizes (Snapshot state) = state_sizes state
+body_sizes (Update state) = state_sizes state
 body_sizes (Removal key) = key_sizes key []
 body_sizes (Head generation) = 8 ∷ []
 body_sizes Seal = []

@@ -1,8 +1,8 @@
 -- Reading a state record from left to right: the value, or the place of the first field that is wrong (this project's own).
 -- Which bytes are read at all is said by `Spelling.antt`; this says of the others where they are wrong, and `Faults.antt` what
 -- such a place means for the spelling.
--- For example 53 bytes of a snapshot of 54 are wrong at byte 50, where the number of runs begins, and an update whose second
--- run begins where the first one ends is wrong at the second's first byte, 73.
+-- For example 53 bytes of a snapshot of 54 are wrong at byte 50, where the number of runs begins, 61 bytes of one of version 1, of
+-- 62, are wrong at byte 58, and an update whose second run begins where the first one ends is wrong at the second's first byte, 73.
 use Rattle.std.specs.Prelude.{◌≡◌, ◌+◌, ◌-◌, ◌^◌, ℕ, zero, suc, ℤ, pos, negsuc, Bool, true, false, ◌==◌, ◌&&◌, ◌||◌, List, [], ◌∷◌}
 use Rattle.std.specs.Prelude.{length, take, Option, Some, None, Result, Ok, Err, nat_le, nat_lt, if◌then◌else◌}
 use Rattle.std.specs.Int.{Width, w16, w32, w64, byte_len, from_be_bytes}
@@ -111,6 +111,11 @@ start_at at = do
   n ← number_at w64 at
   found_at at.place (start_of n.0) n.1
 
+-- the number of complete rows, which version 1 alone has
+unfoldable pub complete_at : ℕ → At → Result (Option ℕ × At) ℕ
+complete_at zero at = Ok (None, at)
+complete_at (suc n) at = as_at (λ k. Some k) (number_at w64) at
+
 unfoldable pub row_state_at : At → Result (RowState × At) ℕ
 row_state_at at = do
   n ← byte_at at
@@ -154,24 +159,39 @@ all_runs_at at = do
   n ← number_at w32 at
   runs_at n.0 None n.1
 
-abbrev pub state_of_parts : KeyParts × (ℕ × (ℤ × (ℤ × (ℤ × List Run)))) → StateParts
-state_of_parts x = record { key = x.0; snapshot = x.1.0; state_epoch = x.1.1.0; leader_epoch = x.1.1.1.0; start = x.1.1.1.1.0; runs = x.1.1.1.1.1 }
+abbrev pub state_of_parts : KeyParts × (ℕ × (ℤ × (ℤ × (ℤ × (Option ℕ × List Run))))) → StateParts
+state_of_parts x = record {
+  key = x.0;
+  snapshot = x.1.0;
+  state_epoch = x.1.1.0;
+  leader_epoch = x.1.1.1.0;
+  start = x.1.1.1.1.0;
+  complete = x.1.1.1.1.1.0;
+  runs = x.1.1.1.1.1.1;
+}
 
-unfoldable pub state_at : At → Result (StateParts × At) ℕ
-state_at at = as_at state_of_parts (then_at key_at (then_at (number_at w64) (then_at epoch_at (then_at epoch_at (then_at start_at all_runs_at))))) at
+unfoldable pub state_at : ℕ → At → Result (StateParts × At) ℕ
+state_at version at = as_at state_of_parts
+    (then_at key_at (then_at (number_at w64) (then_at epoch_at (then_at epoch_at (then_at start_at (then_at (complete_at version) all_runs_at)))))) at
 
--- the fields of a kind
-unfoldable pub fields_at : ℕ → At → Result (StateRecord × At) ℕ
-fields_at zero at = as_at Snapshot state_at at
-fields_at (suc zero) at = as_at Update state_at at
-fields_at (suc (suc zero)) at = as_at (λ k. Removal k) key_at at
-fields_at (suc (suc (suc zero))) at = as_at (λ g. Head g) (number_at w64) at
-fields_at (suc (suc (suc (suc n)))) at = Ok (Seal, at)
+-- the fields of a kind and a version
+unfoldable pub fields_at : ℕ → ℕ → At → Result (StateRecord × At) ℕ
+fields_at zero version at = as_at Snapshot (state_at version) at
+fields_at (suc zero) version at = as_at Update (state_at version) at
+fields_at (suc (suc zero)) version at = as_at (λ k. Removal k) key_at at
+fields_at (suc (suc (suc zero))) version at = as_at (λ g. Head g) (number_at w64) at
+fields_at (suc (suc (suc (suc n)))) version at = Ok (Seal, at)
 
--- a kind of 0 to 4, version 0, the fields, and nothing behind them
+-- how many versions a kind has: 0 and 1 those of a state, and else 0
+unfoldable pub versions : ℕ → ℕ
+versions zero = 2
+versions (suc zero) = 2
+versions (suc (suc n)) = 1
+
+-- a kind of 0 to 4, a version of that kind, the fields, and nothing behind them
 unfoldable pub record_at : List ℕ → Result StateRecord ℕ
 record_at bytes = do
   kind ← only_at (λ n. nat_lt n 5) byte_at (record { place = 0; left = bytes })
-  version ← only_at (λ n. nat_lt n 1) byte_at kind.1
-  fields ← fields_at kind.0 version.1
+  version ← only_at (λ n. nat_lt n (versions kind.0)) byte_at kind.1
+  fields ← fields_at kind.0 version.0 version.1
   if length fields.1.left == 0 then Ok fields.0 else Err fields.1.place

@@ -1,7 +1,8 @@
 -- The bytes of a state record, of which each record has just these (this project's own). Numbers have their high byte first.
--- For example the snapshot of the state in `States.antt` has 54 bytes, of which 00 00 0002 67 31 are the first, and the head of
--- generation 1 is 03 00 0000000000000001.
-use Rattle.std.specs.Prelude.{◌-◌, ◌^◌, ◌<◌, ℕ, ℤ, pos, negsuc, List, [], ◌∷◌, ◌++◌, length}
+-- For example the snapshot of the state in `States.antt` has 62 bytes, of which 00 01 0002 67 31 are the first; that of a state which
+-- doesn't tell how many rows are complete has 54, of which 00 00 0002 67 31 are the first; and the head of generation 1 is
+-- 03 00 0000000000000001.
+use Rattle.std.specs.Prelude.{◌-◌, ◌^◌, ◌<◌, ℕ, ℤ, pos, negsuc, List, [], ◌∷◌, ◌++◌, length, Option, Some, None}
 use Rattle.std.specs.Int.{w16, w32, w64, to_be_bytes}
 use Rattle.std.specs.List.{flat_map}
 use Rattle.share_model.specs.Keys.{KeyParts}
@@ -29,6 +30,16 @@ abbrev pub start_number : ℤ → ℕ
 start_number (pos n) = n
 start_number (negsuc n) = 2 ^ 64 - 1
 
+-- the version of a snapshot or an update
+abbrev pub version_of : Option ℕ → ℕ
+version_of None = 0
+version_of (Some complete) = 1
+
+-- the number of complete rows, which version 1 alone has, in eight bytes
+abbrev pub complete_bytes : Option ℕ → List ℕ
+complete_bytes None = []
+complete_bytes (Some complete) = to_be_bytes w64 complete
+
 -- both offsets in eight bytes, the state in one and the count in two
 abbrev pub run_bytes : Run → List ℕ
 run_bytes run = to_be_bytes w64 run.first ++ (to_be_bytes w64 run.last ++ ((state_number run.state ∷ []) ++ to_be_bytes w16 run.count))
@@ -40,19 +51,21 @@ counted_runs count runs = to_be_bytes w32 count ++ flat_map run_bytes runs
 abbrev pub runs_bytes : List Run → List ℕ
 runs_bytes runs = counted_runs (length runs) runs
 
--- the key, the snapshot epoch, the state and leader epochs, the start, and the runs with a number before them
+-- the key, the snapshot epoch, the state and leader epochs, the start, the number of complete rows, and the runs with a number before
+-- them
 abbrev pub counted_state : ℕ → StateParts → List ℕ
 counted_state count state =
     key_bytes state.key ++ (to_be_bytes w64 state.snapshot ++ (to_be_bytes w32 (epoch_number state.state_epoch)
-    ++ (to_be_bytes w32 (epoch_number state.leader_epoch) ++ (to_be_bytes w64 (start_number state.start) ++ counted_runs count state.runs))))
+    ++ (to_be_bytes w32 (epoch_number state.leader_epoch) ++ (to_be_bytes w64 (start_number state.start)
+    ++ (complete_bytes state.complete ++ counted_runs count state.runs)))))
 
 abbrev pub state_bytes : StateParts → List ℕ
 state_bytes state = counted_state (length state.runs) state
 
--- the kind, version 0 and the fields
+-- the kind, the version and the fields
 abbrev pub record_bytes : StateRecord → List ℕ
-record_bytes (Snapshot state) = 0 ∷ 0 ∷ state_bytes state
-record_bytes (Update state) = 1 ∷ 0 ∷ state_bytes state
+record_bytes (Snapshot state) = 0 ∷ version_of state.complete ∷ state_bytes state
+record_bytes (Update state) = 1 ∷ version_of state.complete ∷ state_bytes state
 record_bytes (Removal key) = 2 ∷ 0 ∷ key_bytes key
 record_bytes (Head generation) = 3 ∷ 0 ∷ to_be_bytes w64 generation
 record_bytes Seal = 4 ∷ 0 ∷ []

@@ -1,19 +1,21 @@
 -- The state of a share partition, as a record of the state journal carries it (KIP-932, share-partition state).
--- For example the group `g1` on partition 0 of a topic has state epoch 3, leader epoch 0, start 7 and no runs.
-use Rattle.std.specs.Prelude.{◌≡◌, ◌<◌, ◌^◌, ℕ, ℤ, pos, negsuc, List, length}
+-- For example the group `g1` on partition 0 of a topic has state epoch 3, leader epoch 0, start 7, no complete rows and no runs.
+use Rattle.std.specs.Prelude.{◌≡◌, ◌<◌, ◌^◌, ℕ, ℤ, pos, negsuc, List, length, Option, IfSome}
 use Rattle.std.specs.List.{AllByRecursion}
 use Rattle.share_model.specs.Keys.{KeyParts}
 use Rattle.share_model.specs.Names.{IsName}
 use Rattle.share_model.specs.Runs.{IsCanonical}
 use Rattle.share_model.specs.declared.run.Run.{Run}
 
--- the key, the epochs, the start offset, or -1, and the runs of the stored rows
+-- The key, the epochs, the start offset, or -1, and the runs of the stored rows. Version 1 of a record tells before the runs how
+-- many rows of the key are complete, which is acknowledged or archived, once the record is done; version 0 doesn't.
 pub record StateParts : Type 0 where
   pub key : KeyParts
   pub snapshot : ℕ
   pub state_epoch : ℤ
   pub leader_epoch : ℤ
   pub start : ℤ
+  pub complete : Option ℕ
   pub runs : List Run
 
 -- an epoch of 32 bits, at least 0
@@ -47,5 +49,6 @@ pub record IsState (state : StateParts) : Type 0 where
   pub state_epoch : IsEpoch state.state_epoch
   pub leader_epoch : IsEpoch state.leader_epoch
   pub start : IsStart state.start
+  pub complete : IfSome state.complete (λ n. n < 2 ^ 64)
   pub runs : AreStoredRuns state.runs
   pub few : length state.runs < 2 ^ 32

@@ -1,6 +1,6 @@
 // How many bytes a record has.
 ghost use Rattle.std.specs.Prelude.{◌≡◌, ◌≤◌, length};
-ghost use Rattle.state_records.specs.Spelling.{key_bytes, state_bytes, record_bytes};
+ghost use Rattle.state_records.specs.Spelling.{complete_bytes, key_bytes, state_bytes, record_bytes};
 ghost use Rattle.state_records.specs.declared.record.StateRecord.TheVariants.{Snapshot as snapshot_record, Update as update_record};
 
 use crate::lent::LentState;
@@ -30,12 +30,22 @@ fn key_len(key: &Key) -> u64
     key.group.as_bytes().len() as u64 + topic_len(&key.topic) + 6
 }
 
-// Beside the key and the runs there are 28 bytes of numbers, and a run has 19.
+fn complete_len(complete: Option<u64>) -> u64
+    ensures len { result ≡ length (complete_bytes complete) }
+    ensures few { result ≤ 8 }
+{
+    match complete {
+        None => 0,
+        Some(_) => 8,
+    }
+}
+
+// Beside the key, the number of complete rows and the runs there are 28 bytes of numbers, and a run has 19.
 fn state_len(state: &LentState<'_>) -> u64
     ensures len { result ≡ length (state_bytes state.now) }
     ensures fits { result ≤ 100000000000 }
 {
-    key_len(state.key) + 28 + 19 * state.runs.len() as u64
+    key_len(state.key) + 28 + complete_len(state.complete) + 19 * state.runs.len() as u64
 }
 
 impl LentState<'_> {

@@ -1,5 +1,5 @@
 ghost use Rattle.std.specs.Prelude.{◌≡◌, ◌+◌, ◌^◌, ◌<◌, Ok, None, length, IfOk};
-ghost use Rattle.state_records.specs.Reading.{Gives, Moves, runs_at, all_runs_at, state_at, fields_at, record_at};
+ghost use Rattle.state_records.specs.Reading.{Gives, Moves, runs_at, all_runs_at, complete_at, state_at, fields_at, record_at, versions};
 ghost use Rattle.state_records.specs.declared.record.StateRecord.{StateRecord};
 ghost use Rattle.state_records.specs.States.{AreStoredRuns};
 ghost use Rattle.state_records.specs.Spelling.{IsRecord, record_bytes};
@@ -44,15 +44,27 @@ fn read_all_runs(alloc: Global, reader: &mut Reader<'_>) -> Result<RunList, Reco
     Ok(Items::new(runs))
 }
 
+// How many rows are complete, where the version tells it.
+#[tactic(auto, unfolding(crate::specs::Reading::complete_at))]
+fn read_complete(reader: &mut Reader<'_>, version: u8) -> Result<Option<u64>, RecordFault>
+    ensures { Moves (λ c. c) reader.new result (complete_at version reader.old) }
+{
+    match version {
+        0 => Ok(None),
+        _ => Ok(Some(reader.take_u64()?)),
+    }
+}
+
 #[tactic(auto, unfolding(crate::specs::Reading::state_at))]
-fn read_state(alloc: Global, reader: &mut Reader<'_>) -> Result<KeyState, RecordFault>
-    ensures { Moves (λ s. s) reader.new result (state_at reader.old) }
+fn read_state(alloc: Global, reader: &mut Reader<'_>, version: u8) -> Result<KeyState, RecordFault>
+    ensures { Moves (λ s. s) reader.new result (state_at version reader.old) }
 {
     let key = read_key(reader)?;
     let snapshot = reader.take_u64()?;
     let state_epoch = read_epoch(reader)?;
     let leader_epoch = read_epoch(reader)?;
     let start = read_start(reader)?;
+    let complete = read_complete(reader, version)?;
     let runs = read_all_runs(alloc, reader)?;
     Ok(KeyState {
         key,
@@ -60,17 +72,23 @@ fn read_state(alloc: Global, reader: &mut Reader<'_>) -> Result<KeyState, Record
         state_epoch,
         leader_epoch,
         start,
+        complete,
         runs,
     })
 }
 
 #[tactic(auto, unfolding(crate::specs::Reading::fields_at))]
-fn read_fields(alloc: Global, reader: &mut Reader<'_>, kind: u8) -> Result<StateRecord, RecordFault>
-    ensures { Moves (λ r. r) reader.new result (fields_at kind reader.old) }
+fn read_fields(
+    alloc: Global,
+    reader: &mut Reader<'_>,
+    kind: u8,
+    version: u8,
+) -> Result<StateRecord, RecordFault>
+    ensures { Moves (λ r. r) reader.new result (fields_at kind version reader.old) }
 {
     match kind {
-        0 => Ok(StateRecord::Snapshot(read_state(alloc, reader)?)),
-        1 => Ok(StateRecord::Update(read_state(alloc, reader)?)),
+        0 => Ok(StateRecord::Snapshot(read_state(alloc, reader, version)?)),
+        1 => Ok(StateRecord::Update(read_state(alloc, reader, version)?)),
         2 => Ok(StateRecord::Removal {
             key: read_key(reader)?,
         }),
@@ -81,14 +99,26 @@ fn read_fields(alloc: Global, reader: &mut Reader<'_>, kind: u8) -> Result<State
     }
 }
 
+// How many versions a kind has.
+#[tactic(auto, unfolding(crate::specs::Reading::versions))]
+fn versions(kind: u8) -> u8
+    ensures { result ≡ versions kind }
+{
+    match kind {
+        0 => 2,
+        1 => 2,
+        _ => 1,
+    }
+}
+
 #[tactic(auto, unfolding(crate::specs::Reading::record_at))]
 fn read_whole(alloc: Global, bytes: &[u8]) -> Result<StateRecord, RecordFault>
     ensures { Gives (λ r. r) result (record_at bytes.now) }
 {
     let mut reader = Reader::new(bytes);
     let kind = read_u8_below(&mut reader, 5)?;
-    read_u8_below(&mut reader, 1)?;
-    let record = read_fields(alloc, &mut reader, kind)?;
+    let version = read_u8_below(&mut reader, versions(kind))?;
+    let record = read_fields(alloc, &mut reader, kind, version)?;
     if reader.len() > 0 {
         return Err(RecordFault::BadState {
             place: reader.place(),

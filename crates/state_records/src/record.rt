@@ -7,8 +7,9 @@ use std::marker::Model;
 /// The state of a share partition, as a journal keeps it.
 ///
 /// `snapshot` counts the key's snapshots. The epochs are at least 0, `start` is an offset or -1, and
-/// the runs are canonical, with offsets below 2^63 and counts below 2^15. A contract sees the record of
-/// the fields.
+/// the runs are canonical, with offsets below 2^63 and counts below 2^15. `complete` is how many rows of
+/// the key are acknowledged or archived once the record is done, where it is of version 1; it is `None`
+/// exactly for version 0. A contract sees the record of the fields.
 #[derive(Debug, Drop)]
 pub struct KeyState {
     pub key: Key,
@@ -16,6 +17,7 @@ pub struct KeyState {
     pub state_epoch: i32,
     pub leader_epoch: i32,
     pub start: i64,
+    pub complete: Option<u64>,
     pub runs: RunList,
 }
 
@@ -30,6 +32,7 @@ impl Model for KeyState {
       state_epoch = s.state_epoch;
       leader_epoch = s.leader_epoch;
       start = s.start;
+      complete = s.complete;
       runs = s.runs;
     } };
 
@@ -47,6 +50,7 @@ impl KeyState {
             state_epoch: self.state_epoch,
             leader_epoch: self.leader_epoch,
             start: self.start,
+            complete: self.complete,
             runs: self.runs.as_slice(),
         }
     }

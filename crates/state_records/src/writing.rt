@@ -1,9 +1,10 @@
-ghost use Rattle.std.specs.Prelude.{◌≡◌, ◌≤◌, ◌<◌, ◌^◌, length, OnOk, IfOk};
+ghost use Rattle.std.specs.Prelude.{◌≡◌, ◌≤◌, ◌<◌, ◌^◌, length, OnOk, IfOk, IfSome};
 ghost use Rattle.std.specs.Int.{w16, w32, w64, to_be_bytes};
 ghost use Rattle.std.specs.List.{flat_map};
 ghost use Rattle.share_model.specs.Names.{IsName};
 ghost use Rattle.share_model.specs.Rooms.{Appends};
-ghost use Rattle.state_records.specs.Spelling.{IsRecord, name_bytes, key_bytes, run_bytes, runs_bytes, state_bytes, record_bytes, epoch_number, start_number};
+ghost use Rattle.state_records.specs.Spelling.{IsRecord, name_bytes, key_bytes, run_bytes, runs_bytes, state_bytes, record_bytes};
+ghost use Rattle.state_records.specs.Spelling.{complete_bytes, epoch_number, start_number};
 ghost use Rattle.state_records.specs.States.{IsKey, IsState, IsEpoch, IsStart};
 ghost use Rattle.state_records.specs.declared.record.StateRecord.TheVariants.{Snapshot as snapshot_record, Update as update_record};
 
@@ -117,6 +118,17 @@ fn start_bits(start: i64) -> u64
     if start < 0 { u64::MAX } else { start as u64 }
 }
 
+#[tactic(auto, using(crate::proofs::Appends::appended0))]
+fn put_complete(out: &mut Room, complete: Option<u64>)
+    requires { length (complete_bytes complete) ≤ out.old.spare }
+    ensures written { Appends out.old out.new (complete_bytes complete) }
+    ensures fits { IfSome complete (λ n. n < 2 ^ 64) }
+{
+    if let Some(number) = complete {
+        put_u64(out, number);
+    }
+}
+
 fn put_state(out: &mut Room, state: &LentState<'_>)
     requires { length (state_bytes state.now) ≤ out.old.spare }
     ensures written { Appends out.old out.new (state_bytes state.now) }
@@ -127,6 +139,7 @@ fn put_state(out: &mut Room, state: &LentState<'_>)
     put_u32(out, epoch_bits(state.state_epoch));
     put_u32(out, epoch_bits(state.leader_epoch));
     put_u64(out, start_bits(state.start));
+    put_complete(out, state.complete);
     put_runs(out, state.runs);
 }
 
@@ -136,7 +149,7 @@ pub fn write_snapshot(state: &LentState<'_>, out: &mut Room)
     ensures written { Appends out.old out.new (record_bytes (snapshot_record state.now)) }
     ensures valid { IsRecord (snapshot_record state.now) }
 {
-    put(out, &[0, 0]);
+    put(out, &[0, state.version()]);
     put_state(out, state);
 }
 
@@ -146,7 +159,7 @@ pub fn write_update(state: &LentState<'_>, out: &mut Room)
     ensures written { Appends out.old out.new (record_bytes (update_record state.now)) }
     ensures valid { IsRecord (update_record state.now) }
 {
-    put(out, &[1, 0]);
+    put(out, &[1, state.version()]);
     put_state(out, state);
 }
 
