@@ -418,7 +418,7 @@ class ServeCase(unittest.TestCase):
             member.close()
         status, lines = server.ended()
         self.assertEqual((status, len(lines)), (0, 1), lines)
-        self.assertEqual(self.dumped(), ["table 67 orders/0 start 2", "run 2 2 available 1", "end"])
+        self.assertEqual(self.dumped(), ["table 67 orders/0 start 2 complete 0", "run 2 2 available 1", "end"])
         again = self.member(self.server())
         self.assertEqual(again.fetch(), [(2, b"c", 2)])
         self.assertEqual(again.produce(b"d"), (0, 3))

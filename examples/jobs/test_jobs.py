@@ -72,7 +72,7 @@ class Jobs(unittest.TestCase):
         self.assertEqual(["job 4 kills me"], self.lines("worker.py", "bert", "--dies-at", "4", status=-9))
         self.assertEqual(["job 4, delivery 2: 60 / 4 = 15"], self.lines("worker.py", "carl"))
         self.broker.kill()
-        self.assertEqual(["table 776f726b657273 jobs/0 start 5", "end"], self.dump())
+        self.assertEqual(["table 776f726b657273 jobs/0 start 5 complete 0", "end"], self.dump())
 
     def test_jobs_outlive_the_broker(self):
         self.assertEqual(["3 jobs are stored"], self.lines("produce.py", "1", "2", "3"))
@@ -80,7 +80,7 @@ class Jobs(unittest.TestCase):
         self.assertEqual(["job 1, delivery 1: 60 / 2 failed: not for me"],
                          self.lines("worker.py", "gina", "--gives-back", "1"))
         self.broker.kill()
-        self.assertEqual(["table 776f726b657273 jobs/0 start 1", "run 1 1 available 1", "end"], self.dump())
+        self.assertEqual(["table 776f726b657273 jobs/0 start 1 complete 0", "run 1 1 available 1", "end"], self.dump())
         self.broker.start()
         self.assertEqual(["job 1, delivery 2: 60 / 2 = 30", "job 2, delivery 1: 60 / 3 = 20"],
                          self.lines("worker.py", "emil", "--jobs", "2"))

@@ -83,7 +83,7 @@ class Killing(BrokerCase):
         broker.kill()
         dump = subprocess.run([context.PROGRAM, "dump-state", "--dir", os.path.join(broker.folder, "data"),
                                f"orders:1:{ORDERS}"], capture_output=True, check=True, text=True).stdout
-        self.assertEqual("table 67 orders/0 start 0\nrun 0 0 available 1\nrun 1 1 acknowledged 1\nend\n", dump)
+        self.assertEqual("table 67 orders/0 start 0 complete 1\nrun 0 0 available 1\nrun 1 1 acknowledged 1\nend\n", dump)
 
 
 class Sharing(BrokerCase):

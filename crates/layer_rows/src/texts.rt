@@ -17,7 +17,7 @@ use edge_mem::MemSink;
 use gen_load::write_script;
 use offset_runs::Runs;
 use row_text::bytes_of;
-use share_coord::StateView;
+use share_coord::{StateView, complete_of};
 use share_model::Key;
 use state_records::{KeyState, StateRecord, read_record};
 use state_text::{GenFault, write_foreign, write_table};
@@ -44,18 +44,21 @@ fn stored_of(state: KeyState) -> Option<Stored> {
         state_epoch,
         leader_epoch,
         start,
+        complete: _,
         runs,
     } = state;
     let runs = Runs::from_list(runs);
     if runs.list().len() > 1000000 {
         return None;
     }
+    let complete = complete_of(&runs);
     Some(Stored {
         key,
         view: StateView {
             state_epoch,
             leader_epoch,
             start,
+            complete,
             runs,
         },
     })

@@ -3,6 +3,7 @@ ghost use Rattle.std.specs.Prelude.{◌≡◌, ◌++◌, ◌∷◌, [], codes, O
 ghost use Rattle.std.specs.Fmt.{decimal, signed_decimal};
 ghost use Rattle.hex.specs.Hex.{encode_lower};
 ghost use Rattle.uuid.specs.Text.{hyphenated_text, lower};
+ghost use Rattle.offset_runs.specs.Complete.{complete_rows};
 ghost use Rattle.state_text.specs.Texts.{foreign_line, run_line, state_word, table_line};
 
 use flex_fields::NoMemory;
@@ -83,7 +84,8 @@ pub(crate) fn put_table(
     put_group(text, "table ", group)?;
     text.put(topic)?;
     put_number(text, "/", u64::from(part), "")?;
-    put_value(text, " start ", view.start, "\n")
+    put_value(text, " start ", view.start, "")?;
+    put_number(text, " complete ", view.complete(), "\n")
 }
 
 // A word and a key.
@@ -96,15 +98,16 @@ fn put_key(text: &mut Pieces, key: &Key) -> Result<(), NoMemory>
     put_number(text, " ", u64::from(key.part), "")
 }
 
-// The epochs and the start offset.
+// The epochs, the start offset, and how many rows are complete.
 fn put_state(text: &mut Pieces, view: &StateView) -> Result<(), NoMemory>
     ensures { OnOk result (text.new ≡ text.old ++ (codes " state " ++ (signed_decimal view.now.state_epoch
         ++ (codes " leader " ++ (signed_decimal view.now.leader_epoch ++ (codes " start "
-        ++ (signed_decimal view.now.start ++ 10 ∷ []))))))) }
+        ++ (signed_decimal view.now.start ++ (codes " complete " ++ (decimal (complete_rows view.now.runs) ++ 10 ∷ []))))))))) }
 {
     put_value(text, " state ", i64::from(view.state_epoch), "")?;
     put_value(text, " leader ", i64::from(view.leader_epoch), "")?;
-    put_value(text, " start ", view.start, "\n")
+    put_value(text, " start ", view.start, "")?;
+    put_number(text, " complete ", view.complete(), "\n")
 }
 
 pub(crate) fn put_foreign(text: &mut Pieces, key: &Key, view: &StateView) -> Result<(), NoMemory>
