@@ -52,20 +52,21 @@ def within(holds, what):
 
 
 class Server:
-    """The program as a server over a folder, with so many bytes of addresses. Its lines on standard error are kept."""
+    """The program as a server over a folder. Its lines on standard error are kept as they come.
 
-    def __init__(self, folder, *words, partitions=1, port=0, addresses=resource.RLIM_INFINITY):
+    `bounded` are limits of the shell's `ulimit`, within which it is run.
+    """
+
+    def __init__(self, folder, *words, partitions=1, port=0, bounded=()):
         self.lines = []
         self.words = [PROGRAM, "serve", "--dir", folder, "--listen", f"127.0.0.1:{port}", "--advertise",
                       "localhost:9092", "--reset", "earliest", *words, f"orders:{partitions}:{ORDERS}"]
-        self.process = subprocess.Popen(self.words, stdin=subprocess.DEVNULL, stdout=subprocess.PIPE,
-                                        stderr=subprocess.PIPE, text=True, preexec_fn=lambda: self._bound(addresses))
+        bounds = [f"ulimit {bound} || exit" for bound in bounded]
+        shell = ["sh", "-c", "; ".join([*bounds, 'exec "$0" "$@"'])] if bounded else []
+        self.process = subprocess.Popen([*shell, *self.words], stdin=subprocess.DEVNULL, stdout=subprocess.PIPE,
+                                        stderr=subprocess.PIPE, text=True)
         self._reader = threading.Thread(target=self._read, daemon=True)
         self._reader.start()
-
-    @staticmethod
-    def _bound(addresses):
-        resource.setrlimit(resource.RLIMIT_AS, (addresses, addresses))
 
     def _read(self):
         for line in self.process.stderr:
@@ -360,7 +361,8 @@ class ServeCase(unittest.TestCase):
         self.assertEqual(server.lines[1:], [f"sharebroker: {address}: {said}" for address in addresses])
 
     def test_more_workers_than_the_system_starts_threads_for(self):
-        status, lines = self.unheard("--workers", "256", addresses=1 << 30).ended()
+        # 8 MiB of stack for each of 257 threads are twice what the addresses are.
+        status, lines = self.unheard("--workers", "256", bounded=("-S -s 8192", "-v 1048576")).ended()
         self.assertEqual((status, len(lines)), (10, 1), lines)
         self.assertRegex(lines[0], r"^sharebroker: start thread: .* \(os error \d+\)$")
 
@@ -451,6 +453,8 @@ class ServeCase(unittest.TestCase):
     def test_a_frame_of_many_entries_takes_less_than_32_times_its_size(self):
         server = self.server("--workers", "1")
         stream = self.raw(server)
+        # A reply takes a second of a processor, and may wait for one.
+        stream.settimeout(5 * PATIENCE)
         self.assertEqual(replied(stream, sixteen_million_groups(10)), 10 * 23 + 11)
         most = size_of(server.process.pid) + 32 * (16 << 20)
         resource.prlimit(server.process.pid, resource.RLIMIT_AS, (most, most))
@@ -483,13 +487,17 @@ def replied(stream, frame):
     """How many bytes the reply to a frame has behind its size, all of which come."""
     stream.sendall(frame)
     room = memoryview(bytearray(1 << 20))
-    head = stream.recv(4, socket.MSG_WAITALL)
-    left = size = struct.unpack(">I", head)[0]
-    while left:
-        count = stream.recv_into(room[:min(left, len(room))])
-        if count == 0:
-            raise ConnectionLost(f"{left} of {size} bytes are missing")
-        left -= count
+
+    def take(left):
+        while left:
+            count = stream.recv_into(room[:min(left, len(room))])
+            if count == 0:
+                raise ConnectionLost(f"{left} bytes are missing")
+            left -= count
+
+    take(4)
+    size = struct.unpack(">I", room[:4])[0]
+    take(size)
     return size
 
 
