@@ -1,0 +1,2 @@
+-- Passes: a row of passes is of its locks.
+pub mod Passes

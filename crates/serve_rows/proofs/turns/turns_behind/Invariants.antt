@@ -1,0 +1,5 @@
+use Rattle.broker_run.specs.Acting.{AreOf}
+use Rattle.serve_rows.proofs.turns.turns_behind.Given as goal
+
+abbrev pub invariant-loop-peer : goal.invariant-loop-peer
+invariant-loop-peer g l = AreOf l.initial.shared l.passes

@@ -1,0 +1,102 @@
+// What a server meets: clocks that go on by steps, jobs of which one is refused, and a gate that holds a link.
+ghost use Rattle.std.specs.Prelude.{◌≤◌, ◌^◌, None};
+ghost use Rattle.edge_io.specs.Causes.{Rose};
+
+use crate::board::{Board, RELEASED};
+use edge_io::{Clock, Gate, GatePlace, Spawner};
+use std::alloc::Global;
+use std::sync::Arc;
+use std::sync::atomic::{AtomicU64, Ordering};
+use std::thread;
+use std::thread::Threads;
+use std::time::Duration;
+
+/// A clock that goes on by one step at each answer. A pause lasts a millisecond.
+#[derive(Drop)]
+pub struct StepClock {
+    rt: HostRuntime,
+    step: u64,
+    now: u64,
+}
+
+impl StepClock {
+    pub fn new(rt: HostRuntime, step: u64) -> StepClock {
+        StepClock { rt, step, now: 0 }
+    }
+}
+
+impl Clock for StepClock {
+    ghost told = { λ _. None };
+
+    fn now_ms(&mut self) -> u64 {
+        self.now = self.now.saturating_add(self.step);
+        self.now.min(1 << 62)
+    }
+
+    fn another(&self) -> StepClock {
+        StepClock::new(self.rt, self.step)
+    }
+
+    fn pause(&mut self, _ms: u32) {
+        thread::sleep(&self.rt, Duration::from_millis(1));
+    }
+}
+
+/// Starts each job in a thread, but for one, which it refuses.
+#[derive(Drop)]
+pub struct Jobs<H> {
+    rt: H,
+    asked: AtomicU64,
+    refused: Option<u64>,
+    faults: u64,
+}
+
+impl<H> Jobs<H> {
+    pub fn new(rt: H, refused: Option<u64>) -> Jobs<H> {
+        Jobs {
+            rt,
+            asked: AtomicU64::new(0),
+            refused,
+            faults: 0,
+        }
+    }
+}
+
+impl<H: Threads> Spawner for Jobs<H> {
+    type Rt = H;
+
+    ghost faults = { λ s. s.faults };
+
+    fn threads(&self) -> Option<&H> {
+        let number = self.asked.fetch_add(1, Ordering::SeqCst);
+        if self.refused == Some(number) {
+            return None;
+        }
+        Some(&self.rt)
+    }
+
+    fn refuse(&mut self)
+        ensures later { self.old.faults ≤ self.new.faults }
+        ensures rises { Rose self.old.faults self.new.faults }
+    {
+        self.faults = self.faults.saturating_add(1);
+    }
+}
+
+/// Holds link 0 before each part until link 1 has a reply.
+#[derive(Drop)]
+pub struct HeldLink {
+    pub board: Arc<Board, Global>,
+}
+
+impl Gate for HeldLink {
+    fn at(&self, place: GatePlace) {
+        match place {
+            GatePlace::Part { link: 0 } => {
+                self.board.wait(RELEASED);
+            }
+            GatePlace::Replied { link: 1 } => self.board.put(RELEASED, 1),
+            _ => {}
+        }
+    }
+}
