@@ -151,6 +151,24 @@ fn mark_line(alloc: Global, text: &str) -> io::Result<MarkLine> {
     })
 }
 
+/// A line of a mark and bytes, of which each proper front stands in its place.
+fn front_line(alloc: Global, text: &str) -> io::Result<MarkLine> {
+    let (mark, digits) = field(text);
+    let digits = without_blanks(alloc, digits)?;
+    let mut front = String::new(alloc);
+    let mut words = Vec::new(alloc);
+    for pair in digits.as_bytes().chunks(2) {
+        if !front.is_empty() {
+            words.push(String::from_str(alloc, front.as_str())?)?;
+        }
+        front.push_str(str::from_utf8(pair).unwrap_or(""))?;
+    }
+    Ok(MarkLine {
+        mark: String::from_str(alloc, mark)?,
+        words,
+    })
+}
+
 impl Case {
     pub fn new(alloc: Global) -> Case {
         Case {
@@ -182,6 +200,7 @@ impl Case {
             "armed" => self.arms.push(arm_line(text))?,
             "left" => self.left.push(disk_line(alloc, text)?)?,
             "with" => self.marks.push(mark_line(alloc, text)?)?,
+            "fronts" => self.marks.push(front_line(alloc, text)?)?,
             "flip" => push_flips(alloc, &mut self.flips, self.disks.len() as u64, text)?,
             ">" => push_line(&mut self.script, text)?,
             "send" => push_bytes(alloc, &mut self.script, "bytes", text)?,

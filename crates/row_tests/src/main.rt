@@ -18,6 +18,7 @@
 //! | `disk NAME HEX ..` | the content of a disk before the run; one that has no such line is empty |
 //! | `flip XX FIRST LAST` | the session is run once for each byte, from place FIRST to LAST, of the disk of the line before it; in that run this byte is changed, by an exclusive or with XX; further such lines add to the bytes |
 //! | `with MARK WORD ..` | the session is run once for each WORD, which stands in place of MARK in the script; of two such lines once for each pair, and so on |
+//! | `fronts MARK HEX ..` | the same with each proper front of these bytes, from the first byte alone to all but the last |
 //! | `armed NAME N MODE` | a fault of a disk that is armed before the run |
 //! | `left NAME HEX ..` | the content that a disk is wanted to have behind the run |
 //! | `< LINE` | a line that is wanted |
