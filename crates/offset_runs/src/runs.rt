@@ -43,7 +43,7 @@ impl Runs {
     ghost use Rattle.share_model.specs.Runs.{IsCanonical, row_at};
     ghost use Rattle.share_model.specs.ShareStates.{AreLaid};
     ghost use Rattle.share_model.specs.declared.run.Run.{Run};
-    ghost use Rattle.offset_runs.specs.Changes.{PutsRange, CutsBelow, Overlays};
+    ghost use Rattle.offset_runs.specs.Changes.{PutsRange, CutsBelow, Overlays, room_of};
     ghost use Rattle.offset_runs.specs.Complete.{complete_rows};
     ghost use Rattle.offset_runs.specs.Parts.{EndsBelow};
 
@@ -96,6 +96,7 @@ impl Runs {
         requires { 2 ≤ self.old.spare }
         ensures put { PutsRange self.old.list self.new.list first last row }
         ensures spare { self.old.spare ≤ self.new.spare + 2 }
+        ensures room { room_of self.old ≤ room_of self.new }
     {
         if last < first {
             return;
@@ -114,6 +115,7 @@ impl Runs {
     pub fn cut_below(&mut self, offset: u64)
         ensures cut { CutsBelow self.old.list self.new.list offset }
         ensures spare { self.old.spare ≤ self.new.spare }
+        ensures room { room_of self.old ≤ room_of self.new }
     {
         cut_front(&mut self.list, offset);
     }
@@ -121,7 +123,7 @@ impl Runs {
     /// Takes all rows away, and keeps the memory of their runs.
     pub fn clear(&mut self)
         ensures list { self.new.list ≡ [] }
-        ensures spare { self.old.spare + length self.old.list ≤ self.new.spare }
+        ensures room { room_of self.old ≤ self.new.spare }
     {
         self.list.clear();
     }
@@ -144,9 +146,9 @@ impl Runs {
     /// Puts rows that are laid over others in the place of these, in one pass over both. There is room for the runs
     /// that lie under, and for two for each that lies over. It takes no memory.
     pub fn lay_reserved(&mut self, under: &Runs, over: &Runs)
-        requires { length under.now.list + 2 * length over.now.list ≤ self.old.spare + length self.old.list }
+        requires { length under.now.list + 2 * length over.now.list ≤ room_of self.old }
         ensures laid { Overlays under.now.list self.new.list over.now.list }
-        ensures room { self.old.spare + length self.old.list ≤ self.new.spare + length self.new.list }
+        ensures room { room_of self.old ≤ room_of self.new }
     {
         self.list.clear();
         overlay(&mut self.list, &under.list, &over.list);
