@@ -8,9 +8,8 @@ use Rattle.share_model.proofs.Lookups.{row_at-here, row_at-below, row_at-beyond,
 use Rattle.share_model.specs.Runs.{row_of, row_at, IsCanonical}
 use Rattle.share_model.specs.ShareStates.{AreLaid}
 use Rattle.share_model.specs.declared.row.Row.{Row}
-use Rattle.share_model.specs.declared.row.RowState.{RowState}
 use Rattle.share_model.specs.declared.run.Run.{Run}
-use Rattle.offset_runs.proofs.Cuts.{lt_yes, lt_no, yes_lt, no_lt}
+use Rattle.offset_runs.proofs.Cuts.{lt_yes, yes_lt, no_lt}
 use Rattle.offset_runs.proofs.Joins.{choose}
 use Rattle.offset_runs.specs.Complete.{is_complete, is_complete_row, complete_rows, complete_within, complete_between, complete_under, count_complete}
 use Rattle.offset_runs.specs.Parts.{EndsBelow, end_count}

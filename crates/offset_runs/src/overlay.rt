@@ -34,6 +34,7 @@ fn push_before(out: &mut Vec<Run>, run: Run, offset: u64)
 fn push_apart(out: &mut Vec<Run>, runs: &[Run])
     requires { vec_len out.old + length runs.now ≤ vec_capacity out.old }
     ensures runs { out.new.items ≡ out.old.items ++ runs.now }
+    ensures len { vec_len out.new ≡ vec_len out.old + length runs.now }
     ensures capacity { vec_capacity out.old ≤ vec_capacity out.new }
 {
     if let Err(_) = out.extend_from_slice(runs) {
@@ -45,6 +46,7 @@ fn push_apart(out: &mut Vec<Run>, runs: &[Run])
 fn push_all(out: &mut Vec<Run>, runs: &[Run])
     requires { vec_len out.old + length runs.now ≤ vec_capacity out.old }
     ensures runs { out.new.items ≡ join out.old.items runs.now }
+    ensures len { vec_len out.new ≤ vec_len out.old + length runs.now }
     ensures capacity { vec_capacity out.old ≤ vec_capacity out.new }
 {
     if let Some((first, rest)) = runs.split_first() {
@@ -62,6 +64,7 @@ pub(crate) fn overlay(out: &mut Vec<Run>, mine: &[Run], mut theirs: &[Run])
     requires room { length mine.now + 2 * length theirs.now ≤ vec_capacity out.old }
     ensures canonical { IsCanonical out.new.items }
     ensures rows { Overlays mine.now out.new.items theirs.entry.now }
+    ensures few { vec_len out.new ≤ length mine.now + 2 * length theirs.entry.now }
     ensures capacity { vec_capacity out.old ≤ vec_capacity out.new }
 {
     let (mut head, mut rest) = first_and_rest(mine);

@@ -68,6 +68,13 @@ impl Runs {
         Ok(())
     }
 
+    /// How many runs there is memory for.
+    pub fn room(&self) -> u64
+        ensures { result ≡ room_of self.now }
+    {
+        self.list.capacity() as u64
+    }
+
     /// The row at an offset, found in the logarithm of the number of runs.
     pub fn look(&self, offset: u64) -> Option<Row>
         ensures { result ≡ row_at self.now.list offset }
@@ -95,6 +102,7 @@ impl Runs {
     pub fn put_reserved(&mut self, first: u64, last: u64, row: Row)
         requires { 2 ≤ self.old.spare }
         ensures put { PutsRange self.old.list self.new.list first last row }
+        ensures few { length self.new.list ≤ length self.old.list + 2 }
         ensures spare { self.old.spare ≤ self.new.spare + 2 }
         ensures room { room_of self.old ≤ room_of self.new }
     {
@@ -114,6 +122,7 @@ impl Runs {
     /// moves each run at most once, and none where no run ends below the offset. It takes no memory.
     pub fn cut_below(&mut self, offset: u64)
         ensures cut { CutsBelow self.old.list self.new.list offset }
+        ensures few { length self.new.list ≤ length self.old.list }
         ensures spare { self.old.spare ≤ self.new.spare }
         ensures room { room_of self.old ≤ room_of self.new }
     {
@@ -148,6 +157,7 @@ impl Runs {
     pub fn lay_reserved(&mut self, under: &Runs, over: &Runs)
         requires { length under.now.list + 2 * length over.now.list ≤ room_of self.old }
         ensures laid { Overlays under.now.list self.new.list over.now.list }
+        ensures few { length self.new.list ≤ length under.now.list + 2 * length over.now.list }
         ensures room { room_of self.old ≤ room_of self.new }
     {
         self.list.clear();

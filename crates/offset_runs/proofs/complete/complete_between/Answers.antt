@@ -1,4 +1,4 @@
-use Rattle.std.proofs.Common.{◌≡◌, ◌^◌, ◌∙◌, sym, ap, subst, List, drop}
+use Rattle.std.proofs.Common.{◌^◌, ◌∙◌, sym, ap, subst, List, drop}
 use Rattle.share_model.specs.Runs.{IsCanonical}
 use Rattle.share_model.specs.declared.run.Run.{Run}
 use Rattle.offset_runs.specs.Complete.{complete_between}

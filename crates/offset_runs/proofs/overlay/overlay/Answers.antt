@@ -38,6 +38,7 @@ loop-head-preserved-then-x-y c =
           c.in-Some.is c.in-Some-split_first.ensures.cases.0 c.if-x-y.true c.push_before.ensures.runs c.first_and_rest.ensures.parts;
       none = c.first_and_rest.ensures.none;
       room = omega (arith, one, left, c.loop-head.invariant.room, c.push_before.ensures.len);
+      few = omega (arith, one, left, c.loop-head.invariant.few, c.push_before.ensures.len);
       capacity = omega (arith, c.loop-head.invariant.capacity, c.push_before.ensures.capacity);
     }
 
@@ -53,5 +54,6 @@ loop-head-preserved c =
           c.in-Some.is c.in-Some-split_first.ensures.cases.0 (omega arith) c.push_before.ensures.runs c.push_joined-else-x-y.ensures.runs c.run_behind.ensures;
       none = tt;
       room = omega (arith, one, fewer, c.loop-head.invariant.room, c.push_before.ensures.len, c.push_joined-else-x-y.ensures.len);
+      few = omega (arith, one, fewer, c.loop-head.invariant.few, c.push_before.ensures.len, c.push_joined-else-x-y.ensures.len);
       capacity = omega (arith, c.loop-head.invariant.capacity, c.push_before.ensures.capacity, c.push_joined-else-x-y.ensures.capacity);
     }

@@ -9,6 +9,7 @@ invariant-loop-head l =
       merging : IsMerging l.fn.mine l.fn.theirs l.out.items (maybe_run l.head ++ l.rest) l.theirs;
       none : IfNone l.head (l.rest ≡ []);
       room : vec_len l.out + (length (maybe_run l.head ++ l.rest) + 2 * length l.theirs) ≤ vec_capacity l.fn.out;
+      few : vec_len l.out + (length (maybe_run l.head ++ l.rest) + 2 * length l.theirs) ≤ length l.fn.mine + 2 * length l.fn.theirs;
       capacity : vec_capacity l.fn.out ≤ vec_capacity l.out;
     }
 
