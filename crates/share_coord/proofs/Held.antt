@@ -1,22 +1,20 @@
 -- What a store holds, one record further.
-use Rattle.std.proofs.Common.{◌≡◌, ◌⊎◌, ◌<◌, ◌≤◌, ◌+◌, ◌^◌, inl, inr, ⊎_elim, refl, sym, ap, ◌∙◌, subst, arith, ℕ, List, [], ◌∷◌, ◌++◌, length}
+use Rattle.std.proofs.Common.{◌≡◌, ◌⊎◌, ◌<◌, ◌^◌, inl, inr, ⊎_elim, refl, sym, ap, subst, arith, ℕ, List, [], ◌∷◌, ◌++◌, length}
 use Rattle.std.proofs.Common.{Bool, true, false, Option, Some, None, length-append}
 use Rattle.std.specs.List.Sorted.{IsStrictlySortedBy}
 use Rattle.std.specs.Map.{keys_of}
 use Rattle.edge_io.specs.Moments.{LeavesPairs}
 use Rattle.edge_io.specs.Views.{DiskView}
 use Rattle.share_model.specs.Keys.{key_cmp}
-use Rattle.share_model.specs.Pending.{WithPending}
 use Rattle.checkpoint_journal.specs.Checkpoints.{IsCheckpoint}
 use Rattle.checkpoint_journal.specs.Generations.{IsListed}
 use Rattle.coord_checkpoint.specs.Stores.{Finds, IsBase, IsLeft, Keeps, StoreParts as JournalParts}
 use Rattle.state_records.specs.Spelling.{IsRecord, record_bytes}
 use Rattle.state_records.specs.declared.record.StateRecord.{StateRecord}
-use Rattle.share_coord.specs.Stored.{Entries, Accepts, AreAccepted, AreTaken, Follows, based, records_from, renewed, snapshot_frames}
+use Rattle.share_coord.specs.Stored.{Entries, Accepts, AreTaken, Follows, based, records_from, renewed, snapshot_frames}
 use Rattle.share_coord.specs.States.{AreStates, states_of}
 use Rattle.share_coord.specs.Holding.{Holds, IsWithin, Leaves, StandWith}
 use Rattle.share_coord.specs.Putting.{HasNotPut, HasPut, IsPut, IsPutWithin}
-use Rattle.share_coord.specs.declared.view.Kept.{Kept}
 use Rattle.share_coord.specs.declared.walk.Walk.TheVariants.{First}
 use Rattle.share_model.specs.Keys.{KeyParts}
 use Rattle.share_model.specs.ShareStates.{ShareState}

@@ -14,7 +14,7 @@ use Rattle.state_records.specs.declared.record.StateRecord.{StateRecord}
 use Rattle.state_records.specs.declared.record.StateRecord.TheVariants.{Snapshot, Update, Removal, Head, Seal}
 use Rattle.share_coord.specs.Stored.{Entries, Follows, AreAccepted, based, based_kept, kept_at, renewed, renewed_kept, with_kept, without_key, next_snapshot}
 use Rattle.share_coord.specs.Calls.{IsForgotten}
-use Rattle.share_coord.specs.declared.view.Kept.{Kept}
+use Rattle.share_coord.specs.Parts.{KeptState}
 
 pub keys_total : IsTotalOrder key_cmp
 keys_total = search (comparing, rules) depth 9
@@ -52,8 +52,8 @@ some_is x y e = ap (value_or x) e
 
 -- ---- a key that was added is taken away again
 
-module _ (k : KeyParts) (v : Kept) where
-  mutual_step : (r : Ordering) (e : KeyParts × Kept) (es : Entries) → key_cmp k e.0 ≡ r → cond (is_eq r) (Some e.1) (kept_at es k) ≡ None
+module _ (k : KeyParts) (v : KeptState) where
+  mutual_step : (r : Ordering) (e : KeyParts × KeptState) (es : Entries) → key_cmp k e.0 ≡ r → cond (is_eq r) (Some e.1) (kept_at es k) ≡ None
       → (kept_at es k ≡ None → without_key (with_kept es k v) k ≡ es)
       → without_key (match_ordering r ((k, v) ∷ e ∷ es) ((e.0, v) ∷ es) (e ∷ with_kept es k v)) k ≡ e ∷ es
   mutual_step Less e es is none again = ap (λ b. cond b (e ∷ es) ((k, v) ∷ without_key (e ∷ es) k)) (key_self k)
@@ -67,7 +67,7 @@ module _ (k : KeyParts) (v : Kept) where
 
 -- ---- what holds of all that is kept
 
-module _ (P : Kept → Type 0) where
+module _ (P : KeptState → Type 0) where
   abbrev All : Entries → Type 0
   All es = AllByRecursion (λ e. P e.1) es
 
@@ -76,7 +76,7 @@ module _ (P : Kept → Type 0) where
   by_order Equal a b c x y z = y
   by_order Greater a b c x y z = z
 
-  pub all_with : (es : Entries) (k : KeyParts) (v : Kept) → All es → P v → All (with_kept es k v)
+  pub all_with : (es : Entries) (k : KeyParts) (v : KeptState) → All es → P v → All (with_kept es k v)
   all_with [] k v h p = (p, tt)
   all_with (e ∷ es) k v h p =
       by_order (key_cmp k e.0) ((k, v) ∷ e ∷ es) ((e.0, v) ∷ es) (e ∷ with_kept es k v) (p, h) (p, h.1) (h.0, all_with es k v h.1 p)
@@ -89,24 +89,24 @@ module _ (P : Kept → Type 0) where
   all_without [] k h = tt
   all_without (e ∷ es) k h = by_test (is_at (key_cmp k) e.0) es (e ∷ without_key es k) h.1 (h.0, all_without es k h.1)
 
-  found : (b : Bool) (v w : Kept) (rest : Option Kept) → P v → (rest ≡ Some w → P w) → cond b (Some v) rest ≡ Some w → P w
+  found : (b : Bool) (v w : KeptState) (rest : Option KeptState) → P v → (rest ≡ Some w → P w) → cond b (Some v) rest ≡ Some w → P w
   found true v w rest p f e = subst P (some_is v w e) p
   found false v w rest p f e = f e
 
-  pub all_at : (es : Entries) (k : KeyParts) (v : Kept) → All es → kept_at es k ≡ Some v → P v
+  pub all_at : (es : Entries) (k : KeyParts) (v : KeptState) → All es → kept_at es k ≡ Some v → P v
   all_at [] k v h e = absurd (some_none v (sym e))
   all_at (e ∷ es) k v h is = found (is_at (key_cmp k) e.0) e.1 v (kept_at es k) h.0 (all_at es k v h.1) is
 
 -- ---- a key has fewer snapshots than there are frames
 
-abbrev Below : ℕ → Kept → Type 0
+abbrev Below : ℕ → KeptState → Type 0
 Below n kept = kept.snapshot < n
 
 more : (n m : ℕ) (es : Entries) → n ≤ m → AllByRecursion (λ e. Below n e.1) es → AllByRecursion (λ e. Below m e.1) es
 more n m [] le h = tt
 more n m (e ∷ es) le h = (omega (arith, le, h.0), more n m es le h.1)
 
-next_below : (n : ℕ) (es : Entries) (k : KeyParts) (known : Option Kept) → kept_at es k ≡ known → AllByRecursion (λ e. Below n e.1) es
+next_below : (n : ℕ) (es : Entries) (k : KeyParts) (known : Option KeptState) → kept_at es k ≡ known → AllByRecursion (λ e. Below n e.1) es
     → next_snapshot known < n + 1
 next_below n es k None is h = omega arith
 next_below n es k (Some kept) is h = let lt = all_at (Below n) es k kept h is in omega (arith, lt)
@@ -140,7 +140,7 @@ next_few frames entries key a few =
     let lt = next_below (0 + length frames) entries key (kept_at entries key) refl all in omega (arith, lt, few)
 
 -- what is there
-pub known_by : (o : Option Kept) → IsSome o → (kept : Kept) × (o ≡ Some kept)
+pub known_by : (o : Option KeptState) → IsSome o → (kept : KeptState) × (o ≡ Some kept)
 known_by None h = absurd (clash (sym h))
 known_by (Some kept) h = (kept, refl)
 
@@ -149,7 +149,7 @@ known_by (Some kept) h = (kept, refl)
 pub kept_renewed : (es : Entries) (key : KeyParts) → kept_at (renewed es) key ≡ option_map renewed_kept (kept_at es key)
 kept_renewed es key = lookup-map_values renewed_kept (is_at (key_cmp key)) es
 
-pub kept_based : (c : Bool) (es : Entries) (key : KeyParts) (kept : Kept) → kept_at es key ≡ Some kept → kept_at (based c es) key ≡ Some (based_kept c kept)
+pub kept_based : (c : Bool) (es : Entries) (key : KeyParts) (kept : KeptState) → kept_at es key ≡ Some kept → kept_at (based c es) key ≡ Some (based_kept c kept)
 kept_based false es key kept is = is
 kept_based true es key kept is = kept_renewed es key ∙ ap (option_map renewed_kept) is
 

@@ -20,3 +20,4 @@ pub mod Basing
 pub mod Starting
 pub mod Removing
 pub mod Replaying
+pub mod Tables

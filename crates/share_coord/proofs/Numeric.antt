@@ -7,7 +7,7 @@ use Rattle.share_model.specs.ShareStates.{is_writable}
 use Rattle.share_coord.specs.Calls.{fenced_state, fenced_init, fenced_write, init_refusal, write_refusal, Causes}
 use Rattle.share_coord.specs.declared.fault.CoordFault.{CoordFault}
 use Rattle.share_coord.specs.declared.fault.CoordFault.TheVariants.{Invalid, Unknown, FencedLeader, FencedState, TooMany, Store, NoMemory}
-use Rattle.share_coord.specs.declared.view.Kept.{Kept}
+use Rattle.share_coord.specs.Parts.{KeptState}
 use Rattle.share_coord.proofs.Keys.{some_none}
 
 IsNumeric : CoordFault → Type 0
@@ -27,16 +27,16 @@ either : (b : Bool) (x y : Option CoordFault) → Numeric x → Numeric y → Nu
 either true x y p q = p
 either false x y p q = q
 
-by_state : (kept : Kept) (epoch : ℤ) → Numeric (fenced_state kept epoch)
+by_state : (kept : KeptState) (epoch : ℤ) → Numeric (fenced_state kept epoch)
 unfolding Numeric IsNumeric
 by_state kept epoch = either (int_lt epoch kept.view.state_epoch) (Some (FencedState kept.view.state_epoch)) None tt tt
 
-by_init : (known : Option Kept) (epoch : ℤ) → Numeric (fenced_init known epoch)
+by_init : (known : Option KeptState) (epoch : ℤ) → Numeric (fenced_init known epoch)
 unfolding Numeric
 by_init None epoch = tt
 by_init (Some kept) epoch = by_state kept epoch
 
-by_write : (known : Option Kept) (state leader : ℤ) → Numeric (fenced_write known state leader)
+by_write : (known : Option KeptState) (state leader : ℤ) → Numeric (fenced_write known state leader)
 unfolding Numeric IsNumeric
 by_write None state leader = tt
 by_write (Some kept) state leader =
@@ -46,12 +46,12 @@ apart : (refusal : Option CoordFault) (e : CoordFault) → Numeric refusal → r
 unfolding Numeric IsNumeric
 apart refusal e numeric is fault at = subst Numeric (is ∙ ap Some at) numeric
 
-pub init_apart : (known : Option Kept) (epoch start : ℤ) (e : CoordFault) → init_refusal known epoch start ≡ Some e → (fault : StoreFault) → e ≢ Store fault
+pub init_apart : (known : Option KeptState) (epoch start : ℤ) (e : CoordFault) → init_refusal known epoch start ≡ Some e → (fault : StoreFault) → e ≢ Store fault
 unfolding Numeric IsNumeric
 init_apart known epoch start e is = apart (init_refusal known epoch start) e
     (either (int_lt epoch (pos 0) || int_lt start (negsuc 0)) (Some Invalid) (fenced_init known epoch) tt (by_init known epoch)) is
 
-pub write_apart : (known : Option Kept) (state leader start : ℤ) (runs : List Run) (e : CoordFault) → write_refusal known state leader start runs ≡ Some e
+pub write_apart : (known : Option KeptState) (state leader start : ℤ) (runs : List Run) (e : CoordFault) → write_refusal known state leader start runs ≡ Some e
     → (fault : StoreFault) → e ≢ Store fault
 unfolding Numeric IsNumeric
 write_apart known state leader start runs e is = apart (write_refusal known state leader start runs) e

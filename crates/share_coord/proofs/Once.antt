@@ -1,10 +1,9 @@
 -- A call that writes once, from what the record that it puts leaves.
-use Rattle.std.proofs.Common.{◌≡◌, ◌≢◌, ◌⊎◌, ◌<◌, ◌≤◌, ◌+◌, ◌^◌, inl, inr, ⊎_elim, refl, sym, ap, ◌∙◌, subst, arith, ℕ, List, [], ◌∷◌, ◌++◌, length}
-use Rattle.std.proofs.Common.{Bool, true, false, Option, Some, None, Result, Ok, Err, OnOk, OnErr, IfErr}
+use Rattle.std.proofs.Common.{◌≡◌, ◌≢◌, ◌⊎◌, inl, inr, ⊎_elim, refl, sym, ap, ◌∙◌, subst, arith, ℕ, List}
+use Rattle.std.proofs.Common.{Bool, false, Option, Some, None, Result, Ok, Err, OnOk, OnErr, IfErr}
 use Rattle.std.proofs.lemmas.Result.{on_ok_weaker, on_err_weaker}
 use Rattle.std.specs.List.Sorted.{IsStrictlySortedBy}
 use Rattle.std.specs.Map.{keys_of}
-use Rattle.edge_io.specs.Moments.{LeavesPairs}
 use Rattle.edge_io.specs.Views.{DiskView}
 use Rattle.gate_journal.specs.Frames.{IsFrame}
 use Rattle.share_model.specs.Keys.{key_cmp}
@@ -12,11 +11,10 @@ use Rattle.share_model.specs.declared.fault.StoreFault.{StoreFault}
 use Rattle.share_model.specs.declared.fault.StoreFault.TheVariants.{Device, Full}
 use Rattle.coord_checkpoint.specs.Disks.{HasFailed}
 use Rattle.coord_checkpoint.specs.Stores.{StoreParts as JournalParts}
-use Rattle.state_records.specs.Spelling.{IsRecord, record_bytes}
+use Rattle.state_records.specs.Spelling.{record_bytes}
 use Rattle.state_records.specs.declared.record.StateRecord.{StateRecord}
 use Rattle.share_coord.specs.Parts.{StoreParts}
 use Rattle.share_coord.specs.Putting.{IsPut, Puts}
-use Rattle.share_coord.specs.Recorded.{IsBased, IsPending, IsStored, StoresOne}
 use Rattle.share_coord.specs.Stored.{Entries, Follows, based, snapshot_frames}
 use Rattle.share_coord.specs.Calls.{Causes}
 use Rattle.share_coord.specs.Holding.{Holds, IsHeld, WritesOnce}

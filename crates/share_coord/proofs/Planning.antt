@@ -1,26 +1,23 @@
 -- A write whose numbers are not refused, and an initialisation: what they are to change.
-use Rattle.std.proofs.Common.{◌≡◌, ◌<◌, ◌≤◌, ◌+◌, refl, sym, ap, ◌∙◌, subst, arith, ℕ, ℤ, List, [], ◌∷◌, length, Bool, true, false, nat_lt, if◌then◌else◌, Option, Some, None}
-use Rattle.std.specs.Prelude.{min}
+use Rattle.std.proofs.Common.{◌≡◌, ◌<◌, ◌≤◌, ◌+◌, refl, sym, ap, ◌∙◌, subst, arith, ℕ, ℤ, List, length, Bool, true, false, nat_lt, if◌then◌else◌, Option, Some, None}
 use Rattle.std.specs.Option.{IfSome}
 use Rattle.std.proofs.lemmas.Bool.Decides.{nat_tests}
-use Rattle.gate_journal.specs.Frames.{IsFrame}
 use Rattle.share_model.specs.Keys.{KeyParts}
 use Rattle.share_model.specs.ShareStates.{AreLaid, AreWritten, start_after}
 use Rattle.share_model.specs.declared.run.Run.{Run}
 use Rattle.offset_runs.specs.Complete.{complete_rows}
-use Rattle.state_records.specs.Spelling.{record_bytes}
 use Rattle.state_records.specs.States.{IsKey, StateParts}
 use Rattle.state_records.specs.declared.record.StateRecord.{StateRecord}
-use Rattle.state_records.specs.declared.record.StateRecord.TheVariants.{Snapshot, Update, Removal}
-use Rattle.share_coord.specs.Calls.{IsWritten, write_refusal, written_of}
+use Rattle.state_records.specs.declared.record.StateRecord.TheVariants.{Snapshot, Update}
+use Rattle.share_coord.specs.Calls.{IsWritten, write_refusal}
 use Rattle.share_coord.specs.Planning.{GoesOn, IsPlanned, fresh_kept, left_by, record_of}
-use Rattle.share_coord.specs.Putting.{FitFrames, FitsFrame, IsOfKey, IsPut}
-use Rattle.share_coord.specs.Recorded.{IsWriteRecord, write_record}
-use Rattle.share_coord.specs.Stored.{Entries, Follows, based, based_kept, kept_at, next_snapshot, renewed, renewed_kept, with_kept}
+use Rattle.share_coord.specs.Putting.{FitsFrame, IsOfKey, IsPut}
+use Rattle.share_coord.specs.Recorded.{IsWriteRecord}
+use Rattle.share_coord.specs.Stored.{Entries, Follows, kept_at, next_snapshot, renewed, renewed_kept, with_kept}
 use Rattle.share_coord.specs.declared.plan.Fresh.{Fresh}
-use Rattle.share_coord.specs.declared.view.Kept.{Kept}
+use Rattle.share_coord.specs.Parts.{KeptState}
 use Rattle.share_coord.proofs.Keys.{kept_based, some_is, some_none}
-use Rattle.share_coord.proofs.Sizes.{removal_fits, snapshot_fits, update_fits}
+use Rattle.share_coord.proofs.Sizes.{snapshot_fits, update_fits}
 use Rattle.share_coord.proofs.Spans.{laid_again}
 
 -- the record behind a checkpoint is one that there is
@@ -55,7 +52,7 @@ abbrev snapshot_record : KeyParts → ℕ → ℤ → ℤ → ℤ → ℕ → Li
 snapshot_record key n state leader start complete runs =
     Snapshot (record { key = key; snapshot = n; state_epoch = state; leader_epoch = leader; start = start; complete = Some complete; runs = runs })
 
-abbrev kept_by : ℤ → ℤ → ℤ → List Run → ℕ → ℕ → Kept
+abbrev kept_by : ℤ → ℤ → ℤ → List Run → ℕ → ℕ → KeptState
 kept_by state leader start runs n m = record {
   view = record { state_epoch = state; leader_epoch = leader; start = start; runs = runs };
   snapshot = n;
@@ -75,10 +72,10 @@ IsFreshUpdate key state leader start complete over f = (f.written ≡ Update (re
 }))
     × (f.snapshot ≡ 0) × (f.updates ≡ 1)
 
-module _ (key : KeyParts) (known : Kept) (state leader start : ℤ) (runs over rows : List Run) (is_key : IsKey key)
+module _ (key : KeyParts) (known : KeptState) (state leader start : ℤ) (runs over rows : List Run) (is_key : IsKey key)
     (are_written : AreWritten runs over) (are_laid : AreLaid (start_after known.view.start start) known.view.runs over rows)
     (few_over : length over ≤ 1000000) (few : length rows ≤ 1000000) (complete : ℕ) (counted : complete ≡ complete_rows rows)
-    (plain : StateRecord) (kept : Kept) (fresh : Option Fresh) (is_fresh : IfSome fresh (IsFreshUpdate key state leader start complete over)) where
+    (plain : StateRecord) (kept : KeptState) (fresh : Option Fresh) (is_fresh : IfSome fresh (IsFreshUpdate key state leader start complete over)) where
   view_start : ℤ
   view_start = start_after known.view.start start
 
@@ -94,7 +91,7 @@ module _ (key : KeyParts) (known : Kept) (state leader start : ℤ) (runs over r
   behind_follows view old at one is =
       let f = fresh_of fresh one is in
       let h = at_some (IsFreshUpdate key state leader start complete over) fresh f.0 f.1 is_fresh in
-      subst (λ (k : Kept). Follows (renewed old) one (with_kept (renewed old) key k)) (sym (behind_kept f.0 h view f.1))
+      subst (λ (k : KeptState). Follows (renewed old) one (with_kept (renewed old) key k)) (sym (behind_kept f.0 h view f.1))
       (subst (λ (r : StateRecord). Follows (renewed old) r (with_kept (renewed old) key (kept_by state leader (start_after known.view.start start) rows 0 1)))
       (sym (f.2 ∙ h.0)) (record {
         kept = renewed_kept known;
@@ -150,14 +147,14 @@ module _ (key : KeyParts) (known : Kept) (state leader start : ℤ) (runs over r
   module _ (low : known.updates < 500) (plain_is : plain ≡ update_record key known.snapshot state leader start (complete_rows rows) over)
       (kept_is : kept ≡ kept_by state leader (start_after known.view.start start) rows known.snapshot (known.updates + 1)) where
     view_is : kept.view ≡ record { state_epoch = state; leader_epoch = leader; start = start_after known.view.start start; runs = rows }
-    view_is = ap (λ (k : Kept). k.view) kept_is
+    view_is = ap (λ (k : KeptState). k.view) kept_is
 
     low_test : nat_lt known.updates 500 ≡ true
     low_test = grind (arith, nat_tests)
 
     update_follows : (old : Entries) → kept_at old key ≡ Some known → Follows old plain (with_kept old key kept)
     update_follows old at =
-        subst (λ (k : Kept). Follows old plain (with_kept old key k)) (sym kept_is)
+        subst (λ (k : KeptState). Follows old plain (with_kept old key k)) (sym kept_is)
         (subst (λ (r : StateRecord). Follows old r (with_kept old key (kept_by state leader (start_after known.view.start start) rows known.snapshot (known.updates + 1)))) (sym plain_is)
         (record {
           kept = known;
@@ -219,14 +216,14 @@ module _ (key : KeyParts) (known : Kept) (state leader start : ℤ) (runs over r
   module _ (high : 500 ≤ known.updates) (plain_is : plain ≡ snapshot_record key (known.snapshot + 1) state leader (start_after known.view.start start) (complete_rows rows) rows)
       (kept_is : kept ≡ kept_by state leader (start_after known.view.start start) rows (known.snapshot + 1) 0) where
     view_is_too : kept.view ≡ record { state_epoch = state; leader_epoch = leader; start = start_after known.view.start start; runs = rows }
-    view_is_too = ap (λ (k : Kept). k.view) kept_is
+    view_is_too = ap (λ (k : KeptState). k.view) kept_is
 
     high_test : nat_lt known.updates 500 ≡ false
     high_test = grind (arith, nat_tests)
 
     snapshot_follows : (old : Entries) → kept_at old key ≡ Some known → Follows old plain (with_kept old key kept)
     snapshot_follows old at =
-        subst (λ (k : Kept). Follows old plain (with_kept old key k)) (sym kept_is)
+        subst (λ (k : KeptState). Follows old plain (with_kept old key k)) (sym kept_is)
         (subst (λ (r : StateRecord). Follows old r (with_kept old key (kept_by state leader (start_after known.view.start start) rows (known.snapshot + 1) 0))) (sym plain_is)
         (record {
           runs = rows;

@@ -1,10 +1,9 @@
 -- From an append of the journal to what the record that was put left.
-use Rattle.std.proofs.Common.{◌≡◌, ◌≢◌, ◌⊎◌, ◌↔◌, ◌<◌, ◌≤◌, ◌+◌, ◌^◌, inl, inr, ⊎_elim, refl, sym, ap, ◌∙◌, subst, arith, ℕ, List, [], ◌∷◌, ◌++◌, length}
+use Rattle.std.proofs.Common.{◌≡◌, ◌⊎◌, ◌↔◌, ◌<◌, ◌≤◌, ◌+◌, ◌^◌, inl, inr, ⊎_elim, refl, sym, ap, ◌∙◌, subst, arith, ℕ, List, [], ◌∷◌, ◌++◌, length}
 use Rattle.std.proofs.Common.{Bool, true, false, not, Option, Some, None, Result, Ok, Err, OnOk, OnErr, if◌then◌else◌}
 use Rattle.std.proofs.lemmas.Bool.{cases_lt}
-use Rattle.std.proofs.lemmas.Result.{on_ok_weaker, on_err_weaker}
 use Rattle.edge_io.specs.Armed.{RunsOn}
-use Rattle.edge_io.specs.Moments.{LeavesOnly, LeavesPairs}
+use Rattle.edge_io.specs.Moments.{LeavesPairs}
 use Rattle.edge_io.specs.Views.{DiskView}
 use Rattle.edge_io.proofs.Moments.{paired, started}
 use Rattle.edge_io.proofs.Runs.{runs_none}
@@ -13,15 +12,15 @@ use Rattle.gate_journal.specs.Frames.{IsFrame, StandsFor}
 use Rattle.std.specs.List.{AllByRecursion}
 use Rattle.checkpoint_journal.specs.Generations.{IsListed, IsPlain, is_sealed, mark_of, mark_read, marks_of, second_is_live}
 use Rattle.coord_checkpoint.specs.Disks.{HasFailed}
-use Rattle.coord_checkpoint.specs.Stores.{Finds, IsBase, IsLeft, IsLeftWithin, Keeps, StoreParts as JournalParts}
-use Rattle.coord_checkpoint.specs.Writes.{Adds, Fills, IsQuietBut, MayCheckpoint, RefusesDevice, Stays, side}
+use Rattle.coord_checkpoint.specs.Stores.{Finds, IsBase, IsLeftWithin, Keeps, StoreParts as JournalParts}
+use Rattle.coord_checkpoint.specs.Writes.{Fills, IsQuietBut, MayCheckpoint, RefusesDevice, side}
 use Rattle.share_model.specs.declared.fault.StoreFault.{StoreFault}
 use Rattle.share_model.specs.declared.fault.StoreFault.TheVariants.{Device, Full}
 use Rattle.state_records.specs.Spelling.{IsRecord, record_bytes}
 use Rattle.state_records.specs.declared.record.StateRecord.{StateRecord}
 use Rattle.state_records.specs.declared.record.StateRecord.TheVariants.{Snapshot, Update, Removal, Head, Seal}
 use Rattle.state_records.proofs.Whole.{record_again}
-use Rattle.share_coord.specs.Putting.{HasNotPut, HasPut, IsOfKey, IsPut, IsPutWithin, Puts, told_as}
+use Rattle.share_coord.specs.Putting.{HasPut, IsOfKey, IsPut, IsPutWithin, Puts, told_as}
 use Rattle.share_coord.specs.declared.fault.CoordFault.{CoordFault}
 use Rattle.share_coord.specs.declared.fault.CoordFault.TheVariants.{Store, NoMemory}
 use Rattle.share_coord.proofs.Faults.{same_fault, ok_is_no_err}

@@ -8,7 +8,7 @@ use Rattle.state_records.specs.declared.record.StateRecord.{StateRecord}
 use Rattle.state_records.specs.declared.record.StateRecord.TheVariants.{Snapshot, Update, Removal, Head, Seal}
 use Rattle.state_records.proofs.Whole.{one_record}
 use Rattle.share_coord.specs.Stored.{Entries, Follows, Accepts, AreAccepted, AreTaken, IsRefused, IsRefusedOn, AreDamaged, kept_at, next_snapshot, records_from, walk_of, with_kept, snapshot_of, update_of}
-use Rattle.share_coord.specs.declared.view.Kept.{Kept}
+use Rattle.share_coord.specs.Parts.{KeptState}
 use Rattle.share_coord.proofs.Spans.{laid_once}
 use Rattle.share_coord.specs.declared.walk.Walk.{Walk}
 use Rattle.share_coord.specs.declared.walk.Walk.TheVariants.{First}
@@ -23,9 +23,9 @@ follows_once old (Snapshot state) m n p q =
     p.is ∙ (ap (λ (l : List Run). with_kept old state.key (snapshot_of state l)) same ∙ sym q.is)
 follows_once old (Update state) m n p q =
     let one : p.kept ≡ q.kept = some_is p.kept q.kept (sym p.known ∙ q.known) in
-    let theirs = subst (λ (k : Kept). AreLaid (start_after k.view.start state.start) k.view.runs state.runs q.runs) (sym one) q.laid in
+    let theirs = subst (λ (k : KeptState). AreLaid (start_after k.view.start state.start) k.view.runs state.runs q.runs) (sym one) q.laid in
     let same = laid_once (start_after p.kept.view.start state.start) p.kept.view.runs state.runs p.runs q.runs p.laid theirs in
-    p.is ∙ (ap (λ (k : Kept). with_kept old state.key (update_of k state p.runs)) one
+    p.is ∙ (ap (λ (k : KeptState). with_kept old state.key (update_of k state p.runs)) one
     ∙ (ap (λ (l : List Run). with_kept old state.key (update_of q.kept state l)) same ∙ sym q.is))
 follows_once old (Removal key) m n p q = p.is ∙ sym q.is
 follows_once old (Head generation) m n p q = absurd p

@@ -1,5 +1,5 @@
 -- A removal, where no checkpoint is made before it, and behind one.
-use Rattle.std.proofs.Common.{◌≡◌, refl, sym, ◌∙◌, subst, arith, List, Bool, true, false, Option}
+use Rattle.std.proofs.Common.{◌≡◌, refl, sym, ◌∙◌, subst, Bool, true, false, Option}
 use Rattle.std.specs.Option.{IfSome, IsSome}
 use Rattle.share_model.specs.Keys.{KeyParts}
 use Rattle.state_records.specs.States.{IsKey}

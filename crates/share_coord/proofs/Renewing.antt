@@ -1,5 +1,5 @@
 -- The snapshots of all keys stand for the same states, each with its first snapshot and no update.
-use Rattle.std.proofs.Common.{◌≡◌, ◌<◌, ◌≤◌, ◌^◌, refl, sym, ap, ◌∙◌, subst, arith, append_assoc, append-nil, ℕ, List, [], ◌∷◌, ◌++◌, length, map, Option, Some, None, Bool, true, false, cond}
+use Rattle.std.proofs.Common.{◌≡◌, refl, sym, ap, ◌∙◌, subst, arith, append_assoc, append-nil, ℕ, List, [], ◌∷◌, ◌++◌, Some, None, Bool, true, false, cond}
 use Rattle.std.specs.declared.cmp.Ordering.{Ordering}
 use Rattle.std.specs.declared.cmp.Ordering.TheVariants.{Less, Equal, Greater}
 use Rattle.std.specs.Ordering.{is_eq, match_ordering, ordering_reverse}
@@ -9,7 +9,7 @@ use Rattle.std.specs.Map.{keys_of}
 use Rattle.share_model.specs.Keys.{KeyParts, key_cmp}
 use Rattle.share_model.specs.ShareStates.{AreLaid, start_after}
 use Rattle.state_records.specs.Spelling.{IsRecord, record_bytes}
-use Rattle.state_records.specs.States.{AreStoredRuns, IsEpoch, IsKey, IsStart, IsState, StateParts}
+use Rattle.state_records.specs.States.{IsKey}
 use Rattle.state_records.specs.declared.record.StateRecord.{StateRecord}
 use Rattle.state_records.specs.declared.record.StateRecord.TheVariants.{Snapshot, Update, Removal, Head, Seal}
 use Rattle.state_records.proofs.Whole.{record_again}
@@ -17,7 +17,7 @@ use Rattle.checkpoint_journal.specs.Checkpoints.{AreSnapshots}
 use Rattle.checkpoint_journal.specs.Generations.{mark_read}
 use Rattle.share_coord.specs.Stored.{Entries, Accepts, AreAccepted, Follows, kept_at, next_snapshot, renewed, renewed_kept, snapshot_frames, snapshot_record, with_kept, without_key}
 use Rattle.share_coord.specs.Views.{IsKeptState}
-use Rattle.share_coord.specs.declared.view.Kept.{Kept}
+use Rattle.share_coord.specs.Parts.{KeptState}
 use Rattle.share_coord.proofs.Keys.{all_at, all_with, all_without, keys_total}
 use Rattle.share_coord.proofs.Spans.{complete_low, laid_again, laid_stored}
 use Rattle.share_coord.proofs.Taken.{start_fit}
@@ -33,11 +33,11 @@ abbrev Apart : Entries → Entries → Type 0
 Apart ds [] = Unit {0}
 Apart ds (e ∷ es) = AllBelow ds e.0 × Apart ds es
 
-below_push : (ds : Entries) (e : KeyParts × Kept) (key : KeyParts) → AllBelow ds key → key_cmp e.0 key ≡ Less → AllBelow (ds ++ e ∷ []) key
+below_push : (ds : Entries) (e : KeyParts × KeptState) (key : KeyParts) → AllBelow ds key → key_cmp e.0 key ≡ Less → AllBelow (ds ++ e ∷ []) key
 below_push [] e key h less = (less, tt)
 below_push (d ∷ ds) e key h less = (h.0, below_push ds e key h.1 less)
 
-apart_push : (ds : Entries) (e : KeyParts × Kept) (es : Entries) → Apart ds es → AllByRecursion (λ k. key_cmp e.0 k ≡ Less) (keys_of es) → Apart (ds ++ e ∷ []) es
+apart_push : (ds : Entries) (e : KeyParts × KeptState) (es : Entries) → Apart ds es → AllByRecursion (λ k. key_cmp e.0 k ≡ Less) (keys_of es) → Apart (ds ++ e ∷ []) es
 apart_push ds e [] h less = tt
 apart_push ds e (x ∷ xs) h less = (below_push ds e x.0 h.0 less.0, apart_push ds e xs h.1 less.1)
 
@@ -52,7 +52,7 @@ absent : (es : Entries) (key : KeyParts) → AllBelow es key → kept_at es key 
 absent [] key h = refl
 absent (e ∷ es) key h = ap (λ (r : Ordering). cond (is_eq r) (Some e.1) (kept_at es key)) (above e.0 key h.0) ∙ absent es key h.1
 
-at_end : (es : Entries) (key : KeyParts) (v : Kept) → AllBelow es key → with_kept es key v ≡ es ++ (key, v) ∷ []
+at_end : (es : Entries) (key : KeyParts) (v : KeptState) → AllBelow es key → with_kept es key v ≡ es ++ (key, v) ∷ []
 at_end [] key v h = refl
 at_end (e ∷ es) key v h =
     ap (λ (r : Ordering). match_ordering r ((key, v) ∷ e ∷ es) ((e.0, v) ∷ es) (e ∷ with_kept es key v)) (above e.0 key h.0)
@@ -62,14 +62,14 @@ below_renewed : (es : Entries) (key : KeyParts) → AllBelow es key → AllBelow
 below_renewed [] key h = tt
 below_renewed (e ∷ es) key h = (h.0, below_renewed es key h.1)
 
-renewed_push : (es : Entries) (e : KeyParts × Kept) → renewed (es ++ e ∷ []) ≡ renewed es ++ (e.0, renewed_kept e.1) ∷ []
+renewed_push : (es : Entries) (e : KeyParts × KeptState) → renewed (es ++ e ∷ []) ≡ renewed es ++ (e.0, renewed_kept e.1) ∷ []
 renewed_push [] e = refl
 renewed_push (x ∷ xs) e = ap (λ (l : Entries). (x.0, renewed_kept x.1) ∷ l) (renewed_push xs e)
 
 -- ---- what is kept can be stored
 
 -- its numbers are in range, and no row lies below its start
-pub record IsFit (kept : Kept) : Type 0 where
+pub record IsFit (kept : KeptState) : Type 0 where
   pub state : IsKeptState kept.view
   pub laid : AreLaid kept.view.start [] kept.view.runs kept.view.runs
 
@@ -82,7 +82,7 @@ keys_order Less a b c x y z = x
 keys_order Equal a b c x y z = y
 keys_order Greater a b c x y z = z
 
-keys_with : (es : Entries) (key : KeyParts) (v : Kept) → AllByRecursion (λ e. IsKey e.0) es → IsKey key → AllByRecursion (λ e. IsKey e.0) (with_kept es key v)
+keys_with : (es : Entries) (key : KeyParts) (v : KeptState) → AllByRecursion (λ e. IsKey e.0) es → IsKey key → AllByRecursion (λ e. IsKey e.0) (with_kept es key v)
 keys_with [] key v h is = (is, tt)
 keys_with (e ∷ es) key v h is =
     keys_order (key_cmp key e.0) ((key, v) ∷ e ∷ es) ((e.0, v) ∷ es) (e ∷ with_kept es key v) (is, h) (h.0, h.1) (h.0, keys_with es key v h.1 is)
@@ -132,7 +132,7 @@ fit_all (f ∷ fs) old new a h = fit_all fs a.0 new a.2 (fit_step old a.1.writte
 
 -- ---- the snapshots
 
-valid_snapshot : (e : KeyParts × Kept) → IsKey e.0 → IsFit e.1 → IsRecord (snapshot_record e.0 e.1.view)
+valid_snapshot : (e : KeyParts × KeptState) → IsKey e.0 → IsFit e.1 → IsRecord (snapshot_record e.0 e.1.view)
 valid_snapshot e key fit = record {
   key = key;
   snapshot = omega arith;
@@ -144,7 +144,7 @@ valid_snapshot e key fit = record {
   few = let few = fit.state.few in omega (arith, few);
 }
 
-one_renewed : (es : Entries) (e : KeyParts × Kept) → AllBelow es e.0 → IsKey e.0 → IsFit e.1
+one_renewed : (es : Entries) (e : KeyParts × KeptState) → AllBelow es e.0 → IsKey e.0 → IsFit e.1
     → Accepts (renewed es) (record_bytes (snapshot_record e.0 e.1.view)) (renewed (es ++ e ∷ []))
 one_renewed es e below key fit =
     let under = below_renewed es e.0 below in

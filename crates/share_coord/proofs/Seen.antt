@@ -12,7 +12,7 @@ use Rattle.share_coord.specs.Holding.{Holds, WritesOnce}
 use Rattle.share_coord.specs.Recorded.{IsInitRecord, IsWriteRecord, StoresOne}
 use Rattle.state_records.specs.declared.record.StateRecord.TheVariants.{Removal}
 use Rattle.share_coord.specs.declared.fault.CoordFault.{CoordFault}
-use Rattle.share_coord.specs.declared.view.Kept.{Kept}
+use Rattle.share_coord.specs.Parts.{KeptState}
 use Rattle.share_coord.proofs.Held.{holds_by}
 use Rattle.share_coord.proofs.Once.{rewritten}
 use Rattle.share_coord.proofs.Signed.{written_as}
@@ -69,7 +69,7 @@ module _ {D T : Type 0} (seen : D → DiskView) (shown now new : StoreParts D) (
   stored_remove h =
       subst (λ (p : StoreParts D). IsSome (kept_at p.entries key) → StoresOne seen (λ one. one ≡ Removal key) p.journal new.journal r) same h
 
-pub either_there : (o : Option Kept) → (o ≡ None) ⊎ IsSome o
+pub either_there : (o : Option KeptState) → (o ≡ None) ⊎ IsSome o
 either_there None = inl refl
 either_there (Some kept) = inr refl
 

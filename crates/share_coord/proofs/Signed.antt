@@ -1,5 +1,5 @@
 -- Numbers that a call takes, which are in range where they are not refused.
-use Rattle.std.proofs.Common.{◌≡◌, refl, sym, ap, ◌∙◌, subst, arith, ℕ, ℤ, pos, negsuc, List, [], length, Option, Some, None, Bool, true, false, int_lt, ◌||◌, not, if◌then◌else◌, to_z, of_z, w32, w64, FitsSigned}
+use Rattle.std.proofs.Common.{◌≡◌, refl, sym, ap, ◌∙◌, subst, arith, ℤ, pos, negsuc, List, Option, Some, None, Bool, true, false, int_lt, ◌||◌, not, if◌then◌else◌, to_z, of_z, w32, w64, FitsSigned}
 use Rattle.std.proofs.lemmas.Int.{to_z-of_z}
 use Rattle.std.proofs.lemmas.Bool.Decides.{nat_tests}
 use Rattle.std.specs.List.{list_all}
@@ -13,7 +13,7 @@ use Rattle.share_model.specs.ShareStates.{is_writable}
 use Rattle.share_coord.specs.Calls.{fenced_write, init_refusal, write_refusal, IsInitialised, IsWritten}
 use Rattle.share_coord.specs.declared.fault.CoordFault.{CoordFault}
 use Rattle.share_coord.specs.declared.fault.CoordFault.TheVariants.{Invalid}
-use Rattle.share_coord.specs.declared.view.Kept.{Kept}
+use Rattle.share_coord.specs.Parts.{KeptState}
 use Rattle.share_coord.proofs.Keys.{clash, some_none}
 
 pub epoch_fits : (z : ℤ) → FitsSigned w32 z → int_lt z (pos 0) ≡ false → IsEpoch (to_z w32 (of_z w32 z))
@@ -50,7 +50,7 @@ pub record InRange (state leader start : ℤ) (runs : List Run) : Type 0 where
   pub start_is : int_lt start (negsuc 0) ≡ false
   pub runs_are : list_all is_writable runs ≡ true
 
-pub in_range : (known : Option Kept) (state leader start : ℤ) (runs : List Run) → write_refusal known state leader start runs ≡ None → InRange state leader start runs
+pub in_range : (known : Option KeptState) (state leader start : ℤ) (runs : List Run) → write_refusal known state leader start runs ≡ None → InRange state leader start runs
 in_range known state leader start runs e =
     let all = or_false (int_lt state (pos 0) || int_lt leader (pos 0)) (int_lt start (negsuc 0) || not (list_all is_writable runs))
     (not_refused ((int_lt state (pos 0) || int_lt leader (pos 0)) || (int_lt start (negsuc 0) || not (list_all is_writable runs))) (fenced_write known state leader) e) in
@@ -81,13 +81,13 @@ init_record_as old key state start one f g is =
     (subst (λ (z : ℤ). IsInitRecord old key z (to_z w64 (of_z w64 start)) one) (to_z-of_z w32 state f) is)
 
 -- the refusal is that of the numbers as they came
-pub init_refusal_as : (known : Option Kept) (state start : ℤ) → FitsSigned w32 state → FitsSigned w64 start
+pub init_refusal_as : (known : Option KeptState) (state start : ℤ) → FitsSigned w32 state → FitsSigned w64 start
     → init_refusal known state start ≡ init_refusal known (to_z w32 (of_z w32 state)) (to_z w64 (of_z w64 start))
 init_refusal_as known state start f g = sym
     (ap (λ (z : ℤ). init_refusal known z (to_z w64 (of_z w64 start))) (to_z-of_z w32 state f)
     ∙ ap (λ (z : ℤ). init_refusal known state z) (to_z-of_z w64 start g))
 
-pub refusal_as : (known : Option Kept) (state leader start : ℤ) (runs : List Run) → FitsSigned w32 state → FitsSigned w32 leader → FitsSigned w64 start
+pub refusal_as : (known : Option KeptState) (state leader start : ℤ) (runs : List Run) → FitsSigned w32 state → FitsSigned w32 leader → FitsSigned w64 start
     → write_refusal known state leader start runs ≡ write_refusal known (to_z w32 (of_z w32 state)) (to_z w32 (of_z w32 leader)) (to_z w64 (of_z w64 start)) runs
 refusal_as known state leader start runs f g h = sym
     (ap (λ (z : ℤ). write_refusal known z (to_z w32 (of_z w32 leader)) (to_z w64 (of_z w64 start)) runs) (to_z-of_z w32 state f)

@@ -1,20 +1,21 @@
 -- An initialisation, where no checkpoint is made before it, and behind one.
-use Rattle.std.proofs.Common.{◌≡◌, ◌≤◌, ◌+◌, refl, sym, ap, ◌∙◌, subst, arith, ℕ, ℤ, pos, List, [], length, Bool, true, false, if◌then◌else◌, Option, Some, None, Bor}
+use Rattle.std.proofs.Common.{◌≡◌, refl, sym, ap, ◌∙◌, subst, arith, ℕ, ℤ, pos, List, [], length, Bool, true, false, if◌then◌else◌, Option, Some, None, Bor}
 use Rattle.std.specs.Prelude.{is_some}
-use Rattle.std.specs.Option.{IfSome, option_copied, option_map}
+use Rattle.std.specs.Option.{IfSome, option_map}
 use Rattle.share_model.specs.Keys.{KeyParts}
-use Rattle.share_model.specs.ShareStates.{AreLaid}
 use Rattle.share_model.specs.declared.run.Run.{Run}
 use Rattle.offset_runs.specs.Complete.{complete_rows}
 use Rattle.state_records.specs.States.{IsKey}
 use Rattle.state_records.specs.declared.record.StateRecord.{StateRecord}
 use Rattle.state_records.specs.declared.record.StateRecord.TheVariants.{Snapshot}
-use Rattle.share_coord.specs.Calls.{IsInitialised, init_refusal, initialised}
+use Rattle.share_coord.specs.Calls.{IsInitialised, init_refusal}
 use Rattle.share_coord.specs.Planning.{GoesOn, IsFirst, fresh_kept, left_by, record_of}
 use Rattle.share_coord.specs.Putting.{FitFrames, FitsFrame, IsPut}
-use Rattle.share_coord.specs.Recorded.{IsInitRecord, init_record}
-use Rattle.share_coord.specs.Stored.{Entries, Follows, based, kept_at, next_snapshot, renewed, renewed_kept, with_kept}
+use Rattle.share_coord.specs.Recorded.{IsInitRecord}
+use Rattle.share_coord.specs.Stored.{Entries, Follows, kept_at, next_snapshot, renewed, renewed_kept, with_kept}
 use Rattle.share_coord.specs.declared.plan.Fresh.{Fresh}
+use Rattle.share_coord.specs.Parts.{KeptState}
+use Rattle.share_coord.specs.Tables.{found}
 use Rattle.share_coord.specs.declared.view.Kept.{Kept}
 use Rattle.share_coord.proofs.Keys.{clash, kept_renewed}
 use Rattle.share_coord.proofs.Planning.{at_some, fit_fresh, fits_snapshot, fresh_of, if_some}
@@ -24,7 +25,7 @@ abbrev initial : KeyParts → ℕ → ℤ → ℤ → List Run → StateRecord
 initial key n state start runs =
     Snapshot (record { key = key; snapshot = n; state_epoch = state; leader_epoch = pos 0; start = start; complete = Some (complete_rows runs); runs = runs })
 
-abbrev first_of : ℤ → ℤ → List Run → ℕ → Kept
+abbrev first_of : ℤ → ℤ → List Run → ℕ → KeptState
 first_of state start runs n = record { view = record { state_epoch = state; leader_epoch = pos 0; start = start; runs = runs }; snapshot = n; updates = 0 }
 
 -- the record behind a checkpoint, where the key is known or not
@@ -39,19 +40,19 @@ IsFreshInit key state start is_known f = (f.written ≡ Snapshot (record {
   runs = [];
 })) × (f.snapshot ≡ (if is_known then 1 else 0)) × (f.updates ≡ 0)
 
-pub copied_some : (o : Option (Bor Kept)) → is_some (option_copied o) ≡ is_some o
+pub copied_some : (o : Option (Bor Kept)) → is_some (found o) ≡ is_some o
 copied_some None = refl
 copied_some (Some x) = refl
 
-pub none_of : (o : Option Kept) → is_some o ≡ false → o ≡ None
+pub none_of : (o : Option KeptState) → is_some o ≡ false → o ≡ None
 none_of None is = refl
 none_of (Some x) is = absurd (clash is)
 
-next_by : (o : Option Kept) → (if is_some o then 1 else 0) ≡ next_snapshot (option_map renewed_kept o)
+next_by : (o : Option KeptState) → (if is_some o then 1 else 0) ≡ next_snapshot (option_map renewed_kept o)
 next_by None = refl
 next_by (Some kept) = refl
 
-module _ (old : Entries) (key : KeyParts) (state start : ℤ) (runs : List Run) (n : ℕ) (is_known : Bool) (plain : StateRecord) (kept : Kept) (fresh : Option Fresh)
+module _ (old : Entries) (key : KeyParts) (state start : ℤ) (runs : List Run) (n : ℕ) (is_known : Bool) (plain : StateRecord) (kept : KeptState) (fresh : Option Fresh)
     (none : runs ≡ []) (next : n ≡ next_snapshot (kept_at old key)) (known : is_known ≡ is_some (kept_at old key))
     (plain_is : plain ≡ initial key n state start runs) (kept_is : kept ≡ first_of state start runs n)
     (is_fresh : IfSome fresh (IsFreshInit key state start is_known)) where
@@ -60,7 +61,7 @@ module _ (old : Entries) (key : KeyParts) (state start : ℤ) (runs : List Run) 
 
   behind_kept : (f : Fresh) → IsFreshInit key state start is_known f → fresh ≡ Some f
       → fresh_kept kept fresh ≡ first_of state start [] (next_snapshot (kept_at (renewed old) key))
-  behind_kept f h is = ap (fresh_kept kept) is ∙ (ap (λ (k : Kept). fresh_kept k (Some f)) kept_is
+  behind_kept f h is = ap (fresh_kept kept) is ∙ (ap (λ (k : KeptState). fresh_kept k (Some f)) kept_is
       ∙ (ap (λ (l : List Run). fresh_kept (first_of state start l n) (Some f)) none
       ∙ λ i. record { view = record { state_epoch = state; leader_epoch = pos 0; start = start; runs = [] }; snapshot = (h.1 ∙ next_behind) i; updates = h.2 i }))
 
@@ -77,7 +78,7 @@ module _ (old : Entries) (key : KeyParts) (state start : ℤ) (runs : List Run) 
   pub init_goes : GoesOn old plain (record_of fresh) (left_by old key kept fresh)
   init_goes false one is =
       subst (λ (r : StateRecord). Follows old r (with_kept old key kept)) (sym (is ∙ (plain_is ∙ ap (initial key n state start) none)))
-      (subst (λ (k : Kept). Follows old (initial key n state start []) (with_kept old key k)) (sym (kept_is ∙ ap (λ (l : List Run). first_of state start l n) none))
+      (subst (λ (k : KeptState). Follows old (initial key n state start []) (with_kept old key k)) (sym (kept_is ∙ ap (λ (l : List Run). first_of state start l n) none))
       (follows_by old n next))
   init_goes true one is =
       let f = fresh_of fresh one is in
@@ -85,7 +86,7 @@ module _ (old : Entries) (key : KeyParts) (state start : ℤ) (runs : List Run) 
       let m = next_snapshot (kept_at (renewed old) key) in
       subst (λ (r : StateRecord). Follows (renewed old) r (with_kept (renewed old) key (fresh_kept kept fresh)))
       (sym (f.2 ∙ (h.0 ∙ ap (λ (k : ℕ). initial key k state start []) next_behind)))
-      (subst (λ (k : Kept). Follows (renewed old) (initial key m state start []) (with_kept (renewed old) key k)) (sym (behind_kept f.0 h f.1))
+      (subst (λ (k : KeptState). Follows (renewed old) (initial key m state start []) (with_kept (renewed old) key k)) (sym (behind_kept f.0 h f.1))
       (follows_by (renewed old) m refl))
 
   pub init_left : init_refusal (kept_at old key) state start ≡ None → (c : Bool) (one : StateRecord) → IsPut plain (record_of fresh) c one
@@ -116,8 +117,8 @@ module _ (old : Entries) (key : KeyParts) (state start : ℤ) (runs : List Run) 
   -- a key that isn't there has its first snapshot
   pub init_first : is_known ≡ false → n ≡ 0 → IsFirst kept fresh
   init_first unknown zero = (
-    ap (λ (k : Kept). k.snapshot) kept_is ∙ zero,
-    ap (λ (k : Kept). k.updates) kept_is,
+    ap (λ (k : KeptState). k.snapshot) kept_is ∙ zero,
+    ap (λ (k : KeptState). k.updates) kept_is,
     if_some (IsFreshInit key state start is_known) (λ f. (f.snapshot ≡ 0) × (f.updates ≡ 0)) fresh
         (λ f h. (h.1 ∙ ap (λ (b : Bool). if b then 1 else 0) unknown, h.2)) is_fresh,
   )

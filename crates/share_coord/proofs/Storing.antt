@@ -1,7 +1,6 @@
 -- Which record a call stores.
-use Rattle.std.proofs.Common.{◌≡◌, ◌≢◌, ◌⊎◌, ◌↔◌, ◌<◌, ◌≤◌, ◌+◌, ◌^◌, inl, inr, ⊎_elim, refl, sym, ap, ◌∙◌, subst, arith, ℕ, ℤ, pos, List, [], ◌∷◌, ◌++◌, length}
+use Rattle.std.proofs.Common.{◌≡◌, ◌≢◌, ◌⊎◌, inl, inr, refl, sym, ap, ◌∙◌, subst, ℕ, ℤ, List, [], ◌∷◌, ◌++◌}
 use Rattle.std.proofs.Common.{Bool, true, false, Option, Some, None, Result, Ok, Err, to_z, of_z, w32, w64, FitsSigned}
-use Rattle.std.proofs.lemmas.Bool.{cases_lt}
 use Rattle.std.proofs.lemmas.Int.{to_z-of_z}
 use Rattle.edge_io.specs.Views.{DiskView}
 use Rattle.share_model.specs.Keys.{KeyParts}
@@ -13,13 +12,12 @@ use Rattle.share_model.proofs.OneList.{one_list}
 use Rattle.coord_checkpoint.specs.Stores.{IsBase, Keeps, StoreParts as JournalParts}
 use Rattle.state_records.specs.Spelling.{IsRecord, record_bytes}
 use Rattle.state_records.specs.declared.record.StateRecord.{StateRecord}
-use Rattle.state_records.specs.declared.record.StateRecord.TheVariants.{Snapshot}
 use Rattle.share_coord.specs.Putting.{IsPut, Puts}
-use Rattle.share_coord.specs.Stored.{Entries, based, based_kept, kept_at, next_snapshot}
-use Rattle.share_coord.specs.Recorded.{IsBased, IsInitRecord, IsWriteRecord, StoresOne, init_record, write_record}
+use Rattle.share_coord.specs.Stored.{Entries, based_kept}
+use Rattle.share_coord.specs.Recorded.{IsBased, IsWriteRecord, StoresOne, write_record}
 use Rattle.share_coord.specs.declared.fault.CoordFault.{CoordFault}
 use Rattle.share_coord.specs.declared.fault.CoordFault.TheVariants.{Store}
-use Rattle.share_coord.specs.declared.view.Kept.{Kept}
+use Rattle.share_coord.specs.Parts.{KeptState}
 use Rattle.share_coord.proofs.Faults.{ok_is_no_err, err_of}
 use Rattle.share_coord.proofs.Once.{on_err_at, on_ok_at}
 use Rattle.share_coord.proofs.Keys.{some_is}
@@ -131,10 +129,10 @@ one_write old key state leader start runs a b p q behind =
     let written : p.written ≡ q.written = one_list p.written q.written p.are_written.canonical q.are_written.canonical
     (λ o. p.are_written.rows o ∙ sym (q.are_written.rows o)) in
     let also : AreLaid (start_after p.kept.view.start start) p.kept.view.runs p.written q.laid =
-    subst (λ (k : Kept). AreLaid (start_after k.view.start start) k.view.runs p.written q.laid) (sym kept)
+    subst (λ (k : KeptState). AreLaid (start_after k.view.start start) k.view.runs p.written q.laid) (sym kept)
     (subst (λ (w : List Run). AreLaid (start_after q.kept.view.start start) q.kept.view.runs w q.laid) (sym written) q.are_laid) in
     let laid : p.laid ≡ q.laid = laid_once (start_after p.kept.view.start start) p.kept.view.runs p.written p.laid q.laid p.are_laid also in
-    p.is ∙ (ap (λ (k : Kept). write_record key (based_kept p.checkpointed k) state leader start p.written p.laid) kept
+    p.is ∙ (ap (λ (k : KeptState). write_record key (based_kept p.checkpointed k) state leader start p.written p.laid) kept
     ∙ (ap (λ (c : Bool). write_record key (based_kept c q.kept) state leader start p.written p.laid) behind
     ∙ (ap (λ (w : List Run). write_record key (based_kept q.checkpointed q.kept) state leader start w p.laid) written
     ∙ ap (λ (l : List Run). write_record key (based_kept q.checkpointed q.kept) state leader start q.written l) laid))) ∙ sym q.is

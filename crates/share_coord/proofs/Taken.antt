@@ -9,11 +9,11 @@ use Rattle.state_records.specs.States.{StateParts, IsEpoch, IsStart, AreStoredRu
 use Rattle.state_records.proofs.Signed.{epoch_same, start_same}
 use Rattle.share_coord.specs.Views.{IsKeptState}
 use Rattle.share_coord.specs.Stored.{Entries, IsSnapshotted, IsUpdated, Tells, kept_at, with_kept, next_snapshot}
-use Rattle.share_coord.specs.declared.view.Kept.{Kept}
+use Rattle.share_coord.specs.Parts.{KeptState}
 use Rattle.share_coord.proofs.Keys.{clash}
 use Rattle.share_coord.proofs.Spans.{cut_laid, laid_once}
 
-made : ℤ → ℤ → ℤ → List Run → ℕ → ℕ → Kept
+made : ℤ → ℤ → ℤ → List Run → ℕ → ℕ → KeptState
 made state leader start runs n m = record {
   view = record { state_epoch = state; leader_epoch = leader; start = start; runs = runs };
   snapshot = n;
@@ -82,7 +82,7 @@ module _ (old : Entries) (state : StateParts) (s : IsEpoch state.state_epoch) (l
       let fit : IsStart start = subst IsStart (sym is) (start_fit kept.start state.start k t) in
       (is, subst (λ (z : ℤ). AreLaid z kept.runs state.runs rows) (start_same start fit ∙ is) laid)
 
-  pub update_taken : (kept : Kept) (start : ℤ) (rows : List Run) (n : ℕ) (new : Entries) → kept_at old state.key ≡ Some kept → state.snapshot ≡ kept.snapshot
+  pub update_taken : (kept : KeptState) (start : ℤ) (rows : List Run) (n : ℕ) (new : Entries) → kept_at old state.key ≡ Some kept → state.snapshot ≡ kept.snapshot
       → IsStart kept.view.start → start ≡ start_after kept.view.start state.start
       → AreLaid (start_after kept.view.start state.start) kept.view.runs state.runs rows → length rows ≤ 1000000 → Tells state.complete rows → n ≡ min (kept.updates + 1) 500
       → new ≡ with_kept old state.key (record {
@@ -125,26 +125,26 @@ pub untold_snapshot : (old : Entries) (state : StateParts) (cut : List Run) → 
 untold_snapshot old state cut laid untold new is =
     untold (subst (λ (l : List Run). Tells state.complete l) (laid_once state.start [] state.runs is.runs cut is.laid laid) is.told)
 
-some_kept : Option Kept → Kept → Kept
+some_kept : Option KeptState → KeptState → KeptState
 some_kept None d = d
 some_kept (Some k) d = k
 
-pub too_many_update : (old : Entries) (state : StateParts) (kept : Kept) (rows : List Run) → kept_at old state.key ≡ Some kept
+pub too_many_update : (old : Entries) (state : StateParts) (kept : KeptState) (rows : List Run) → kept_at old state.key ≡ Some kept
     → AreLaid (start_after kept.view.start state.start) kept.view.runs state.runs rows → 1000000 < length rows → (new : Entries) → IsUpdated old state new → ⊥
 unfolding some_kept
 too_many_update old state kept rows known laid many new is =
-    let one : kept ≡ is.kept = ap (λ (o : Option Kept). some_kept o kept) (sym known ∙ is.known) in
-    let theirs = subst (λ (k : Kept). AreLaid (start_after k.view.start state.start) k.view.runs state.runs is.runs) (sym one) is.laid in
+    let one : kept ≡ is.kept = ap (λ (o : Option KeptState). some_kept o kept) (sym known ∙ is.known) in
+    let theirs = subst (λ (k : KeptState). AreLaid (start_after k.view.start state.start) k.view.runs state.runs is.runs) (sym one) is.laid in
     let same = ap (λ (l : List Run). length l) (laid_once (start_after kept.view.start state.start) kept.view.runs state.runs rows is.runs laid theirs) in
     let few = is.few in
     omega (arith, same, many, few)
 
-pub untold_update : (old : Entries) (state : StateParts) (kept : Kept) (rows : List Run) → kept_at old state.key ≡ Some kept
+pub untold_update : (old : Entries) (state : StateParts) (kept : KeptState) (rows : List Run) → kept_at old state.key ≡ Some kept
     → AreLaid (start_after kept.view.start state.start) kept.view.runs state.runs rows → (Tells state.complete rows → ⊥) → (new : Entries) → IsUpdated old state new → ⊥
 unfolding some_kept
 untold_update old state kept rows known laid untold new is =
-    let one : kept ≡ is.kept = ap (λ (o : Option Kept). some_kept o kept) (sym known ∙ is.known) in
-    let theirs = subst (λ (k : Kept). AreLaid (start_after k.view.start state.start) k.view.runs state.runs is.runs) (sym one) is.laid in
+    let one : kept ≡ is.kept = ap (λ (o : Option KeptState). some_kept o kept) (sym known ∙ is.known) in
+    let theirs = subst (λ (k : KeptState). AreLaid (start_after k.view.start state.start) k.view.runs state.runs is.runs) (sym one) is.laid in
     untold (subst (λ (l : List Run). Tells state.complete l) (laid_once (start_after kept.view.start state.start) kept.view.runs state.runs is.runs rows theirs laid) is.told)
 
 -- a test that fails

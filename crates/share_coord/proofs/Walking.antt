@@ -1,5 +1,5 @@
 -- The walk over the frames of a journal, one frame further.
-use Rattle.std.proofs.Common.{◌≡◌, ◌<◌, ◌≤◌, ◌+◌, ◌^◌, refl, sym, ap, ◌∙◌, subst, arith, append_assoc, ℕ, List, [], ◌∷◌, ◌++◌, length, length-append, Bool, true, false, if◌then◌else◌}
+use Rattle.std.proofs.Common.{◌≡◌, ◌<◌, ◌≤◌, ◌+◌, ◌^◌, refl, sym, ap, ◌∙◌, subst, arith, append_assoc, ℕ, List, [], ◌∷◌, ◌++◌, length, Bool, true, false, if◌then◌else◌}
 use Rattle.checkpoint_journal.specs.Checkpoints.{AreSnapshots}
 use Rattle.checkpoint_journal.specs.Generations.{checkpoint_of, head_frame, mark_of, mark_read, seal_frame}
 use Rattle.checkpoint_journal.specs.declared.mark.Mark.{Mark}
@@ -8,7 +8,6 @@ use Rattle.checkpoint_journal.proofs.Marks.{head_mark, seal_mark}
 use Rattle.state_records.specs.declared.record.StateRecord.{StateRecord}
 use Rattle.state_records.specs.declared.record.StateRecord.TheVariants as records
 use Rattle.state_records.proofs.Whole.{record_again}
-use Rattle.std.specs.declared.result.Result.{Result}
 use Rattle.std.specs.Prelude.{Ok}
 use Rattle.share_coord.specs.Stored.{Entries, Accepts, AreAccepted, AreTaken, Follows, is_passed, records_from, walk_of, walked}
 use Rattle.share_coord.specs.declared.walk.Walk.{Walk}

@@ -10,34 +10,34 @@ use Rattle.share_model.specs.declared.run.Run.{Run}
 use Rattle.share_coord.specs.Stored.{Entries, based, based_kept, kept_at, with_kept, without_key, next_snapshot}
 use Rattle.share_coord.specs.declared.fault.CoordFault.{CoordFault}
 use Rattle.share_coord.specs.declared.fault.CoordFault.TheVariants.{Invalid, Unknown, FencedLeader, FencedState, TooMany, Store, NoMemory}
-use Rattle.share_coord.specs.declared.view.Kept.{Kept}
+use Rattle.share_coord.specs.Parts.{KeptState}
 
 -- ---- refusals
 
 -- a greater state epoch is known, and told
-abbrev pub fenced_state : Kept → ℤ → Option CoordFault
+abbrev pub fenced_state : KeptState → ℤ → Option CoordFault
 fenced_state kept epoch = if int_lt epoch kept.view.state_epoch then Some (FencedState kept.view.state_epoch) else None
 
 -- a greater leader epoch, or else a greater state epoch
-abbrev pub fenced : Kept → ℤ → ℤ → Option CoordFault
+abbrev pub fenced : KeptState → ℤ → ℤ → Option CoordFault
 fenced kept state_epoch leader_epoch =
     if int_lt leader_epoch kept.view.leader_epoch then Some (FencedLeader kept.view.leader_epoch) else fenced_state kept state_epoch
 
-abbrev pub fenced_init : Option Kept → ℤ → Option CoordFault
+abbrev pub fenced_init : Option KeptState → ℤ → Option CoordFault
 fenced_init None state_epoch = None
 fenced_init (Some kept) state_epoch = fenced_state kept state_epoch
 
-abbrev pub fenced_write : Option Kept → ℤ → ℤ → Option CoordFault
+abbrev pub fenced_write : Option KeptState → ℤ → ℤ → Option CoordFault
 fenced_write None state_epoch leader_epoch = Some Unknown
 fenced_write (Some kept) state_epoch leader_epoch = fenced kept state_epoch leader_epoch
 
 -- the first refusal that applies: a number out of range, and then an epoch
-abbrev pub init_refusal : Option Kept → ℤ → ℤ → Option CoordFault
+abbrev pub init_refusal : Option KeptState → ℤ → ℤ → Option CoordFault
 init_refusal known state_epoch start =
     if int_lt state_epoch (pos 0) || int_lt start (negsuc 0) then Some Invalid else fenced_init known state_epoch
 
 -- the same of a write, whose key must be there
-abbrev pub write_refusal : Option Kept → ℤ → ℤ → ℤ → List Run → Option CoordFault
+abbrev pub write_refusal : Option KeptState → ℤ → ℤ → ℤ → List Run → Option CoordFault
 write_refusal known state_epoch leader_epoch start runs =
     if (int_lt state_epoch (pos 0) || int_lt leader_epoch (pos 0)) || (int_lt start (negsuc 0) || not (list_all is_writable runs))
     then Some Invalid else fenced_write known state_epoch leader_epoch
@@ -58,7 +58,7 @@ pub record IsInitialised (old : Entries) (key : KeyParts) (state_epoch start : �
   pub is : new ≡ initialised (based checkpointed old) key state_epoch start
 
 -- A write is stored as an update, and as a snapshot where its key has 500 updates since its last one.
-abbrev pub written_of : Kept → ℤ → ℤ → ℤ → List Run → Kept
+abbrev pub written_of : KeptState → ℤ → ℤ → ℤ → List Run → KeptState
 written_of kept state_epoch leader_epoch start runs = record {
   view = record { state_epoch = state_epoch; leader_epoch = leader_epoch; start = start_after kept.view.start start; runs = runs };
   snapshot = if nat_lt kept.updates 500 then kept.snapshot else kept.snapshot + 1;
@@ -69,7 +69,7 @@ written_of kept state_epoch leader_epoch start runs = record {
 pub record IsWritten (old : Entries) (key : KeyParts) (state_epoch leader_epoch start : ℤ) (runs : List Run) (new : Entries) : Type 0 where
   pub granted : write_refusal (kept_at old key) state_epoch leader_epoch start runs ≡ None
   pub checkpointed : Bool
-  pub kept : Kept
+  pub kept : KeptState
   pub written : List Run
   pub laid : List Run
   pub known : kept_at old key ≡ Some kept
@@ -81,7 +81,7 @@ pub record IsWritten (old : Entries) (key : KeyParts) (state_epoch leader_epoch 
 
 -- The rows written, or those that the key would have, are more than 1000000 runs; this is the greater of both numbers.
 pub record IsTooMany (old : Entries) (key : KeyParts) (start : ℤ) (runs : List Run) (count : ℕ) : Type 0 where
-  pub kept : Kept
+  pub kept : KeptState
   pub written : List Run
   pub laid : List Run
   pub known : kept_at old key ≡ Some kept
@@ -92,7 +92,7 @@ pub record IsTooMany (old : Entries) (key : KeyParts) (start : ℤ) (runs : List
 
 -- the key is there, and gone afterwards
 abbrev pub IsForgotten : Entries → KeyParts → Entries → Type 0
-IsForgotten old key new = ((kept : Kept) × (kept_at old key ≡ Some kept)) × ((checkpointed : Bool) × (new ≡ without_key (based checkpointed old) key))
+IsForgotten old key new = ((kept : KeptState) × (kept_at old key ≡ Some kept)) × ((checkpointed : Bool) × (new ≡ without_key (based checkpointed old) key))
 
 -- ---- what a refusal tells
 

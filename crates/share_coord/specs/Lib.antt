@@ -1,5 +1,6 @@
 pub mod Views
 pub mod Parts
+pub mod Tables
 pub mod Stored
 pub mod States
 pub mod Calls

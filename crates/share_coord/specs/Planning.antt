@@ -12,20 +12,21 @@ use Rattle.share_coord.specs.Calls.{IsWritten, write_refusal}
 use Rattle.share_coord.specs.Putting.{FitFrames, IsPut}
 use Rattle.share_coord.specs.Recorded.{IsWriteRecord}
 use Rattle.share_coord.specs.Stored.{Entries, Follows, based, kept_at, renewed, with_kept}
+use Rattle.share_coord.specs.Tables.{shown}
 use Rattle.share_coord.specs.declared.plan.Fresh.{Fresh}
 use Rattle.share_coord.specs.declared.plan.Changes.{Changes}
-use Rattle.share_coord.specs.declared.view.Kept.{Kept}
+use Rattle.share_coord.specs.Parts.{KeptState}
 
 abbrev pub record_of : Option Fresh → Option StateRecord
 record_of fresh = option_map (λ f. f.written) fresh
 
 -- what is kept of the key behind a checkpoint
-abbrev pub fresh_kept : Kept → Option Fresh → Kept
+abbrev pub fresh_kept : KeptState → Option Fresh → KeptState
 fresh_kept kept None = kept
 fresh_kept kept (Some fresh) = record { view = kept.view; snapshot = fresh.snapshot; updates = fresh.updates }
 
 -- what the call leaves, where a checkpoint was made before it, and where none was
-abbrev pub left_by : Entries → KeyParts → Kept → Option Fresh → Bool → Entries
+abbrev pub left_by : Entries → KeyParts → KeptState → Option Fresh → Bool → Entries
 left_by old key kept fresh false = with_kept old key kept
 left_by old key kept fresh true = with_kept (renewed old) key (fresh_kept kept fresh)
 
@@ -38,18 +39,18 @@ GoesOn old plain fresh next = (checkpointed : Bool) (one : StateRecord) → IsPu
 abbrev pub LeavesPlanned : Entries → KeyParts → Changes → Entries → Type 0
 LeavesPlanned old key planned new = (checkpointed : Bool) × (one : StateRecord)
     × IsPut planned.change.written (record_of planned.fresh) checkpointed one
-    × (new ≡ left_by old key planned.change.kept planned.fresh checkpointed)
+    × (new ≡ left_by old key (shown planned.change.kept) planned.fresh checkpointed)
 
 -- one of both records
 abbrev pub IsEither : StateRecord → Option StateRecord → StateRecord → Type 0
 IsEither plain fresh one = (checkpointed : Bool) × IsPut plain fresh checkpointed one
 
 -- the first snapshot of its key in either case
-abbrev pub IsFirst : Kept → Option Fresh → Type 0
+abbrev pub IsFirst : KeptState → Option Fresh → Type 0
 IsFirst kept fresh = (kept.snapshot ≡ 0) × (kept.updates ≡ 0) × IfSome fresh (λ f. (f.snapshot ≡ 0) × (f.updates ≡ 0))
 
 -- A write whose numbers are not refused, on a key that is kept so.
-pub record IsPlanned (key : KeyParts) (known : Kept) (state_epoch leader_epoch start : ℤ) (runs : List Run) (plain : StateRecord) (kept : Kept)
+pub record IsPlanned (key : KeyParts) (known : KeptState) (state_epoch leader_epoch start : ℤ) (runs : List Run) (plain : StateRecord) (kept : KeptState)
     (fresh : Option Fresh) : Type 0 where
   pub frames : FitFrames plain (record_of fresh)
   pub follows : (old : Entries) → kept_at old key ≡ Some known → GoesOn old plain (record_of fresh) (left_by old key kept fresh)

@@ -1,7 +1,7 @@
 -- One record that a call puts into the journal, behind a checkpoint or without one. This project's own.
 -- For example a removal that is put behind a checkpoint of one key leaves its head, the key's snapshot, the seal and the removal; where
 -- the checkpoint fails before its seal, the removal stands behind the frames that there were.
-use Rattle.std.specs.Prelude.{◌≡◌, ◌⊎◌, ◌+◌, ◌<◌, ◌≤◌, ◌^◌, ◌++◌, ℕ, List, [], ◌∷◌, length, Bool, true, false, Some, None, Result, Ok, Err, OnOk, OnErr, IfErr, IfSome}
+use Rattle.std.specs.Prelude.{◌≡◌, ◌⊎◌, ◌+◌, ◌<◌, ◌^◌, ◌++◌, ℕ, List, [], ◌∷◌, length, Bool, true, false, Some, None, Result, Ok, Err, OnOk, OnErr, IfErr, IfSome}
 use Rattle.std.specs.declared.option.Option.{Option}
 use Rattle.edge_io.specs.Armed.{RunsOn}
 use Rattle.edge_io.specs.Moments.{LeavesPairs}

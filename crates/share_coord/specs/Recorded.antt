@@ -19,7 +19,7 @@ use Rattle.state_records.specs.declared.record.StateRecord.TheVariants.{Snapshot
 use Rattle.share_coord.specs.Stored.{Entries, based, based_kept, kept_at, next_snapshot}
 use Rattle.share_coord.specs.declared.fault.CoordFault.{CoordFault}
 use Rattle.share_coord.specs.declared.fault.CoordFault.TheVariants.{Store as store_fault}
-use Rattle.share_coord.specs.declared.view.Kept.{Kept}
+use Rattle.share_coord.specs.Parts.{KeptState}
 
 -- ---- which record
 
@@ -37,7 +37,7 @@ init_record old key state_epoch start = Snapshot (record {
 
 -- A write stores an update with the numbers as they were given and the rows that it writes; behind 500 updates it
 -- stores a snapshot of all that the key then has. Either tells how many rows of the key are complete then.
-abbrev pub write_record : KeyParts → Kept → ℤ → ℤ → ℤ → (written laid : List Run) → StateRecord
+abbrev pub write_record : KeyParts → KeptState → ℤ → ℤ → ℤ → (written laid : List Run) → StateRecord
 write_record key kept state_epoch leader_epoch start written laid = if nat_lt kept.updates 500
     then Update (record {
       key = key;
@@ -66,7 +66,7 @@ IsInitRecord old key state_epoch start one = (checkpointed : Bool) × (one ≡ i
 pub record IsWriteRecord (old : Entries) (key : KeyParts) (state_epoch leader_epoch start : ℤ) (runs : List Run)
     (one : StateRecord) : Type 0 where
   pub checkpointed : Bool
-  pub kept : Kept
+  pub kept : KeptState
   pub written : List Run
   pub laid : List Run
   pub known : kept_at old key ≡ Some kept

@@ -25,30 +25,30 @@ use Rattle.state_records.specs.declared.record.StateRecord.TheVariants.{Snapshot
 use Rattle.checkpoint_journal.specs.Generations.{IsListed, IsLiveOn, IsUnlisted, mark_of}
 use Rattle.checkpoint_journal.specs.declared.mark.Mark.{Mark}
 use Rattle.checkpoint_journal.specs.declared.mark.Mark.TheVariants as marks
-use Rattle.share_coord.specs.declared.view.Kept.{Kept}
+use Rattle.share_coord.specs.Parts.{KeptState}
 use Rattle.share_coord.specs.declared.walk.Walk.{Walk}
 use Rattle.share_coord.specs.declared.walk.Walk.TheVariants.{First, Snapshots, Records}
 
 -- what is kept of each key, in the order of the keys
 abbrev pub Entries : Type 0
-Entries = List (KeyParts × Kept)
+Entries = List (KeyParts × KeptState)
 
-abbrev pub kept_at : Entries → KeyParts → Option Kept
+abbrev pub kept_at : Entries → KeyParts → Option KeptState
 kept_at entries key = lookup (is_at (key_cmp key)) entries
 
-abbrev pub with_kept : Entries → KeyParts → Kept → Entries
+abbrev pub with_kept : Entries → KeyParts → KeptState → Entries
 with_kept entries key kept = insert_entry key_cmp entries key kept
 
 abbrev pub without_key : Entries → KeyParts → Entries
 without_key entries key = remove_entry (is_at (key_cmp key)) entries
 
 -- the snapshot epoch of a key's next snapshot
-abbrev pub next_snapshot : Option Kept → ℕ
+abbrev pub next_snapshot : Option KeptState → ℕ
 next_snapshot None = 0
 next_snapshot (Some kept) = kept.snapshot + 1
 
 -- what a snapshot leaves of its key, with these runs
-abbrev pub snapshot_of : StateParts → List Run → Kept
+abbrev pub snapshot_of : StateParts → List Run → KeptState
 snapshot_of state runs = record {
   view = record { state_epoch = state.state_epoch; leader_epoch = state.leader_epoch; start = state.start; runs = runs };
   snapshot = state.snapshot;
@@ -56,7 +56,7 @@ snapshot_of state runs = record {
 }
 
 -- what an update leaves of its key, with these runs; updates are counted up to 500
-abbrev pub update_of : Kept → StateParts → List Run → Kept
+abbrev pub update_of : KeptState → StateParts → List Run → KeptState
 update_of kept state runs = record {
   view = record { state_epoch = state.state_epoch; leader_epoch = state.leader_epoch; start = start_after kept.view.start state.start; runs = runs };
   snapshot = kept.snapshot;
@@ -76,7 +76,7 @@ pub record IsSnapshotted (old : Entries) (state : StateParts) (new : Entries) : 
   pub is : new ≡ with_kept old state.key (snapshot_of state runs)
 
 pub record IsUpdated (old : Entries) (state : StateParts) (new : Entries) : Type 0 where
-  pub kept : Kept
+  pub kept : KeptState
   pub runs : List Run
   pub known : kept_at old state.key ≡ Some kept
   pub same : state.snapshot ≡ kept.snapshot
@@ -86,7 +86,7 @@ pub record IsUpdated (old : Entries) (state : StateParts) (new : Entries) : Type
   pub is : new ≡ with_kept old state.key (update_of kept state runs)
 
 pub record IsRemoved (old : Entries) (key : KeyParts) (new : Entries) : Type 0 where
-  pub kept : Kept
+  pub kept : KeptState
   pub known : kept_at old key ≡ Some kept
   pub is : new ≡ without_key old key
 
@@ -181,7 +181,7 @@ AreDamaged first second on_second place = IsUnlisted first second on_second plac
 -- ---- what a checkpoint leaves
 
 -- its last snapshot is its first, and no update follows
-abbrev pub renewed_kept : Kept → Kept
+abbrev pub renewed_kept : KeptState → KeptState
 renewed_kept kept = record { view = kept.view; snapshot = 0; updates = 0 }
 
 abbrev pub renewed : Entries → Entries
@@ -191,7 +191,7 @@ renewed entries = map (λ e. (e.0, renewed_kept e.1)) entries
 abbrev pub based : Bool → Entries → Entries
 based checkpointed entries = if checkpointed then renewed entries else entries
 
-abbrev pub based_kept : Bool → Kept → Kept
+abbrev pub based_kept : Bool → KeptState → KeptState
 based_kept checkpointed kept = if checkpointed then renewed_kept kept else kept
 
 -- what a checkpoint stores of a key

@@ -11,7 +11,7 @@ ghost use Rattle.share_coord.specs.Calls.{Causes, IsInitialised, IsWritten, IsTo
 ghost use Rattle.share_coord.specs.Holding.{Holds, WritesOnce};
 ghost use Rattle.share_coord.specs.Opening.{IsOpened, IsNotOpened};
 ghost use Rattle.share_coord.specs.Recorded.{IsInitRecord, IsWriteRecord, StoresOne};
-ghost use Rattle.share_coord.specs.States.{states_of};
+ghost use Rattle.share_coord.specs.States.{state_found, states_of};
 ghost use Rattle.state_records.specs.declared.record.StateRecord.TheVariants.{Removal};
 
 use crate::fault::CoordFault;
@@ -48,9 +48,9 @@ impl<D: Disk> Model for Coord<D> {
 
     ghost Value = { StoreParts D };
 
-    ghost view = { λ c. record { journal = c.store.journal; entries = c.store.map.entries } };
+    ghost view = { λ c. record { journal = c.store.journal; entries = c.store.table } };
 
-    ghost invariant = { λ c. IsHeld D.seen (record { journal = c.store.journal; entries = c.store.map.entries }) };
+    ghost invariant = { λ c. IsHeld D.seen (record { journal = c.store.journal; entries = c.store.table }) };
 }
 
 impl<D: Disk> Coord<D> {
@@ -72,10 +72,10 @@ impl<D: Disk> Coord<D> {
             Err(refused) => return Err(refused),
         };
         match replay.finish() {
-            Ok(map) => Ok(Coord {
+            Ok(table) => Ok(Coord {
                 store: Store {
                     journal,
-                    map,
+                    table,
                     alloc,
                 },
             }),
@@ -149,9 +149,9 @@ impl<D: Disk> Coord<D> {
 
     /// The state of a key. `None` where it isn't there.
     pub fn look(&self, key: &Key) -> Option<&StateView>
-        ensures { option_copied result ≡ option_map (λ k. k.view) (kept_at self.now.entries key.now) }
+        ensures { state_found result ≡ option_map (λ k. k.view) (kept_at self.now.entries key.now) }
     {
-        match self.store.map.get(key) {
+        match self.store.table.get(key) {
             Some(kept) => Some(&kept.view),
             None => None,
         }
@@ -164,7 +164,7 @@ impl<D: Disk> Coord<D> {
         ensures ordered { IsStrictlySortedBy key_cmp (keys_of self.now.entries) }
     {
         States {
-            inner: self.store.map.iter(),
+            inner: self.store.table.iter(),
         }
     }
 
@@ -173,7 +173,7 @@ impl<D: Disk> Coord<D> {
     pub fn key_at(&self, place: u64) -> Option<&Key>
         ensures { option_copied result ≡ slice_get (keys_of self.now.entries) place }
     {
-        self.store.map.keys().nth(place as usize)
+        self.store.table.key_at(place)
     }
 
     /// Whether a call of one of its disks has failed for want of memory.

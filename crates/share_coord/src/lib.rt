@@ -12,6 +12,7 @@ mod rows;
 mod snapshots;
 mod states;
 mod store;
+mod table;
 mod view;
 mod walk;
 
@@ -22,4 +23,5 @@ pub use laws::a_write_stores_one_record;
 pub use rows::complete_of;
 pub use states::States;
 pub use store::Store;
+pub use table::Table;
 pub use view::{Kept, StateView};

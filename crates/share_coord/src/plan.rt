@@ -8,6 +8,7 @@ ghost use Rattle.state_records.specs.declared.record.StateRecord.TheVariants.{Sn
 ghost use Rattle.share_coord.specs.Stored.{Entries, kept_at};
 ghost use Rattle.share_coord.specs.Calls.{IsTooMany};
 ghost use Rattle.share_coord.specs.Planning.{IsPlanned};
+ghost use Rattle.share_coord.specs.Tables.{shown};
 
 use crate::fault::CoordFault;
 use crate::rows::{complete_after, laid, start_after, written};
@@ -99,7 +100,7 @@ fn update(
       complete = Some (complete_rows rows.list);
       runs = over.list;
     }) }
-    ensures kept { result.kept ≡ record {
+    ensures kept { shown result.kept ≡ record {
       view = record { state_epoch = numbers.now.state_epoch; leader_epoch = numbers.now.leader_epoch; start = start; runs = rows.list };
       snapshot = kept.now.snapshot;
       updates = kept.now.updates + 1;
@@ -152,7 +153,7 @@ pub(crate) fn snapshot(
       complete = Some (complete_rows rows.list);
       runs = rows.list;
     })) }
-    ensures kept { IfOk result (λ c. c.kept ≡ record {
+    ensures kept { IfOk result (λ c. shown c.kept ≡ record {
       view = record { state_epoch = numbers.now.state_epoch; leader_epoch = numbers.now.leader_epoch; start = start; runs = rows.list };
       snapshot = snapshot;
       updates = 0;
@@ -288,9 +289,9 @@ pub(crate) fn planned(
     requires ranges { IsEpoch numbers.now.state_epoch × IsEpoch numbers.now.leader_epoch × IsStart numbers.now.start }
     requires runs { list_all is_writable runs.now ≡ true }
     requires snapshot { kept.now.snapshot + 1 < 2 ^ 64 }
-    ensures plan { IfOk result (λ p. IsPlanned numbers.now.key kept.now numbers.now.state_epoch numbers.now.leader_epoch numbers.now.start
-        runs.now p.change.written p.change.kept p.fresh) }
-    ensures many { IfErr result (λ e. (n : ℕ) → e ≡ CoordFault.TooMany n → (old : Entries) → kept_at old numbers.now.key ≡ Some kept.now →
+    ensures plan { IfOk result (λ p. IsPlanned numbers.now.key (shown kept.now) numbers.now.state_epoch numbers.now.leader_epoch numbers.now.start
+        runs.now p.change.written (shown p.change.kept) p.fresh) }
+    ensures many { IfErr result (λ e. (n : ℕ) → e ≡ CoordFault.TooMany n → (old : Entries) → kept_at old numbers.now.key ≡ Some (shown kept.now) →
         IsTooMany old numbers.now.key numbers.now.start runs.now n) }
     ensures causes { IfErr result (λ e. (e ≡ CoordFault.NoMemory) ⊎ ((n : ℕ) × (e ≡ CoordFault.TooMany n))) }
 {

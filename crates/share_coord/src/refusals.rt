@@ -1,9 +1,9 @@
 // What the numbers of a call are refused for.
 ghost use Rattle.std.specs.Prelude.{◌≡◌, true, ◌↔◌};
-ghost use Rattle.std.specs.Option.{option_copied};
 ghost use Rattle.std.specs.List.{list_all};
 ghost use Rattle.share_model.specs.ShareStates.{is_writable};
 ghost use Rattle.share_coord.specs.Calls.{fenced_state, fenced, fenced_init, fenced_write, init_refusal, write_refusal};
+ghost use Rattle.share_coord.specs.Tables.{found, shown};
 
 use crate::fault::CoordFault;
 use crate::view::Kept;
@@ -22,7 +22,7 @@ fn all_writable(runs: &[Run]) -> bool
 }
 
 fn fenced_state(kept: &Kept, state_epoch: i32) -> Option<CoordFault>
-    ensures { result ≡ fenced_state kept.now state_epoch }
+    ensures { result ≡ fenced_state (shown kept.now) state_epoch }
 {
     let known = kept.view.state_epoch;
     if state_epoch < known {
@@ -32,7 +32,7 @@ fn fenced_state(kept: &Kept, state_epoch: i32) -> Option<CoordFault>
 }
 
 fn fenced(kept: &Kept, state_epoch: i32, leader_epoch: i32) -> Option<CoordFault>
-    ensures { result ≡ fenced kept.now state_epoch leader_epoch }
+    ensures { result ≡ fenced (shown kept.now) state_epoch leader_epoch }
 {
     let known = kept.view.leader_epoch;
     if leader_epoch < known {
@@ -42,7 +42,7 @@ fn fenced(kept: &Kept, state_epoch: i32, leader_epoch: i32) -> Option<CoordFault
 }
 
 fn fenced_init(known: Option<&Kept>, state_epoch: i32) -> Option<CoordFault>
-    ensures { result ≡ fenced_init (option_copied known.entry) state_epoch }
+    ensures { result ≡ fenced_init (found known.entry) state_epoch }
 {
     match known {
         Some(kept) => fenced_state(kept, state_epoch),
@@ -51,7 +51,7 @@ fn fenced_init(known: Option<&Kept>, state_epoch: i32) -> Option<CoordFault>
 }
 
 fn fenced_write(known: Option<&Kept>, state_epoch: i32, leader_epoch: i32) -> Option<CoordFault>
-    ensures { result ≡ fenced_write (option_copied known.entry) state_epoch leader_epoch }
+    ensures { result ≡ fenced_write (found known.entry) state_epoch leader_epoch }
 {
     match known {
         Some(kept) => fenced(kept, state_epoch, leader_epoch),
@@ -60,7 +60,7 @@ fn fenced_write(known: Option<&Kept>, state_epoch: i32, leader_epoch: i32) -> Op
 }
 
 pub(crate) fn init_refusal(known: Option<&Kept>, state_epoch: i32, start: i64) -> Option<CoordFault>
-    ensures { result ≡ init_refusal (option_copied known.entry) state_epoch start }
+    ensures { result ≡ init_refusal (found known.entry) state_epoch start }
 {
     if state_epoch < 0 || start < -1 {
         return Some(CoordFault::Invalid);
@@ -75,7 +75,7 @@ pub(crate) fn write_refusal(
     start: i64,
     runs: &[Run],
 ) -> Option<CoordFault>
-    ensures { result ≡ write_refusal (option_copied known.entry) state_epoch leader_epoch start runs.now }
+    ensures { result ≡ write_refusal (found known.entry) state_epoch leader_epoch start runs.now }
 {
     if (state_epoch < 0 || leader_epoch < 0) || (start < -1 || !all_writable(runs)) {
         return Some(CoordFault::Invalid);

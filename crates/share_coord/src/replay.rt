@@ -1,28 +1,28 @@
 // The states that the frames of a journal stand for.
 ghost use Rattle.std.specs.Prelude.{◌≡◌, ◌↔◌, ◌+◌, ◌-◌, min, List, ℕ, [], ◌∷◌, true, false, length, None, Ok, IfOk, IfErr, OnErr, IfSome};
-ghost use Rattle.std.specs.Option.{option_copied};
 ghost use Rattle.checkpoint_journal.specs.Generations.{mark_of, mark_read};
 ghost use Rattle.coord_checkpoint.specs.Openings.{frames_in};
 ghost use Rattle.share_coord.specs.Replaying.{HasRefused};
 ghost use Rattle.share_coord.specs.Stored.{Entries, IsSnapshotted, IsUpdated, Follows, AreAccepted, AreTaken, is_passed, next_snapshot, records_from, walked};
+ghost use Rattle.share_coord.specs.Tables.{found};
 
 use crate::rows::{complete_after, complete_of, cut_at, laid, start_after};
+use crate::table::Table;
 use crate::view::{Kept, StateView};
 use crate::walk::Walk;
 use coord_checkpoint::StateVisit;
 use gate_journal::SeenFrames;
 use offset_runs::Runs;
-use share_model::{Key, NoMemory};
+use share_model::NoMemory;
 use state_records::{KeyState, RecordFault, StateRecord, read_record};
 use std::alloc::Global;
-use std::collections::BTreeMap;
 use std::marker::Model;
 
 const MAX_RUNS: usize = 1000000;
 
 // Whether a snapshot has the epoch that the next one of its key has.
 fn is_next(known: Option<&Kept>, snapshot: u64) -> bool
-    ensures { (result ≡ true) ↔ (snapshot ≡ next_snapshot (option_copied known.entry)) }
+    ensures { (result ≡ true) ↔ (snapshot ≡ next_snapshot (found known.entry)) }
 {
     match known {
         Some(kept) => snapshot > 0 && snapshot - 1 == kept.snapshot,
@@ -40,12 +40,12 @@ fn tells(told: Option<u64>, complete: u64) -> bool
     }
 }
 
-fn take_snapshot(map: &mut BTreeMap<Key, Kept>, state: KeyState) -> Result<bool, NoMemory>
-    ensures taken { result ≡ Ok true → IsSnapshotted map.old.entries state map.new.entries }
-    ensures refused { result ≡ Ok false → (new : Entries) → IsSnapshotted map.old.entries state new → ⊥ }
-    ensures kept { OnErr result (map.new.entries ≡ map.old.entries) }
+fn take_snapshot(table: &mut Table, state: KeyState) -> Result<bool, NoMemory>
+    ensures taken { result ≡ Ok true → IsSnapshotted table.old state table.new }
+    ensures refused { result ≡ Ok false → (new : Entries) → IsSnapshotted table.old state new → ⊥ }
+    ensures kept { OnErr result (table.new ≡ table.old) }
 {
-    if !is_next(map.get(&state.key), state.snapshot) {
+    if !is_next(table.get(&state.key), state.snapshot) {
         return Ok(false);
     }
     let KeyState {
@@ -77,10 +77,8 @@ fn take_snapshot(map: &mut BTreeMap<Key, Kept>, state: KeyState) -> Result<bool,
         snapshot,
         updates: 0,
     };
-    match map.insert(key, kept) {
-        Ok(_) => Ok(true),
-        Err(_) => Err(NoMemory),
-    }
+    table.insert(&key, kept)?;
+    Ok(true)
 }
 
 // One update more, counted up to 500.
@@ -90,16 +88,12 @@ fn one_more(updates: u16) -> u16
     updates.saturating_add(1).min(500)
 }
 
-fn take_update(
-    alloc: Global,
-    map: &mut BTreeMap<Key, Kept>,
-    state: KeyState,
-) -> Result<bool, NoMemory>
-    ensures taken { result ≡ Ok true → IsUpdated map.old.entries state map.new.entries }
-    ensures refused { result ≡ Ok false → (new : Entries) → IsUpdated map.old.entries state new → ⊥ }
-    ensures kept { OnErr result (map.new.entries ≡ map.old.entries) }
+fn take_update(alloc: Global, table: &mut Table, state: KeyState) -> Result<bool, NoMemory>
+    ensures taken { result ≡ Ok true → IsUpdated table.old state table.new }
+    ensures refused { result ≡ Ok false → (new : Entries) → IsUpdated table.old state new → ⊥ }
+    ensures kept { OnErr result (table.new ≡ table.old) }
 {
-    let Some(kept) = map.get(&state.key) else {
+    let Some(kept) = table.get(&state.key) else {
         return Ok(false);
     };
     if kept.snapshot != state.snapshot {
@@ -136,26 +130,20 @@ fn take_update(
         snapshot,
         updates,
     };
-    match map.insert(key, kept) {
-        Ok(_) => Ok(true),
-        Err(_) => Err(NoMemory),
-    }
+    table.insert(&key, kept)?;
+    Ok(true)
 }
 
 // Does a record. False where it doesn't go on from these states, which are then as before.
-fn take_record(
-    alloc: Global,
-    map: &mut BTreeMap<Key, Kept>,
-    written: StateRecord,
-) -> Result<bool, NoMemory>
-    ensures taken { result ≡ Ok true → Follows map.old.entries written map.new.entries }
-    ensures refused { result ≡ Ok false → (new : Entries) → Follows map.old.entries written new → ⊥ }
-    ensures kept { OnErr result (map.new.entries ≡ map.old.entries) }
+fn take_record(alloc: Global, table: &mut Table, written: StateRecord) -> Result<bool, NoMemory>
+    ensures taken { result ≡ Ok true → Follows table.old written table.new }
+    ensures refused { result ≡ Ok false → (new : Entries) → Follows table.old written new → ⊥ }
+    ensures kept { OnErr result (table.new ≡ table.old) }
 {
     match written {
-        StateRecord::Snapshot(state) => take_snapshot(map, state),
-        StateRecord::Update(state) => take_update(alloc, map, state),
-        StateRecord::Removal { key } => Ok(map.remove(&key).is_some()),
+        StateRecord::Snapshot(state) => take_snapshot(table, state),
+        StateRecord::Update(state) => take_update(alloc, table, state),
+        StateRecord::Removal { key } => Ok(table.remove(&key).is_some()),
         StateRecord::Head { .. } | StateRecord::Seal => Ok(false),
     }
 }
@@ -182,14 +170,14 @@ fn step(walk: Walk, written: &StateRecord) -> (bool, Walk)
 // Takes a frame, and answers where the walk stands behind it. `None` where it doesn't go on from those before it.
 fn take_frame(
     alloc: Global,
-    map: &mut BTreeMap<Key, Kept>,
+    table: &mut Table,
     walk: Walk,
     frame: &[u8],
 ) -> Result<Option<Walk>, NoMemory>
     ensures taken { IfOk result (λ next. IfSome next (λ w. (w ≡ walked walk (mark_of frame.now))
-        × AreAccepted map.old.entries (records_from walk (frame.now ∷ [])) map.new.entries)) }
-    ensures refused { result ≡ Ok None → (new : Entries) → AreAccepted map.old.entries (records_from walk (frame.now ∷ [])) new → ⊥ }
-    ensures kept { OnErr result (map.new.entries ≡ map.old.entries) }
+        × AreAccepted table.old (records_from walk (frame.now ∷ [])) table.new)) }
+    ensures refused { result ≡ Ok None → (new : Entries) → AreAccepted table.old (records_from walk (frame.now ∷ [])) new → ⊥ }
+    ensures kept { OnErr result (table.new ≡ table.old) }
 {
     let written = match read_record(alloc, frame) {
         Ok(written) => written,
@@ -200,7 +188,7 @@ fn take_frame(
     if passed {
         return Ok(Some(next));
     }
-    match take_record(alloc, map, written) {
+    match take_record(alloc, table, written) {
         Ok(true) => Ok(Some(next)),
         Ok(false) => Ok(None),
         Err(fault) => Err(fault),
@@ -212,7 +200,7 @@ fn take_frame(
 #[derive(Drop)]
 pub(crate) struct Replay {
     alloc: Global,
-    map: BTreeMap<Key, Kept>,
+    table: Table,
     walk: Walk,
     refused: Option<u64>,
     seen: SeenFrames,
@@ -226,7 +214,7 @@ impl Model for Replay {
 
     ghost view = { λ r. r.seen.frames };
 
-    ghost invariant = { λ r. Replays r.seen.frames r.map.entries r.walk r.refused };
+    ghost invariant = { λ r. Replays r.seen.frames r.table r.walk r.refused };
 }
 
 impl Replay {
@@ -236,7 +224,7 @@ impl Replay {
     {
         Replay {
             alloc,
-            map: BTreeMap::new(alloc),
+            table: Table::new(alloc),
             walk: Walk::First,
             refused: None,
             seen: SeenFrames::new(),
@@ -244,13 +232,13 @@ impl Replay {
     }
 
     /// The states; or the place of the first frame that doesn't go on from those before it.
-    pub fn finish(self) -> Result<BTreeMap<Key, Kept>, u64>
-        ensures taken { IfOk result (λ map. AreTaken (frames_in self) map.entries) }
+    pub fn finish(self) -> Result<Table, u64>
+        ensures taken { IfOk result (AreTaken (frames_in self)) }
         ensures refused { IfErr result (HasRefused self) }
     {
-        let Replay { map, refused, .. } = self;
+        let Replay { table, refused, .. } = self;
         match refused {
-            None => Ok(map),
+            None => Ok(table),
             Some(place) => Err(place),
         }
     }
@@ -267,7 +255,7 @@ impl StateVisit for Replay {
             self.seen = seen;
             return Ok(());
         }
-        let Some(next) = take_frame(self.alloc, &mut self.map, self.walk, bytes)? else {
+        let Some(next) = take_frame(self.alloc, &mut self.table, self.walk, bytes)? else {
             self.refused = Some(place);
             self.seen = seen;
             return Ok(());

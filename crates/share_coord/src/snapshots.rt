@@ -1,21 +1,22 @@
 // The snapshots of all keys, for a checkpoint.
 ghost use Rattle.std.specs.Prelude.{◌≡◌, length, IfOk};
-ghost use Rattle.std.specs.Map.Iter.{TakesFirst, deref_pair};
+ghost use Rattle.std.specs.Map.Iter.{TakesFirst};
 ghost use Rattle.gate_journal.specs.Frames.{IsFrame, frame_in};
 ghost use Rattle.checkpoint_journal.specs.Generations.{mark_of};
 ghost use Rattle.checkpoint_journal.specs.declared.mark.Mark.TheVariants.{Snapshot};
 ghost use Rattle.state_records.specs.Spelling.{record_bytes};
 ghost use Rattle.share_coord.specs.Stored.{kept_left, snapshot_record};
+ghost use Rattle.share_coord.specs.Tables.{shown_pair};
 
 use crate::plan::key_fits;
 use crate::records::buffer_for;
+use crate::table::Table;
 use crate::view::{Kept, StateView};
 use coord_checkpoint::Snapshots;
 use flex_fields::Items;
 use share_model::{Key, NoMemory};
 use state_records::{KeyState, StateRecord};
 use std::alloc::Global;
-use std::collections::BTreeMap;
 use std::collections::btree_map::Iter;
 use std::marker::Model;
 
@@ -31,17 +32,18 @@ pub(crate) struct KeySnapshots<'a> {
 impl<'a> Model for KeySnapshots<'a> {
     ghost use Rattle.std.specs.Prelude.{◌≡◌, length};
     ghost use Rattle.share_coord.specs.Stored.{Entries, kept_left};
+    ghost use Rattle.share_coord.specs.Tables.{entries_in};
 
     ghost Value = { Entries };
 
-    ghost view = { λ s. kept_left s.without s.inner };
+    ghost view = { λ s. kept_left s.without (entries_in s.inner) };
 
-    ghost invariant = { λ s. s.count ≡ length (kept_left s.without s.inner) };
+    ghost invariant = { λ s. s.count ≡ length (kept_left s.without (entries_in s.inner)) };
 }
 
 // The snapshot of a key in a checkpoint.
 fn first_snapshot(alloc: Global, key: &Key, view: &StateView) -> Result<StateRecord, NoMemory>
-    ensures { IfOk result (λ r. r ≡ snapshot_record key.now view.now) }
+    ensures { IfOk result (λ r. r ≡ snapshot_record key.now view.now.state) }
 {
     view.known();
     let copy = view.runs.list().to_vec(alloc)?;
@@ -58,7 +60,7 @@ fn first_snapshot(alloc: Global, key: &Key, view: &StateView) -> Result<StateRec
 
 // The same in the buffer of an append.
 fn snapshot_buffer(alloc: Global, key: &Key, view: &StateView) -> Result<Vec<u8>, NoMemory>
-    ensures frame { IfOk result (λ b. frame_in b.items ≡ record_bytes (snapshot_record key.now view.now)) }
+    ensures frame { IfOk result (λ b. frame_in b.items ≡ record_bytes (snapshot_record key.now view.now.state)) }
     ensures fits { IfOk result (λ b. IsFrame (frame_in b.items)) }
     ensures mark { IfOk result (λ b. mark_of (frame_in b.items) ≡ Snapshot) }
 {
@@ -70,26 +72,26 @@ fn snapshot_buffer(alloc: Global, key: &Key, view: &StateView) -> Result<Vec<u8>
 }
 
 impl<'a> KeySnapshots<'a> {
-    // The keys of a map, of which there are so many, without this one.
+    // The keys of a table, of which there are so many, without this one.
     pub(crate) fn of(
         alloc: Global,
-        map: &'a BTreeMap<Key, Kept>,
+        table: &'a Table,
         without: Option<Key>,
         count: u64,
     ) -> KeySnapshots<'a>
-        requires { count ≡ length (kept_left without map.now.entries) }
-        ensures { result ≡ kept_left without map.now.entries }
+        requires { count ≡ length (kept_left without table.now) }
+        ensures { result ≡ kept_left without table.now }
     {
         KeySnapshots {
             alloc,
-            inner: map.iter(),
+            inner: table.iter(),
             without,
             count,
         }
     }
 
     fn take(&mut self) -> Option<(&'a Key, &'a Kept)>
-        ensures { TakesFirst deref_pair self.old result self.new }
+        ensures { TakesFirst shown_pair self.old result self.new }
     {
         self.count = self.count.saturating_sub(1);
         let Some((key, kept)) = self.inner.next() else {

@@ -1,6 +1,7 @@
 ghost use Rattle.std.specs.Prelude.{length};
 ghost use Rattle.std.specs.Iterator.{at_most};
-ghost use Rattle.std.specs.Map.Iter.{TakesFirst, deref_pair};
+ghost use Rattle.std.specs.Map.Iter.{TakesFirst};
+ghost use Rattle.share_coord.specs.States.{state_pair};
 
 use crate::view::{Kept, StateView};
 use share_model::Key;
@@ -18,16 +19,17 @@ pub struct States<'a> {
 impl<'a> Model for States<'a> {
     ghost use Rattle.share_model.specs.ForeignRules.{ShareStates};
     ghost use Rattle.share_coord.specs.States.{states_of};
+    ghost use Rattle.share_coord.specs.Tables.{entries_in};
 
     ghost Value = { ShareStates };
 
-    ghost view = { λ s. states_of s.inner };
+    ghost view = { λ s. states_of (entries_in s.inner) };
 }
 
 impl<'a> Iterator for States<'a> {
     type Item = (&'a Key, &'a StateView);
 
-    ghost next_gives = { TakesFirst deref_pair };
+    ghost next_gives = { TakesFirst state_pair };
 
     ghost remaining = { λ s. at_most (length s) };
 

@@ -1,9 +1,9 @@
 ghost use Rattle.std.specs.Prelude.{◌≡◌, ◌≢◌, ◌<◌, ◌+◌, ◌^◌, ℕ, List, [], length, true, false, Some, None, Ok, Err, IsSome, IfOk, IfErr, IfSome, if◌then◌else◌};
-ghost use Rattle.std.specs.Option.{option_copied};
 ghost use Rattle.std.specs.declared.option.Option.{Option};
 ghost use Rattle.edge_io.specs.Armed.{RunsOn};
 ghost use Rattle.coord_checkpoint.specs.Disks.{HasFailed};
-ghost use Rattle.share_coord.specs.Stored.{based, kept_at, kept_left, next_snapshot, renewed, snapshot_frames};
+ghost use Rattle.share_coord.specs.Stored.{based, kept_at, kept_left, next_snapshot, snapshot_frames};
+ghost use Rattle.share_coord.specs.Tables.{found, shown};
 ghost use Rattle.share_coord.specs.Calls.{Causes, IsInitialised, IsWritten, IsTooMany, IsForgotten, init_refusal, write_refusal};
 ghost use Rattle.share_coord.specs.Holding.{IsHeld, WritesOnce, parts_of};
 ghost use Rattle.share_coord.specs.Planning.{GoesOn, IsEither, IsFirst, LeavesPlanned, fresh_kept, left_by, record_of};
@@ -20,6 +20,7 @@ use crate::plan::{Change, Changes, Fresh, Numbers, fresh_snapshot, key_fits, pla
 use crate::records::{Put, put_behind, put_record};
 use crate::refusals::{init_refusal, write_refusal};
 use crate::snapshots::KeySnapshots;
+use crate::table::Table;
 use crate::view::Kept;
 use coord_checkpoint::StateJournal;
 use edge_io::Disk;
@@ -27,20 +28,19 @@ use offset_runs::Runs;
 use share_model::{Key, Run};
 use state_records::StateRecord;
 use std::alloc::Global;
-use std::collections::BTreeMap;
 
 /// The states in memory, and the journal of their records.
 #[derive(Drop)]
 pub struct Store<D: Disk> {
     pub journal: StateJournal<D>,
-    pub map: BTreeMap<Key, Kept>,
+    pub table: Table,
     pub alloc: Global,
 }
 
 // The snapshot epoch of a key's next snapshot.
 fn next_snapshot(known: Option<&Kept>) -> u64
-    requires { next_snapshot (option_copied known) < 2 ^ 64 }
-    ensures { result ≡ next_snapshot (option_copied known.entry) }
+    requires { next_snapshot (found known) < 2 ^ 64 }
+    ensures { result ≡ next_snapshot (found known.entry) }
 {
     match known {
         Some(kept) => kept.snapshot + 1,
@@ -57,7 +57,7 @@ struct Tried {
 
 // What is kept of a key, with the numbers that it has behind a checkpoint if one was made.
 fn numbered(mut kept: Kept, fresh: &Option<Fresh>, checkpointed: bool) -> Kept
-    ensures { result ≡ (if checkpointed then fresh_kept kept fresh.now else kept) }
+    ensures { shown result ≡ (if checkpointed then fresh_kept (shown kept) fresh.now else shown kept) }
 {
     let Some(fresh) = fresh else {
         return kept;
@@ -69,22 +69,11 @@ fn numbered(mut kept: Kept, fresh: &Option<Fresh>, checkpointed: bool) -> Kept
     kept
 }
 
-// The last snapshot of each key is its first, and no update follows.
-fn renew(map: &mut BTreeMap<Key, Kept>)
-    ensures { map.new.entries ≡ renewed map.old.entries }
-{
-    map.retain(|_, kept| {
-        kept.snapshot = 0;
-        kept.updates = 0;
-        true
-    });
-}
-
-fn renew_where(map: &mut BTreeMap<Key, Kept>, checkpointed: bool)
-    ensures { map.new.entries ≡ based checkpointed map.old.entries }
+fn renew_where(table: &mut Table, checkpointed: bool)
+    ensures { table.new ≡ based checkpointed table.old }
 {
     if checkpointed {
-        renew(map);
+        table.renew();
     }
 }
 
@@ -92,21 +81,21 @@ fn renew_where(map: &mut BTreeMap<Key, Kept>, checkpointed: bool)
 fn put_either<D: Disk>(
     alloc: Global,
     journal: &mut StateJournal<D>,
-    map: &BTreeMap<Key, Kept>,
+    table: &Table,
     plain: &StateRecord,
     fresh: &Option<Fresh>,
     without: Option<Key>,
     keys: u64,
 ) -> Put
     requires frames { FitFrames plain.now (record_of fresh.now) }
-    requires keys { keys ≡ length (kept_left without map.now.entries) }
-    ensures { Puts D.seen (snapshot_frames (kept_left without map.now.entries)) plain.now (record_of fresh.now)
+    requires keys { keys ≡ length (kept_left without table.now) }
+    ensures { Puts D.seen (snapshot_frames (kept_left without table.now)) plain.now (record_of fresh.now)
         journal.old journal.new result.checkpointed result.result }
 {
     let Some(behind) = fresh else {
         return put_record(alloc, journal, plain);
     };
-    let snapshots = KeySnapshots::of(alloc, map, without, keys);
+    let snapshots = KeySnapshots::of(alloc, table, without, keys);
     put_behind(alloc, journal, plain, &behind.written, snapshots)
 }
 
@@ -147,10 +136,10 @@ fn removal_where(key: &Key, tries: bool) -> Option<Fresh>
 impl<D: Disk> Store<D> {
     // Whether a checkpoint is to be tried before the next write.
     fn tries(&self) -> Tried
-        ensures keys { result.keys ≡ length self.now.map.entries }
-        ensures sorted { IsStrictlySortedBy key_cmp (keys_of self.now.map.entries) }
+        ensures keys { result.keys ≡ length self.now.table }
+        ensures sorted { IsStrictlySortedBy key_cmp (keys_of self.now.table) }
     {
-        let keys = self.map.len() as u64;
+        let keys = self.table.len();
         Tried {
             keys,
             due: self.journal.is_due(keys),
@@ -167,35 +156,35 @@ impl<D: Disk> Store<D> {
         keys: u64,
     ) -> Put
         requires frames { FitFrames plain.now (record_of fresh.now) }
-        requires keys { keys ≡ length (kept_left without self.old.map.entries) }
-        ensures puts { Puts D.seen (snapshot_frames (kept_left without self.old.map.entries)) plain.now (record_of fresh.now)
+        requires keys { keys ≡ length (kept_left without self.old.table) }
+        ensures puts { Puts D.seen (snapshot_frames (kept_left without self.old.table)) plain.now (record_of fresh.now)
             self.old.journal self.new.journal result.checkpointed result.result }
-        ensures map { self.new.map.entries ≡ based result.checkpointed self.old.map.entries }
+        ensures table { self.new.table ≡ based result.checkpointed self.old.table }
     {
         let put = put_either(
             self.alloc,
             &mut self.journal,
-            &self.map,
+            &self.table,
             plain,
             fresh,
             without,
             keys,
         );
-        renew_where(&mut self.map, put.checkpointed);
+        renew_where(&mut self.table, put.checkpointed);
         put
     }
 
     // Changes a key that is there. Its place in memory is there already.
     fn replace(&mut self, key: &Key, planned: Changes, keys: u64) -> Result<(), CoordFault>
         requires held { IsHeld D.seen (parts_of self.old) }
-        requires known { IsSome (kept_at self.old.map.entries key.now) }
+        requires known { IsSome (kept_at self.old.table key.now) }
         requires frames { FitFrames planned.change.written (record_of planned.fresh) }
-        requires sorted { IsStrictlySortedBy key_cmp (keys_of self.old.map.entries) }
-        requires keys { keys ≡ length self.old.map.entries }
-        requires follows { GoesOn self.old.map.entries planned.change.written (record_of planned.fresh)
-            (left_by self.old.map.entries key.now planned.change.kept planned.fresh) }
+        requires sorted { IsStrictlySortedBy key_cmp (keys_of self.old.table) }
+        requires keys { keys ≡ length self.old.table }
+        requires follows { GoesOn self.old.table planned.change.written (record_of planned.fresh)
+            (left_by self.old.table key.now (shown planned.change.kept) planned.fresh) }
         ensures once { WritesOnce D.seen (HasFailed D.seen)
-            (LeavesPlanned self.old.map.entries key.now planned) (parts_of self.old) (parts_of self.new) result }
+            (LeavesPlanned self.old.table key.now planned) (parts_of self.old) (parts_of self.new) result }
         ensures stored { StoresOne D.seen (IsEither planned.change.written (record_of planned.fresh)) self.old.journal self.new.journal result }
         ensures causes { IfErr result (Causes None (λ _. ⊥)) }
         ensures runs { RunsOn D.seen self.old.journal.first.disk self.new.journal.first.disk × RunsOn D.seen self.old.journal.second.disk self.new.journal.second.disk }
@@ -207,8 +196,8 @@ impl<D: Disk> Store<D> {
             return Err(fault);
         }
         match self
-            .map
-            .insert(*key, numbered(kept, &fresh, put.checkpointed))
+            .table
+            .insert(key, numbered(kept, &fresh, put.checkpointed))
         {
             Ok(_) => Ok(()),
             Err(_) => unreachable!(),
@@ -218,27 +207,27 @@ impl<D: Disk> Store<D> {
     // Adds a key that isn't there. Its place in memory is found first, and given back where the record isn't stored.
     fn add(&mut self, key: &Key, planned: Changes, keys: u64) -> Result<(), CoordFault>
         requires held { IsHeld D.seen (parts_of self.old) }
-        requires absent { kept_at self.old.map.entries key.now ≡ None }
+        requires absent { kept_at self.old.table key.now ≡ None }
         requires frames { FitFrames planned.change.written (record_of planned.fresh) }
-        requires sorted { IsStrictlySortedBy key_cmp (keys_of self.old.map.entries) }
-        requires keys { keys ≡ length self.old.map.entries }
-        requires follows { GoesOn self.old.map.entries planned.change.written (record_of planned.fresh)
-            (left_by self.old.map.entries key.now planned.change.kept planned.fresh) }
-        requires first { IsFirst planned.change.kept planned.fresh }
+        requires sorted { IsStrictlySortedBy key_cmp (keys_of self.old.table) }
+        requires keys { keys ≡ length self.old.table }
+        requires follows { GoesOn self.old.table planned.change.written (record_of planned.fresh)
+            (left_by self.old.table key.now (shown planned.change.kept) planned.fresh) }
+        requires first { IsFirst (shown planned.change.kept) planned.fresh }
         ensures once { WritesOnce D.seen (HasFailed D.seen)
-            (LeavesPlanned self.old.map.entries key.now planned) (parts_of self.old) (parts_of self.new) result }
+            (LeavesPlanned self.old.table key.now planned) (parts_of self.old) (parts_of self.new) result }
         ensures stored { StoresOne D.seen (IsEither planned.change.written (record_of planned.fresh)) self.old.journal self.new.journal result }
         ensures causes { IfErr result (Causes None (λ _. ⊥)) }
         ensures runs { RunsOn D.seen self.old.journal.first.disk self.new.journal.first.disk × RunsOn D.seen self.old.journal.second.disk self.new.journal.second.disk }
     {
         let Changes { change, fresh } = planned;
         let Change { kept, written } = change;
-        if let Err(_) = self.map.insert(*key, kept) {
+        if let Err(_) = self.table.insert(key, kept) {
             return Err(CoordFault::NoMemory);
         }
         let put = self.put(&written, &fresh, Some(*key), keys);
         if let Err(fault) = put.result {
-            self.map.remove(key); // the states are as before
+            self.table.remove(key); // the states are as before
             return Err(fault);
         }
         Ok(())
@@ -246,17 +235,17 @@ impl<D: Disk> Store<D> {
 
     pub(crate) fn init(&mut self, key: &Key, state_epoch: i32, start: i64) -> Result<(), CoordFault>
         requires held { IsHeld D.seen (parts_of self.old) }
-        ensures refused { (fault : CoordFault) → init_refusal (kept_at self.old.map.entries key.now) state_epoch start ≡ Some fault → result ≡ Err fault }
-        ensures causes { IfErr result (Causes (init_refusal (kept_at self.old.map.entries key.now) state_epoch start) (λ _. ⊥)) }
+        ensures refused { (fault : CoordFault) → init_refusal (kept_at self.old.table key.now) state_epoch start ≡ Some fault → result ≡ Err fault }
+        ensures causes { IfErr result (Causes (init_refusal (kept_at self.old.table key.now) state_epoch start) (λ _. ⊥)) }
         ensures once { WritesOnce D.seen (HasFailed D.seen)
-            (IsInitialised self.old.map.entries key.now state_epoch start) (parts_of self.old) (parts_of self.new) result }
-        ensures stored { StoresOne D.seen (IsInitRecord self.old.map.entries key.now state_epoch start)
+            (IsInitialised self.old.table key.now state_epoch start) (parts_of self.old) (parts_of self.new) result }
+        ensures stored { StoresOne D.seen (IsInitRecord self.old.table key.now state_epoch start)
             self.old.journal self.new.journal result }
         ensures runs { RunsOn D.seen self.old.journal.first.disk self.new.journal.first.disk × RunsOn D.seen self.old.journal.second.disk self.new.journal.second.disk }
     {
         key_fits(key);
         let tried = self.tries();
-        let known = self.map.get(key);
+        let known = self.table.get(key);
         if let Some(fault) = init_refusal(known, state_epoch, start) {
             return Err(fault);
         }
@@ -290,19 +279,19 @@ impl<D: Disk> Store<D> {
         runs: &[Run],
     ) -> Result<(), CoordFault>
         requires held { IsHeld D.seen (parts_of self.old) }
-        ensures refused { (fault : CoordFault) → write_refusal (kept_at self.old.map.entries key.now) state_epoch leader_epoch start runs.now ≡ Some fault →
+        ensures refused { (fault : CoordFault) → write_refusal (kept_at self.old.table key.now) state_epoch leader_epoch start runs.now ≡ Some fault →
             result ≡ Err fault }
-        ensures causes { IfErr result (Causes (write_refusal (kept_at self.old.map.entries key.now) state_epoch leader_epoch start runs.now)
-            (IsTooMany self.old.map.entries key.now start runs.now)) }
+        ensures causes { IfErr result (Causes (write_refusal (kept_at self.old.table key.now) state_epoch leader_epoch start runs.now)
+            (IsTooMany self.old.table key.now start runs.now)) }
         ensures once { WritesOnce D.seen (HasFailed D.seen)
-            (IsWritten self.old.map.entries key.now state_epoch leader_epoch start runs.now) (parts_of self.old) (parts_of self.new) result }
+            (IsWritten self.old.table key.now state_epoch leader_epoch start runs.now) (parts_of self.old) (parts_of self.new) result }
         ensures stored { StoresOne D.seen
-            (IsWriteRecord self.old.map.entries key.now state_epoch leader_epoch start runs.now)
+            (IsWriteRecord self.old.table key.now state_epoch leader_epoch start runs.now)
             self.old.journal self.new.journal result }
         ensures runs { RunsOn D.seen self.old.journal.first.disk self.new.journal.first.disk × RunsOn D.seen self.old.journal.second.disk self.new.journal.second.disk }
     {
         let tried = self.tries();
-        let known = self.map.get(key);
+        let known = self.table.get(key);
         if let Some(fault) = write_refusal(known, state_epoch, leader_epoch, start, runs) {
             return Err(fault);
         }
@@ -324,17 +313,17 @@ impl<D: Disk> Store<D> {
 
     pub(crate) fn remove(&mut self, key: &Key) -> Result<bool, CoordFault>
         requires held { IsHeld D.seen (parts_of self.old) }
-        ensures absent { kept_at self.old.map.entries key.now ≡ None → (result ≡ Ok false) × (self.new ≡ self.old) }
-        ensures present { IsSome (kept_at self.old.map.entries key.now) → IfOk result (λ there. there ≡ true) }
+        ensures absent { kept_at self.old.table key.now ≡ None → (result ≡ Ok false) × (self.new ≡ self.old) }
+        ensures present { IsSome (kept_at self.old.table key.now) → IfOk result (λ there. there ≡ true) }
         ensures causes { IfErr result (Causes None (λ _. ⊥)) }
-        ensures once { IsSome (kept_at self.old.map.entries key.now) →
+        ensures once { IsSome (kept_at self.old.table key.now) →
             WritesOnce D.seen (HasFailed D.seen)
-            (IsForgotten self.old.map.entries key.now) (parts_of self.old) (parts_of self.new) result }
-        ensures stored { IsSome (kept_at self.old.map.entries key.now) →
+            (IsForgotten self.old.table key.now) (parts_of self.old) (parts_of self.new) result }
+        ensures stored { IsSome (kept_at self.old.table key.now) →
             StoresOne D.seen (λ one. one ≡ Removal key.now) self.old.journal self.new.journal result }
         ensures runs { RunsOn D.seen self.old.journal.first.disk self.new.journal.first.disk × RunsOn D.seen self.old.journal.second.disk self.new.journal.second.disk }
     {
-        if !self.map.contains_key(key) {
+        if !self.table.contains(key) {
             return Ok(false);
         }
         key_fits(key);
@@ -345,7 +334,7 @@ impl<D: Disk> Store<D> {
         if let Err(fault) = put.result {
             return Err(fault);
         }
-        self.map.remove(key);
+        self.table.remove(key);
         Ok(true)
     }
 }

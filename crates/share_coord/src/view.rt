@@ -7,7 +7,7 @@ use std::marker::Model;
 ///
 /// The epochs are at least 0, `start` is an offset or -1, `complete` is how many rows are acknowledged or archived, and
 /// the rows are at most 1000000 runs, with offsets below 2^63 and counts below 2^15. A contract sees the record of the
-/// fields but `complete`, which is `complete_rows` of the runs.
+/// fields but `complete`, which is `complete_rows` of the runs; and beside it for how many runs the rows have memory.
 #[derive(Drop)]
 pub struct StateView {
     pub state_epoch: i32,
@@ -19,13 +19,16 @@ pub struct StateView {
 
 impl Model for StateView {
     ghost use Rattle.std.specs.Prelude.{◌≡◌};
+    ghost use Rattle.offset_runs.specs.Changes.{room_of};
     ghost use Rattle.offset_runs.specs.Complete.{complete_rows};
-    ghost use Rattle.share_model.specs.ShareStates.{ShareState};
-    ghost use Rattle.share_coord.specs.Views.{IsKeptState};
+    ghost use Rattle.share_coord.specs.Views.{IsKeptState, ViewParts};
 
-    ghost Value = { ShareState };
+    ghost Value = { ViewParts };
 
-    ghost view = { λ v. record { state_epoch = v.state_epoch; leader_epoch = v.leader_epoch; start = v.start; runs = v.runs.list } };
+    ghost view = { λ v. record {
+      state = record { state_epoch = v.state_epoch; leader_epoch = v.leader_epoch; start = v.start; runs = v.runs.list };
+      room = room_of v.runs;
+    } };
 
     ghost invariant = { λ v. IsKeptState (record { state_epoch = v.state_epoch; leader_epoch = v.leader_epoch; start = v.start; runs = v.runs.list })
         × (v.complete ≡ complete_rows v.runs.list) };
@@ -37,14 +40,14 @@ impl StateView {
 
     /// How many rows are acknowledged or archived.
     pub fn complete(&self) -> u64
-        ensures { result ≡ complete_rows self.now.runs }
+        ensures { result ≡ complete_rows self.now.state.runs }
     {
         self.complete
     }
 
     /// The numbers are in their ranges, as those of each state that is kept are.
     pub fn known(&self)
-        ensures { IsKeptState self.now }
+        ensures { IsKeptState self.now.state }
     {
         let _ = &self.state_epoch;
     }

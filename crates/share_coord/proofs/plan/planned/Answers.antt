@@ -3,6 +3,7 @@ use Rattle.offset_runs.specs.Complete.{complete_rows}
 use Rattle.share_model.specs.ShareStates.{AreLaid, start_after}
 use Rattle.share_model.specs.declared.run.Run.{Run}
 use Rattle.state_records.specs.declared.record.StateRecord.TheVariants.{Snapshot, Update}
+use Rattle.share_coord.specs.Tables.{shown}
 use Rattle.share_coord.proofs.Planning.{planned_snapshot, planned_update}
 use Rattle.share_coord.proofs.Spans.{written_stored, laid_stored}
 use Rattle.share_coord.proofs.plan.planned.Goals as goal
@@ -30,7 +31,7 @@ snapshot-requires-clause-rows c = laid_stored _ _ _ _ c.in-Ok-laid.ensures c.kep
 pub returns-then-kept-lt500-clause-plan : goal.returns-then-kept-lt500-clause-plan
 returns-then-kept-lt500-clause-plan c =
     let n = c.args.numbers.now in
-    let known = c.args.kept.now in
+    let known = shown c.args.kept.now in
     let over = c.in-Ok.over.list in
     let rows = c.in-Ok-laid.rows.list in
     let one : length c.list.result.now ≡ length over = ap (λ (l : List Run). length l) c.list.ensures.same in
@@ -49,18 +50,18 @@ returns-then-kept-lt500-clause-plan c =
       complete = Some (complete_rows rows);
       runs = over;
     }) = search rules in
-    let kept : c.update.result.kept ≡ record {
+    let kept : shown c.update.result.kept ≡ record {
       view = record { state_epoch = n.state_epoch; leader_epoch = n.leader_epoch; start = start_after known.view.start n.start; runs = rows };
       snapshot = known.snapshot;
       updates = known.updates + 1;
     } = search rules in
     planned_update n.key known n.state_epoch n.leader_epoch n.start c.args.runs.now over rows c.key_fits.ensures c.in-Ok.ensures laid few_over few c.complete_after-complete.result counted
-    c.update.result.written c.update.result.kept c.in-Ok-fresh_where.fresh c.in-Ok-fresh_where.ensures low plain kept
+    c.update.result.written (shown c.update.result.kept) c.in-Ok-fresh_where.fresh c.in-Ok-fresh_where.ensures low plain kept
 
 pub returns-in-Ok-snapshot-clause-plan : goal.returns-in-Ok-snapshot-clause-plan
 returns-in-Ok-snapshot-clause-plan c =
     let n = c.args.numbers.now in
-    let known = c.args.kept.now in
+    let known = shown c.args.kept.now in
     let over = c.in-Ok.over.list in
     let rows = c.in-Ok-laid.rows.list in
     let one : length c.list.result.now ≡ length over = ap (λ (l : List Run). length l) c.list.ensures.same in
@@ -79,10 +80,10 @@ returns-in-Ok-snapshot-clause-plan c =
       complete = Some (complete_rows rows);
       runs = rows;
     }) = search rules in
-    let kept : c.in-Ok-snapshot.change.kept ≡ record {
+    let kept : shown c.in-Ok-snapshot.change.kept ≡ record {
       view = record { state_epoch = n.state_epoch; leader_epoch = n.leader_epoch; start = start_after known.view.start n.start; runs = rows };
       snapshot = known.snapshot + 1;
       updates = 0;
     } = search rules in
     planned_snapshot n.key known n.state_epoch n.leader_epoch n.start c.args.runs.now over rows c.key_fits.ensures c.in-Ok.ensures laid few_over few c.complete_after-complete.result counted
-    c.in-Ok-snapshot.change.written c.in-Ok-snapshot.change.kept c.in-Ok-fresh_where.fresh c.in-Ok-fresh_where.ensures high plain kept
+    c.in-Ok-snapshot.change.written (shown c.in-Ok-snapshot.change.kept) c.in-Ok-fresh_where.fresh c.in-Ok-fresh_where.ensures high plain kept

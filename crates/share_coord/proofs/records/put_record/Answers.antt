@@ -1,8 +1,7 @@
-use Rattle.std.proofs.Common.{◌≡◌, ◌∙◌, ap, arith, inl, inr, ⊎_elim, refl, sym, subst, [], ◌∷◌, List, ℕ, Bool, None, false, length}
+use Rattle.std.proofs.Common.{◌≡◌, ◌∙◌, ap, arith, refl, sym, subst, [], ◌∷◌, List, ℕ, Bool, None, false, length}
 use Rattle.std.proofs.lemmas.Result.{on_ok_weaker, on_err_weaker}
 use Rattle.gate_journal.specs.Frames.{IsFrame, frame_in}
 use Rattle.state_records.specs.Spelling.{record_bytes}
-use Rattle.state_records.specs.declared.record.StateRecord.{StateRecord}
 use Rattle.share_coord.specs.Putting.{Puts}
 use Rattle.share_coord.proofs.Putting.{nothing_put, plain_mark, put_done, within_alone}
 use Rattle.share_coord.proofs.records.put_record.Goals as goal

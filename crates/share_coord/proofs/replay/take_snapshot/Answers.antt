@@ -22,10 +22,10 @@ returns-then-list-gt-MAX_RUNS-clause-refused c = λ _ new is.
     } in
     let one = ap (λ (l : List Run). length l) c.list.ensures.same in
     let many : 1000000 < length c.cut_at.new.runs.list = omega (arith, one, c.if-list-gt-MAX_RUNS.true) in
-    too_many_snapshot c.args.map.now.entries seen c.cut_at.new.runs.list
-    (cut_as c.args.map.now.entries seen i.0 i.1 i.2 c.cut_at.new.runs.list c.list.ensures.canonical
+    too_many_snapshot c.args.table.now seen c.cut_at.new.runs.list
+    (cut_as c.args.table.now seen i.0 i.1 i.2 c.cut_at.new.runs.list c.list.ensures.canonical
     (λ o. c.cut_at.ensures o ∙ ap (λ (l : List Run). if is_below o (to_z w64 (of_z w64 c.state.inside.start)) then None else row_at l o) c.from_list-rows.ensures))
-    many new (subst (λ (x : StateParts). IsSnapshotted c.args.map.now.entries x new) (sym c.state.view_is) is)
+    many new (subst (λ (x : StateParts). IsSnapshotted c.args.table.now x new) (sym c.state.view_is) is)
 
 pub invariant_of-kept : goal.invariant_of-kept
 invariant_of-kept c =
@@ -43,14 +43,14 @@ invariant_of-kept c =
     let few : length c.cut_at.new.runs.list ≤ 1000000 = omega (arith, one, c.if-list-gt-MAX_RUNS.false) in (
       kept_state c.state.inside.state_epoch c.state.inside.leader_epoch c.state.inside.start c.cut_at.new.runs.list i.0 i.1 i.2
           (laid_stored c.state.inside.start [] c.state.inside.runs c.cut_at.new.runs.list
-          (cut_as c.args.map.now.entries seen i.0 i.1 i.2 c.cut_at.new.runs.list c.list.ensures.canonical
+          (cut_as c.args.table.now seen i.0 i.1 i.2 c.cut_at.new.runs.list c.list.ensures.canonical
           (λ o. c.cut_at.ensures o ∙ ap (λ (l : List Run). if is_below o (to_z w64 (of_z w64 c.state.inside.start)) then None else row_at l o) c.from_list-rows.ensures))
           (tt, tt) i.3) few,
       c.complete_of-complete.ensures,
     )
 
-pub returns-in-Ok-clause-taken : goal.returns-in-Ok-clause-taken
-returns-in-Ok-clause-taken c = λ _.
+pub returns-clause-taken : goal.returns-clause-taken
+returns-clause-taken c = λ _.
     let i = c.state.invariant in
     let seen : StateParts = record {
       key = c.state.inside.key;
@@ -63,13 +63,13 @@ returns-in-Ok-clause-taken c = λ _.
     } in
     let one = ap (λ (l : List Run). length l) c.list.ensures.same in
     let few : length c.cut_at.new.runs.list ≤ 1000000 = omega (arith, one, c.if-list-gt-MAX_RUNS.false) in
-    subst (λ (x : StateParts). IsSnapshotted c.args.map.now.entries x c.insert.new.self.entries) c.state.view_is
-    (snapshot_taken c.args.map.now.entries seen i.0 i.1 i.2 c.cut_at.new.runs.list c.insert.new.self.entries
-    (c.is_next.ensures.0 c.if-not-is_next.false ∙ ap next_snapshot c.get.ensures.value)
-    (cut_as c.args.map.now.entries seen i.0 i.1 i.2 c.cut_at.new.runs.list c.list.ensures.canonical
+    subst (λ (x : StateParts). IsSnapshotted c.args.table.now x c.insert.new.self) c.state.view_is
+    (snapshot_taken c.args.table.now seen i.0 i.1 i.2 c.cut_at.new.runs.list c.insert.new.self
+    (c.is_next.ensures.0 c.if-not-is_next.false ∙ ap next_snapshot c.get.ensures)
+    (cut_as c.args.table.now seen i.0 i.1 i.2 c.cut_at.new.runs.list c.list.ensures.canonical
     (λ o. c.cut_at.ensures o ∙ ap (λ (l : List Run). if is_below o (to_z w64 (of_z w64 c.state.inside.start)) then None else row_at l o) c.from_list-rows.ensures))
     few (is_told c.tells.result c.state.inside.complete c.cut_at.new.runs.list c.complete_of-complete.result c.tells.ensures c.complete_of-complete.ensures c.if-not-tells.false)
-    c.in-Ok.ensures.entries)
+    c.in_ok-insert.ensures.entries)
 
 pub complete_of-complete-requires : goal.complete_of-complete-requires
 complete_of-complete-requires c =
@@ -84,7 +84,7 @@ complete_of-complete-requires c =
       runs = c.state.inside.runs;
     } in
     laid_stored c.state.inside.start [] c.state.inside.runs c.cut_at.new.runs.list
-    (cut_as c.args.map.now.entries seen i.0 i.1 i.2 c.cut_at.new.runs.list c.list.ensures.canonical
+    (cut_as c.args.table.now seen i.0 i.1 i.2 c.cut_at.new.runs.list c.list.ensures.canonical
     (λ o. c.cut_at.ensures o ∙ ap (λ (l : List Run). if is_below o (to_z w64 (of_z w64 c.state.inside.start)) then None else row_at l o) c.from_list-rows.ensures))
     (tt, tt) i.3
 
@@ -100,8 +100,8 @@ returns-then-not-tells-clause-refused c = λ _ new is.
       complete = c.state.inside.complete;
       runs = c.state.inside.runs;
     } in
-    untold_snapshot c.args.map.now.entries seen c.cut_at.new.runs.list
-    (cut_as c.args.map.now.entries seen i.0 i.1 i.2 c.cut_at.new.runs.list c.list.ensures.canonical
+    untold_snapshot c.args.table.now seen c.cut_at.new.runs.list
+    (cut_as c.args.table.now seen i.0 i.1 i.2 c.cut_at.new.runs.list c.list.ensures.canonical
     (λ o. c.cut_at.ensures o ∙ ap (λ (l : List Run). if is_below o (to_z w64 (of_z w64 c.state.inside.start)) then None else row_at l o) c.from_list-rows.ensures))
     (not_told c.tells.result c.state.inside.complete c.cut_at.new.runs.list c.complete_of-complete.result c.tells.ensures c.complete_of-complete.ensures c.if-not-tells.true)
-    new (subst (λ (x : StateParts). IsSnapshotted c.args.map.now.entries x new) (sym c.state.view_is) is)
+    new (subst (λ (x : StateParts). IsSnapshotted c.args.table.now x new) (sym c.state.view_is) is)

@@ -1,10 +1,8 @@
-use Rattle.std.proofs.Common.{◌≡◌, ◌∙◌, refl, sym, ap, subst, Ok}
-use Rattle.gate_journal.specs.Frames.{IsFrame, frame_in}
+use Rattle.std.proofs.Common.{◌∙◌, sym, ap, subst, Ok}
+use Rattle.gate_journal.specs.Frames.{IsFrame}
 use Rattle.checkpoint_journal.specs.Generations.{mark_of, mark_read}
-use Rattle.state_records.specs.Spelling.{IsRecord, record_bytes}
 use Rattle.state_records.specs.declared.record.StateRecord.{StateRecord}
 use Rattle.state_records.proofs.Whole.{record_again}
-use Rattle.share_coord.specs.Stored.{snapshot_record}
 use Rattle.share_coord.proofs.Sizes.{snapshot_fits}
 use Rattle.share_coord.proofs.snapshots.snapshot_buffer.Goals as goal
 

@@ -8,5 +8,5 @@ invariant_of-self g c = (c.self.invariant.0, rearmed g.D.Disk.seen _ _ _ c.arm.e
 
 pub returns-clause-stays : goal.returns-clause-stays
 returns-clause-stays g c = λ pending held.
-    rearmed g.D.Disk.seen c.self.inside.store.journal c.arm.new.self c.self.inside.store.map.entries c.arm.ensures.stays pending
+    rearmed g.D.Disk.seen c.self.inside.store.journal c.arm.new.self c.self.inside.store.table c.arm.ensures.stays pending
     (subst (λ s. Holds g.D.Disk.seen s pending) (sym c.self.view_is) held)

@@ -9,4 +9,4 @@ pub returns-clause-once : goal.returns-clause-once
 returns-clause-once g c = seen_init g.D.Disk.seen _ _ _ _ c.init.result _ c.self.view_is c.args.state_epoch c.args.start c.ranges.state_epoch c.ranges.start c.init.ensures.once
 
 pub returns-clause-stored : goal.returns-clause-stored
-returns-clause-stored g c = stored_init g.D.Disk.seen _ _ (record { journal = c.init.new.self.journal; entries = c.init.new.self.map.entries }) c.init.result _ c.self.view_is c.args.state_epoch c.args.start c.ranges.state_epoch c.ranges.start c.init.ensures.stored
+returns-clause-stored g c = stored_init g.D.Disk.seen _ _ (record { journal = c.init.new.self.journal; entries = c.init.new.self.table }) c.init.result _ c.self.view_is c.args.state_epoch c.args.start c.ranges.state_epoch c.ranges.start c.init.ensures.stored

@@ -20,12 +20,12 @@ returns-in-Err-clause-refused g c = record {
 
 pub invariant_of-result : goal.invariant_of-result
 invariant_of-result g c =
-    (None, replayed g.D.Disk.seen c.in-Ok.opened.0 c.in-Ok.opened.1 c.in-Ok-finish.map.entries c.in-Ok.ensures.kept c.in-Ok-finish.ensures.taken c.in-Ok.ensures.few)
+    (None, replayed g.D.Disk.seen c.in-Ok.opened.0 c.in-Ok.opened.1 c.in-Ok-finish.table c.in-Ok.ensures.kept c.in-Ok-finish.ensures.taken c.in-Ok.ensures.few)
 
 pub returns-in-Ok-finish-clause-opened : goal.returns-in-Ok-finish-clause-opened
 returns-in-Ok-finish-clause-opened g c =
     let items = frames_in c.in-Ok.opened.1 in
-    let es = c.in-Ok-finish.map.entries in
+    let es = c.in-Ok-finish.table in
     let taken = c.in-Ok-finish.ensures.taken in
     record {
       holds = replayed g.D.Disk.seen c.in-Ok.opened.0 c.in-Ok.opened.1 es c.in-Ok.ensures.kept taken c.in-Ok.ensures.few;

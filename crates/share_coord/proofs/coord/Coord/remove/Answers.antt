@@ -13,4 +13,4 @@ pub returns-clause-once : goal.returns-clause-once
 returns-clause-once g c = seen_remove g.D.Disk.seen _ _ _ _ c.remove.result _ c.self.view_is c.remove.ensures.once
 
 pub returns-clause-stored : goal.returns-clause-stored
-returns-clause-stored g c = stored_remove g.D.Disk.seen _ _ (record { journal = c.remove.new.self.journal; entries = c.remove.new.self.map.entries }) c.remove.result _ c.self.view_is c.remove.ensures.stored
+returns-clause-stored g c = stored_remove g.D.Disk.seen _ _ (record { journal = c.remove.new.self.journal; entries = c.remove.new.self.table }) c.remove.result _ c.self.view_is c.remove.ensures.stored

@@ -10,5 +10,5 @@ returns-clause-once g c = seen_write g.D.Disk.seen _ _ _ _ c.write.result _ c.se
     c.ranges.state_epoch c.ranges.leader_epoch c.ranges.start c.write.ensures.once
 
 pub returns-clause-stored : goal.returns-clause-stored
-returns-clause-stored g c = stored_write g.D.Disk.seen _ _ (record { journal = c.write.new.self.journal; entries = c.write.new.self.map.entries }) c.write.result _ c.self.view_is c.args.state_epoch c.args.leader_epoch c.args.start c.args.runs.now
+returns-clause-stored g c = stored_write g.D.Disk.seen _ _ (record { journal = c.write.new.self.journal; entries = c.write.new.self.table }) c.write.result _ c.self.view_is c.args.state_epoch c.args.leader_epoch c.args.start c.args.runs.now
     c.ranges.state_epoch c.ranges.leader_epoch c.ranges.start c.write.ensures.stored

@@ -1,8 +1,8 @@
-use Rattle.std.proofs.Common.{◌≡◌, ◌∙◌, refl, sym, ap, subst, length, Bool, Some}
-use Rattle.share_coord.specs.Holding.{WritesOnce}
+use Rattle.std.proofs.Common.{◌∙◌, refl, sym, ap, subst, length}
 use Rattle.share_coord.specs.Planning.{LeavesPlanned, left_by, record_of}
 use Rattle.share_coord.specs.Putting.{Puts}
-use Rattle.share_coord.specs.Stored.{Entries, based, kept_left, snapshot_frames, with_kept, without_key}
+use Rattle.share_coord.specs.Stored.{Entries, snapshot_frames, without_key}
+use Rattle.share_coord.specs.Tables.{shown}
 use Rattle.share_coord.proofs.Basing.{added_is, left_again, taken_again}
 use Rattle.share_coord.proofs.Once.{put_causes, refused_at, stored_at}
 use Rattle.share_coord.proofs.Storing.{stores_err, stores_ok}
@@ -10,22 +10,22 @@ use Rattle.share_coord.proofs.store.Store.add.Goals as goal
 
 pub put-put-requires-clause-keys : goal.put-put-requires-clause-keys
 put-put-requires-clause-keys g c =
-    c.requires.keys ∙ ap (λ (l : Entries). length l) (sym (left_again c.args.self.now.map.entries c.args.key.now c.args.planned.change.kept c.requires.absent _ c.in_default.ensures.entries))
+    c.requires.keys ∙ ap (λ (l : Entries). length l) (sym (left_again c.args.self.now.table c.args.key.now (shown c.args.planned.change.kept) c.requires.absent _ c.in_default.ensures.entries))
 
 pub returns-in-Err-result-clause-once : goal.returns-in-Err-result-clause-once
 returns-in-Err-result-clause-once g c =
-    let es = c.args.self.now.map.entries in
+    let es = c.args.self.now.table in
     let p = c.args.planned in
     let key = c.args.key.now in
     let b = c.put-put.result.checkpointed in
     let added = c.in_default.ensures.entries in
-    let before = left_again es key p.change.kept c.requires.absent _ added in
+    let before = left_again es key (shown p.change.kept) c.requires.absent _ added in
     let puts = subst (λ (l : Entries). Puts g.D.Disk.seen (snapshot_frames l) p.change.written (record_of p.fresh) c.args.self.now.journal c.put-put.new.self.journal b c.put-put.result.result)
     before c.put-put.ensures.puts in
     refused_at g.D.Disk.seen p.change.written (record_of p.fresh) c.args.self.now.journal c.put-put.new.self.journal es c.requires.sorted
-    (left_by es key p.change.kept p.fresh) c.requires.follows (LeavesPlanned es key p) (λ d one is. (d, one, is, refl)) c.requires.frames.0.0 c.requires.held
-    b c.put-put.result.result puts c.in-Err-result.fault c.remove.new.self.entries
-    (c.remove.ensures.entries ∙ (ap (λ (l : Entries). without_key l key) c.put-put.ensures.map ∙ taken_again b es key p.change.kept c.requires.absent _ added))
+    (left_by es key (shown p.change.kept) p.fresh) c.requires.follows (LeavesPlanned es key p) (λ d one is. (d, one, is, refl)) c.requires.frames.0.0 c.requires.held
+    b c.put-put.result.result puts c.in-Err-result.fault c.remove.new.self
+    (c.remove.ensures.entries ∙ (ap (λ (l : Entries). without_key l key) c.put-put.ensures.table ∙ taken_again b es key (shown p.change.kept) c.requires.absent _ added))
     c.in-Err-result.is
 
 pub returns-in-Err-result-clause-stored : goal.returns-in-Err-result-clause-stored
@@ -39,18 +39,18 @@ returns-in-Err-result-clause-causes g c = put_causes c.put-put.result.result c.i
 
 pub returns-clause-once : goal.returns-clause-once
 returns-clause-once g c =
-    let es = c.args.self.now.map.entries in
+    let es = c.args.self.now.table in
     let p = c.args.planned in
     let key = c.args.key.now in
     let b = c.put-put.result.checkpointed in
     let added = c.in_default.ensures.entries in
-    let before = left_again es key p.change.kept c.requires.absent _ added in
+    let before = left_again es key (shown p.change.kept) c.requires.absent _ added in
     let puts = subst (λ (l : Entries). Puts g.D.Disk.seen (snapshot_frames l) p.change.written (record_of p.fresh) c.args.self.now.journal c.put-put.new.self.journal b c.put-put.result.result)
     before c.put-put.ensures.puts in
     stored_at g.D.Disk.seen p.change.written (record_of p.fresh) c.args.self.now.journal c.put-put.new.self.journal es c.requires.sorted
-    (left_by es key p.change.kept p.fresh) c.requires.follows (LeavesPlanned es key p) (λ d one is. (d, one, is, refl)) c.requires.frames.0.0 c.requires.held
-    b c.put-put.result.result puts tt c.put-put.new.self.map.entries
-    (c.put-put.ensures.map ∙ added_is b es key p.change.kept p.fresh c.requires.first _ added) c.in_default-result.is
+    (left_by es key (shown p.change.kept) p.fresh) c.requires.follows (LeavesPlanned es key p) (λ d one is. (d, one, is, refl)) c.requires.frames.0.0 c.requires.held
+    b c.put-put.result.result puts tt c.put-put.new.self.table
+    (c.put-put.ensures.table ∙ added_is b es key (shown p.change.kept) p.fresh c.requires.first _ added) c.in_default-result.is
 
 pub returns-clause-stored : goal.returns-clause-stored
 returns-clause-stored g c =
