@@ -9,7 +9,7 @@ use Rattle.part_log.specs.Logs.{IsStoredLog}
 use Rattle.share_coord.specs.Parts.{StoreParts}
 use Rattle.share_coord.specs.States.{states_of}
 use Rattle.share_coord.specs.Stored.{kept_at}
-use Rattle.share_coord.specs.declared.view.Kept.{Kept}
+use Rattle.share_coord.specs.Parts.{KeptState}
 use Rattle.share_model.specs.ForeignRules.{ShareStates, share_state_at}
 use Rattle.share_model.specs.Held.{Held}
 use Rattle.share_model.specs.Keys.{KeyParts, key_cmp}
@@ -69,7 +69,7 @@ module _ {D W : Type 0} (seen : D → DiskView) (holding : W → Held) (visit : 
 
   -- the group has a table behind the write, and this is what a fetch will take of it
   pub record GoesBy (plan : Plan) : Type 0 where
-    pub its : Kept
+    pub its : KeptState
     pub there : kept_at states.entries key ≡ Some its
     pub planned : IsPlanOf old.log.batches plan (acquired old.log.batches (table_of (State states) now) limits)
 
@@ -196,9 +196,9 @@ none_ready seen holding now visit old windows read same (Err e) none = record {
 }
 
 -- a table that is there isn't made
-pub made_there : {D : Type 0} (seen : D → DiskView) (conf : PartConfParts) (group : List ℕ) (end : ℕ) (states : StoreParts D) (its : Kept)
+pub made_there : {D : Type 0} (seen : D → DiskView) (conf : PartConfParts) (group : List ℕ) (end : ℕ) (states : StoreParts D) (its : KeptState)
     → kept_at states.entries (key_of conf group) ≡ Some its → MakesTableOnce seen (HasFailed seen) conf group end states states (Ok then_done)
 made_there seen conf group end states its there = record {
   there = λ some. (refl, refl);
-  absent = λ none. absurd (let never : ◌≡◌ {A = Option Kept} None (Some its) = sym none ∙ there in let clash : ⊥ = cc in clash);
+  absent = λ none. absurd (let never : ◌≡◌ {A = Option KeptState} None (Some its) = sym none ∙ there in let clash : ⊥ = cc in clash);
 }

@@ -13,7 +13,7 @@ use Rattle.share_model.specs.declared.reset.Reset.{Reset}
 use Rattle.share_model.specs.declared.reset.Reset.TheVariants.{Latest, Earliest}
 use Rattle.share_coord.specs.Calls.{IsInitialised}
 use Rattle.share_coord.specs.Stored.{Entries, based, based_kept, kept_at, with_kept}
-use Rattle.share_coord.specs.declared.view.Kept.{Kept}
+use Rattle.share_coord.specs.Parts.{KeptState}
 use Rattle.share_part.specs.Hosting.{PartConfParts, AreHosted, IsHosted, key_of}
 use Rattle.share_coord.specs.States.{states_of}
 use Rattle.share_part.specs.Shards.{first_start, new_state}
@@ -22,10 +22,10 @@ use Rattle.share_coord.proofs.Held.{states_based}
 use Rattle.share_coord.proofs.Keys.{some_is}
 use Rattle.share_part.proofs.Mapping.{keys_total, keys_exact, at_is, set_found, set_other}
 
-abbrev pub view_of : Kept → ShareState
+abbrev pub view_of : KeptState → ShareState
 view_of kept = kept.view
 
-found : (b : Bool) (x : Kept) (rest : Option Kept) (theirs : Option ShareState) → theirs ≡ option_map view_of rest
+found : (b : Bool) (x : KeptState) (rest : Option KeptState) (theirs : Option ShareState) → theirs ≡ option_map view_of rest
     → cond b (Some x.view) theirs ≡ option_map view_of (cond b (Some x) rest)
 found true x rest theirs e = refl
 found false x rest theirs e = e
@@ -39,16 +39,16 @@ by_order Less a b c d e = refl
 by_order Equal a b c d e = refl
 by_order Greater a b c d e = e
 
-pub with_seen : (es : Entries) (key : KeyParts) (kept : Kept) → states_of (with_kept es key kept) ≡ insert_entry key_cmp (states_of es) key kept.view
+pub with_seen : (es : Entries) (key : KeyParts) (kept : KeptState) → states_of (with_kept es key kept) ≡ insert_entry key_cmp (states_of es) key kept.view
 with_seen [] key kept = refl
 with_seen (e ∷ es) key kept = by_order (key_cmp key e.0) ((key, kept) ∷ e ∷ es) ((e.0, kept) ∷ es) (e ∷ with_kept es key kept)
     ((e.0, e.1.view) ∷ insert_entry key_cmp (states_of es) key kept.view) (ap (λ (l : ShareStates). (e.0, e.1.view) ∷ l) (with_seen es key kept))
 
 -- the same behind a checkpoint, or where none was made
-pub with_based : (c : Bool) (es : Entries) (key : KeyParts) (kept : Kept) → states_of (with_kept (based c es) key kept) ≡ insert_entry key_cmp (states_of es) key kept.view
+pub with_based : (c : Bool) (es : Entries) (key : KeyParts) (kept : KeptState) → states_of (with_kept (based c es) key kept) ≡ insert_entry key_cmp (states_of es) key kept.view
 with_based c es key kept = with_seen (based c es) key kept ∙ ap (λ (l : ShareStates). insert_entry key_cmp l key kept.view) (states_based c es)
 
-pub kept_view : (c : Bool) (kept : Kept) → (based_kept c kept).view ≡ kept.view
+pub kept_view : (c : Bool) (kept : KeptState) → (based_kept c kept).view ≡ kept.view
 kept_view true kept = refl
 kept_view false kept = refl
 

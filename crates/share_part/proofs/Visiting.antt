@@ -27,7 +27,7 @@ use Rattle.share_coord.specs.Parts.{StoreParts}
 use Rattle.share_coord.specs.Stored.{Entries, kept_at}
 use Rattle.share_coord.specs.declared.fault.CoordFault.{CoordFault}
 use Rattle.share_coord.specs.declared.fault.CoordFault.TheVariants.{Invalid, Unknown, FencedLeader, FencedState, TooMany, Store, NoMemory}
-use Rattle.share_coord.specs.declared.view.Kept.{Kept}
+use Rattle.share_coord.specs.Parts.{KeptState}
 use Rattle.share_coord.proofs.Once.{held_still}
 use Rattle.share_part.specs.declared.limits.Limits.{Limits}
 use Rattle.share_part.specs.Failures.{AreQuiet, FailuresRose, RunOnBoth, StarveUnarmed}
@@ -312,7 +312,7 @@ module _ {D W : Type 0} (seen : D → DiskView) (holding : W → Held) (now : �
         (subst Kept_by (sym is) kept)
 
     -- the table was there
-    pub acquired_there : (answer : VisitAnswer) (kept : Kept) → kept_at old.states.entries key ≡ Some kept → new.states ≡ old.states → Kept_by Done
+    pub acquired_there : (answer : VisitAnswer) (kept : KeptState) → kept_at old.states.entries key ≡ Some kept → new.states ≡ old.states → Kept_by Done
         → Took answer kept.view → Once (Ok answer)
     acquired_there answer kept is states by took = answered answer (writes_none states) (records_of answer Done took.outcome_is by) (λ none. quiet_still states)
         (carried seen holding old (Leads answer) (λ batch pending k. (
@@ -467,20 +467,20 @@ module _ {D W : Type 0} (seen : D → DiskView) (holding : W → Held) (now : �
     kept_by result outcome is end at made = subst (λ (r : Result ThenOutcome want). Made (end_of old.log.batches) r) is (subst (λ (e : ℕ). Made e result) at made)
 
     -- what the store has answered
-    abbrev Told : Option Kept → Result ThenOutcome want → Type 0
+    abbrev Told : Option KeptState → Result ThenOutcome want → Type 0
     Told (Some kept) result = (new.states ≡ old.states) × (result ≡ Ok Done)
     Told None result = MakesOnce seen Failed Written (IsTableRecord old.states.entries key (first_start old.conf.reset (end_of old.log.batches))) old.states new.states result
 
-    told : (result : Result ThenOutcome want) (end : ℕ) → end ≡ end_of old.log.batches → Made end result → (o : Option Kept) → kept_at old.states.entries key ≡ o → Told o result
+    told : (result : Result ThenOutcome want) (end : ℕ) → end ≡ end_of old.log.batches → Made end result → (o : Option KeptState) → kept_at old.states.entries key ≡ o → Told o result
     told result end at made None is = (subst (λ (n : ℕ). Made n result) at made).absent is
-    told result end at made (Some kept) is = made.there (subst (λ (o : Option Kept). IsSome o) (sym is) refl)
+    told result end at made (Some kept) is = made.there (subst (λ (o : Option KeptState). IsSome o) (sym is) refl)
 
     hosted_by : (result : Result ThenOutcome want) (done : Result (Unit {0}) CoordFault) → Wrote done → AreHosted old.conf old.log.batches (states_of old.states.entries)
         → AreHosted old.conf old.log.batches (states_of new.states.entries)
     hosted_by result (Ok u) once h = made_hosted new.states.entries once.written h
     hosted_by result (Err e) once h = subst (AreHosted old.conf old.log.batches) (sym once.same) h
 
-    hosted_told : (result : Result ThenOutcome want) (o : Option Kept) → Told o result → AreHosted old.conf old.log.batches (states_of old.states.entries)
+    hosted_told : (result : Result ThenOutcome want) (o : Option KeptState) → Told o result → AreHosted old.conf old.log.batches (states_of old.states.entries)
         → AreHosted old.conf old.log.batches (states_of new.states.entries)
     hosted_told result None told h = hosted_by result told.done told.once h
     hosted_told result (Some kept) told h = subst (λ (s : StoreParts D). AreHosted old.conf old.log.batches (states_of s.entries)) (sym told.0) h
@@ -501,7 +501,7 @@ module _ {D W : Type 0} (seen : D → DiskView) (holding : W → Held) (now : �
     stays_done (Err (Store fault)) result is tells once = absurd (let clash : ⊥ = cc in clash)
     stays_done (Err NoMemory) result is tells once = once.unchanged (λ e. let clash : ⊥ = cc in clash)
 
-    stays_told : (result : Result ThenOutcome want) → IsErr result → (o : Option Kept) → Told o result → new.states ≡ old.states
+    stays_told : (result : Result ThenOutcome want) → IsErr result → (o : Option KeptState) → Told o result → new.states ≡ old.states
     stays_told result is None told = stays_done told.done result is told.tells told.once
     stays_told result is (Some kept) told = absurd (let e = told.1 in let clash : ⊥ = cc in clash)
 
@@ -521,7 +521,7 @@ module _ {D W : Type 0} (seen : D → DiskView) (holding : W → Held) (now : �
     store_done (Err (Store its)) fault tells once = let same : its ≡ fault = cc in subst (λ (f : StoreFault). Wrote (Err (Store f))) same once
     store_done (Err NoMemory) fault tells once = absurd (let clash : ⊥ = cc in clash)
 
-    refused_told : (answer : VisitAnswer) (fault : StoreFault) (o : Option Kept) → kept_at old.states.entries key ≡ o → Told o (Ok (store_outcome fault))
+    refused_told : (answer : VisitAnswer) (fault : StoreFault) (o : Option KeptState) → kept_at old.states.entries key ≡ o → Told o (Ok (store_outcome fault))
         → Kept_by (store_outcome fault) → Refused answer fault → Once (Ok answer)
     refused_told answer fault None is told by refused = unstored answer fault is (store_done told.done fault told.tells told.once) by refused
     refused_told answer fault (Some kept) is told by refused = absurd (let e = told.1 in let clash : ⊥ = cc in clash)
@@ -544,7 +544,7 @@ module _ {D W : Type 0} (seen : D → DiskView) (holding : W → Held) (now : �
     abbrev its_state : ShareState
     its_state = state_for old.conf old.log.batches old.states.entries visit.group
 
-    state_is : (o : Option Kept) → kept_at old.states.entries key ≡ o → its_state ≡ unwrap_or (option_map view_of o) made
+    state_is : (o : Option KeptState) → kept_at old.states.entries key ≡ o → its_state ≡ unwrap_or (option_map view_of o) made
     state_is o is = ap (λ (s : Option ShareState). unwrap_or s made) (state_seen old.states.entries key ∙ ap (option_map view_of) is)
 
     done_so : (done : Result (Unit {0}) CoordFault) (answer : VisitAnswer) → Tells done (Ok Done) → Wrote done → kept_at old.states.entries key ≡ None → Kept_by Done
@@ -558,7 +558,7 @@ module _ {D W : Type 0} (seen : D → DiskView) (holding : W → Held) (now : �
     done_so (Err (Store fault)) answer tells once is by took = absurd (let clash : ⊥ = cc in clash)
     done_so (Err NoMemory) answer tells once is by took = absurd (let clash : ⊥ = cc in clash)
 
-    done_told : (answer : VisitAnswer) (o : Option Kept) → kept_at old.states.entries key ≡ o → Told o (Ok Done) → Kept_by Done → Took answer its_state → Once (Ok answer)
+    done_told : (answer : VisitAnswer) (o : Option KeptState) → kept_at old.states.entries key ≡ o → Told o (Ok Done) → Kept_by Done → Took answer its_state → Once (Ok answer)
     done_told answer None is told by took = done_so told.done answer told.tells told.once is by (subst (Took answer) (state_is None is) took)
     done_told answer (Some kept) is told by took = acquired_there answer kept is told.0 by (subst (Took answer) (state_is (Some kept) is) took)
 
@@ -620,7 +620,7 @@ module _ {D W : Type 0} (seen : D → DiskView) (holding : W → Held) (now : �
     moved_by (Ok u) once none = inr (none_there none, made_states new.states.entries once.written)
     moved_by (Err e) once none = inl once.same
 
-    moved_told : (result : Result ThenOutcome want) (o : Option Kept) → kept_at old.states.entries key ≡ o → Told o result → Moved
+    moved_told : (result : Result ThenOutcome want) (o : Option KeptState) → kept_at old.states.entries key ≡ o → Told o result → Moved
     moved_told result None is told = moved_by told.done told.once is
     moved_told result (Some kept) is told = inl (ap (λ (s : StoreParts D). states_of s.entries) told.0)
 
@@ -652,7 +652,7 @@ module _ {D W : Type 0} (seen : D → DiskView) (holding : W → Held) (now : �
     there_done (Err (Store fault)) tells once = absurd (let clash : ⊥ = cc in clash)
     there_done (Err NoMemory) tells once = absurd (let clash : ⊥ = cc in clash)
 
-    there_told : (o : Option Kept) → kept_at old.states.entries key ≡ o → Told o (Ok Done) → share_state_at (states_of new.states.entries) key ≡ Some its_state
+    there_told : (o : Option KeptState) → kept_at old.states.entries key ≡ o → Told o (Ok Done) → share_state_at (states_of new.states.entries) key ≡ Some its_state
     there_told None is told = there_done told.done told.tells told.once ∙ ap (λ (s : ShareState). Some s) (sym (state_is None is))
     there_told (Some kept) is told = ap (λ (s : StoreParts D). share_state_at (states_of s.entries) key) told.0
         ∙ state_seen old.states.entries key ∙ ap (option_map view_of) is ∙ ap (λ (s : ShareState). Some s) (sym (state_is (Some kept) is))

@@ -9,7 +9,7 @@ use Rattle.share_coord.specs.Calls.{IsTooMany, fenced_write, write_refusal}
 use Rattle.share_coord.specs.Stored.{Entries, kept_at}
 use Rattle.share_coord.specs.declared.fault.CoordFault.{CoordFault}
 use Rattle.share_coord.specs.declared.fault.CoordFault.TheVariants.{Invalid}
-use Rattle.share_coord.specs.declared.view.Kept.{Kept}
+use Rattle.share_coord.specs.Parts.{KeptState}
 use Rattle.share_model.proofs.Lookups.{row_at-none}
 use Rattle.share_model.specs.ForeignRules.{share_state_at, size_of}
 use Rattle.share_model.specs.Held.{Held, hold_at}
@@ -64,11 +64,11 @@ not_low : (o : Option ℕ) → int_lt (start_number o) (negsuc 0) ≡ false
 not_low None = refl
 not_low (Some n) = refl
 
-pub seen_kept : (o : Option Kept) (state : ShareState) → option_map view_of o ≡ Some state → (kept : Kept) × (o ≡ Some kept) × (kept.view ≡ state)
+pub seen_kept : (o : Option KeptState) (state : ShareState) → option_map view_of o ≡ Some state → (kept : KeptState) × (o ≡ Some kept) × (kept.view ≡ state)
 seen_kept None state e = absurd (let clash : ⊥ = cc in clash)
 seen_kept (Some kept) state e = (kept, refl, (let same : kept.view ≡ state = cc in same))
 
-pub kept_one : (a b : Kept) → ◌≡◌ {A = Option Kept} (Some a) (Some b) → a ≡ b
+pub kept_one : (a b : KeptState) → ◌≡◌ {A = Option KeptState} (Some a) (Some b) → a ≡ b
 kept_one a b e = cc
 
 either : (a b : Option Row) (row : Row) → option_or a b ≡ Some row → (a ≡ Some row) ⊎ (b ≡ Some row)
@@ -108,26 +108,26 @@ module _ (conf : PartConfParts) (log : List Batch) (es : Entries) (group : List 
   writable = all_writable change.runs.items ch.settles.canonical (λ o row at.
       let t = run_there o row at in (slot_below log o sound.stored (slot_of 2000 log (size_of state.start) o sound.rises t.0), t.1))
 
-  kept_there : (kept : Kept) × (kept_at es key ≡ Some kept) × (kept.view ≡ state)
+  kept_there : (kept : KeptState) × (kept_at es key ≡ Some kept) × (kept.view ≡ state)
   kept_there = seen_kept (kept_at es key) state (sym (state_seen es key) ∙ known)
 
-  unfenced : (kept : Kept) → kept.view ≡ state → fenced_write (Some kept) (pos 0) (pos 0) ≡ None
+  unfenced : (kept : KeptState) → kept.view ≡ state → fenced_write (Some kept) (pos 0) (pos 0) ≡ None
   unfenced kept is =
       let leader : kept.view.leader_epoch ≡ pos 0 = ap (λ (s : ShareState). s.leader_epoch) is ∙ was.epochs.1 in
       let epoch : kept.view.state_epoch ≡ pos 0 = ap (λ (s : ShareState). s.state_epoch) is ∙ was.epochs.0 in
       λ i. fenced_two (leader i) (epoch i) kept
     where
-      fenced_two : ℤ → ℤ → Kept → Option CoordFault
+      fenced_two : ℤ → ℤ → KeptState → Option CoordFault
       fenced_two l e kept = fenced_write (Some (record { view = record { state_epoch = e; leader_epoch = l; start = kept.view.start; runs = kept.view.runs }; snapshot = kept.snapshot; updates = kept.updates })) (pos 0) (pos 0)
 
   pub granted : write_refusal (kept_at es key) (pos 0) (pos 0) (start_number change.start) change.runs.items ≡ None
   granted =
       ap (λ (b : Bool). if b || not (list_all is_writable change.runs.items) then Some Invalid else fenced_write (kept_at es key) (pos 0) (pos 0)) (not_low change.start)
       ∙ ap (λ (b : Bool). if not b then Some Invalid else fenced_write (kept_at es key) (pos 0) (pos 0)) writable
-      ∙ ap (λ (o : Option Kept). fenced_write o (pos 0) (pos 0)) kept_there.1 ∙ unfenced kept_there.0 kept_there.2
+      ∙ ap (λ (o : Option KeptState). fenced_write o (pos 0) (pos 0)) kept_there.1 ∙ unfenced kept_there.0 kept_there.2
 
   -- the rows that are written, or stand after it, are those of slots
-  laid_there : (written laid : List Run) (start : ℤ) (kept : Kept) → kept.view ≡ state
+  laid_there : (written laid : List Run) (start : ℤ) (kept : KeptState) → kept.view ≡ state
       → ((o : ℕ) → row_at written o ≡ last_row change.runs.items o)
       → ((o : ℕ) → row_at written o ≡ last_row change.runs.items o) → (o : ℕ) (row : Row) → option_or (row_at written o) (row_at kept.view.runs o) ≡ Some row
       → Contains (slots_from 2000 log (size_of state.start)) o

@@ -41,7 +41,7 @@ use std::collections::BTreeMap;
 
 /// The offset that a state's start is.
 pub fn start_of(view: &StateView) -> u64
-    ensures { result ≡ size_of view.now.start }
+    ensures { result ≡ size_of view.now.state.start }
 {
     if view.start < 0 { 0 } else { view.start as u64 }
 }

@@ -110,7 +110,7 @@ fn rows_may_stand<D: Disk>(log: &PartLog<D>, start: u64, runs: &[Run]) -> bool
 // Whether the start is an offset up to the log's end.
 fn starts_within(view: &StateView, end: u64) -> bool
     requires { end ≤ 2 ^ 62 }
-    ensures { (result ≡ true) ↔ ((offset : ℕ) × (view.now.start ≡ pos offset) × (offset ≤ end)) }
+    ensures { (result ≡ true) ↔ ((offset : ℕ) × (view.now.state.start ≡ pos offset) × (offset ≤ end)) }
 {
     if view.start < 0 {
         return false;
@@ -120,7 +120,7 @@ fn starts_within(view: &StateView, end: u64) -> bool
 
 // Whether both epochs are 0.
 fn has_no_epochs(view: &StateView) -> bool
-    ensures { (result ≡ true) ↔ ((view.now.state_epoch ≡ pos 0) × (view.now.leader_epoch ≡ pos 0)) }
+    ensures { (result ≡ true) ↔ ((view.now.state.state_epoch ≡ pos 0) × (view.now.state.leader_epoch ≡ pos 0)) }
 {
     view.state_epoch == 0 && view.leader_epoch == 0
 }
@@ -128,7 +128,7 @@ fn has_no_epochs(view: &StateView) -> bool
 // Whether a state is one that the partition may have.
 fn is_hosted<D: Disk>(conf: &PartConf, log: &PartLog<D>, key: &Key, view: &StateView) -> bool
     requires { IsStoredLog log.now.batches }
-    ensures { (result ≡ true) ↔ IsHosted conf.now log.now.batches key.now view.now }
+    ensures { (result ≡ true) ↔ IsHosted conf.now log.now.batches key.now view.now.state }
 {
     if !conf.has_key(key) {
         return false;

@@ -13,7 +13,7 @@ ghost use Rattle.share_part.specs.Failures.{RunOnBoth};
 ghost use Rattle.share_part.specs.Opening.{IsOpened, IsNotOpened};
 ghost use Rattle.share_part.specs.Foreseeing.{JudgesAcks, with_ack};
 ghost use Rattle.share_part.specs.Hosting.{key_of};
-ghost use Rattle.share_coord.specs.States.{states_of};
+ghost use Rattle.share_coord.specs.States.{state_found, states_of};
 ghost use Rattle.share_part.specs.Following.{IsEmptyAnswer, IsFetch};
 ghost use Rattle.share_part.specs.Shards.{Carries, PartShardState, held_in};
 ghost use Rattle.share_part.specs.Releasing.{ReleasesOnce};
@@ -480,7 +480,7 @@ impl<D: Disk, W: Window> PartShard<D, W> {
 
     /// The stored state of a group's table. `None` where the group has none.
     pub fn look_state(&self, group: &Name) -> Option<&StateView>
-        ensures { option_copied result ≡ share_state_at (states_of self.now.states.entries) (key_of self.now.conf group.now) }
+        ensures { state_found result ≡ share_state_at (states_of self.now.states.entries) (key_of self.now.conf group.now) }
     {
         self.states.look(&self.conf.key(group))
     }

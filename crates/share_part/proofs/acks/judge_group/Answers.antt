@@ -5,6 +5,7 @@ use Rattle.share_model.specs.ForeignRules.{share_state_at}
 use Rattle.share_model.specs.Keys.{KeyParts}
 use Rattle.share_model.specs.ShareStates.{ShareState}
 use Rattle.share_coord.specs.Stored.{kept_at}
+use Rattle.share_coord.specs.Views.{ViewParts}
 use Rattle.share_part.specs.Hosting.{key_of}
 use Rattle.share_coord.specs.States.{states_of}
 use Rattle.share_part.specs.Shards.{held_in}
@@ -19,10 +20,10 @@ returns-in_default g c = missing_judged c.args.conf.now.limit c.args.visit.now.m
 
 pub returns-in-Some-look : goal.returns-in-Some-look
 returns-in-Some-look g c =
-    let there = subst (λ (k : KeyParts). Some c.in-Some-look.view.now ≡ option_map view_of (kept_at c.args.states.now.entries k)) c.key.ensures c.in-Some-look.ensures in
+    let there = subst (λ (k : KeyParts). Some c.in-Some-look.view.now.state ≡ option_map view_of (kept_at c.args.states.now.entries k)) c.key.ensures c.in-Some-look.ensures in
     judged_there g.W.Window.held c.args.states.now.entries c.args.windows.now.entries c.args.visit.now.group (key_of c.args.conf.now c.args.visit.now.group)
-    c.args.conf.now.limit c.args.visit.now.member c.args.log.now.batches c.in-Some-look.view.now there
-    c.in-Some.window.now c.in-Some.ensures.value c.start_of.result c.view.inside.runs.list c.start_of.ensures (ap (λ (s : ShareState). s.runs) c.view.view_is)
+    c.args.conf.now.limit c.args.visit.now.member c.args.log.now.batches c.in-Some-look.view.now.state there
+    c.in-Some.window.now c.in-Some.ensures.value c.start_of.result c.view.inside.runs.list c.start_of.ensures (ap (λ (v : ViewParts). v.state.runs) c.view.view_is)
     c.limit.result c.limit.ensures.same c.as_slice.result.now c.args.visit.now.acks c.as_slice.ensures.items c.acknowledge.result c.acknowledge.ensures
 
 pub returns-in-None : goal.returns-in-None

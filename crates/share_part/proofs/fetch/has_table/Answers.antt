@@ -10,7 +10,7 @@ use Rattle.share_part.proofs.fetch.has_table.Goals as goal
 
 pub returns-in-Some-clause-there : goal.returns-in-Some-clause-there
 returns-in-Some-clause-there g c = λ is.
-    let there = subst (λ (k : KeyParts). Some c.in-Some.field-0.now ≡ option_map view_of (kept_at c.args.states.now.entries k)) c.key.ensures c.in-Some.ensures in
+    let there = subst (λ (k : KeyParts). Some c.in-Some.field-0.now.state ≡ option_map view_of (kept_at c.args.states.now.entries k)) c.key.ensures c.in-Some.ensures in
     subst (λ (o : Option ShareState). IsSome o) (sym (state_seen c.args.states.now.entries (key_of c.args.conf.now c.args.group.now) ∙ sym there)) refl
 
 pub returns-in-None-clause-none : goal.returns-in-None-clause-none

@@ -5,6 +5,7 @@ use Rattle.share_model.specs.Keys.{KeyParts}
 use Rattle.share_model.specs.ShareStates.{ShareState}
 use Rattle.share_model.specs.declared.reset.Reset.{Reset}
 use Rattle.share_coord.specs.Stored.{kept_at}
+use Rattle.share_coord.specs.Views.{ViewParts}
 use Rattle.share_part.specs.Collecting.{IsPlanOf}
 use Rattle.share_part.specs.Shards.{first_start}
 use Rattle.share_part.specs.Tables.{MayGoOut, Table}
@@ -15,15 +16,15 @@ use Rattle.share_part.proofs.fetch.planned.Goals as goal
 
 pub plan-requires-clause-rows : goal.plan-requires-clause-rows
 plan-requires-clause-rows g c =
-    let there = subst (λ (k : KeyParts). Some c.in-Some-look.view.now ≡ option_map view_of (kept_at c.args.states.now.entries k)) c.key.ensures c.in-Some-look.ensures in
-    subst (λ (s : ShareState). MayGoOut s.runs) (sym c.view.view_is)
-    (rows_go_out g.W.Window.held c.args.conf.now c.args.log.now.batches c.args.states.now.entries c.args.windows.now.entries c.args.group.now c.in-Some-look.view.now there c.requires.hosted)
+    let there = subst (λ (k : KeyParts). Some c.in-Some-look.view.now.state ≡ option_map view_of (kept_at c.args.states.now.entries k)) c.key.ensures c.in-Some-look.ensures in
+    subst (λ (v : ViewParts). MayGoOut v.state.runs) (sym c.view.view_is)
+    (rows_go_out g.W.Window.held c.args.conf.now c.args.log.now.batches c.args.states.now.entries c.args.windows.now.entries c.args.group.now c.in-Some-look.view.now.state there c.requires.hosted)
 
 pub plan-requires-clause-lie : goal.plan-requires-clause-lie
 plan-requires-clause-lie g c =
-    let there = subst (λ (k : KeyParts). Some c.in-Some-look.view.now ≡ option_map view_of (kept_at c.args.states.now.entries k)) c.key.ensures c.in-Some-look.ensures in
-    lie_there g.W.Window.held c.args.conf.now c.args.log.now.batches c.args.states.now.entries c.args.windows.now.entries c.args.group.now c.in-Some-look.view.now there c.requires.hosted c.requires.well
-    c.requires.sound.rises c.in-Some.window.now c.in-Some.ensures.value c.view.inside.runs.list (ap (λ (s : ShareState). s.runs) c.view.view_is)
+    let there = subst (λ (k : KeyParts). Some c.in-Some-look.view.now.state ≡ option_map view_of (kept_at c.args.states.now.entries k)) c.key.ensures c.in-Some-look.ensures in
+    lie_there g.W.Window.held c.args.conf.now c.args.log.now.batches c.args.states.now.entries c.args.windows.now.entries c.args.group.now c.in-Some-look.view.now.state there c.requires.hosted c.requires.well
+    c.requires.sound.rises c.in-Some.window.now c.in-Some.ensures.value c.view.inside.runs.list (ap (λ (v : ViewParts). v.state.runs) c.view.view_is)
 
 pub plan-requires-in-None-clause-lie : goal.plan-requires-in-None-clause-lie
 plan-requires-in-None-clause-lie g c =
@@ -33,10 +34,10 @@ plan-requires-in-None-clause-lie g c =
 
 pub returns-in-Some-look-clause-is : goal.returns-in-Some-look-clause-is
 returns-in-Some-look-clause-is g c =
-    let there = subst (λ (k : KeyParts). Some c.in-Some-look.view.now ≡ option_map view_of (kept_at c.args.states.now.entries k)) c.key.ensures c.in-Some-look.ensures in
+    let there = subst (λ (k : KeyParts). Some c.in-Some-look.view.now.state ≡ option_map view_of (kept_at c.args.states.now.entries k)) c.key.ensures c.in-Some-look.ensures in
     subst (λ (t : Table). IfOk c.plan.result (λ plan. IsPlanOf c.args.log.now.batches plan (acquired c.args.log.now.batches t c.args.limits)))
-    (table_there g.W.Window.held c.args.conf.now c.args.log.now.batches c.args.states.now.entries c.args.windows.now.entries c.args.group.now c.in-Some-look.view.now there
-    c.in-Some.window.now c.in-Some.ensures.value c.start_of.result c.view.inside.runs.list c.start_of.ensures (ap (λ (s : ShareState). s.runs) c.view.view_is))
+    (table_there g.W.Window.held c.args.conf.now c.args.log.now.batches c.args.states.now.entries c.args.windows.now.entries c.args.group.now c.in-Some-look.view.now.state there
+    c.in-Some.window.now c.in-Some.ensures.value c.start_of.result c.view.inside.runs.list c.start_of.ensures (ap (λ (v : ViewParts). v.state.runs) c.view.view_is))
     c.plan.ensures.is
 
 pub returns-in-None-clause-is : goal.returns-in-None-clause-is

@@ -6,6 +6,7 @@ use Rattle.share_model.specs.ForeignRules.{share_state_at}
 use Rattle.share_model.specs.Held.{Held}
 use Rattle.share_model.specs.Keys.{KeyParts}
 use Rattle.share_model.specs.ShareStates.{ShareState}
+use Rattle.share_coord.specs.Views.{ViewParts}
 use Rattle.share_part.specs.Acknowledging.{NameOne}
 use Rattle.share_part.specs.Hosting.{HoldsWell, key_of}
 use Rattle.share_coord.specs.States.{states_of}
@@ -23,10 +24,10 @@ release-requires-clause-below g c = subst (λ (h : Held). AreBelow h) (sym (ap (
 
 pub returns-in-Some-look-clause-judged : goal.returns-in-Some-look-clause-judged
 returns-in-Some-look-clause-judged g c =
-    let there = subst (λ (k : KeyParts). Some c.in-Some-look.view.now ≡ option_map view_of (kept_at c.args.states.now.entries k)) c.key.ensures c.in-Some-look.ensures in
+    let there = subst (λ (k : KeyParts). Some c.in-Some-look.view.now.state ≡ option_map view_of (kept_at c.args.states.now.entries k)) c.key.ensures c.in-Some-look.ensures in
     released_there g.W.Window.held c.args.states.now.entries c.args.windows.now.entries c.args.group.now (key_of c.args.conf.now c.args.group.now)
-    c.args.whose.now c.args.conf.now.limit c.args.log.now.batches c.in-Some-look.view.now there
-    c.in-Some.window.now c.in-Some.ensures.value c.start_of.result c.view.inside.runs.list c.start_of.ensures (ap (λ (s : ShareState). s.runs) c.view.view_is)
+    c.args.whose.now c.args.conf.now.limit c.args.log.now.batches c.in-Some-look.view.now.state there
+    c.in-Some.window.now c.in-Some.ensures.value c.start_of.result c.view.inside.runs.list c.start_of.ensures (ap (λ (v : ViewParts). v.state.runs) c.view.view_is)
     c.limit.result c.limit.ensures.same c.release.result c.release.ensures.judged
 
 pub returns-in-Some-look-clause-below : goal.returns-in-Some-look-clause-below
