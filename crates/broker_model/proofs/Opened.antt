@@ -18,7 +18,7 @@ use Rattle.share_model.proofs.Lookups.{row_at-none}
 use Rattle.state_records.specs.declared.record.StateRecord.{StateRecord}
 use Rattle.state_records.specs.declared.record.StateRecord.TheVariants.{Snapshot, Update, Removal, Head, Seal}
 use Rattle.share_coord.specs.Stored.{Entries, AreAccepted, Follows as FollowsRecord, snapshot_of, update_of}
-use Rattle.share_coord.specs.declared.view.Kept.{Kept}
+use Rattle.share_coord.specs.Parts.{KeptState}
 use Rattle.share_coord.proofs.Keys.{all_with, all_without}
 use Rattle.share_coord.specs.States.{states_of}
 use Rattle.broker_model.specs.Machine.{StandForStates}
@@ -124,7 +124,7 @@ none_tells = tells [] tt tt
 
 -- ---- what is read from disks is such
 
-abbrev KeptReadable : Kept → Type 0
+abbrev KeptReadable : KeptState → Type 0
 KeptReadable kept = IsReadable kept.view
 
 laid_readable : (start : ℤ) (under over runs : List Run) (state_epoch leader_epoch : ℤ) → AreLaid start under over runs

@@ -23,7 +23,7 @@ use Rattle.share_coord.specs.Recorded.{IsInitRecord, IsWriteRecord, StoresOne}
 use Rattle.state_records.specs.declared.record.StateRecord.TheVariants.{Removal}
 use Rattle.share_coord.specs.declared.fault.CoordFault.{CoordFault}
 use Rattle.share_coord.specs.declared.fault.CoordFault.TheVariants.{Invalid, Unknown, FencedLeader, FencedState, TooMany, Store, NoMemory}
-use Rattle.share_coord.specs.declared.view.Kept.{Kept}
+use Rattle.share_coord.specs.Parts.{KeptState}
 use Rattle.share_coord.proofs.Keys.{some_none}
 use Rattle.share_coord.proofs.Seen.{either_there}
 use Rattle.share_coord.proofs.Storing.{as_this}
@@ -46,10 +46,10 @@ not_granted (TooMany k) n = absurd n
 not_granted (Store f) n = absurd n
 not_granted NoMemory n = absurd n
 
-there_by : (o : Option Kept) (s : Option ShareState) → s ≡ option_map view_of o → (kept : Kept) → o ≡ Some kept → is_some s ≡ true
+there_by : (o : Option KeptState) (s : Option ShareState) → s ≡ option_map view_of o → (kept : KeptState) → o ≡ Some kept → is_some s ≡ true
 there_by o s shown kept is = ap is_some (shown ∙ ap (option_map view_of) is)
 
-gone_by : (o : Option Kept) (s : Option ShareState) → s ≡ option_map view_of o → o ≡ None → is_some s ≡ false
+gone_by : (o : Option KeptState) (s : Option ShareState) → s ≡ option_map view_of o → o ≡ None → is_some s ≡ false
 gone_by o s shown none = ap is_some (shown ∙ ap (option_map view_of) none)
 
 module _ {D : Type 0} (seen : D → DiskView)

@@ -17,16 +17,16 @@ use Rattle.share_coord.specs.Stored.{Entries, based, based_kept, kept_at, with_k
 use Rattle.share_coord.specs.Calls.{fenced_state, fenced_init, fenced_write, init_refusal, write_refusal}
 use Rattle.share_coord.specs.declared.fault.CoordFault.{CoordFault}
 use Rattle.share_coord.specs.declared.fault.CoordFault.TheVariants.{Invalid, FencedLeader, FencedState}
-use Rattle.share_coord.specs.declared.view.Kept.{Kept}
+use Rattle.share_coord.specs.Parts.{KeptState}
 use Rattle.share_coord.proofs.Held.{states_based}
 use Rattle.share_coord.proofs.Keys.{some_none}
 use Rattle.share_coord.specs.States.{states_of}
 use Rattle.foreign_coord.specs.Codes.{code_in}
 
-abbrev pub view_of : Kept → ShareState
+abbrev pub view_of : KeptState → ShareState
 view_of kept = kept.view
 
-found : (b : Bool) (x : Kept) (rest : Option Kept) (theirs : Option ShareState) → theirs ≡ option_map view_of rest
+found : (b : Bool) (x : KeptState) (rest : Option KeptState) (theirs : Option ShareState) → theirs ≡ option_map view_of rest
     → cond b (Some x.view) theirs ≡ option_map view_of (cond b (Some x) rest)
 found true x rest theirs e = refl
 found false x rest theirs e = e
@@ -40,7 +40,7 @@ by_order Less a b c d e = refl
 by_order Equal a b c d e = refl
 by_order Greater a b c d e = e
 
-pub with_seen : (es : Entries) (key : KeyParts) (kept : Kept) → states_of (with_kept es key kept) ≡ insert_entry key_cmp (states_of es) key kept.view
+pub with_seen : (es : Entries) (key : KeyParts) (kept : KeptState) → states_of (with_kept es key kept) ≡ insert_entry key_cmp (states_of es) key kept.view
 with_seen [] key kept = refl
 with_seen (e ∷ es) key kept = by_order (key_cmp key e.0) ((key, kept) ∷ e ∷ es) ((e.0, kept) ∷ es) (e ∷ with_kept es key kept)
     ((e.0, e.1.view) ∷ insert_entry key_cmp (states_of es) key kept.view) (ap (λ (l : ShareStates). (e.0, e.1.view) ∷ l) (with_seen es key kept))
@@ -54,18 +54,18 @@ without_seen [] key = refl
 without_seen (e ∷ es) key = by_test (is_at (key_cmp key) e.0) es (e ∷ without_key es key) ((e.0, e.1.view) ∷ remove_entry (is_at (key_cmp key)) (states_of es))
     (ap (λ (l : ShareStates). (e.0, e.1.view) ∷ l) (without_seen es key))
 
-kept_none : (b : Bool) (x : Kept) (rest : Option Kept) (e : KeyParts × Kept) (es fs : Entries) → cond b (Some x) rest ≡ None → (rest ≡ None → fs ≡ es) → cond b es (e ∷ fs) ≡ e ∷ es
+kept_none : (b : Bool) (x : KeptState) (rest : Option KeptState) (e : KeyParts × KeptState) (es fs : Entries) → cond b (Some x) rest ≡ None → (rest ≡ None → fs ≡ es) → cond b es (e ∷ fs) ≡ e ∷ es
 kept_none true x rest e es fs none f = absurd (some_none x none)
 kept_none false x rest e es fs none f = ap (λ (l : Entries). e ∷ l) (f none)
 
 -- as a checkpoint leaves it, or as it was
-pub with_based : (c : Bool) (es : Entries) (key : KeyParts) (kept : Kept) → states_of (with_kept (based c es) key kept) ≡ insert_entry key_cmp (states_of es) key kept.view
+pub with_based : (c : Bool) (es : Entries) (key : KeyParts) (kept : KeptState) → states_of (with_kept (based c es) key kept) ≡ insert_entry key_cmp (states_of es) key kept.view
 with_based c es key kept = with_seen (based c es) key kept ∙ ap (λ (l : ShareStates). insert_entry key_cmp l key kept.view) (states_based c es)
 
 pub without_based : (c : Bool) (es : Entries) (key : KeyParts) → states_of (without_key (based c es) key) ≡ remove_entry (is_at (key_cmp key)) (states_of es)
 without_based c es key = without_seen (based c es) key ∙ ap (λ (l : ShareStates). remove_entry (is_at (key_cmp key)) l) (states_based c es)
 
-pub kept_view : (c : Bool) (kept : Kept) → (based_kept c kept).view ≡ kept.view
+pub kept_view : (c : Bool) (kept : KeptState) → (based_kept c kept).view ≡ kept.view
 kept_view true kept = refl
 kept_view false kept = refl
 
@@ -84,14 +84,14 @@ if_code : (b : Bool) (x y : Option CoordFault) (c d : Code) → c ≡ code_or x 
 if_code true x y c d p q = p
 if_code false x y c d p q = q
 
-state_code : (kept : Kept) (epoch : ℤ) → init_known (Some kept.view) epoch ≡ code_or (fenced_state kept epoch)
+state_code : (kept : KeptState) (epoch : ℤ) → init_known (Some kept.view) epoch ≡ code_or (fenced_state kept epoch)
 state_code kept epoch = if_code (int_lt epoch kept.view.state_epoch) (Some (FencedState kept.view.state_epoch)) None FENCED_STATE_EPOCH NONE refl refl
 
-init_known_code : (known : Option Kept) (epoch : ℤ) → init_known (option_map view_of known) epoch ≡ code_or (fenced_init known epoch)
+init_known_code : (known : Option KeptState) (epoch : ℤ) → init_known (option_map view_of known) epoch ≡ code_or (fenced_init known epoch)
 init_known_code None epoch = refl
 init_known_code (Some kept) epoch = state_code kept epoch
 
-write_known_code : (known : Option Kept) (state leader : ℤ) → write_known (option_map view_of known) state leader ≡ code_or (fenced_write known state leader)
+write_known_code : (known : Option KeptState) (state leader : ℤ) → write_known (option_map view_of known) state leader ≡ code_or (fenced_write known state leader)
 write_known_code None state leader = refl
 write_known_code (Some kept) state leader = if_code (int_lt leader kept.view.leader_epoch) (Some (FencedLeader kept.view.leader_epoch)) (fenced_state kept state)
     FENCED_LEADER_EPOCH (init_known (Some kept.view) state) refl (state_code kept state)

@@ -11,7 +11,7 @@ ghost use Rattle.coord_checkpoint.specs.Disks.{RunsBoth};
 ghost use Rattle.share_coord.specs.Stored.{Entries, kept_at};
 ghost use Rattle.share_coord.specs.Holding.{Holds};
 ghost use Rattle.share_coord.specs.Opening.{IsOpened, IsNotOpened};
-ghost use Rattle.share_coord.specs.States.{states_of};
+ghost use Rattle.share_coord.specs.States.{state_found, states_of};
 ghost use Rattle.foreign_coord.specs.Once.{HasFailedNone, HasRisen, ActsOnce, FailsToPut, PutsRecord};
 ghost use Rattle.state_records.specs.States.{AreStoredRuns};
 ghost use Rattle.foreign_coord.specs.Shards.{ForeignShardState, StepsForeign, HasNoRoom, Carries, IsFound, writes};
@@ -48,7 +48,7 @@ fn read(
     known: Option<&StateView>,
     leader_epoch: i32,
 ) -> Result<ForeignAnswer, NoMemory>
-    ensures answer { IfOk result (λ answer. answer ≡ read_share_state (option_copied known.entry) leader_epoch) }
+    ensures answer { IfOk result (λ answer. answer ≡ read_share_state (state_found known.entry) leader_epoch) }
     ensures ranges { IfOk result (λ answer. AreStoredRuns answer.runs) }
 {
     if leader_epoch < 0 {
@@ -204,7 +204,7 @@ impl<D: Disk> ForeignShard<D> {
 
     /// The state of a key. `None` where it isn't there.
     pub fn look(&self, key: &Key) -> Option<&StateView>
-        ensures { option_copied result ≡ option_map (λ k. k.view) (kept_at self.now.entries key.now) }
+        ensures { state_found result ≡ option_map (λ k. k.view) (kept_at self.now.entries key.now) }
     {
         self.coord.look(key)
     }

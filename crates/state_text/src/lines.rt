@@ -79,7 +79,7 @@ pub(crate) fn put_table(
     part: u32,
     view: &StateView,
 ) -> Result<(), NoMemory>
-    ensures { OnOk result (text.new ≡ text.old ++ table_line group.now topic.now part view.now) }
+    ensures { OnOk result (text.new ≡ text.old ++ table_line group.now topic.now part view.now.state) }
 {
     put_group(text, "table ", group)?;
     text.put(topic)?;
@@ -100,9 +100,9 @@ fn put_key(text: &mut Pieces, key: &Key) -> Result<(), NoMemory>
 
 // The epochs, the start offset, and how many rows are complete.
 fn put_state(text: &mut Pieces, view: &StateView) -> Result<(), NoMemory>
-    ensures { OnOk result (text.new ≡ text.old ++ (codes " state " ++ (signed_decimal view.now.state_epoch
-        ++ (codes " leader " ++ (signed_decimal view.now.leader_epoch ++ (codes " start "
-        ++ (signed_decimal view.now.start ++ (codes " complete " ++ (decimal (complete_rows view.now.runs) ++ 10 ∷ []))))))))) }
+    ensures { OnOk result (text.new ≡ text.old ++ (codes " state " ++ (signed_decimal view.now.state.state_epoch
+        ++ (codes " leader " ++ (signed_decimal view.now.state.leader_epoch ++ (codes " start "
+        ++ (signed_decimal view.now.state.start ++ (codes " complete " ++ (decimal (complete_rows view.now.state.runs) ++ 10 ∷ []))))))))) }
 {
     put_value(text, " state ", i64::from(view.state_epoch), "")?;
     put_value(text, " leader ", i64::from(view.leader_epoch), "")?;
@@ -111,7 +111,7 @@ fn put_state(text: &mut Pieces, view: &StateView) -> Result<(), NoMemory>
 }
 
 pub(crate) fn put_foreign(text: &mut Pieces, key: &Key, view: &StateView) -> Result<(), NoMemory>
-    ensures { OnOk result (text.new ≡ text.old ++ foreign_line key.now view.now) }
+    ensures { OnOk result (text.new ≡ text.old ++ foreign_line key.now view.now.state) }
 {
     put_key(text, key)?;
     put_state(text, view)

@@ -40,7 +40,7 @@ pub fn write_table<O: Sink>(
     output: &mut O,
 ) -> Result<(), GenFault>
     ensures { WritesPieces (O.held output.old) (O.held output.new) (O.faults output.old) (O.faults output.new)
-        (table_text group.now topic.now part view.now) result }
+        (table_text group.now topic.now part view.now.state) result }
 {
     let mut text = Pieces::new(alloc);
     let Ok(()) = put_table(&mut text, group, topic, part, view) else {
@@ -58,7 +58,7 @@ pub fn write_foreign<O: Sink>(
     output: &mut O,
 ) -> Result<(), GenFault>
     ensures { WritesPieces (O.held output.old) (O.held output.new) (O.faults output.old) (O.faults output.new)
-        (foreign_text key.now view.now) result }
+        (foreign_text key.now view.now.state) result }
 {
     let mut text = Pieces::new(alloc);
     let Ok(()) = put_foreign(&mut text, key, view) else {

@@ -7,5 +7,5 @@ use Rattle.broker_core.proofs.part.look.Goals as goal
 
 pub returns-clause-fair : goal.returns-clause-fair
 returns-clause-fair g c =
-    let same : c.new.result ≡ c.in-Some.view.now.runs = search rules in
-    subst (λ (l : List Run). All IsTellable l) (sym same) (tellable c.in-Some.view.now.runs c.known.ensures.runs)
+    let same : c.new.result ≡ c.in-Some.view.now.state.runs = search rules in
+    subst (λ (l : List Run). All IsTellable l) (sym same) (tellable c.in-Some.view.now.state.runs c.known.ensures.runs)

@@ -7,5 +7,5 @@ use Rattle.broker_shards.proofs.told.looked.Goals as goal
 
 pub returns-clause-tellable : goal.returns-clause-tellable
 returns-clause-tellable g c =
-    let same : c.new.result ≡ c.in-Some.view.now.runs = search rules in
-    subst (λ (l : List Run). All IsTellable l) (sym same) (runs_told c.in-Some.view.now.runs c.known.ensures.runs)
+    let same : c.new.result ≡ c.in-Some.view.now.state.runs = search rules in
+    subst (λ (l : List Run). All IsTellable l) (sym same) (runs_told c.in-Some.view.now.state.runs c.known.ensures.runs)

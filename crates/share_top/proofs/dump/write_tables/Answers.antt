@@ -8,7 +8,7 @@ pub loop-key-preserved : goal.loop-key-preserved
 loop-key-preserved g c = record {
   so_far = table_more (g.O.Sink.held c.args.output.now) (g.O.Sink.held c.loop-key.output) (g.O.Sink.held c.write_table.new.output)
       (g.O.Sink.faults c.args.output.now) (g.O.Sink.faults c.loop-key.output) (g.O.Sink.faults c.write_table.new.output) (tables_text c.args.topic.now c.args.part c.args.states) c.loop-key.invariant.counted
-      c.args.topic.now c.args.part c.loop-key.states c.next.new.self c.in-Some.key.now c.in-Some.view.now _ c.as_str.result.now
+      c.args.topic.now c.args.part c.loop-key.states c.next.new.self c.in-Some.key.now c.in-Some.view.now.state _ c.as_str.result.now
       c.loop-key.invariant.so_far c.in-Some.ensures.steps (ap (λ (k : KeyParts). k.group) c.key.view_is) c.as_str.ensures.same c.in-Ok.field-0 c.in-Ok.ensures;
   counted = c.in-Ok.ensures.counted (λ e. absurd (let never : ⊥ = cc in never)) ∙ c.loop-key.invariant.counted;
 }
@@ -16,5 +16,5 @@ loop-key-preserved g c = record {
 pub returns-in-Err : goal.returns-in-Err
 returns-in-Err g c = table_failed (g.O.Sink.held c.args.output.now) (g.O.Sink.held c.loop-key.output) (g.O.Sink.held c.write_table.new.output)
     (g.O.Sink.faults c.args.output.now) (g.O.Sink.faults c.loop-key.output) (g.O.Sink.faults c.write_table.new.output) (tables_text c.args.topic.now c.args.part c.args.states) c.loop-key.invariant.counted
-    c.args.topic.now c.args.part c.loop-key.states c.next.new.self c.in-Some.key.now c.in-Some.view.now _ c.as_str.result.now
+    c.args.topic.now c.args.part c.loop-key.states c.next.new.self c.in-Some.key.now c.in-Some.view.now.state _ c.as_str.result.now
     c.loop-key.invariant.so_far c.in-Some.ensures.steps (ap (λ (k : KeyParts). k.group) c.key.view_is) c.as_str.ensures.same c.in-Err.fault c.in-Err.ensures
