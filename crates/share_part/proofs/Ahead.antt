@@ -16,6 +16,7 @@ use Rattle.share_model.specs.Keys.{KeyParts, key_cmp}
 use Rattle.share_model.specs.Logs.{end_of}
 use Rattle.share_model.specs.ShareStates.{ShareState}
 use Rattle.share_model.specs.declared.ack.AckFault.{AckFault}
+use Rattle.share_model.specs.declared.run.Run.{Run}
 use Rattle.share_model.specs.declared.visit.AckOutcome.{AckOutcome}
 use Rattle.share_model.specs.declared.visit.AckOutcome.TheVariants.{Done, Malformed, NotHeld, Store}
 use Rattle.share_model.specs.declared.visit.ThenOutcome.TheVariants.{Done as then_done}
@@ -27,7 +28,7 @@ use Rattle.share_part.specs.Foreseeing.{IsPlanBehind, JudgesAcks, MovesBy}
 use Rattle.share_part.specs.Hosting.{AreHosted, PartConfParts, key_of}
 use Rattle.share_part.specs.Making.{MakesTableOnce, state_for}
 use Rattle.share_part.specs.Once.{ReadsBatches, VisitsOnce}
-use Rattle.share_part.specs.Settling.{AreHeldBy, IsChange, held_after}
+use Rattle.share_part.specs.Settling.{AreHeldBy, Change, IsChange, change_of, held_after}
 use Rattle.share_part.specs.Shards.{PartParts, held_in, new_state, with_held}
 use Rattle.share_part.specs.Storing.{IsActsStored, SettlesGroup}
 use Rattle.share_part.specs.Writes.{held_behind}
@@ -37,7 +38,6 @@ use Rattle.share_part.specs.declared.acks.Acks.{Acks}
 use Rattle.share_part.specs.declared.acks.Acks.TheVariants.{Malformed as malformed, Empty, NotHeld as not_held, Changes}
 use Rattle.share_part.specs.declared.limits.Limits.{Limits}
 use Rattle.share_part.specs.declared.plan.Plan.{Plan}
-use Rattle.share_part.specs.declared.settle.Change.{Change}
 use Rattle.share_part.proofs.Acked.{Acked, holds_acked, none_named, ok_same}
 use Rattle.share_part.proofs.Foreseen.{left_settled}
 use Rattle.share_part.proofs.Holding.{AreKept}
@@ -51,7 +51,7 @@ module _ {D W : Type 0} (seen : D → DiskView) (holding : W → Held) (visit : 
     (hosted : AreHosted old.conf old.log.batches (states_of old.states.entries))
     (kept : AreKept old.conf old.log.batches (states_of old.states.entries) (held_in holding old.windows))
     (limits : Limits) (known : IsSome (share_state_at (states_of old.states.entries) (key_of old.conf visit.group)))
-    (acks : Acks) (stays : Plan) (moves : Option Plan) where
+    (rows : List Run) (acks : Acks) (stays : Plan) (moves : Option Plan) where
   abbrev key : KeyParts
   key = key_of old.conf visit.group
 
@@ -123,30 +123,30 @@ module _ {D W : Type 0} (seen : D → DiskView) (holding : W → Held) (visit : 
 
   -- ---- by the answer
 
-  module _ (judged : JudgesAcks old.conf.limit visit old.log.batches was (share_state_at (states_of old.states.entries) key) acks)
+  module _ (judged : JudgesAcks old.conf.limit visit old.log.batches was (share_state_at (states_of old.states.entries) key) rows acks)
       (is_stays : IsPlanOf old.log.batches stays (acquired old.log.batches First limits))
-      (is_moves : MovesBy old.conf.limit visit old.log.batches First limits acks moves) (plan : Plan) where
+      (is_moves : MovesBy old.conf.limit visit old.log.batches First limits rows acks moves) (plan : Plan) where
     -- nothing to store
-    none_moves : (a : Acks) (m : Option Plan) → JudgesAcks old.conf.limit visit old.log.batches was (share_state_at (states_of old.states.entries) key) a
-        → MovesBy old.conf.limit visit old.log.batches First limits a m → NameNone (kind_at visit.acks) → m ≡ None
+    none_moves : (a : Acks) (m : Option Plan) → JudgesAcks old.conf.limit visit old.log.batches was (share_state_at (states_of old.states.entries) key) rows a
+        → MovesBy old.conf.limit visit old.log.batches First limits rows a m → NameNone (kind_at visit.acks) → m ≡ None
     none_moves (malformed f) m j is none = is
     none_moves Empty m j is none = is
     none_moves (not_held o) m j is none = is
-    none_moves (Changes change) m j is none = absurd (none_named seen holding visit old states windows sound few hosted kept none j.1)
+    none_moves (Changes moved) m j is none = absurd (none_named seen holding visit old states windows sound few hosted kept none j.1)
 
     not_both : (least : ℕ) → AreHeldBy visit.member (kind_at visit.acks) was → (a : Acks) → a ≡ not_held least
-        → JudgesAcks old.conf.limit visit old.log.batches was (share_state_at (states_of old.states.entries) key) (not_held least) → ⊥
+        → JudgesAcks old.conf.limit visit old.log.batches was (share_state_at (states_of old.states.entries) key) rows (not_held least) → ⊥
     not_both least theirs a is j = j.2.missing (theirs least j.2.named)
 
-    done_moves : (a : Acks) (m : Option Plan) → JudgesAcks old.conf.limit visit old.log.batches was (share_state_at (states_of old.states.entries) key) a
-        → MovesBy old.conf.limit visit old.log.batches First limits a m → ((fault : AckFault) → a ≡ malformed fault → ⊥) → AreHeldBy visit.member (kind_at visit.acks) was
+    done_moves : (a : Acks) (m : Option Plan) → JudgesAcks old.conf.limit visit old.log.batches was (share_state_at (states_of old.states.entries) key) rows a
+        → MovesBy old.conf.limit visit old.log.batches First limits rows a m → ((fault : AckFault) → a ≡ malformed fault → ⊥) → AreHeldBy visit.member (kind_at visit.acks) was
         → NameOne (kind_at visit.acks) → Stored → plan ≡ unwrap_or m stays → now ≡ held_after (kind_at visit.acks) was → GoesBy plan
     done_moves (malformed f) m j is formed theirs one st at held = absurd (formed f refl)
     done_moves Empty m j is formed theirs one st at held = absurd (none_named seen holding visit old states windows sound few hosted kept j.1 one)
     done_moves (not_held o) m j is formed theirs one st at held = absurd (not_both o theirs (not_held o) refl j)
-    done_moves (Changes change) None j is formed theirs one st at held = absurd is
-    done_moves (Changes change) (Some its) j is formed theirs one st at held =
-        goes_moved st change plan j.3 (subst (IsPlanBehind old.conf.limit (kind_at visit.acks) old.log.batches First change limits) (sym at) is) held
+    done_moves (Changes moved) None j is formed theirs one st at held = absurd is
+    done_moves (Changes moved) (Some its) j is formed theirs one st at held =
+        goes_moved st (change_of moved rows) plan j.3 (subst (IsPlanBehind old.conf.limit (kind_at visit.acks) old.log.batches First (change_of moved rows) limits) (sym at) is) held
 
     module _ (ack : AckOutcome) (acked : Acked seen holding visit old states windows sound few hosted kept (Ok ack))
         (formed : (fault : AckFault) → acks ≡ malformed fault → ack ≡ Malformed fault) (done : ack ≡ Done → plan ≡ unwrap_or moves stays)

@@ -25,9 +25,9 @@ use Rattle.lock_index.specs.Windows.{IsRunAt, IsRunFrom}
 use Rattle.lock_index.specs.declared.run.HoldRun.{HoldRun}
 use Rattle.share_part.specs.Acknowledging.{NameNone, NameOne}
 use Rattle.share_part.specs.Tables.{Table}
-use Rattle.share_part.specs.Settling.{Acts, acted, act_row, settled, IsHeldBy, IsLeastMissing, IsNextStart, IsChange, Settles, release_of, releases_if, releasing, stored_after}
-use Rattle.share_part.specs.Acting.{AreDone, AreDoneTo, AreHeldSo, AreRows, AreRowsTo, Comes, Ends, IsHeldTo, IsHeldWith, IsSaid, laid}
-use Rattle.share_part.specs.declared.settle.Change.{Change}
+use Rattle.share_part.specs.Settling.{Acts, Change, IsChange, IsHeldBy, IsLeastMissing, IsNextStart, Settles, acted, act_row, settled, release_of, releases_if, releasing, stored_after}
+use Rattle.share_part.specs.Acting.{AreDone, AreDoneTo, AreHeldSo, AreRows, AreRowsTo, Comes, Ends, HasSpareFrom, IsHeldTo, IsHeldWith, IsSaid, laid}
+use Rattle.share_part.proofs.Fewer.{held_later}
 use Rattle.share_part.proofs.Mapping.{at_is, at_self}
 
 -- ---- one more row
@@ -132,6 +132,18 @@ begin_behind : (p : Piece) (ps : List Piece) → Follows p ps → BeginFrom (p.l
 begin_behind p [] follows = tt
 begin_behind p (next ∷ ps) follows = omega (arith, follows.0)
 
+-- the spare number of runs is enough for the rows of what is held from the first of the pieces on
+abbrev pub HasSpareAhead : Held → List Piece → (spare : ℕ) → Type 0
+HasSpareAhead held [] spare = Unit {0}
+HasSpareAhead held (p ∷ ps) spare = HasSpareFrom held p.first spare
+
+spare_later : (held : Held) (from : ℕ) (pieces : List Piece) (spare : ℕ) → BeginFrom from pieces → HasSpareFrom held from spare → HasSpareAhead held pieces spare
+spare_later held from [] spare begin enough = tt
+spare_later held from (p ∷ ps) spare begin enough = omega (arith, enough, held_later from p.first held begin)
+
+pub spare_ahead : (held : Held) (left : List Piece) (spare : ℕ) (p : Piece) (rest : List Piece) → left ≡ p ∷ rest → HasSpareAhead held left spare → HasSpareFrom held p.first spare
+spare_ahead held left spare p rest is ahead = subst (λ (l : List Piece). HasSpareAhead held l spare) is ahead
+
 -- the acts below an offset are done, and these pieces say what is left to do
 pub record AreLeft (limit : ℕ) (member : List ℕ) (acts : Acts) (held : Held) (rows : List Run) (left : List Piece) : Type 0 where
   pub end : ℕ
@@ -139,6 +151,10 @@ pub record AreLeft (limit : ℕ) (member : List ℕ) (acts : Acts) (held : Held)
   pub ahead : (o : ℕ) → end ≤ o → acts o ≡ piece_at left o
   pub canonical : IsCanonical left
   pub begin : BeginFrom end left
+
+from_zero : (ps : List Piece) → BeginFrom 0 ps
+from_zero [] = tt
+from_zero (p ∷ ps) = omega arith
 
 pub left_first : (limit : ℕ) (member : List ℕ) (held : Held) (rows : List Run) (pieces : List Piece) → IsCanonical pieces → rows ≡ []
     → AreLeft limit member (piece_at pieces) held rows pieces
@@ -152,10 +168,9 @@ left_first limit member held rows pieces canonical none = record {
   canonical = canonical;
   begin = from_zero pieces;
 }
-  where
-    from_zero : (ps : List Piece) → BeginFrom 0 ps
-    from_zero [] = tt
-    from_zero (p ∷ ps) = omega arith
+
+pub spare_first : (held : Held) (pieces : List Piece) (spare : ℕ) → HasSpareFrom held 0 spare → HasSpareAhead held pieces spare
+spare_first held pieces spare enough = spare_later held 0 pieces spare (from_zero pieces) enough
 
 module _ (limit : ℕ) (member : List ℕ) (acts : Acts) (held : Held) (rows : List Run) (left : List Piece) (h : AreLeft limit member acts held rows left) where
   pub all_done : left ≡ [] → AreDone limit member acts held rows
@@ -212,6 +227,9 @@ module _ (limit : ℕ) (member : List ℕ) (acts : Acts) (held : Held) (rows : L
       begin = begin_behind p rest whole.1;
     }
 
+    pub spare_behind : (spare : ℕ) → HasSpareFrom held (p.last + 1) spare → HasSpareAhead held rest spare
+    spare_behind spare enough = spare_later held (p.last + 1) rest spare (begin_behind p rest whole.1) enough
+
 -- ---- what ends
 
 pub missing_ends : (limit : ℕ) (member : List ℕ) (acts : Acts) (held : Held) (end : ℕ) (rows : List Run) (missing : Option ℕ) → is_some missing ≡ true
@@ -223,6 +241,10 @@ pub none_missing : (limit : ℕ) (member : List ℕ) (acts : Acts) (held : Held)
     → Comes limit member acts held end rows missing → AreDoneTo limit member acts held end rows
 none_missing limit member acts held end rows None some comes = comes
 none_missing limit member acts held end rows (Some least) some comes = absurd (let clash : ⊥ = cc in clash)
+
+pub is_none_of : (o : Option ℕ) → is_some o ≡ false → o ≡ None
+is_none_of None is = refl
+is_none_of (Some n) is = absurd (let clash : ⊥ = cc in clash)
 
 pub ended : (limit : ℕ) (member : List ℕ) (acts : Acts) (held : Held) (rows : List Run) (missing : Option ℕ) → missing ≡ None → Ends limit member acts held rows missing
     → AreDone limit member acts held rows
@@ -326,16 +348,16 @@ module _ (log : List Batch) (start : ℕ) (stored rows : List Run) (limit : ℕ)
     rows = λ o. cut o ∙ ap (λ (r : Option Row). if nat_lt o next then None else r) (are o);
   }
 
-  pub unmoved : (change : Change) (next : ℕ) → change.start ≡ None → next ≡ start → IsNextStart log (laid rows stored) start next → CutsBelow rows change.runs.items next
-      → AreCanonical change.runs.items → IsChange limit acts log table change
+  pub unmoved : (change : Change) (next : ℕ) → change.start ≡ None → next ≡ start → IsNextStart log (laid rows stored) start next → CutsBelow rows change.runs next
+      → AreCanonical change.runs → IsChange limit acts log table change
   unmoved change next none same is cut canonical = record {
-    settles = subst (λ (n : ℕ). Settles limit acts log table n change.runs.items) (same ∙ ap (λ (o : Option ℕ). unwrap_or o start) (sym none)) (settles next change.runs.items is cut canonical);
+    settles = subst (λ (n : ℕ). Settles limit acts log table n change.runs) (same ∙ ap (λ (o : Option ℕ). unwrap_or o start) (sym none)) (settles next change.runs is cut canonical);
     moves = λ e. let clash : ⊥ = cc in clash;
   }
 
-  pub moved : (change : Change) (next : ℕ) → change.start ≡ Some next → (next ≡ start → ⊥) → IsNextStart log (laid rows stored) start next → CutsBelow rows change.runs.items next
-      → AreCanonical change.runs.items → IsChange limit acts log table change
+  pub moved : (change : Change) (next : ℕ) → change.start ≡ Some next → (next ≡ start → ⊥) → IsNextStart log (laid rows stored) start next → CutsBelow rows change.runs next
+      → AreCanonical change.runs → IsChange limit acts log table change
   moved change next some other is cut canonical = record {
-    settles = subst (λ (n : ℕ). Settles limit acts log table n change.runs.items) (ap (λ (o : Option ℕ). unwrap_or o start) (sym some)) (settles next change.runs.items is cut canonical);
+    settles = subst (λ (n : ℕ). Settles limit acts log table n change.runs) (ap (λ (o : Option ℕ). unwrap_or o start) (sym some)) (settles next change.runs is cut canonical);
     moves = λ e. other (let same : next ≡ start = ap (λ (o : Option ℕ). unwrap_or o start) (sym some ∙ e) in same);
   }

@@ -14,8 +14,7 @@ use Rattle.share_model.specs.declared.run.Run.{Run}
 use Rattle.share_part.specs.Collecting.{LieAtSlots, left_by}
 use Rattle.share_model.specs.ShareStates.{ShareState}
 use Rattle.share_part.specs.Foreseeing.{IsLeftBy, start_behind}
-use Rattle.share_part.specs.Settling.{Acts, IsChange, IsNextStart, IsSettled, act_row, acted, held_after, stored_after}
-use Rattle.share_part.specs.declared.settle.Change.{Change}
+use Rattle.share_part.specs.Settling.{Acts, Change, IsChange, IsNextStart, IsSettled, act_row, acted, held_after, stored_after}
 use Rattle.share_part.specs.Slots.{and_more, batch_at, next_slot, slots_from}
 use Rattle.share_part.specs.Tables.{MayGoOut, Table, delivery_of, unless_held}
 use Rattle.share_part.specs.Walks.{Walk, acquired, at_slot, begun, go_on, walked}

@@ -23,6 +23,7 @@ pub mod Looked
 pub mod Failing
 pub mod Visiting
 pub mod Advancing
+pub mod Fewer
 pub mod Doing
 pub mod Parting
 pub mod Letting

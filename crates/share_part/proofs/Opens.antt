@@ -1,5 +1,5 @@
 -- What is opened of three disks, and why nothing is.
-use Rattle.std.proofs.Common.{◌≡◌, ◌≢◌, ◌∙◌, inl, inr, refl, sym, ap, subst, ℕ, List, [], Some, None, Bool, true, false}
+use Rattle.std.proofs.Common.{◌≡◌, ◌≢◌, ◌∙◌, arith, inl, inr, refl, sym, ap, subst, ℕ, List, [], Some, None, Bool, true, false}
 use Rattle.edge_io.specs.declared.name.DiskPlace.{DiskPlace}
 use Rattle.edge_io.specs.declared.name.DiskPlace.TheVariants.{Log, StateA, StateB}
 use Rattle.coord_checkpoint.specs.Disks.{HasFailed}
@@ -19,11 +19,32 @@ use Rattle.share_coord.specs.States.{states_of}
 use Rattle.share_part.specs.Opening.{IsOpened, IsNotOpened, AreDamagedAt, StandsForLog}
 use Rattle.share_part.specs.Shards.{PartParts, held_in}
 use Rattle.share_part.specs.declared.opening.PartFault.{PartFault}
-use Rattle.share_part.specs.declared.opening.PartFault.TheVariants.{Damaged, Device}
+use Rattle.share_part.specs.declared.opening.PartFault.TheVariants.{Damaged, Device, NoMemory}
+use Rattle.edge_io.specs.Moments.{LeavesOnly}
 use Rattle.edge_io.specs.Views.{DiskView}
+use Rattle.gate_journal.specs.Frames.{StandsAs}
+
+-- a disk of which no call was made
+pub left_alone : {D : Type 0} (seen : D → DiskView) → ((d : D) (c : List ℕ) → (seen d).since (seen d).moment c → (seen d).image c)
+    → (d : D) → LeavesOnly seen d d (StandsAs (seen d).image)
+left_alone seen only_now d = record {
+  later = omega arith;
+  each = λ c now. (c, only_now d c now, inl refl);
+  before = λ t c le was. inl was;
+}
 
 module _ {D W : Type 0} (seen : D → DiskView) (holding : W → Held)
     (conf : PartConfParts) (disk a b : D) where
+  -- no memory was found at first
+  pub unscratched : IsNotOpened seen conf disk a b disk a b NoMemory
+  unscratched = record {
+    damaged = λ place at e. absurd (let clash : ⊥ = cc in clash);
+    sound = λ l x y batches states is_log is_a is_b text place at e. let clash : ⊥ = cc in clash;
+    log_device = λ e. absurd (let clash : ⊥ = cc in clash);
+    first_device = λ e. absurd (let clash : ⊥ = cc in clash);
+    second_device = λ e. absurd (let clash : ⊥ = cc in clash);
+  }
+
   -- ---- opened
 
   pub opened : (parts : PartParts D W) → parts.conf ≡ conf → parts.windows ≡ [] → parts.clock ≡ 0 → Keeps seen parts.log None

@@ -27,11 +27,10 @@ use Rattle.share_coord.specs.Stored.{Entries, kept_at}
 use Rattle.share_coord.specs.declared.fault.CoordFault.{CoordFault}
 use Rattle.share_part.specs.Collecting.{IsPlanOf, LieAtSlots, left_by}
 use Rattle.share_part.specs.Foreseeing.{HasChange, IsPlanBehind}
-use Rattle.share_part.specs.Settling.{Acts, IsChange, acted, held_after, stored_after}
+use Rattle.share_part.specs.Settling.{Acts, Change, IsChange, acted, held_after, stored_after}
 use Rattle.share_part.specs.Walks.{acquired}
 use Rattle.share_part.specs.declared.limits.Limits.{Limits}
 use Rattle.share_part.specs.declared.plan.Plan.{Plan}
-use Rattle.share_part.specs.declared.settle.Change.{Change}
 use Rattle.share_part.proofs.Foreseen.{acquired_same, changed_go_out, changed_lie, same_goes}
 use Rattle.share_part.specs.Hosting.{PartConfParts, AreHeldWell, AreHosted, HoldsWell, key_of}
 use Rattle.share_coord.specs.States.{states_of}
@@ -134,7 +133,7 @@ module _ {W : Type 0} (holding : W → Held) (conf : PartConfParts) (log : List 
 
   module _ (state : ShareState) (there : Some state ≡ option_map view_of (kept_at entries (key_of conf group))) (w : W)
       (at : Some w ≡ lookup (is_at (slice_cmp nat_cmp group)) windows) (start : ℕ) (rows changed : List Run) (start_is : start ≡ size_of state.start)
-      (rows_are : rows ≡ state.runs) (changed_are : changed ≡ change.runs.items) (next_start : ℕ) (next_is : next_start ≡ unwrap_or change.start start) where
+      (rows_are : rows ≡ state.runs) (changed_are : changed ≡ change.runs) (next_start : ℕ) (next_is : next_start ≡ unwrap_or change.start start) where
     table_is : ◌≡◌ {A = Table} (record { start = start; rows = rows; held = holding w }) (table_of (state_for conf log entries group) was)
     table_is = table_there holding conf log entries windows group state there w at start rows start_is rows_are
 

@@ -1,6 +1,6 @@
 -- The releases of a group, by what it holds and by its table.
 use Rattle.std.proofs.Common.{◌≡◌, ◌∙◌, refl, sym, ap, subst, ℕ, List, [], Option, Some, None, Bool}
-use Rattle.std.specs.Prelude.{IfOk, OnErr, IsSome, Result, Ok, Err}
+use Rattle.std.specs.Prelude.{OnErr, IsSome, Result, Ok, Err}
 use Rattle.std.specs.BTreeMap.{is_at}
 use Rattle.std.specs.Cmp.Lexicographic.{slice_cmp}
 use Rattle.std.specs.Map.{lookup}
@@ -20,10 +20,10 @@ use Rattle.share_part.specs.Acknowledging.{NameNone, NameOne}
 use Rattle.share_part.specs.Hosting.{HoldsWell}
 use Rattle.share_coord.specs.States.{states_of}
 use Rattle.share_part.specs.Releasing.{ReleasesGroup, ReleasesTable}
-use Rattle.share_part.specs.Settling.{AreBelow, IsChange, is_chosen, releasing}
+use Rattle.share_part.specs.Settling.{AreBelow, IsChange, change_of, is_chosen, releasing}
 use Rattle.share_part.specs.Shards.{held_in, held_of}
 use Rattle.share_part.specs.Tables.{Table, table_of}
-use Rattle.share_part.specs.declared.settle.Change.{Change}
+use Rattle.share_part.specs.declared.settle.Moved.{Moved}
 use Rattle.share_part.specs.declared.settle.Whose.{Whose}
 use Rattle.share_part.proofs.Seeing.{state_seen, view_of}
 use Rattle.share_part.specs.Foreseeing.{HasChange}
@@ -54,43 +54,38 @@ window_there holding chosen (Some w) one = refl
 module _ {W : Type 0} (holding : W → Held) (entries : Entries) (windows : List (List ℕ × W)) (group : List ℕ) (key : KeyParts) where
   pub released_there : (whose : Whose) (limit : ℕ) (log : List Batch) (state : ShareState) → Some state ≡ option_map view_of (kept_at entries key)
       → (w : W) → Some w ≡ lookup (is_at (slice_cmp nat_cmp group)) windows → (start : ℕ) (rows : List Run) → start ≡ size_of state.start → rows ≡ state.runs
-      → (its : ℕ) → its ≡ limit → (result : Result (Option Change) want)
-      → IfOk result (ReleasesTable its (releasing (is_chosen whose) (holding w)) log (record { start = start; rows = rows; held = holding w }))
-      → IfOk result (ReleasesGroup limit (releasing (is_chosen whose) (held_in holding windows group)) log (held_in holding windows group) (share_state_at (states_of entries) key))
-  released_there whose limit log state there w in_map start rows at are its same result releases =
+      → (its : ℕ) → its ≡ limit → (put : List Run) (moved : Option Moved)
+      → ReleasesTable its (releasing (is_chosen whose) (holding w)) log (record { start = start; rows = rows; held = holding w }) put moved
+      → ReleasesGroup limit (releasing (is_chosen whose) (held_in holding windows group)) log (held_in holding windows group) (share_state_at (states_of entries) key) put moved
+  released_there whose limit log state there w in_map start rows at are its same put moved releases =
       let known : share_state_at (states_of entries) key ≡ Some state = state_seen entries key ∙ sym there in
       let held : holding w ≡ held_in holding windows group = ap (held_of holding) in_map in
-      subst (λ (o : Option ShareState). IfOk result (ReleasesGroup limit (releasing (is_chosen whose) (held_in holding windows group)) log (held_in holding windows group) o)) (sym known)
-      (subst (λ (h : Held). IfOk result (ReleasesGroup limit (releasing (is_chosen whose) h) log h (Some state))) held
-      (by_result result
-      (subst (λ (t : Table). IfOk result (ReleasesTable limit (releasing (is_chosen whose) (holding w)) log t)) (λ i. record { start = at i; rows = are i; held = holding w })
-      (subst (λ (n : ℕ). IfOk result (ReleasesTable n (releasing (is_chosen whose) (holding w)) log (record { start = start; rows = rows; held = holding w }))) same releases))))
+      subst (λ (o : Option ShareState). ReleasesGroup limit (releasing (is_chosen whose) (held_in holding windows group)) log (held_in holding windows group) o put moved) (sym known)
+      (subst (λ (h : Held). ReleasesGroup limit (releasing (is_chosen whose) h) log h (Some state) put moved) held
+      (by_moved moved
+      (subst (λ (t : Table). ReleasesTable limit (releasing (is_chosen whose) (holding w)) log t put moved) (λ i. record { start = at i; rows = are i; held = holding w })
+      (subst (λ (n : ℕ). ReleasesTable n (releasing (is_chosen whose) (holding w)) log (record { start = start; rows = rows; held = holding w }) put moved) same releases))))
     where
-      by_change : (r : Option Change) → ReleasesTable limit (releasing (is_chosen whose) (holding w)) log (table_of state (holding w)) r
-          → ReleasesGroup limit (releasing (is_chosen whose) (holding w)) log (holding w) (Some state) r
-      by_change None h = h
-      by_change (Some change) h = h
-
-      by_result : (r : Result (Option Change) want) → IfOk r (ReleasesTable limit (releasing (is_chosen whose) (holding w)) log (table_of state (holding w)))
-          → IfOk r (ReleasesGroup limit (releasing (is_chosen whose) (holding w)) log (holding w) (Some state))
-      by_result (Ok r) h = by_change r h
-      by_result (Err e) h = tt
+      by_moved : (r : Option Moved) → ReleasesTable limit (releasing (is_chosen whose) (holding w)) log (table_of state (holding w)) put r
+          → ReleasesGroup limit (releasing (is_chosen whose) (holding w)) log (holding w) (Some state) put r
+      by_moved None h = h
+      by_moved (Some its) h = h
 
 -- what is to be stored of a table
-pub change_of_group : (limit : ℕ) (chosen : Hold → Bool) (log : List Batch) (held : Held) (o : Option ShareState) (r : Option Change) (change : Change) → r ≡ Some change
-    → ReleasesGroup limit (releasing chosen held) log held o r → HasChange limit (releasing chosen held) log held o change
-change_of_group limit chosen log held o None change is h = absurd (let clash : ⊥ = cc in clash)
-change_of_group limit chosen log held None (Some its) change is h = absurd h
-change_of_group limit chosen log held (Some state) (Some its) change is h =
-    (state, refl, subst (IsChange limit (releasing chosen held) log (table_of state held)) (let same : its ≡ change = cc in same) h.1)
+pub change_of_group : (limit : ℕ) (chosen : Hold → Bool) (log : List Batch) (held : Held) (o : Option ShareState) (rows : List Run) (r : Option Moved) (moved : Moved) → r ≡ Some moved
+    → ReleasesGroup limit (releasing chosen held) log held o rows r → HasChange limit (releasing chosen held) log held o (change_of moved rows)
+change_of_group limit chosen log held o rows None moved is h = absurd (let clash : ⊥ = cc in clash)
+change_of_group limit chosen log held None rows (Some its) moved is h = absurd h
+change_of_group limit chosen log held (Some state) rows (Some its) moved is h =
+    (state, refl, subst (λ (m : Moved). IsChange limit (releasing chosen held) log (table_of state held) (change_of m rows)) (let same : its ≡ moved = cc in same) h.1)
 
-pub one_of_group : (limit : ℕ) (chosen : Hold → Bool) (log : List Batch) (held : Held) (o : Option ShareState) (r : Option Change) (change : Change) → r ≡ Some change
-    → ReleasesGroup limit (releasing chosen held) log held o r → NameOne (releasing chosen held)
-one_of_group limit chosen log held o None change is h = absurd (let clash : ⊥ = cc in clash)
-one_of_group limit chosen log held None (Some its) change is h = absurd h
-one_of_group limit chosen log held (Some state) (Some its) change is h = h.0
+pub one_of_group : (limit : ℕ) (chosen : Hold → Bool) (log : List Batch) (held : Held) (o : Option ShareState) (rows : List Run) (r : Option Moved) (moved : Moved) → r ≡ Some moved
+    → ReleasesGroup limit (releasing chosen held) log held o rows r → NameOne (releasing chosen held)
+one_of_group limit chosen log held o rows None moved is h = absurd (let clash : ⊥ = cc in clash)
+one_of_group limit chosen log held None rows (Some its) moved is h = absurd h
+one_of_group limit chosen log held (Some state) rows (Some its) moved is h = h.0
 
-pub none_of_group : (limit : ℕ) (chosen : Hold → Bool) (log : List Batch) (held : Held) (o : Option ShareState) (r : Option Change) → r ≡ None
-    → ReleasesGroup limit (releasing chosen held) log held o r → NameNone (releasing chosen held)
-none_of_group limit chosen log held o None is h = h
-none_of_group limit chosen log held o (Some its) is h = absurd (let clash : ⊥ = cc in clash)
+pub none_of_group : (limit : ℕ) (chosen : Hold → Bool) (log : List Batch) (held : Held) (o : Option ShareState) (rows : List Run) (r : Option Moved) → r ≡ None
+    → ReleasesGroup limit (releasing chosen held) log held o rows r → NameNone (releasing chosen held)
+none_of_group limit chosen log held o rows None is h = h
+none_of_group limit chosen log held o rows (Some its) is h = absurd (let clash : ⊥ = cc in clash)

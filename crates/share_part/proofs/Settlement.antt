@@ -24,28 +24,28 @@ use Rattle.share_part.specs.Hosting.{PartConfParts, AreHeldWell, AreHosted, Hold
 use Rattle.share_coord.specs.States.{states_of}
 use Rattle.share_part.specs.Foreseeing.{HasChange}
 use Rattle.share_part.specs.Releasing.{told_in}
-use Rattle.share_part.specs.Settling.{Acts, AreHeldBy, Judges}
+use Rattle.share_part.specs.Settling.{Acts, AreHeldBy, Change, Judges, change_of}
 use Rattle.share_part.specs.Storing.{IsActsStored, IsRecordOf, IsStored, SettlesGroup, StoresGroup, StoresOnce, TellsStored, start_number}
 use Rattle.share_part.specs.Tables.{table_of}
 use Rattle.share_part.specs.declared.release.Released.{Released}
-use Rattle.share_part.specs.declared.settle.Change.{Change}
 use Rattle.share_part.specs.declared.settle.Judged.{Judged}
 use Rattle.share_part.specs.declared.settle.Judged.TheVariants.{NotHeld, Changes}
+use Rattle.share_part.specs.declared.settle.Moved.{Moved}
 use Rattle.share_part.proofs.Visiting.{err_is}
 use Rattle.share_part.proofs.Writing.{start_bound, granted, not_many}
 use Rattle.edge_io.specs.Views.{DiskView}
 
 -- acknowledgements of what the member holds
-pub change_there : (limit : ℕ) (member : List ℕ) (acts : Acts) (log : List Batch) (held : Held) (o : Option ShareState) (j : Judged) (change : Change) → j ≡ Changes change
-    → JudgesGroup limit member acts log held o j → HasChange limit acts log held o change
-change_there limit member acts log held None j change is h = absurd (let never : NotHeld h.0 ≡ Changes change = sym h.1 ∙ is in let clash : ⊥ = cc in clash)
-change_there limit member acts log held (Some state) j change is h =
-    let both = subst (Judges limit member acts log (table_of state held)) is h in (state, refl, both.1)
+pub change_there : (limit : ℕ) (member : List ℕ) (acts : Acts) (log : List Batch) (held : Held) (o : Option ShareState) (rows : List Run) (j : Judged) (moved : Moved)
+    → j ≡ Changes moved → JudgesGroup limit member acts log held o rows j → HasChange limit acts log held o (change_of moved rows)
+change_there limit member acts log held None rows j moved is h = absurd (let never : NotHeld h.0 ≡ Changes moved = sym h.1 ∙ is in let clash : ⊥ = cc in clash)
+change_there limit member acts log held (Some state) rows j moved is h =
+    let both = subst (Judges limit member acts log (table_of state held) rows) is h in (state, refl, both.1)
 
-pub theirs_there : (limit : ℕ) (member : List ℕ) (acts : Acts) (log : List Batch) (held : Held) (o : Option ShareState) (j : Judged) (change : Change) → j ≡ Changes change
-    → JudgesGroup limit member acts log held o j → AreHeldBy member acts held
-theirs_there limit member acts log held None j change is h = absurd (let never : NotHeld h.0 ≡ Changes change = sym h.1 ∙ is in let clash : ⊥ = cc in clash)
-theirs_there limit member acts log held (Some state) j change is h = (subst (Judges limit member acts log (table_of state held)) is h).0
+pub theirs_there : (limit : ℕ) (member : List ℕ) (acts : Acts) (log : List Batch) (held : Held) (o : Option ShareState) (rows : List Run) (j : Judged) (moved : Moved)
+    → j ≡ Changes moved → JudgesGroup limit member acts log held o rows j → AreHeldBy member acts held
+theirs_there limit member acts log held None rows j moved is h = absurd (let never : NotHeld h.0 ≡ Changes moved = sym h.1 ∙ is in let clash : ⊥ = cc in clash)
+theirs_there limit member acts log held (Some state) rows j moved is h = (subst (Judges limit member acts log (table_of state held) rows) is h).0
 
 told_done : (done : Result (Unit {0}) CoordFault) → TellsStored done (Ok None) → done ≡ Ok tt
 told_done (Ok u) tells = refl
@@ -109,7 +109,7 @@ module _ {D : Type 0} (conf : PartConfParts) (log : List Batch) (group : List �
   pub start_within : IfSome change.start (λ n. n ≤ 2 ^ 62)
   start_within = start_bound conf log old.entries group found.0 held acts change sound few was holds found.1 found.2
 
-  module _ (key : KeyParts) (runs : List Run) (key_is : key ≡ key_of conf group) (runs_are : runs ≡ change.runs.items) where
+  module _ (key : KeyParts) (runs : List Run) (key_is : key ≡ key_of conf group) (runs_are : runs ≡ change.runs) where
     pub granted_there : write_refusal (kept_at old.entries key) (pos 0) (pos 0) (start_number change.start) runs ≡ None
     granted_there =
         (λ i. write_refusal (kept_at old.entries (key_is i)) (pos 0) (pos 0) (start_number change.start) (runs_are i))
@@ -131,10 +131,10 @@ module _ {D : Type 0} (conf : PartConfParts) (log : List Batch) (group : List �
         change = change;
         known = found.1;
         is = found.2;
-        once = subst (WritesOnce seen Failed (IsStored old.entries (key_of conf group) change.start change.runs.items) old new) same
+        once = subst (WritesOnce seen Failed (IsStored old.entries (key_of conf group) change.start change.runs) old new) same
             (subst (λ (r : List Run). WritesOnce seen Failed (IsStored old.entries (key_of conf group) change.start r) old new done) runs_are
             (subst (λ (k : KeyParts). WritesOnce seen Failed (IsStored old.entries k change.start runs) old new done) key_is once));
-        one = subst (StoresOne seen (IsRecordOf old.entries (key_of conf group) change.start change.runs.items) old.journal new.journal) same
+        one = subst (StoresOne seen (IsRecordOf old.entries (key_of conf group) change.start change.runs) old.journal new.journal) same
             (subst (λ (r : List Run). StoresOne seen (IsRecordOf old.entries (key_of conf group) change.start r) old.journal new.journal done) runs_are
             (subst (λ (k : KeyParts). StoresOne seen (IsRecordOf old.entries k change.start runs) old.journal new.journal done) key_is one));
       }

@@ -3,7 +3,7 @@ use Rattle.std.proofs.Common.{◌≡◌, ◌⊎◌, ⊎_elim, ◌∙◌, inl, in
 use Rattle.std.proofs.lemmas.Bool.{cases_lt}
 use Rattle.std.proofs.lemmas.Bool.Decides.{nat_tests}
 use Rattle.std.specs.Prelude.{nat_le, nat_lt, ◌&&◌, if◌then◌else◌}
-use Rattle.std.specs.List.{Contains, list_all}
+use Rattle.std.specs.List.{AllByRecursion, Contains, list_all}
 use Rattle.std.specs.Option.{option_or}
 use Rattle.share_model.proofs.Lookups.{row_at-here, row_at-beyond, row_at-none}
 use Rattle.share_model.specs.ForeignRules.{size_of}
@@ -17,10 +17,12 @@ use Rattle.share_model.specs.declared.hold.Hold.{Hold}
 use Rattle.share_model.specs.declared.row.Row.{Row}
 use Rattle.share_model.specs.declared.row.RowState.TheVariants.{Available, Archived}
 use Rattle.share_model.specs.declared.run.Run.{Run}
-use Rattle.share_part.specs.Hosting.{PartConfParts, AreHeldWell, IsHosted, IsHostedRow, key_of}
+use Rattle.lock_index.specs.Windows.{IsRising, RisesFrom as HoldsRise}
+use Rattle.share_part.specs.Hosting.{PartConfParts, AreHeldWell, HoldsWell, IsHosted, IsHostedRow, key_of}
 use Rattle.share_part.specs.Settling.{Acts, IsNextStart, IsSettled, act_row, settled, stored_after}
 use Rattle.share_part.specs.Slots.{and_more, next_slot, slots_from}
 use Rattle.share_part.specs.Tables.{table_of}
+use Rattle.share_part.proofs.Letting.{found_each}
 use Rattle.share_part.proofs.Producing.{front_or, front_in, behind_in, none_in}
 use Rattle.share_part.proofs.Slotting.{next_is, next_meets}
 
@@ -222,3 +224,34 @@ all_writable (r ∷ rs) canonical small =
     let count : r.count ≤ 10 = s.1 in
     let one : is_writable r ≡ true = grind (arith, nat_tests) in
     λ i. one i && all_writable rs canonical.2 (λ o row at. small o row (rows_behind r rs canonical o row at).1) i
+
+-- ---- how many records are held
+
+drop_first : (x : ℕ) (xs : List ℕ) (low : ℕ) (held : Held) → x < low → HoldsRise low held → AllByRecursion (λ (e : ℕ × Hold). Contains (x ∷ xs) e.0) held
+    → AllByRecursion (λ (e : ℕ × Hold). Contains xs e.0) held
+drop_first x xs low [] lt rises within = tt
+drop_first x xs low (e ∷ held) lt rises within = (
+  ⊎_elim (λ same. absurd (omega (arith, same, lt, rises.0))) (λ c. c) (front_or x e.0 xs within.0),
+  drop_first x xs (e.0 + 1) held (omega (arith, lt, rises.0)) rises.1 within.1,
+)
+
+-- offsets that rise and are all among these are no more than these
+few_offsets : (xs : List ℕ) (from low : ℕ) (held : Held) → Rising from xs → HoldsRise low held → AllByRecursion (λ (e : ℕ × Hold). Contains xs e.0) held
+    → length held ≤ length xs
+few_offsets xs from low [] up rises within = omega arith
+few_offsets [] from low (e ∷ held) up rises within = absurd (none_in e.0 within.0)
+few_offsets (x ∷ xs) from low (e ∷ held) up rises within =
+    let first : x ≤ e.0 = least_first x (x ∷ xs) e.0 (omega arith, up.1) within.0 in
+    let rest = few_offsets xs (x + 1) (e.0 + 1) held up.1 rises.1 (drop_first x xs (e.0 + 1) held (omega (arith, first)) rises.1 within.1) in
+    omega (arith, rest)
+
+none_held : (held : Held) → held ≡ [] → length held ≤ 2000
+none_held held none = let zero_is = ap (λ (h : Held). length h) none in omega (arith, zero_is)
+
+-- a group holds at most 2000 records
+pub few_held : (log : List Batch) (o : Option ShareState) (held : Held) → IsLog log → IsRising held → HoldsWell log o held → length held ≤ 2000
+few_held log None held is_log rises none = none_held held none
+few_held log (Some state) held is_log rises well =
+    let count = few_offsets (slots_from 2000 log (size_of state.start)) (size_of state.start) 0 held (slots_rise 2000 log (size_of state.start) is_log) rises
+    (found_each (λ o hold. Contains (slots_from 2000 log (size_of state.start)) o) 0 held rises (λ o hold at. (well o hold at).slot)) in
+    omega (arith, count, slots_few 2000 log (size_of state.start))

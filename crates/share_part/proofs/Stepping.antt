@@ -14,16 +14,15 @@ use Rattle.share_model.specs.ShareStates.{ShareState, is_below, start_after}
 use Rattle.share_model.specs.declared.row.Row.{Row}
 use Rattle.share_part.specs.Hosting.{PartConfParts, IsHosted, key_of}
 use Rattle.share_coord.specs.States.{states_of}
-use Rattle.share_part.specs.Settling.{Acts, IsChange, IsSettled, acted, stored_after}
+use Rattle.share_part.specs.Settling.{Acts, Change, IsChange, IsSettled, acted, stored_after}
 use Rattle.share_part.specs.Storing.{IsStored, start_number}
 use Rattle.share_part.specs.Tables.{table_of}
-use Rattle.share_part.specs.declared.settle.Change.{Change}
 use Rattle.share_part.proofs.Seeing.{kept_view, state_seen, view_of, with_based}
 use Rattle.share_part.proofs.Writing.{last_is, seen_kept, kept_one}
 
 module _ (conf : PartConfParts) (log : List Batch) (es new : Entries) (group : List ℕ) (state : ShareState) (held : Held) (acts : Acts) (change : Change)
     (was : IsHosted conf log (key_of conf group) state) (known : share_state_at (states_of es) (key_of conf group) ≡ Some state)
-    (ch : IsChange conf.limit acts log (table_of state held) change) (w : IsStored es (key_of conf group) change.start change.runs.items new) where
+    (ch : IsChange conf.limit acts log (table_of state held) change) (w : IsStored es (key_of conf group) change.start change.runs new) where
   abbrev pub next : ShareState
   next = (written_of w.kept (pos 0) (pos 0) (start_number change.start) w.laid).view
 
@@ -48,7 +47,7 @@ module _ (conf : PartConfParts) (log : List Batch) (es new : Entries) (group : L
   rows_are : (o : ℕ) → row_at w.laid o ≡ (if nat_lt o start then None else stored_after conf.limit acts (table_of state held) o)
   rows_are o =
       let written : row_at w.written o ≡ (if nat_lt o start then None else acted conf.limit acts held o) =
-      w.are_written.rows o ∙ last_is change.runs.items ch.settles.canonical o ∙ ch.settles.rows o in
+      w.are_written.rows o ∙ last_is change.runs ch.settles.canonical o ∙ ch.settles.rows o in
       w.are_laid.rows o
       ∙ ap (λ (z : ℤ). if is_below o z then None else option_or (row_at w.written o) (row_at w.kept.view.runs o)) (start_is change.start)
       ∙ ap (λ (r : Option Row). if nat_lt o start then None else option_or r (row_at w.kept.view.runs o)) written

@@ -70,7 +70,7 @@ module _ {D W : Type 0} (seen : D → DiskView) (holding : W → Held) (group : 
 
   -- ---- what is stored
 
-  module _ (done : Result (Unit {0}) CoordFault) (st : Stored done) (es : Entries) (w : IsStored old.states.entries key st.change.start st.change.runs.items es) where
+  module _ (done : Result (Unit {0}) CoordFault) (st : Stored done) (es : Entries) (w : IsStored old.states.entries key st.change.start st.change.runs es) where
     pub its_hosted : IsHosted old.conf old.log.batches key st.state
     its_hosted = hosted key st.state st.known
 

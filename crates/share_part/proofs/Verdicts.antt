@@ -1,12 +1,11 @@
 -- What acknowledgements come to on the table of a group.
 use Rattle.std.proofs.Common.{◌≡◌, ◌∙◌, refl, sym, ap, subst, arith, ℕ, List, [], ◌∷◌, Option, Some, None}
-use Rattle.std.specs.Prelude.{IfOk, IsSome, Result}
+use Rattle.std.specs.Prelude.{IsSome}
 use Rattle.std.specs.BTreeMap.{is_at}
 use Rattle.std.specs.Cmp.Lexicographic.{slice_cmp}
 use Rattle.std.specs.Map.{lookup}
 use Rattle.std.specs.Option.{option_map}
 use Rattle.std.specs.Ordering.{nat_cmp}
-use Rattle.flex_fields.specs.declared.fault.NoMemory.{NoMemory as want}
 use Rattle.ack_ranges.proofs.Looks.{here, begins_at}
 use Rattle.ack_ranges.specs.Batches.{kind_at}
 use Rattle.ack_ranges.specs.Pieces.{ArePieces, IsCanonical, piece_at}
@@ -21,6 +20,7 @@ use Rattle.share_model.specs.declared.ack.AckKind.{AckKind}
 use Rattle.share_model.specs.declared.run.Run.{Run}
 use Rattle.share_coord.specs.Stored.{Entries, kept_at}
 use Rattle.share_part.specs.Acting.{IsFirstNamed, JudgesGroup}
+use Rattle.share_part.specs.Hosting.{HoldsWell}
 use Rattle.share_coord.specs.States.{states_of}
 use Rattle.share_part.specs.Settling.{Acts, IsHeldBy, IsLeastMissing, Judges}
 use Rattle.share_part.specs.Shards.{held_in, held_of}
@@ -54,10 +54,15 @@ first_missing member acts held first none is = record {
     nothing None e some = let clash : ⊥ = cc in clash
     nothing (Some k) e some = let clash : ⊥ = cc in clash
 
-pub missing_judged : (limit : ℕ) (member : List ℕ) (acts : Acts) (log : List Batch) (held : Held) (state : Option ShareState) (first : ℕ) → held ≡ [] → IsFirstNamed acts first
-    → JudgesGroup limit member acts log held state (NotHeld first)
-missing_judged limit member acts log held None first none is = (first, refl, first_missing member acts held first none is)
-missing_judged limit member acts log held (Some state) first none is = first_missing member acts held first none is
+pub missing_judged : (limit : ℕ) (member : List ℕ) (acts : Acts) (log : List Batch) (held : Held) (state : Option ShareState) (rows : List Run) (first : ℕ) → held ≡ []
+    → IsFirstNamed acts first → JudgesGroup limit member acts log held state rows (NotHeld first)
+missing_judged limit member acts log held None rows first none is = (first, refl, first_missing member acts held first none is)
+missing_judged limit member acts log held (Some state) rows first none is = first_missing member acts held first none is
+
+-- a group without a table holds nothing
+pub idle_held : (log : List Batch) (state : Option ShareState) (held : Held) → state ≡ None → HoldsWell log state held → held ≡ []
+idle_held log None held none well = well
+idle_held log (Some state) held none well = absurd (let clash : ⊥ = cc in clash)
 
 module _ {W : Type 0} (holding : W → Held) (entries : Entries) (windows : List (List ℕ × W)) (group : List ℕ) (key : KeyParts) where
   pub nothing_held : None ≡ lookup (is_at (slice_cmp nat_cmp group)) windows → held_in holding windows group ≡ []
@@ -68,15 +73,15 @@ module _ {W : Type 0} (holding : W → Held) (entries : Entries) (windows : List
 
   pub judged_there : (limit : ℕ) (member : List ℕ) (log : List Batch) (state : ShareState) → Some state ≡ option_map view_of (kept_at entries key)
       → (w : W) → Some w ≡ lookup (is_at (slice_cmp nat_cmp group)) windows → (start : ℕ) (rows : List Run) → start ≡ size_of state.start → rows ≡ state.runs
-      → (its : ℕ) → its ≡ limit → (named acks : List AckBatch) → named ≡ acks → (result : Result Judged want)
-      → IfOk result (Judges its member (kind_at named) log (record { start = start; rows = rows; held = holding w }))
-      → IfOk result (JudgesGroup limit member (kind_at acks) log (held_in holding windows group) (share_state_at (states_of entries) key))
-  judged_there limit member log state there w in_map start rows at are its same named acks alike result judges =
+      → (its : ℕ) → its ≡ limit → (named acks : List AckBatch) → named ≡ acks → (put : List Run) (judged : Judged)
+      → Judges its member (kind_at named) log (record { start = start; rows = rows; held = holding w }) put judged
+      → JudgesGroup limit member (kind_at acks) log (held_in holding windows group) (share_state_at (states_of entries) key) put judged
+  judged_there limit member log state there w in_map start rows at are its same named acks alike put judged judges =
       let known : share_state_at (states_of entries) key ≡ Some state = state_seen entries key ∙ sym there in
       let held : holding w ≡ held_in holding windows group = ap (held_of holding) in_map in
       let table : ◌≡◌ {A = Table} (record { start = start; rows = rows; held = holding w }) (table_of state (held_in holding windows group)) =
       λ i. record { start = at i; rows = are i; held = held i } in
-      subst (λ (o : Option ShareState). IfOk result (JudgesGroup limit member (kind_at acks) log (held_in holding windows group) o)) (sym known)
-      (subst (λ (t : Table). IfOk result (Judges limit member (kind_at acks) log t)) table
-      (subst (λ (l : List AckBatch). IfOk result (Judges limit member (kind_at l) log (record { start = start; rows = rows; held = holding w }))) alike
-      (subst (λ (n : ℕ). IfOk result (Judges n member (kind_at named) log (record { start = start; rows = rows; held = holding w }))) same judges)))
+      subst (λ (o : Option ShareState). JudgesGroup limit member (kind_at acks) log (held_in holding windows group) o put judged) (sym known)
+      (subst (λ (t : Table). Judges limit member (kind_at acks) log t put judged) table
+      (subst (λ (l : List AckBatch). Judges limit member (kind_at l) log (record { start = start; rows = rows; held = holding w }) put judged) alike
+      (subst (λ (n : ℕ). Judges n member (kind_at named) log (record { start = start; rows = rows; held = holding w }) put judged) same judges)))

@@ -23,11 +23,10 @@ use Rattle.part_log.proofs.Rising.{end_bound}
 use Rattle.part_log.specs.Logs.{IsStoredLog}
 use Rattle.share_part.specs.Hosting.{PartConfParts, AreHeldWell, IsHosted, key_of}
 use Rattle.share_coord.specs.States.{states_of}
-use Rattle.share_part.specs.Settling.{Acts, IsChange, acted, stored_after}
+use Rattle.share_part.specs.Settling.{Acts, Change, IsChange, acted, stored_after}
 use Rattle.share_part.specs.Slots.{and_more, next_slot, slots_from}
 use Rattle.share_part.specs.Storing.{start_number}
 use Rattle.share_part.specs.Tables.{table_of}
-use Rattle.share_part.specs.declared.settle.Change.{Change}
 use Rattle.share_part.proofs.Producing.{front_or, none_in}
 use Rattle.share_part.proofs.Seeing.{state_seen, view_of}
 use Rattle.share_part.proofs.Slotting.{next_meets, slot_below}
@@ -95,7 +94,7 @@ module _ (conf : PartConfParts) (log : List Batch) (es : Entries) (group : List 
   start_bound = bounded change.start (size_of state.start) (let end = end_bound log sound.stored in let below = starts.1 in omega (arith, end, below))
 
   -- each row that is written is that of a held record
-  run_there : (o : ℕ) (row : Row) → row_at change.runs.items o ≡ Some row → Contains (slots_from 2000 log (size_of state.start)) o × (row.count ≤ 10)
+  run_there : (o : ℕ) (row : Row) → row_at change.runs o ≡ Some row → Contains (slots_from 2000 log (size_of state.start)) o × (row.count ≤ 10)
   run_there o row at =
       let there = from_start conf log group state held acts sound.rises few was well o next_start (acted conf.limit acts held o) row (sym (ch.settles.rows o) ∙ at) in
       let act = of_act conf.limit (acts o) (hold_at held o) row there.1 in
@@ -104,8 +103,8 @@ module _ (conf : PartConfParts) (log : List Batch) (es : Entries) (group : List 
       let high : act.1.count ≤ 10 = h.delivered.1 in
       (h.slot, omega (arith, count, high))
 
-  writable : list_all is_writable change.runs.items ≡ true
-  writable = all_writable change.runs.items ch.settles.canonical (λ o row at.
+  writable : list_all is_writable change.runs ≡ true
+  writable = all_writable change.runs ch.settles.canonical (λ o row at.
       let t = run_there o row at in (slot_below log o sound.stored (slot_of 2000 log (size_of state.start) o sound.rises t.0), t.1))
 
   kept_there : (kept : KeptState) × (kept_at es key ≡ Some kept) × (kept.view ≡ state)
@@ -120,27 +119,27 @@ module _ (conf : PartConfParts) (log : List Batch) (es : Entries) (group : List 
       fenced_two : ℤ → ℤ → KeptState → Option CoordFault
       fenced_two l e kept = fenced_write (Some (record { view = record { state_epoch = e; leader_epoch = l; start = kept.view.start; runs = kept.view.runs }; snapshot = kept.snapshot; updates = kept.updates })) (pos 0) (pos 0)
 
-  pub granted : write_refusal (kept_at es key) (pos 0) (pos 0) (start_number change.start) change.runs.items ≡ None
+  pub granted : write_refusal (kept_at es key) (pos 0) (pos 0) (start_number change.start) change.runs ≡ None
   granted =
-      ap (λ (b : Bool). if b || not (list_all is_writable change.runs.items) then Some Invalid else fenced_write (kept_at es key) (pos 0) (pos 0)) (not_low change.start)
+      ap (λ (b : Bool). if b || not (list_all is_writable change.runs) then Some Invalid else fenced_write (kept_at es key) (pos 0) (pos 0)) (not_low change.start)
       ∙ ap (λ (b : Bool). if not b then Some Invalid else fenced_write (kept_at es key) (pos 0) (pos 0)) writable
       ∙ ap (λ (o : Option KeptState). fenced_write o (pos 0) (pos 0)) kept_there.1 ∙ unfenced kept_there.0 kept_there.2
 
   -- the rows that are written, or stand after it, are those of slots
   laid_there : (written laid : List Run) (start : ℤ) (kept : KeptState) → kept.view ≡ state
-      → ((o : ℕ) → row_at written o ≡ last_row change.runs.items o)
-      → ((o : ℕ) → row_at written o ≡ last_row change.runs.items o) → (o : ℕ) (row : Row) → option_or (row_at written o) (row_at kept.view.runs o) ≡ Some row
+      → ((o : ℕ) → row_at written o ≡ last_row change.runs o)
+      → ((o : ℕ) → row_at written o ≡ last_row change.runs o) → (o : ℕ) (row : Row) → option_or (row_at written o) (row_at kept.view.runs o) ≡ Some row
       → Contains (slots_from 2000 log (size_of state.start)) o
   laid_there written laid start kept is w w2 o row at =
-      ⊎_elim (λ e. (run_there o row (sym (last_is change.runs.items ch.settles.canonical o) ∙ sym (w o) ∙ e)).0)
+      ⊎_elim (λ e. (run_there o row (sym (last_is change.runs ch.settles.canonical o) ∙ sym (w o) ∙ e)).0)
       (λ e. (was.rows o row (ap (λ (s : ShareState). row_at s.runs o) (sym is) ∙ e)).slot) (either (row_at written o) (row_at kept.view.runs o) row at)
 
-  pub not_many : (count : ℕ) → IsTooMany es key (start_number change.start) change.runs.items count → ⊥
+  pub not_many : (count : ℕ) → IsTooMany es key (start_number change.start) change.runs count → ⊥
   not_many count t =
       let same : t.kept ≡ kept_there.0 = kept_one t.kept kept_there.0 (sym t.known ∙ kept_there.1) in
       let is : t.kept.view ≡ state = ap view_of same ∙ kept_there.2 in
       let w = few_within log (size_of state.start) t.written sound.rises t.are_written.canonical
-      (λ o row at. (run_there o row (sym (last_is change.runs.items ch.settles.canonical o) ∙ sym (t.are_written.rows o) ∙ at)).0) in
+      (λ o row at. (run_there o row (sym (last_is change.runs ch.settles.canonical o) ∙ sym (t.are_written.rows o) ∙ at)).0) in
       let l = few_within log (size_of state.start) t.laid sound.rises t.are_laid.canonical
       (λ o row at. laid_there t.written t.laid (start_number change.start) t.kept is t.are_written.rows t.are_written.rows o row (unless _ (option_or (row_at t.written o) (row_at t.kept.view.runs o)) row (sym (t.are_laid.rows o) ∙ at))) in
       let many = t.many in let is_count = t.count_is in

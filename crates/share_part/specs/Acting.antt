@@ -1,6 +1,7 @@
 -- How far acts have come, offset by offset. Private clauses cite this alone.
 -- For example once the acts below 3 are done, there are rows of held offsets below 3 that are named, and none from 3 on.
-use Rattle.std.specs.Prelude.{◌≡◌, ◌≤◌, ◌<◌, ℕ, List, Option, Some, None, IsSome, nat_lt, if◌then◌else◌}
+use Rattle.std.specs.Prelude.{◌≡◌, ◌≤◌, ◌<◌, ◌*◌, ℕ, List, Option, Some, None, IsSome, nat_le, nat_lt, if◌then◌else◌}
+use Rattle.std.specs.List.{count_by}
 use Rattle.std.specs.Option.{option_or}
 use Rattle.ack_ranges.specs.declared.piece.Piece.{Piece}
 use Rattle.share_model.specs.Held.{Held, hold_at}
@@ -60,6 +61,14 @@ Ends limit member acts held rows (Some least) = IsLeastMissing member acts held 
 abbrev pub IsSaid : Piece → Acts → Type 0
 IsSaid piece acts = (offset : ℕ) → piece.first ≤ offset → offset ≤ piece.last → acts offset ≡ Some piece.kind
 
+-- how many records are held from an offset on
+abbrev pub held_from : ℕ → Held → ℕ
+held_from from held = count_by (λ entry. nat_le from entry.0) held
+
+-- the spare number of runs is enough for the rows of these: a row that is put takes two at most
+abbrev pub HasSpareFrom : Held → ℕ → (spare : ℕ) → Type 0
+HasSpareFrom held from spare = 2 * held_from from held ≤ spare
+
 -- the rows of the first list, and below them those of the second
 abbrev pub laid : List Run → List Run → ℕ → Option Row
 laid rows stored offset = option_or (row_at rows offset) (row_at stored offset)
@@ -72,6 +81,8 @@ pub record IsFirstNamed (acts : Acts) (first : ℕ) : Type 0 where
   pub before : (offset : ℕ) → offset < first → acts offset ≡ None
 
 -- what is judged of a group that has this state, if it has one
-abbrev pub JudgesGroup : ℕ → List ℕ → Acts → List Batch → Held → Option ShareState → Judged → Type 0
-JudgesGroup limit member acts log held None judged = (least : ℕ) × (judged ≡ NotHeld least) × IsLeastMissing member acts held least
-JudgesGroup limit member acts log held (Some state) judged = Judges limit member acts log (table_of state held) judged
+abbrev pub JudgesGroup : ℕ → List ℕ → Acts → List Batch → Held → Option ShareState → List Run → Judged → Type 0
+JudgesGroup limit member acts log held None rows judged =
+    (least : ℕ) × (judged ≡ NotHeld least) × IsLeastMissing member acts held least
+JudgesGroup limit member acts log held (Some state) rows judged =
+    Judges limit member acts log (table_of state held) rows judged

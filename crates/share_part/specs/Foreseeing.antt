@@ -14,12 +14,13 @@ use Rattle.share_model.specs.Logs.{Batch}
 use Rattle.share_model.specs.Rooms.{Filled}
 use Rattle.share_model.specs.Runs.{row_at}
 use Rattle.share_model.specs.ShareStates.{ShareState}
+use Rattle.share_model.specs.declared.run.Run.{Run}
 use Rattle.share_model.specs.declared.visit.AckOutcome.{AckOutcome}
 use Rattle.share_model.specs.declared.visit.Visit.{Visit}
 use Rattle.share_model.specs.declared.visit.VisitAnswer.{VisitAnswer}
 use Rattle.share_part.specs.Acknowledging.{NameNone, NameOne}
 use Rattle.share_part.specs.Collecting.{IsPlanOf}
-use Rattle.share_part.specs.Settling.{Acts, AreHeldBy, IsChange, IsLeastMissing, held_after, stored_after}
+use Rattle.share_part.specs.Settling.{Acts, AreHeldBy, Change, IsChange, IsLeastMissing, change_of, held_after, stored_after}
 use Rattle.share_part.specs.Tables.{Table, table_of}
 use Rattle.share_part.specs.Walks.{acquired}
 use Rattle.share_part.specs.declared.acks.Acks.{Acks}
@@ -27,7 +28,6 @@ use Rattle.share_part.specs.declared.acks.Acks.TheVariants.{Malformed, Empty, No
 use Rattle.share_part.specs.declared.limits.Limits.{Limits}
 use Rattle.share_part.specs.declared.plan.Plan.{Plan}
 use Rattle.share_part.specs.declared.plan.Ready.{Ready}
-use Rattle.share_part.specs.declared.settle.Change.{Change}
 
 -- the start behind a change
 abbrev pub start_behind : Change → ℕ → ℕ
@@ -49,14 +49,16 @@ abbrev pub HasChange : ℕ → Acts → List Batch → Held → Option ShareStat
 HasChange limit acts log held o change =
     (state : ShareState) × (o ≡ Some state) × IsChange limit acts log (table_of state held) change
 
--- what the acknowledgements of a visit come to for a group that holds this, and has this state, if it has one
-abbrev pub JudgesAcks : ℕ → Visit → List Batch → Held → Option ShareState → Acks → Type 0
-JudgesAcks limit visit log held state (Malformed fault) = IsFirstFault visit.acks fault
-JudgesAcks limit visit log held state Empty = IsWellFormed visit.acks × NameNone (kind_at visit.acks)
-JudgesAcks limit visit log held state (NotHeld least) = IsWellFormed visit.acks × NameOne (kind_at visit.acks)
+-- what the acknowledgements of a visit come to for a group that holds this, and has this state, if it has one; `rows`
+-- are those that are to be stored
+abbrev pub JudgesAcks : ℕ → Visit → List Batch → Held → Option ShareState → (rows : List Run) → Acks → Type 0
+JudgesAcks limit visit log held state rows (Malformed fault) = IsFirstFault visit.acks fault
+JudgesAcks limit visit log held state rows Empty = IsWellFormed visit.acks × NameNone (kind_at visit.acks)
+JudgesAcks limit visit log held state rows (NotHeld least) = IsWellFormed visit.acks × NameOne (kind_at visit.acks)
     × IsLeastMissing visit.member (kind_at visit.acks) held least
-JudgesAcks limit visit log held state (Changes change) = IsWellFormed visit.acks × NameOne (kind_at visit.acks)
-    × AreHeldBy visit.member (kind_at visit.acks) held × HasChange limit (kind_at visit.acks) log held state change
+JudgesAcks limit visit log held state rows (Changes moved) = IsWellFormed visit.acks × NameOne (kind_at visit.acks)
+    × AreHeldBy visit.member (kind_at visit.acks) held
+    × HasChange limit (kind_at visit.acks) log held state (change_of moved rows)
 
 -- a group's window is there, and has memory set aside for so many more holds
 abbrev pub HasSpare : {W : Type 0} → (W → ℕ) → List (List ℕ × W) → List ℕ → ℕ → Type 0
@@ -69,13 +71,13 @@ abbrev pub HasRoomFor : {W : Type 0} → (W → ℕ) → List (List ℕ × W) �
 HasRoomFor spare windows group out plan = HasSpare spare windows group plan.count × (plan.size ≤ out.spare)
 
 -- where the acknowledgements change something, what a fetch will take behind that
-abbrev pub MovesBy : ℕ → Visit → List Batch → Table → Limits → Acks → Option Plan → Type 0
-MovesBy limit visit log table limits (Malformed fault) moves = moves ≡ None
-MovesBy limit visit log table limits Empty moves = moves ≡ None
-MovesBy limit visit log table limits (NotHeld least) moves = moves ≡ None
-MovesBy limit visit log table limits (Changes change) None = ⊥
-MovesBy limit visit log table limits (Changes change) (Some plan) =
-    IsPlanBehind limit (kind_at visit.acks) log table change limits plan
+abbrev pub MovesBy : ℕ → Visit → List Batch → Table → Limits → (rows : List Run) → Acks → Option Plan → Type 0
+MovesBy limit visit log table limits rows (Malformed fault) moves = moves ≡ None
+MovesBy limit visit log table limits rows Empty moves = moves ≡ None
+MovesBy limit visit log table limits rows (NotHeld least) moves = moves ≡ None
+MovesBy limit visit log table limits rows (Changes moved) None = ⊥
+MovesBy limit visit log table limits rows (Changes moved) (Some plan) =
+    IsPlanBehind limit (kind_at visit.acks) log table (change_of moved rows) limits plan
 
 -- few enough grants that an answer can tell them
 abbrev pub IsTold : Plan → Type 0
@@ -91,10 +93,10 @@ pub record IsPrepared {W : Type 0} (spare : W → ℕ) (windows : List (List ℕ
 
 -- a fetch of a group that has this table is ready, whatever becomes of the write before it
 pub record IsReady {W : Type 0} (spare : W → ℕ) (windows : List (List ℕ × W)) (limit : ℕ) (visit : Visit)
-    (log : List Batch) (table : Table) (acks : Acks) (limits : Limits) (ready : Ready) : Type 0 where
+    (log : List Batch) (table : Table) (rows : List Run) (acks : Acks) (limits : Limits) (ready : Ready) : Type 0 where
   pub empty : ready.out.bytes ≡ []
   pub stays : IsPlanOf log ready.stays (acquired log table limits)
-  pub moves : MovesBy limit visit log table limits acks ready.moves
+  pub moves : MovesBy limit visit log table limits rows acks ready.moves
   pub room : HasRoomFor spare windows visit.group ready.out ready.stays
   pub room_behind : IfSome ready.moves (HasRoomFor spare windows visit.group ready.out)
   pub told : IsTold ready.stays

@@ -74,10 +74,11 @@ pub record ArePartText (conf : PartConfParts) (log first second : List ℕ) (bat
   pub states_are : AreStates first second states
   pub hosted : AreHosted conf batches states
 
--- what the parts of a shard in memory keep: the log is sound, the states are ones that the partition may have, and each group holds what
--- it may hold
-pub record IsKeptShard (conf : PartConfParts) (log : List Batch) (entries : Entries) (held : List ℕ → Held) (clock : ℕ) : Type 0 where
+-- what the parts of a shard in memory keep: the log is sound, the states are ones that the partition may have, each group holds what
+-- it may hold, and there is memory for two runs for each of the 2000 records that a group may hold
+pub record IsKeptShard (conf : PartConfParts) (log : List Batch) (entries : Entries) (held : List ℕ → Held) (clock room : ℕ) : Type 0 where
   pub log_is : IsStoredLog log
   pub hosted : AreHosted conf log (states_of entries)
   pub holds : (group : List ℕ) → KeepsHolds log (share_state_at (states_of entries) (key_of conf group)) (held group)
   pub moment : clock ≤ 2 ^ 62
+  pub scratch : 4000 ≤ room

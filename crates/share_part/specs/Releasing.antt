@@ -9,32 +9,35 @@ use Rattle.share_model.specs.ShareStates.{ShareState}
 use Rattle.share_model.specs.declared.fault.StoreFault.{StoreFault}
 use Rattle.share_model.specs.declared.fault.StoreFault.TheVariants.{Device}
 use Rattle.share_model.specs.declared.hold.Hold.{Hold}
+use Rattle.share_model.specs.declared.run.Run.{Run}
 use Rattle.share_part.specs.Acknowledging.{NameNone, NameOne, StoresActs}
 use Rattle.share_part.specs.Expiring.{due_count}
 use Rattle.share_part.specs.Failures.{AreQuiet, FailuresRose, StarveUnarmed}
 use Rattle.share_part.specs.Hosting.{PartConfParts}
-use Rattle.share_part.specs.Settling.{Acts, IsChange, is_chosen, releasing}
+use Rattle.share_part.specs.Settling.{Acts, IsChange, change_of, is_chosen, releasing}
 use Rattle.share_part.specs.Shards.{Carries, PartParts, PartShardState, held_in}
 use Rattle.share_part.specs.Tables.{Table, table_of}
 use Rattle.share_part.specs.Writes.{WritesActs}
 use Rattle.share_part.specs.declared.release.Released.{Released}
 use Rattle.share_part.specs.declared.release.Released.TheVariants.{Done, Store}
-use Rattle.share_part.specs.declared.settle.Change.{Change}
+use Rattle.share_part.specs.declared.settle.Moved.{Moved}
 use Rattle.share_part.specs.declared.settle.Whose.{Whose}
 use Rattle.edge_io.specs.Views.{DiskView}
 
 -- ---- what is stored
 
--- acts that name no offset, or what is to be stored of them
-abbrev pub ReleasesTable : ℕ → Acts → List Batch → Table → Option Change → Type 0
-ReleasesTable limit acts log table None = NameNone acts
-ReleasesTable limit acts log table (Some change) = NameOne acts × IsChange limit acts log table change
+-- acts that name no offset, or what is to be stored of them, with these rows
+abbrev pub ReleasesTable : ℕ → Acts → List Batch → Table → List Run → Option Moved → Type 0
+ReleasesTable limit acts log table rows None = NameNone acts
+ReleasesTable limit acts log table rows (Some moved) =
+    NameOne acts × IsChange limit acts log table (change_of moved rows)
 
 -- the same of a group that has this state, if it has one
-abbrev pub ReleasesGroup : ℕ → Acts → List Batch → Held → Option ShareState → Option Change → Type 0
-ReleasesGroup limit acts log held state None = NameNone acts
-ReleasesGroup limit acts log held None (Some change) = ⊥
-ReleasesGroup limit acts log held (Some state) (Some change) = NameOne acts × IsChange limit acts log (table_of state held) change
+abbrev pub ReleasesGroup : ℕ → Acts → List Batch → Held → Option ShareState → List Run → Option Moved → Type 0
+ReleasesGroup limit acts log held state rows None = NameNone acts
+ReleasesGroup limit acts log held None rows (Some moved) = ⊥
+ReleasesGroup limit acts log held (Some state) rows (Some moved) =
+    NameOne acts × IsChange limit acts log (table_of state held) (change_of moved rows)
 
 -- ---- which holds end
 

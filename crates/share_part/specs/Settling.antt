@@ -24,9 +24,9 @@ use Rattle.share_model.specs.declared.row.RowState.{RowState}
 use Rattle.share_model.specs.declared.row.RowState.TheVariants.{Available, Acknowledged, Archived}
 use Rattle.share_model.specs.declared.run.Run.{Run}
 use Rattle.share_part.specs.Tables.{Table}
-use Rattle.share_part.specs.declared.settle.Change.{Change}
 use Rattle.share_part.specs.declared.settle.Judged.{Judged}
 use Rattle.share_part.specs.declared.settle.Judged.TheVariants.{NotHeld, Changes}
+use Rattle.share_part.specs.declared.settle.Moved.{Moved}
 use Rattle.share_part.specs.declared.settle.Whose.{Whose}
 use Rattle.share_part.specs.declared.settle.Whose.TheVariants.{Member, Due}
 
@@ -174,12 +174,22 @@ AreBelow held = (offset : ℕ) (hold : Hold) → hold_at held offset ≡ Some ho
 
 -- ---- what is told
 
+-- the new start, where it moves, and the canonical runs of the changed rows from there on
+pub record Change : Type 0 where
+  pub start : Option ℕ
+  pub runs : List Run
+
+-- by where the start goes, and the rows that were put
+abbrev pub change_of : Moved → List Run → Change
+change_of moved runs = record { start = moved.start; runs = runs }
+
 -- what is to be stored of acts, where the start is told only if it moves
 pub record IsChange (limit : ℕ) (acts : Acts) (log : List Batch) (table : Table) (change : Change) : Type 0 where
-  pub settles : Settles limit acts log table (unwrap_or change.start table.start) change.runs.items
+  pub settles : Settles limit acts log table (unwrap_or change.start table.start) change.runs
   pub moves : change.start ≢ Some table.start
 
--- the least offset that the member doesn't hold, or what is to be stored
-abbrev pub Judges : ℕ → List ℕ → Acts → List Batch → Table → Judged → Type 0
-Judges limit member acts log table (NotHeld least) = IsLeastMissing member acts table.held least
-Judges limit member acts log table (Changes change) = AreHeldBy member acts table.held × IsChange limit acts log table change
+-- the least offset that the member doesn't hold, or what is to be stored, with these rows
+abbrev pub Judges : ℕ → List ℕ → Acts → List Batch → Table → List Run → Judged → Type 0
+Judges limit member acts log table rows (NotHeld least) = IsLeastMissing member acts table.held least
+Judges limit member acts log table rows (Changes moved) =
+    AreHeldBy member acts table.held × IsChange limit acts log table (change_of moved rows)

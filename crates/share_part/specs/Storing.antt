@@ -17,9 +17,8 @@ use Rattle.share_model.specs.declared.visit.AckOutcome.TheVariants.{Done, Malfor
 use Rattle.share_part.specs.Acknowledging.{NameNone, NameOne}
 use Rattle.share_part.specs.Hosting.{PartConfParts, key_of}
 use Rattle.share_coord.specs.States.{states_of}
-use Rattle.share_part.specs.Settling.{Acts, AreHeldBy, IsChange, IsLeastMissing}
+use Rattle.share_part.specs.Settling.{Acts, AreHeldBy, Change, IsChange, IsLeastMissing}
 use Rattle.share_part.specs.Tables.{table_of}
-use Rattle.share_part.specs.declared.settle.Change.{Change}
 use Rattle.share_model.specs.declared.fault.StoreFault.{StoreFault}
 use Rattle.share_model.specs.declared.run.Run.{Run}
 use Rattle.share_coord.specs.Calls.{IsWritten}
@@ -77,8 +76,8 @@ pub record IsActsStored {D : Type 0} (seen : D → DiskView) (Failed : D → D �
   pub change : Change
   pub known : share_state_at (states_of old.entries) (key_of conf group) ≡ Some state
   pub is : IsChange conf.limit acts log (table_of state held) change
-  pub once : WritesOnce seen Failed (IsStored old.entries (key_of conf group) change.start change.runs.items) old new done
-  pub one : StoresOne seen (IsRecordOf old.entries (key_of conf group) change.start change.runs.items) old.journal new.journal done
+  pub once : WritesOnce seen Failed (IsStored old.entries (key_of conf group) change.start change.runs) old new done
+  pub one : StoresOne seen (IsRecordOf old.entries (key_of conf group) change.start change.runs) old.journal new.journal done
 
 -- Acts on the table of a group, by the fault that is told: `was` is what the group held, `same` says that all groups hold what they did, and
 -- `ends` that the named offsets aren't held any more.

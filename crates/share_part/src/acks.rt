@@ -1,8 +1,9 @@
 // The acknowledgements of a visit.
-ghost use Rattle.std.specs.Prelude.{◌≡◌, ℕ, List, Some, None, Ok, [], IfSome, IfNone, IfOk};
+ghost use Rattle.std.specs.Prelude.{◌≡◌, ◌≤◌, ℕ, List, None, Ok, IfSome, IfNone};
 ghost use Rattle.coord_checkpoint.specs.Disks.{HasFailed};
 ghost use Rattle.topic_conf.specs.Configs.{IsLimit};
 ghost use Rattle.ack_ranges.specs.Batches.{IsWellFormed, kind_at};
+ghost use Rattle.offset_runs.specs.Changes.{room_of};
 ghost use Rattle.part_log.specs.Logs.{IsStoredLog};
 ghost use Rattle.share_model.specs.ForeignRules.{share_state_at};
 ghost use Rattle.share_part.specs.Acting.{IsFirstNamed, JudgesGroup};
@@ -17,19 +18,19 @@ ghost use Rattle.share_part.specs.Failures.{RunOnBoth};
 use crate::conf::PartConf;
 use crate::ending::end_acknowledged;
 use crate::fetch::start_of;
-use crate::settle::{Change, Judged, acknowledge};
+use crate::settle::{Judged, Moved, acknowledge};
 use crate::storing::store_change;
 use ack_ranges::{Pieces, check};
 use edge_io::Disk;
 use lock_index::Window;
+use offset_runs::Runs;
 use part_log::PartLog;
 use share_coord::Coord;
 use share_model::{AckBatch, AckFault, AckOutcome, Name, NoMemory, Visit};
-use std::alloc::Global;
 use std::collections::BTreeMap;
 
 /// What the acknowledgements of a visit come to, before anything is stored.
-#[derive(Drop)]
+#[derive(Clone, Copy)]
 pub enum Acks {
     /// They aren't well formed.
     Malformed(AckFault),
@@ -37,8 +38,8 @@ pub enum Acks {
     Empty,
     /// The member doesn't hold this offset, the least such one.
     NotHeld(u64),
-    /// This is to be stored.
-    Changes(Change),
+    /// The rows that were put are to be stored, with the start.
+    Changes(Moved),
 }
 
 // The least offset that well-formed acknowledgements name. `None` where they name none.
@@ -57,28 +58,33 @@ pub fn first_named(batches: &[AckBatch]) -> Option<u64>
 // What well-formed acknowledgements come to on the table of a group, if it has one. A group without a table holds
 // nothing.
 fn judge_group<D: Disk, W: Window>(
-    alloc: Global,
+    rows: &mut Runs,
     conf: &PartConf,
     log: &PartLog<D>,
     states: &Coord<D>,
     windows: &BTreeMap<Name, W>,
     visit: &Visit,
     first: u64,
-) -> Result<Judged, NoMemory>
+) -> Judged
     requires sound { IsStoredLog log.now.batches }
     requires well_formed { IsWellFormed visit.now.acks }
     requires first { IsFirstNamed (kind_at visit.now.acks) first }
-    requires idle { share_state_at (states_of states.now.entries) (key_of conf.now visit.now.group) ≡ None →
-        held_in W.held windows.now.entries visit.now.group ≡ [] }
-    ensures { IfOk result (JudgesGroup conf.now.limit visit.now.member (kind_at visit.now.acks) log.now.batches
-        (held_in W.held windows.now.entries visit.now.group) (share_state_at (states_of states.now.entries) (key_of conf.now visit.now.group))) }
+    requires well { HoldsWell log.now.batches
+        (share_state_at (states_of states.now.entries) (key_of conf.now visit.now.group))
+        (held_in W.held windows.now.entries visit.now.group) }
+    requires room { 4000 ≤ room_of rows.old }
+    ensures judged { JudgesGroup conf.now.limit visit.now.member (kind_at visit.now.acks) log.now.batches
+        (held_in W.held windows.now.entries visit.now.group)
+        (share_state_at (states_of states.now.entries) (key_of conf.now visit.now.group)) rows.new.list result }
+    ensures room { room_of rows.old ≤ room_of rows.new }
 {
     let Some(window) = windows.get(&visit.group) else {
-        return Ok(Judged::NotHeld(first));
+        return Judged::NotHeld(first);
     };
+    window.known();
     match states.look(&conf.key(&visit.group)) {
         Some(view) => acknowledge(
-            alloc,
+            rows,
             log,
             start_of(view),
             &view.runs,
@@ -87,46 +93,50 @@ fn judge_group<D: Disk, W: Window>(
             conf.limit(),
             visit.acks.as_slice(),
         ),
-        None => Ok(Judged::NotHeld(first)),
+        None => Judged::NotHeld(first),
     }
 }
 
-/// What the acknowledgements of a visit come to.
+/// What the acknowledgements of a visit come to. The rows that they change are put into `rows`, which has memory for
+/// those of all that a group holds: two runs for each of 2000 records. It takes none.
 pub fn judge_acks<D: Disk, W: Window>(
-    alloc: Global,
+    rows: &mut Runs,
     conf: &PartConf,
     log: &PartLog<D>,
     states: &Coord<D>,
     windows: &BTreeMap<Name, W>,
     visit: &Visit,
-) -> Result<Acks, NoMemory>
+) -> Acks
     requires sound { IsStoredLog log.now.batches }
     requires well { HoldsWell log.now.batches
         (share_state_at (states_of states.now.entries) (key_of conf.now visit.now.group))
         (held_in W.held windows.now.entries visit.now.group) }
-    ensures { IfOk result (JudgesAcks conf.now.limit visit.now log.now.batches
+    requires room { 4000 ≤ room_of rows.old }
+    ensures judged { JudgesAcks conf.now.limit visit.now log.now.batches
         (held_in W.held windows.now.entries visit.now.group)
-        (share_state_at (states_of states.now.entries) (key_of conf.now visit.now.group))) }
+        (share_state_at (states_of states.now.entries) (key_of conf.now visit.now.group)) rows.new.list result }
+    ensures room { room_of rows.old ≤ room_of rows.new }
 {
     let batches = visit.acks.as_slice();
     if let Err(fault) = check(batches) {
-        return Ok(Acks::Malformed(fault));
+        return Acks::Malformed(fault);
     }
     let Some(first) = first_named(batches) else {
-        return Ok(Acks::Empty);
+        return Acks::Empty;
     };
-    match judge_group(alloc, conf, log, states, windows, visit, first)? {
-        Judged::NotHeld(offset) => Ok(Acks::NotHeld(offset)),
-        Judged::Changes(change) => Ok(Acks::Changes(change)),
+    match judge_group(rows, conf, log, states, windows, visit, first) {
+        Judged::NotHeld(offset) => Acks::NotHeld(offset),
+        Judged::Changes(moved) => Acks::Changes(moved),
     }
 }
 
-/// Does the acknowledgements of a visit, by what they come to: all of them by one write, or none. The holds of the
-/// named offsets end once they are stored, and what was set aside for holds stays.
+/// Does the acknowledgements of a visit, by what they come to, with these rows: all of them by one write, or none. The
+/// holds of the named offsets end once they are stored, and what was set aside for holds stays.
 ///
 /// Nothing changes where they aren't well formed, where the member doesn't hold an offset that they name, or after
 /// want of memory; after a store fault the table is as it was.
 pub fn settle_acks<D: Disk, W: Window>(
+    rows: &Runs,
     conf: &PartConf,
     log: &PartLog<D>,
     states: &mut Coord<D>,
@@ -142,7 +152,7 @@ pub fn settle_acks<D: Disk, W: Window>(
         (held_in W.held windows.old.entries visit.now.group) }
     requires judged { JudgesAcks conf.now.limit visit.now log.now.batches
         (held_in W.held windows.old.entries visit.now.group)
-        (share_state_at (states_of states.old.entries) (key_of conf.now visit.now.group)) acks.now }
+        (share_state_at (states_of states.old.entries) (key_of conf.now visit.now.group)) rows.now.list acks.now }
     ensures once { AcksOnce visit.now.acks
         ((states.new ≡ states.old)
         × ((other : List ℕ) → held_in W.held windows.new.entries other ≡ held_in W.held windows.old.entries other))
@@ -158,14 +168,14 @@ pub fn settle_acks<D: Disk, W: Window>(
     ensures runs { RunOnBoth D.seen states.old states.new }
     ensures range { IsLimit conf.now.limit }
 {
-    let change = match acks {
+    let moved = match acks {
         Acks::Malformed(fault) => return Ok(AckOutcome::Malformed(*fault)),
         Acks::Empty => return Ok(AckOutcome::Done),
         Acks::NotHeld(offset) => return Ok(AckOutcome::NotHeld { offset: *offset }),
-        Acks::Changes(change) => change,
+        Acks::Changes(moved) => moved,
     };
     let key = conf.key(&visit.group);
-    let fault = store_change(states, &key, change.start, &change.runs)?;
+    let fault = store_change(states, &key, moved.start, rows.list())?;
     if let Some(fault) = fault {
         return Ok(AckOutcome::Store(fault));
     }

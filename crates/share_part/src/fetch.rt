@@ -16,6 +16,7 @@ ghost use Rattle.ack_ranges.specs.Batches.{kind_at};
 ghost use Rattle.topic_conf.specs.Configs.{IsLimit};
 ghost use Rattle.share_part.specs.Collecting.{IsPlanOf};
 ghost use Rattle.share_part.specs.Foreseeing.{HasChange, IsPlanBehind};
+ghost use Rattle.share_part.specs.Settling.{change_of};
 ghost use Rattle.share_part.specs.Hosting.{AreHosted, HoldsWell, key_of};
 ghost use Rattle.share_coord.specs.States.{states_of};
 ghost use Rattle.share_part.specs.Making.{IsTableRecord, MakesOnce, MakesTableOnce, numbered_bytes, state_for};
@@ -28,7 +29,7 @@ ghost use Rattle.share_part.specs.Failures.{RunOnBoth};
 use crate::conf::PartConf;
 use crate::limits::Limits;
 use crate::plan::Plan;
-use crate::settle::Change;
+use crate::settle::Moved;
 use crate::walk::{plan, plan_laid};
 use edge_io::{Disk, Failed};
 use lock_index::Window;
@@ -108,8 +109,8 @@ pub fn has_table<D: Disk>(conf: &PartConf, states: &Coord<D>, group: &Name) -> b
     }
 }
 
-/// What a fetch will take of the table that a group has, once acknowledgements change it so. It costs the runs and the
-/// batches that it walks.
+/// What a fetch will take of the table that a group has, once acknowledgements change these rows of it. It costs the
+/// runs and the batches that it walks.
 pub fn planned_behind<D: Disk, W: Window>(
     alloc: Global,
     conf: &PartConf,
@@ -117,7 +118,8 @@ pub fn planned_behind<D: Disk, W: Window>(
     states: &Coord<D>,
     windows: &BTreeMap<Name, W>,
     visit: &Visit,
-    change: &Change,
+    moved: &Moved,
+    rows: &Runs,
     limits: Limits,
 ) -> Result<Plan, NoMemory>
     requires there { IsSome (lookup (is_at (slice_cmp nat_cmp visit.now.group)) windows.now.entries) }
@@ -129,11 +131,12 @@ pub fn planned_behind<D: Disk, W: Window>(
         (held_in W.held windows.now.entries visit.now.group) }
     requires change { HasChange conf.now.limit (kind_at visit.now.acks) log.now.batches
         (held_in W.held windows.now.entries visit.now.group)
-        (share_state_at (states_of states.now.entries) (key_of conf.now visit.now.group)) change.now }
+        (share_state_at (states_of states.now.entries) (key_of conf.now visit.now.group))
+        (change_of moved.now rows.now.list) }
     ensures is { IfOk result (IsPlanBehind conf.now.limit (kind_at visit.now.acks) log.now.batches
         (table_of (state_for conf.now log.now.batches states.now.entries visit.now.group)
         (held_in W.held windows.now.entries visit.now.group))
-        change.now limits) }
+        (change_of moved.now rows.now.list) limits) }
     ensures grants { IfOk result (λ plan. vec_len plan.grants ≤ 2001) }
 {
     let Some(window) = windows.get(&visit.group) else {
@@ -142,8 +145,8 @@ pub fn planned_behind<D: Disk, W: Window>(
     let Some(view) = states.look(&conf.key(&visit.group)) else {
         unreachable!()
     };
-    let start = change.start.unwrap_or(start_of(view));
-    plan_laid(alloc, log, start, &change.runs, &view.runs, window, limits)
+    let start = moved.start.unwrap_or(start_of(view));
+    plan_laid(alloc, log, start, rows.list(), &view.runs, window, limits)
 }
 
 // Stores a key's state that has none, with this start.

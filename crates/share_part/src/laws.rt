@@ -16,11 +16,10 @@ ghost use Rattle.share_model.specs.declared.row.RowState.TheVariants.{Available,
 ghost use Rattle.share_coord.specs.Stored.{Entries};
 ghost use Rattle.share_part.specs.Hosting.{AreHeldWell, IsHosted, PartConfParts, key_of};
 ghost use Rattle.share_coord.specs.States.{states_of};
-ghost use Rattle.share_part.specs.Settling.{Acts, AreRisingFrom, Books, IsChange, IsSettled, acted, acts_on, held_after, releasing, said_by};
+ghost use Rattle.share_part.specs.Settling.{Acts, AreRisingFrom, Books, Change, IsChange, IsSettled, acted, acts_on, held_after, releasing, said_by};
 ghost use Rattle.share_part.specs.Slots.{slots_from};
 ghost use Rattle.share_part.specs.Storing.{IsStored};
 ghost use Rattle.share_part.specs.Tables.{Table, table_of};
-ghost use Rattle.share_part.specs.declared.settle.Change.{Change};
 
 /// A state that a hosted partition may have stays one once acts on its table are stored, where what is held lies
 /// among the first 2000 slots and is delivered for the tenth time at most.
@@ -48,7 +47,7 @@ pub fn stored_changes_settle_a_table()
     ensures { (conf : PartConfParts) (log : List Batch) (old new : Entries) (group : List ℕ) (state : ShareState) (held : Held) (acts : Acts)
         (change : Change) →
         IsHosted conf log (key_of conf group) state → share_state_at (states_of old) (key_of conf group) ≡ Some state →
-        IsChange conf.limit acts log (table_of state held) change → IsStored old (key_of conf group) change.start change.runs.items new →
+        IsChange conf.limit acts log (table_of state held) change → IsStored old (key_of conf group) change.start change.runs new →
         (next : ShareState) × IsSettled conf.limit acts log (table_of state held) next
         × (states_of new ≡ insert_entry key_cmp (states_of old) (key_of conf group) next) }
 {}

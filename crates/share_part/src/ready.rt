@@ -27,6 +27,7 @@ use crate::windows::{add_window, hold, set_aside};
 use edge_io::Disk;
 use flex_fields::Items;
 use lock_index::Window;
+use offset_runs::Runs;
 use part_log::PartLog;
 use share_coord::Coord;
 use share_model::{AckOutcome, Name, NoMemory, Room, ThenOutcome, Visit, VisitAnswer};
@@ -42,6 +43,7 @@ fn planned_moves<D: Disk, W: Window>(
     windows: &BTreeMap<Name, W>,
     visit: &Visit,
     acks: &Acks,
+    rows: &Runs,
     limits: Limits,
 ) -> Result<Option<Plan>, NoMemory>
     requires there { IsSome (lookup (is_at (slice_cmp nat_cmp visit.now.group)) windows.now.entries) }
@@ -53,20 +55,22 @@ fn planned_moves<D: Disk, W: Window>(
         (held_in W.held windows.now.entries visit.now.group) }
     requires judged { JudgesAcks conf.now.limit visit.now log.now.batches
         (held_in W.held windows.now.entries visit.now.group)
-        (share_state_at (states_of states.now.entries) (key_of conf.now visit.now.group)) acks.now }
+        (share_state_at (states_of states.now.entries) (key_of conf.now visit.now.group)) rows.now.list acks.now }
     ensures moves { IfOk result (MovesBy conf.now.limit visit.now log.now.batches
         (table_of (state_for conf.now log.now.batches states.now.entries visit.now.group)
         (held_in W.held windows.now.entries visit.now.group))
-        limits acks.now) }
+        limits rows.now.list acks.now) }
     ensures told { IfOk result (λ moves. IfSome moves IsTold) }
 {
-    let change = match acks {
+    let moved = match acks {
         Acks::Malformed(_) => return Ok(None),
         Acks::Empty => return Ok(None),
         Acks::NotHeld(_) => return Ok(None),
-        Acks::Changes(change) => change,
+        Acks::Changes(moved) => moved,
     };
-    let plan = planned_behind(alloc, conf, log, states, windows, visit, change, limits)?;
+    let plan = planned_behind(
+        alloc, conf, log, states, windows, visit, moved, rows, limits,
+    )?;
     Ok(Some(plan))
 }
 
@@ -92,6 +96,7 @@ pub fn ready<D: Disk, W: Window>(
     windows: &mut BTreeMap<Name, W>,
     visit: &Visit,
     acks: &Acks,
+    rows: &Runs,
     limits: Limits,
 ) -> Result<Ready, NoMemory>
     requires sound { IsStoredLog log.now.batches }
@@ -102,18 +107,18 @@ pub fn ready<D: Disk, W: Window>(
         (held_in W.held windows.old.entries visit.now.group) }
     requires judged { JudgesAcks conf.now.limit visit.now log.now.batches
         (held_in W.held windows.old.entries visit.now.group)
-        (share_state_at (states_of states.now.entries) (key_of conf.now visit.now.group)) acks.now }
+        (share_state_at (states_of states.now.entries) (key_of conf.now visit.now.group)) rows.now.list acks.now }
     ensures held { (other : List ℕ) →
         held_in W.held windows.new.entries other ≡ held_in W.held windows.old.entries other }
     ensures ready { IfOk result (IsReady W.spare windows.new.entries conf.now.limit visit.now log.now.batches
         (table_of (state_for conf.now log.now.batches states.now.entries visit.now.group)
         (held_in W.held windows.old.entries visit.now.group))
-        acks.now limits) }
+        rows.now.list acks.now limits) }
 {
     let group = &visit.group;
     add_window(alloc, windows, group)?;
     let stays = planned(alloc, conf, log, states, windows, group, limits)?;
-    let moves = planned_moves(alloc, conf, log, states, windows, visit, acks, limits)?;
+    let moves = planned_moves(alloc, conf, log, states, windows, visit, acks, rows, limits)?;
     let (count, size) = larger(&stays, &moves);
     set_aside(windows, group, count)?;
     let mut out = Room::new(alloc);

@@ -6,6 +6,7 @@ ghost use Rattle.std.specs.Map.{lookup};
 ghost use Rattle.std.specs.Ordering.{nat_cmp};
 ghost use Rattle.coord_checkpoint.specs.Disks.{HasFailed};
 ghost use Rattle.topic_conf.specs.Configs.{IsLimit};
+ghost use Rattle.offset_runs.specs.Changes.{room_of};
 ghost use Rattle.part_log.specs.Logs.{IsStoredLog};
 ghost use Rattle.share_model.specs.ForeignRules.{share_state_at};
 ghost use Rattle.share_part.specs.Acknowledging.{NameOne};
@@ -21,14 +22,14 @@ ghost use Rattle.lock_index.specs.Windows.{IsRising};
 
 use crate::conf::PartConf;
 use crate::fetch::start_of;
-use crate::settle::{Change, Whose, is_chosen, release};
+use crate::settle::{Moved, Whose, is_chosen, release};
 use crate::storing::store_change;
 use edge_io::Disk;
 use lock_index::{Steps, Window};
+use offset_runs::Runs;
 use part_log::PartLog;
 use share_coord::Coord;
 use share_model::{Name, NoMemory, StoreFault, ThenOutcome};
-use std::alloc::Global;
 use std::collections::BTreeMap;
 use std::marker::Brand;
 use std::sync::ledger::{Blank, Ledger};
@@ -132,32 +133,34 @@ fn end_released<W: Window>(windows: &mut BTreeMap<Name, W>, group: &Name, whose:
     }
 }
 
-// What the releases of a group store. `None` where there are none.
+// What the releases of a group store, with the rows that are put. `None` where there are none.
 fn judge_release<D: Disk, W: Window>(
-    alloc: Global,
+    rows: &mut Runs,
     conf: &PartConf,
     log: &PartLog<D>,
     states: &Coord<D>,
     windows: &BTreeMap<Name, W>,
     group: &Name,
     whose: &Whose,
-) -> Result<Option<Change>, NoMemory>
+) -> Option<Moved>
     requires sound { IsStoredLog log.now.batches }
     requires well { HoldsWell log.now.batches (share_state_at (states_of states.now.entries) (key_of conf.now group.now))
         (held_in W.held windows.now.entries group.now) }
-    ensures judged { IfOk result (ReleasesGroup conf.now.limit (releasing (is_chosen whose.now) (held_in W.held windows.now.entries group.now))
-        log.now.batches (held_in W.held windows.now.entries group.now) (share_state_at (states_of states.now.entries) (key_of conf.now group.now))) }
-    ensures named { OnErr result (NameOne (releasing (is_chosen whose.now) (held_in W.held windows.now.entries group.now))) }
+    requires room { 4000 ≤ room_of rows.old }
+    ensures judged { ReleasesGroup conf.now.limit (releasing (is_chosen whose.now) (held_in W.held windows.now.entries group.now))
+        log.now.batches (held_in W.held windows.now.entries group.now)
+        (share_state_at (states_of states.now.entries) (key_of conf.now group.now)) rows.new.list result }
+    ensures room { room_of rows.old ≤ room_of rows.new }
     ensures below { AreBelow (held_in W.held windows.now.entries group.now) }
     ensures rising { IsRising (held_in W.held windows.now.entries group.now) }
 {
     let Some(window) = windows.get(group) else {
-        return Ok(None);
+        return None;
     };
     window.known();
     match states.look(&conf.key(group)) {
         Some(view) => release(
-            alloc,
+            rows,
             log,
             start_of(view),
             &view.runs,
@@ -165,16 +168,17 @@ fn judge_release<D: Disk, W: Window>(
             whose,
             conf.limit(),
         ),
-        None => Ok(None),
+        None => None,
     }
 }
 
 /// Releases records that a group holds: the releases are stored by one write, and then their holds end. Where there
-/// are none, nothing is written, and no memory is taken.
+/// are none, nothing is written, and no memory is taken. Their rows are put into `rows`, which has memory for those of
+/// all that a group holds.
 ///
 /// Nothing changes after want of memory; after a store fault the table is as it was.
 pub fn release_held<D: Disk, W: Window>(
-    alloc: Global,
+    rows: &mut Runs,
     conf: &PartConf,
     log: &PartLog<D>,
     states: &mut Coord<D>,
@@ -187,6 +191,7 @@ pub fn release_held<D: Disk, W: Window>(
     requires hosted { AreHosted conf.now log.now.batches (states_of states.old.entries) }
     requires well { HoldsWell log.now.batches (share_state_at (states_of states.old.entries) (key_of conf.now group.now))
         (held_in W.held windows.old.entries group.now) }
+    requires room { 4000 ≤ room_of rows.old }
     ensures once { StoresGroup D.seen (HasFailed D.seen) conf.now log.now.batches
         group.now (releasing (is_chosen whose.now) (held_in W.held windows.old.entries group.now)) (held_in W.held windows.old.entries group.now)
         states.old states.new
@@ -197,15 +202,16 @@ pub fn release_held<D: Disk, W: Window>(
     ensures count { IfOk result (Counts whose.now (held_in W.held windows.old.entries group.now)) }
     ensures windows { OnErr result (windows.new.entries ≡ windows.old.entries) }
     ensures named { OnErr result (NameOne (releasing (is_chosen whose.now) (held_in W.held windows.old.entries group.now))) }
+    ensures room { room_of rows.old ≤ room_of rows.new }
     ensures runs { RunOnBoth D.seen states.old states.new }
     ensures range { IsLimit conf.now.limit }
 {
-    let judged = judge_release(alloc, conf, log, states, windows, group, whose)?;
-    let Some(change) = judged else {
+    let judged = judge_release(rows, conf, log, states, windows, group, whose);
+    let Some(moved) = judged else {
         return Ok(Released::Done(0));
     };
     let key = conf.key(group);
-    let fault = store_change(states, &key, change.start, &change.runs)?;
+    let fault = store_change(states, &key, moved.start, rows.list())?;
     if let Some(fault) = fault {
         return Ok(Released::Store(fault));
     }

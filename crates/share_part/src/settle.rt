@@ -1,13 +1,13 @@
 // What acts on a table store.
-ghost use Rattle.std.specs.Prelude.{◌≡◌, ◌↔◌, ◌≤◌, ◌<◌, ◌+◌, ◌^◌, ℕ, [], IfSome, IfNone, IfOk, OnOk, OnErr, Some, IsTrue, true};
+ghost use Rattle.std.specs.Prelude.{◌≡◌, ◌↔◌, ◌≤◌, ◌<◌, ◌+◌, ◌*◌, ◌^◌, ℕ, [], IfSome, IfNone, length, None, IsTrue};
 ghost use Rattle.ack_ranges.specs.Batches.{IsWellFormed, kind_at};
 ghost use Rattle.ack_ranges.specs.Pieces.{IsCanonical as AreCanonical, piece_at};
 ghost use Rattle.part_log.specs.Logs.{IsStoredLog};
 ghost use Rattle.share_model.specs.Held.{Held, hold_at};
-ghost use Rattle.share_part.specs.Acting.{AreDoneTo, AreHeldSo, AreRows, AreRowsTo, Comes, Ends, IsHeldTo, IsSaid};
-ghost use Rattle.share_part.specs.Acknowledging.{NameOne};
+ghost use Rattle.offset_runs.specs.Changes.{room_of};
+ghost use Rattle.share_part.specs.Acting.{AreDoneTo, AreHeldSo, AreRows, AreRowsTo, Comes, Ends, HasSpareFrom, IsHeldTo, IsSaid};
 ghost use Rattle.share_part.specs.Releasing.{ReleasesTable};
-ghost use Rattle.share_part.specs.Settling.{Acts, AreBelow, IsChange, IsHeldBy, Judges, is_chosen, releasing, settled};
+ghost use Rattle.share_part.specs.Settling.{Acts, AreBelow, IsChange, IsHeldBy, Judges, change_of, is_chosen, releasing, settled};
 
 use crate::advance::advance;
 use ack_ranges::{Piece, Pieces};
@@ -15,23 +15,21 @@ use edge_io::Disk;
 use lock_index::Window;
 use offset_runs::Runs;
 use part_log::PartLog;
-use share_model::{AckBatch, AckKind, Hold, Name, NoMemory, Row, RowState, Run};
-use std::alloc::Global;
+use share_model::{AckBatch, AckKind, Hold, Name, Row, RowState};
 
-/// What is to be stored of acts: the new start, where it moves, and the changed rows from there on.
-#[derive(Drop)]
-pub struct Change {
+/// Where a table's start goes by acts. `None` where it stays.
+#[derive(Clone, Copy)]
+pub struct Moved {
     pub start: Option<u64>,
-    pub runs: Vec<Run>,
 }
 
 /// What acknowledgements come to. All of them are done, or none.
-#[derive(Drop)]
+#[derive(Clone, Copy)]
 pub enum Judged {
     /// The member doesn't hold this offset, the least such one.
     NotHeld(u64),
-    /// This is to be stored.
-    Changes(Change),
+    /// The rows that were put are to be stored, with the start.
+    Changes(Moved),
 }
 
 /// Whose records are released.
@@ -103,22 +101,25 @@ fn act_on_piece<W: Window>(
     member: &Name,
     limit: u16,
     piece: Piece,
-) -> Result<Option<u64>, NoMemory>
+) -> Option<u64>
     requires order { piece.first ≤ piece.last }
     requires below { piece.last < 2 ^ 63 }
-    ensures { IfOk result (λ missing. (acts : Acts) → AreDoneTo limit member.now acts (W.held window.now) piece.first rows.old.list → IsSaid piece acts →
-        Comes limit member.now acts (W.held window.now) (piece.last + 1) rows.new.list missing) }
+    requires spare { HasSpareFrom (W.held window.now) piece.first rows.old.spare }
+    ensures done { (acts : Acts) → AreDoneTo limit member.now acts (W.held window.now) piece.first rows.old.list → IsSaid piece acts →
+        Comes limit member.now acts (W.held window.now) (piece.last + 1) rows.new.list result }
+    ensures spare { result ≡ None → HasSpareFrom (W.held window.now) (piece.last + 1) rows.new.spare }
+    ensures room { room_of rows.old ≤ room_of rows.new }
 {
     let mut from = piece.first;
     while from <= piece.last {
         let Some(stretch) = stretch_held(window, member, from) else {
-            return Ok(Some(from));
+            return Some(from);
         };
         let last = stretch.last.min(piece.last);
-        rows.put_range(from, last, settled(limit, piece.kind, stretch.count))?;
+        rows.put_reserved(from, last, settled(limit, piece.kind, stretch.count));
         from = last + 1;
     }
-    Ok(None)
+    None
 }
 
 // Does what pieces say, from no rows on. The least offset that the member doesn't hold ends it, and is told.
@@ -128,18 +129,20 @@ fn act_on_pieces<W: Window>(
     member: &Name,
     limit: u16,
     mut pieces: Pieces<'_>,
-) -> Result<Option<u64>, NoMemory>
+) -> Option<u64>
     requires none { rows.old.list ≡ [] }
     requires pieces { AreCanonical pieces }
-    ensures { IfOk result (Ends limit member.now (piece_at pieces.entry) (W.held window.now) rows.new.list) }
+    requires spare { HasSpareFrom (W.held window.now) 0 rows.old.spare }
+    ensures done { Ends limit member.now (piece_at pieces.entry) (W.held window.now) rows.new.list result }
+    ensures room { room_of rows.old ≤ room_of rows.new }
 {
     while let Some(piece) = pieces.next_piece() {
-        let missing = act_on_piece(rows, window, member, limit, piece)?;
+        let missing = act_on_piece(rows, window, member, limit, piece);
         if missing.is_some() {
-            return Ok(missing);
+            return missing;
         }
     }
-    Ok(None)
+    None
 }
 
 /// Whether a hold is one that is released.
@@ -153,70 +156,60 @@ pub fn is_chosen(whose: &Whose, hold: &Hold) -> bool
 }
 
 // Stores the release of offsets that are held in one way, where these are released.
-fn release_run(
-    rows: &mut Runs,
-    first: u64,
-    last: u64,
-    hold: &Hold,
-    whose: &Whose,
-    limit: u16,
-) -> Result<(), NoMemory>
-    requires { first ≤ last }
-    ensures rows { OnOk result ((held : Held) → AreHeldSo held first last hold.now →
+fn release_run(rows: &mut Runs, first: u64, last: u64, hold: &Hold, whose: &Whose, limit: u16)
+    requires order { first ≤ last }
+    requires spare { 2 ≤ rows.old.spare }
+    ensures rows { (held : Held) → AreHeldSo held first last hold.now →
         AreRowsTo limit (releasing (is_chosen whose.now) held) held first rows.old.list →
-        AreRowsTo limit (releasing (is_chosen whose.now) held) held (last + 1) rows.new.list) }
-    ensures chosen { OnErr result (is_chosen whose.now hold.now ≡ true) }
+        AreRowsTo limit (releasing (is_chosen whose.now) held) held (last + 1) rows.new.list }
+    ensures spare { rows.old.spare ≤ rows.new.spare + 2 }
+    ensures room { room_of rows.old ≤ room_of rows.new }
 {
     if !is_chosen(whose, hold) {
-        return Ok(());
+        return;
     }
-    rows.put_range(first, last, settled(limit, AckKind::Release, hold.count))?;
-    Ok(())
+    rows.put_reserved(first, last, settled(limit, AckKind::Release, hold.count));
 }
 
 // Stores the releases, from no rows on, run by run of what is held.
-fn release_all<W: Window>(
-    rows: &mut Runs,
-    window: &W,
-    whose: &Whose,
-    limit: u16,
-) -> Result<(), NoMemory>
+fn release_all<W: Window>(rows: &mut Runs, window: &W, whose: &Whose, limit: u16)
     requires none { rows.old.list ≡ [] }
     requires below { AreBelow (W.held window.now) }
-    ensures rows { OnOk result (AreRows limit (releasing (is_chosen whose.now) (W.held window.now)) (W.held window.now) rows.new.list) }
-    ensures named { OnErr result (NameOne (releasing (is_chosen whose.now) (W.held window.now))) }
+    requires spare { HasSpareFrom (W.held window.now) 0 rows.old.spare }
+    ensures rows { AreRows limit (releasing (is_chosen whose.now) (W.held window.now)) (W.held window.now) rows.new.list }
+    ensures room { room_of rows.old ≤ room_of rows.new }
 {
     let mut from = 0;
     while let Some(run) = window.run_from(from) {
-        release_run(rows, run.first.max(from), run.last, &run.hold, whose, limit)?;
+        release_run(rows, run.first.max(from), run.last, &run.hold, whose, limit);
         from = run.last + 1;
     }
-    Ok(())
 }
 
-// What is to be stored once acts store these rows.
-fn change_of<D: Disk>(log: &PartLog<D>, start: u64, stored: &Runs, mut rows: Runs) -> Change
+// Where the start goes once acts store these rows, of which those below it go.
+fn moved_by<D: Disk>(log: &PartLog<D>, start: u64, stored: &Runs, rows: &mut Runs) -> Moved
     requires sound { IsStoredLog log.now.batches }
-    ensures { (limit : ℕ) (acts : Acts) (held : Held) → AreRows limit acts held rows.list →
-        IsChange limit acts log.now.batches (record { start = start; rows = stored.now.list; held = held }) result }
+    ensures is { (limit : ℕ) (acts : Acts) (held : Held) → AreRows limit acts held rows.old.list →
+        IsChange limit acts log.now.batches (record { start = start; rows = stored.now.list; held = held })
+        (change_of result rows.new.list) }
+    ensures room { room_of rows.old ≤ room_of rows.new }
 {
     let next = advance(log, start, rows.list(), stored.list());
     rows.cut_below(next);
-    let runs = rows.into_vec();
+    // what is left is canonical
+    let _left = rows.list();
     if next == start {
-        return Change { start: None, runs };
+        return Moved { start: None };
     }
-    Change {
-        start: Some(next),
-        runs,
-    }
+    Moved { start: Some(next) }
 }
 
-/// What well-formed acknowledgements of a member come to on a table with this start, these rows and these holds.
+/// What well-formed acknowledgements of a member come to on a table with this start, these rows and these holds. The
+/// rows that they change are put into `rows`, in memory that is set aside; it takes none.
 ///
 /// It goes by the runs of what is held, and ends at the first offset that the member doesn't hold.
 pub fn acknowledge<D: Disk, W: Window>(
-    alloc: Global,
+    rows: &mut Runs,
     log: &PartLog<D>,
     start: u64,
     stored: &Runs,
@@ -224,41 +217,44 @@ pub fn acknowledge<D: Disk, W: Window>(
     member: &Name,
     limit: u16,
     batches: &[AckBatch],
-) -> Result<Judged, NoMemory>
+) -> Judged
     requires sound { IsStoredLog log.now.batches }
     requires well_formed { IsWellFormed batches.now }
-    ensures { IfOk result (Judges limit member.now (kind_at batches.now) log.now.batches
-        (record { start = start; rows = stored.now.list; held = W.held window.now })) }
+    requires room { 2 * length (W.held window.now) ≤ room_of rows.old }
+    ensures judged { Judges limit member.now (kind_at batches.now) log.now.batches
+        (record { start = start; rows = stored.now.list; held = W.held window.now }) rows.new.list result }
+    ensures room { room_of rows.old ≤ room_of rows.new }
 {
-    let mut rows = Runs::new(alloc);
-    let missing = act_on_pieces(&mut rows, window, member, limit, Pieces::new(batches))?;
+    rows.clear();
+    let missing = act_on_pieces(rows, window, member, limit, Pieces::new(batches));
     match missing {
-        Some(offset) => Ok(Judged::NotHeld(offset)),
-        None => Ok(Judged::Changes(change_of(log, start, stored, rows))),
+        Some(offset) => Judged::NotHeld(offset),
+        None => Judged::Changes(moved_by(log, start, stored, rows)),
     }
 }
 
-/// What is to be stored once records of a table are released. `None` where none is, and then no memory is taken. It
-/// walks the runs of what is held once.
+/// What is to be stored once records of a table are released. `None` where none is. The rows are put into `rows`, in
+/// memory that is set aside; it takes none. It walks the runs of what is held once.
 pub fn release<D: Disk, W: Window>(
-    alloc: Global,
+    rows: &mut Runs,
     log: &PartLog<D>,
     start: u64,
     stored: &Runs,
     window: &W,
     whose: &Whose,
     limit: u16,
-) -> Result<Option<Change>, NoMemory>
+) -> Option<Moved>
     requires sound { IsStoredLog log.now.batches }
     requires below { AreBelow (W.held window.now) }
-    ensures judged { IfOk result (ReleasesTable limit (releasing (is_chosen whose.now) (W.held window.now)) log.now.batches
-        (record { start = start; rows = stored.now.list; held = W.held window.now })) }
-    ensures named { OnErr result (NameOne (releasing (is_chosen whose.now) (W.held window.now))) }
+    requires room { 2 * length (W.held window.now) ≤ room_of rows.old }
+    ensures judged { ReleasesTable limit (releasing (is_chosen whose.now) (W.held window.now)) log.now.batches
+        (record { start = start; rows = stored.now.list; held = W.held window.now }) rows.new.list result }
+    ensures room { room_of rows.old ≤ room_of rows.new }
 {
-    let mut rows = Runs::new(alloc);
-    release_all(&mut rows, window, whose, limit)?;
+    rows.clear();
+    release_all(rows, window, whose, limit);
     if rows.list().is_empty() {
-        return Ok(None);
+        return None;
     }
-    Ok(Some(change_of(log, start, stored, rows)))
+    Some(moved_by(log, start, stored, rows))
 }

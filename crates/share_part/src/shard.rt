@@ -1,4 +1,4 @@
-ghost use Rattle.std.specs.Prelude.{◌≡◌, ◌≢◌, ◌↔◌, ◌≤◌, ◌^◌, ℕ, IsSome, None, max, true, false, IfOk, IfErr, MatchResult, slice_get, ◌⊎◌};
+ghost use Rattle.std.specs.Prelude.{◌≡◌, ◌≢◌, ◌↔◌, ◌≤◌, ◌^◌, ℕ, IsSome, None, max, true, false, IfOk, IfErr, IfSome, MatchResult, slice_get, ◌⊎◌};
 ghost use Rattle.std.specs.List.{AllByRecursion};
 ghost use Rattle.std.specs.Map.{keys_of};
 ghost use Rattle.std.specs.Option.{option_copied, option_map};
@@ -11,7 +11,8 @@ ghost use Rattle.edge_io.specs.Moments.{LeavesOnly};
 ghost use Rattle.gate_journal.specs.Frames.{StandsAs};
 ghost use Rattle.share_part.specs.Failures.{RunOnBoth};
 ghost use Rattle.share_part.specs.Opening.{IsOpened, IsNotOpened};
-ghost use Rattle.share_part.specs.Foreseeing.{JudgesAcks, with_ack};
+ghost use Rattle.offset_runs.specs.Changes.{room_of};
+ghost use Rattle.share_part.specs.Foreseeing.{with_ack};
 ghost use Rattle.share_part.specs.Hosting.{key_of};
 ghost use Rattle.share_coord.specs.States.{state_found, states_of};
 ghost use Rattle.share_part.specs.Following.{IsEmptyAnswer, IsFetch};
@@ -22,7 +23,7 @@ ghost use Rattle.ack_ranges.specs.Batches.{IsWellFormed};
 ghost use Rattle.share_part.specs.Visits.{AreWritten};
 ghost use Rattle.share_part.specs.Once.{ExpiresOnce, FollowsOnce, VisitsOnce, ProducesOnce};
 
-use crate::acks::{Acks, first_named, judge_acks, settle_acks};
+use crate::acks::{first_named, judge_acks, settle_acks};
 use crate::conf::PartConf;
 use crate::fetch::{append_batches, has_table, make_table};
 use crate::judge::are_hosted;
@@ -35,6 +36,7 @@ use crate::windows::due_groups;
 use edge_io::{Disk, DiskPlace, FaultMode};
 use flex_fields::Items;
 use lock_index::Window;
+use offset_runs::Runs;
 use part_log::PartLog;
 use share_coord::{Coord, StateView, States};
 use share_model::{
@@ -54,11 +56,14 @@ pub struct PartShard<D: Disk, W: Window> {
     log: PartLog<D>,
     states: Coord<D>,
     windows: BTreeMap<Name, W>,
+    // The rows that acts change, until they are stored.
+    changed: Runs,
     clock: u64,
     alloc: Global,
 }
 
 impl<D: Disk, W: Window> Model for PartShard<D, W> {
+    ghost use Rattle.offset_runs.specs.Changes.{room_of};
     ghost use Rattle.share_part.specs.Hosting.{IsKeptShard};
     ghost use Rattle.share_part.specs.Shards.{PartParts, held_in};
 
@@ -66,7 +71,18 @@ impl<D: Disk, W: Window> Model for PartShard<D, W> {
 
     ghost view = { λ s. record { conf = s.conf; log = s.log; states = s.states; windows = s.windows.entries; clock = s.clock } };
 
-    ghost invariant = { λ s. IsKeptShard s.conf s.log.batches s.states.entries (held_in W.held s.windows.entries) s.clock };
+    ghost invariant = { λ s. IsKeptShard s.conf s.log.batches s.states.entries (held_in W.held s.windows.entries) s.clock (room_of s.changed) };
+}
+
+// No rows, and memory for those of all that a group holds: two runs for each of 2000 records.
+fn scratch(alloc: Global) -> Option<Runs>
+    ensures { IfSome result (λ rows. 4000 ≤ room_of rows) }
+{
+    let mut rows = Runs::new(alloc);
+    match rows.reserve(4000) {
+        Ok(()) => Some(rows),
+        Err(NoMemory) => None,
+    }
 }
 
 // An answer that no record was acquired. It takes no memory.
@@ -137,7 +153,8 @@ impl<D: Disk, W: Window> PartShard<D, W> {
     /// Opens a partition of the disk of its log and the two of its states, which come back at an `Err`. Nothing is
     /// held.
     ///
-    /// The log is opened first, and then the states, as `PartLog` and `Coord` do; then the states are judged. States
+    /// Memory is set aside first for the rows that acknowledgements and releases change, so that these take none. The
+    /// log is opened then, and then the states, as `PartLog` and `Coord` do; then the states are judged. States
     /// that break the rules on a hosted partition are told of the first state disk and place 0.
     pub fn open(
         alloc: Global,
@@ -159,40 +176,40 @@ impl<D: Disk, W: Window> PartShard<D, W> {
             (λ e. RunsBoth D.seen disks.1 disks.2
             e.disks.1 e.disks.2) }
     {
+        let Some(changed) = scratch(alloc) else {
+            let fault = PartFault::NoMemory;
+            return Err(PartOpen { disks, fault });
+        };
         let (disk, a, b) = disks;
         let log = match PartLog::open(alloc, disk) {
             Ok(log) => log,
             Err((disk, fault)) => {
-                return Err(PartOpen {
-                    disks: (disk, a, b),
-                    fault: fault_of_log(fault),
-                });
+                let disks = (disk, a, b);
+                let fault = fault_of_log(fault);
+                return Err(PartOpen { disks, fault });
             }
         };
         let states = match Coord::open(alloc, a, b) {
             Ok(states) => states,
             Err((a, b, fault)) => {
-                return Err(PartOpen {
-                    disks: (log.into_disk(), a, b),
-                    fault: fault_of_states(fault),
-                });
+                let disks = (log.into_disk(), a, b);
+                let fault = fault_of_states(fault);
+                return Err(PartOpen { disks, fault });
             }
         };
         if !are_hosted(&conf, &log, &states) {
             let (a, b) = states.into_disks();
-            return Err(PartOpen {
-                disks: (log.into_disk(), a, b),
-                fault: PartFault::Damaged {
-                    disk: DiskPlace::StateA,
-                    place: 0,
-                },
-            });
+            let disks = (log.into_disk(), a, b);
+            let disk = DiskPlace::StateA;
+            let fault = PartFault::Damaged { disk, place: 0 };
+            return Err(PartOpen { disks, fault });
         }
         Ok(PartShard {
             conf,
             log,
             states,
             windows: BTreeMap::new(alloc),
+            changed,
             clock: 0,
             alloc,
         })
@@ -254,7 +271,7 @@ impl<D: Disk, W: Window> PartShard<D, W> {
         ensures runs { RunOnBoth D.seen self.old.states self.new.states }
     {
         let released = release_held(
-            self.alloc,
+            &mut self.changed,
             &self.conf,
             &self.log,
             &mut self.states,
@@ -305,25 +322,31 @@ impl<D: Disk, W: Window> PartShard<D, W> {
         }
     }
 
-    // Does a visit whose acknowledgements come to this. It asks for no fetch of a group that has a table.
-    fn visit_plain(&mut self, now: u64, visit: &Visit, acks: &Acks) -> Result<VisitAnswer, NoMemory>
+    // Does a visit that asks for no fetch of a group that has a table.
+    fn visit_plain(&mut self, now: u64, visit: &Visit) -> Result<VisitAnswer, NoMemory>
         requires now { now ≤ 2 ^ 62 }
-        requires judged { JudgesAcks self.old.conf.limit visit.now self.old.log.batches
-            (held_in W.held self.old.windows visit.now.group)
-            (share_state_at (states_of self.old.states.entries) (key_of self.old.conf visit.now.group)) acks.now }
         requires table { IsFetch visit.now.then →
             share_state_at (states_of self.old.states.entries) (key_of self.old.conf visit.now.group) ≡ None }
         ensures once { VisitsOnce D.seen W.held now visit.now self.old self.new result }
         ensures runs { RunOnBoth D.seen self.old.states self.new.states }
         ensures ranges { IfOk result (λ answer. AllByRecursion IsSmallGrant answer.grants) }
     {
+        let acks = judge_acks(
+            &mut self.changed,
+            &self.conf,
+            &self.log,
+            &self.states,
+            &self.windows,
+            visit,
+        );
         let ack = settle_acks(
+            &self.changed,
             &self.conf,
             &self.log,
             &mut self.states,
             &mut self.windows,
             visit,
-            acks,
+            &acks,
         )?;
         match self.follow(now, visit) {
             Ok(answer) => Ok(with_ack(ack, answer)),
@@ -337,26 +360,29 @@ impl<D: Disk, W: Window> PartShard<D, W> {
         }
     }
 
-    // Does a visit whose acknowledgements come to this, and that fetches for a group that has a table. All memory is
-    // taken before the write.
+    // Does a visit that fetches for a group that has a table. All memory is taken before the write.
     fn visit_table(
         &mut self,
         now: u64,
         visit: &Visit,
-        acks: &Acks,
         limits: Limits,
     ) -> Result<VisitAnswer, NoMemory>
         requires now { now ≤ 2 ^ 62 }
         requires fetch { visit.now.then ≡ Then.Fetch limits.records limits.bytes limits.first }
-        requires judged { JudgesAcks self.old.conf.limit visit.now self.old.log.batches
-            (held_in W.held self.old.windows visit.now.group)
-            (share_state_at (states_of self.old.states.entries) (key_of self.old.conf visit.now.group)) acks.now }
         requires table { IsSome
             (share_state_at (states_of self.old.states.entries) (key_of self.old.conf visit.now.group)) }
         ensures once { VisitsOnce D.seen W.held now visit.now self.old self.new result }
         ensures runs { RunOnBoth D.seen self.old.states self.new.states }
         ensures ranges { IfOk result (λ answer. AllByRecursion IsSmallGrant answer.grants) }
     {
+        let acks = judge_acks(
+            &mut self.changed,
+            &self.conf,
+            &self.log,
+            &self.states,
+            &self.windows,
+            visit,
+        );
         let ready = ready(
             self.alloc,
             &self.conf,
@@ -364,16 +390,18 @@ impl<D: Disk, W: Window> PartShard<D, W> {
             &self.states,
             &mut self.windows,
             visit,
-            acks,
+            &acks,
+            &self.changed,
             limits,
         )?;
         let ack = settle_acks(
+            &self.changed,
             &self.conf,
             &self.log,
             &mut self.states,
             &mut self.windows,
             visit,
-            acks,
+            &acks,
         )?;
         self.clock = self.clock.max(now);
         let (plan, mut out) = chosen(ready, ack);
@@ -403,31 +431,23 @@ impl<D: Disk, W: Window> PartShard<D, W> {
         ensures runs { RunOnBoth D.seen self.old.states self.new.states }
         ensures ranges { IfOk result (λ answer. AllByRecursion IsSmallGrant answer.grants) }
     {
-        let acks = judge_acks(
-            self.alloc,
-            &self.conf,
-            &self.log,
-            &self.states,
-            &self.windows,
-            visit,
-        )?;
         let Then::Fetch {
             records,
             bytes,
             first,
         } = visit.then
         else {
-            return self.visit_plain(now, visit, &acks);
+            return self.visit_plain(now, visit);
         };
         if !has_table(&self.conf, &self.states, &visit.group) {
-            return self.visit_plain(now, visit, &acks);
+            return self.visit_plain(now, visit);
         }
         let limits = Limits {
             records,
             bytes,
             first,
         };
-        self.visit_table(now, visit, &acks, limits)
+        self.visit_table(now, visit, limits)
     }
 
     /// Gives back the records whose acquisition lock has ended. The clock is raised to `now` first, and a lock has

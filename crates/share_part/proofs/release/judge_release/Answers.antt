@@ -1,5 +1,4 @@
-use Rattle.std.proofs.Common.{◌≡◌, ap, subst, sym, Some, None, Option}
-use Rattle.std.specs.Prelude.{OnErr}
+use Rattle.std.proofs.Common.{◌≡◌, ap, subst, sym, arith, length, Some, None, Option}
 use Rattle.std.specs.Option.{option_map}
 use Rattle.share_coord.specs.Stored.{kept_at}
 use Rattle.share_model.specs.ForeignRules.{share_state_at}
@@ -7,11 +6,12 @@ use Rattle.share_model.specs.Held.{Held}
 use Rattle.share_model.specs.Keys.{KeyParts}
 use Rattle.share_model.specs.ShareStates.{ShareState}
 use Rattle.share_coord.specs.Views.{ViewParts}
-use Rattle.share_part.specs.Acknowledging.{NameOne}
 use Rattle.share_part.specs.Hosting.{HoldsWell, key_of}
 use Rattle.share_coord.specs.States.{states_of}
-use Rattle.share_part.specs.Settling.{AreBelow, is_chosen, releasing}
+use Rattle.share_part.specs.Settling.{AreBelow, is_chosen}
 use Rattle.share_part.specs.Shards.{held_in, held_of}
+use Rattle.lock_index.specs.Windows.{IsRising}
+use Rattle.share_part.proofs.Staying.{few_held}
 use Rattle.share_part.proofs.Releases.{none_released_of, released_there, well_below}
 use Rattle.share_part.proofs.Seeing.{view_of}
 use Rattle.share_part.proofs.Verdicts.{no_state}
@@ -28,7 +28,7 @@ returns-in-Some-look-clause-judged g c =
     released_there g.W.Window.held c.args.states.now.entries c.args.windows.now.entries c.args.group.now (key_of c.args.conf.now c.args.group.now)
     c.args.whose.now c.args.conf.now.limit c.args.log.now.batches c.in-Some-look.view.now.state there
     c.in-Some.window.now c.in-Some.ensures.value c.start_of.result c.view.inside.runs.list c.start_of.ensures (ap (λ (v : ViewParts). v.state.runs) c.view.view_is)
-    c.limit.result c.limit.ensures.same c.release.result c.release.ensures.judged
+    c.limit.result c.limit.ensures.same c.release.new.rows.list c.release.result c.release.ensures.judged
 
 pub returns-in-Some-look-clause-below : goal.returns-in-Some-look-clause-below
 returns-in-Some-look-clause-below g c = well_below c.args.log.now.batches (share_state_at (states_of c.args.states.now.entries) (key_of c.args.conf.now c.args.group.now))
@@ -45,6 +45,10 @@ pub returns-in-None-clause-below : goal.returns-in-None-clause-below
 returns-in-None-clause-below g c = well_below c.args.log.now.batches (share_state_at (states_of c.args.states.now.entries) (key_of c.args.conf.now c.args.group.now))
     (held_in g.W.Window.held c.args.windows.now.entries c.args.group.now) c.requires.sound c.requires.well
 
-pub returns-in-Some-look-clause-named : goal.returns-in-Some-look-clause-named
-returns-in-Some-look-clause-named g c = subst (λ (h : Held). OnErr c.release.result (NameOne (releasing (is_chosen c.args.whose.now) h)))
-    (ap (held_of g.W.Window.held) c.in-Some.ensures.value) c.release.ensures.named
+pub release-requires-clause-room : goal.release-requires-clause-room
+release-requires-clause-room g c =
+    let held = ap (held_of g.W.Window.held) c.in-Some.ensures.value in
+    let few = few_held c.args.log.now.batches (share_state_at (states_of c.args.states.now.entries) (key_of c.args.conf.now c.args.group.now))
+    (held_in g.W.Window.held c.args.windows.now.entries c.args.group.now) c.requires.sound.rises (subst IsRising held c.known.ensures) c.requires.well in
+    let room = c.requires.room in
+    omega (arith, ap length held, few, room)

@@ -28,6 +28,7 @@ invariant_of-self g c = record {
   holds = same_kept c.self.inside.conf c.self.inside.log.batches (states_of c.self.inside.states.entries) (held_in g.W.Window.held c.self.inside.windows.entries)
       (held_in g.W.Window.held c.prepared.new.windows.entries) c.in_err-plan.ensures.held c.self.invariant.holds;
   moment = c.self.invariant.moment;
+  scratch = c.self.invariant.scratch;
 }
 
 pub append_batches-requires-clause-numbers : goal.append_batches-requires-clause-numbers
@@ -50,6 +51,7 @@ invariant_of-self-in-Err g c = record {
       (same_kept c.self.inside.conf c.self.inside.log.batches (states_of c.self.inside.states.entries) (held_in g.W.Window.held c.self.inside.windows.entries)
       (held_in g.W.Window.held c.prepared.new.windows.entries) c.in_ok-plan.ensures.held c.self.invariant.holds);
   moment = omega (arith, c.self.invariant.moment, c.requires.now, c.max-self-inside.ensures);
+  scratch = c.self.invariant.scratch;
 }
 
 pub returns-in-Err-clause-once : goal.returns-in-Err-clause-once
@@ -71,6 +73,7 @@ invariant_of-self-in_err-outcome g c = record {
       c.make_table.ensures.runs c.args.limits c.requires.fetch
       c.make_table.result c.end.result (c.end.ensures.end ∙ ap end_of c.append_batches.ensures.log.reads.batches) c.make_table.ensures.made c.in_ok-plan.ensures.held c.self.invariant.holds);
   moment = c.self.invariant.moment;
+  scratch = c.self.invariant.scratch;
 }
 
 pub returns-in_err-outcome-clause-once : goal.returns-in_err-outcome-clause-once
@@ -92,6 +95,7 @@ invariant_of-self-in_default-outcome g c = record {
       c.make_table.ensures.runs c.args.limits c.requires.fetch
       c.make_table.result c.end.result (c.end.ensures.end ∙ ap end_of c.append_batches.ensures.log.reads.batches) c.make_table.ensures.made c.in_ok-plan.ensures.held c.self.invariant.holds);
   moment = omega (arith, c.self.invariant.moment, c.requires.now, c.max-self-inside-2.ensures);
+  scratch = c.self.invariant.scratch;
 }
 
 pub returns-in_default-outcome-clause-once : goal.returns-in_default-outcome-clause-once
@@ -118,6 +122,7 @@ invariant_of-self-2 g c = record {
       c.in_ok-plan.plan (state_for c.self.inside.conf c.self.inside.log.batches c.self.inside.states.entries c.args.visit.now.group) c.in_ok-plan.ensures.prepared.is (c.max-self-inside-2.result + c.self.inside.conf.lock_ms) refl c.hand_out.ensures.held)
       c.make_table.result (c.in_ok-outcome.was ∙ ap (λ (o : ThenOutcome). Ok o) c.in-Done.is) c.end.result (c.end.ensures.end ∙ ap end_of c.append_batches.ensures.log.reads.batches) c.make_table.ensures.made c.self.invariant.hosted c.self.invariant.holds);
   moment = omega (arith, c.self.invariant.moment, c.requires.now, c.max-self-inside-2.ensures);
+  scratch = c.self.invariant.scratch;
 }
 
 pub returns-clause-once : goal.returns-clause-once

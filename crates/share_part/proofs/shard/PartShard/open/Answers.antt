@@ -3,19 +3,19 @@ use Rattle.share_part.specs.Opening.{IsNotOpened}
 use Rattle.share_part.specs.declared.opening.PartFault.{PartFault}
 use Rattle.share_coord.specs.States.{states_of}
 use Rattle.share_part.proofs.Holding.{empty_kept}
-use Rattle.share_part.proofs.Opens.{by_log, by_states, misplaced, opened}
+use Rattle.share_part.proofs.Opens.{by_log, by_states, left_alone, misplaced, opened, unscratched}
 use Rattle.share_part.proofs.shard.PartShard.open.Goals as goal
 
 pub returns-in-Err-clause-refused : goal.returns-in-Err-clause-refused
 returns-in-Err-clause-refused g c =
     subst (λ (f : PartFault). IsNotOpened g.D.Disk.seen c.args.conf c.args.disks.0 c.args.disks.1 c.args.disks.2
-    c.in-Err.disk c.args.disks.1 c.args.disks.2 f) (sym c.fault_of_log.ensures)
+    c.in-Err.disk c.args.disks.1 c.args.disks.2 f) (sym c.fault_of_log-fault.ensures)
     (by_log g.D.Disk.seen g.W.Window.held c.args.conf c.args.disks.0 c.args.disks.1 c.args.disks.2 c.in-Err.disk c.in-Err.fault c.in-Err.ensures.damaged c.in-Err.ensures.recovers c.in-Err.ensures.device)
 
 pub returns-in-Err-open-clause-refused : goal.returns-in-Err-open-clause-refused
 returns-in-Err-open-clause-refused g c =
     subst (λ (f : PartFault). IsNotOpened g.D.Disk.seen c.args.conf c.args.disks.0 c.args.disks.1 c.args.disks.2
-    c.into_disk.result c.in-Err-open.a c.in-Err-open.b f) (sym c.fault_of_states.ensures)
+    c.into_disk.result c.in-Err-open.a c.in-Err-open.b f) (sym c.fault_of_states-fault.ensures)
     (by_states g.D.Disk.seen g.W.Window.held c.args.conf c.args.disks.0 c.args.disks.1 c.args.disks.2 c.into_disk.result c.in-Err-open.a c.in-Err-open.b c.in-Err-open.fault
     c.in-Ok.log.batches c.in-Ok.ensures.opens c.in-Err-open.ensures.refused)
 
@@ -30,9 +30,16 @@ invariant_of-result g c = record {
   hosted = c.are_hosted.ensures.0 c.if-not-are_hosted.false;
   holds = empty_kept g.W.Window.held c.args.conf c.in-Ok.log.batches (states_of c.in-Ok-open.states.entries) _ c.new.ensures.empty;
   moment = omega arith;
+  scratch = c.in-Some.ensures;
 }
 
 pub returns-clause-opened : goal.returns-clause-opened
 returns-clause-opened g c = opened g.D.Disk.seen g.W.Window.held c.args.conf c.args.disks.0 c.args.disks.1 c.args.disks.2 _ refl c.new.ensures.empty refl c.in-Ok.ensures.kept
     c.in-Ok.ensures.opens (λ content batches at text. c.in-Ok.ensures.recovers content batches at text) c.in-Ok-open.ensures.opened
     (c.are_hosted.ensures.0 c.if-not-are_hosted.false)
+
+pub returns-in_default-clause-refused : goal.returns-in_default-clause-refused
+returns-in_default-clause-refused g c = unscratched g.D.Disk.seen g.W.Window.held c.args.conf c.args.disks.0 c.args.disks.1 c.args.disks.2
+
+pub returns-in_default-clause-log : goal.returns-in_default-clause-log
+returns-in_default-clause-log g c = left_alone g.D.Disk.seen g.met.D.Disk.only_now c.args.disks.0

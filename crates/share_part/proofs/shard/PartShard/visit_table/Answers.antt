@@ -20,7 +20,7 @@ use Rattle.share_part.proofs.Acked.{Acked, acked_from, none_acked, ok_same, stan
 use Rattle.share_part.proofs.Ahead.{goes_by, made_there, none_ready}
 use Rattle.share_part.proofs.Appending.{all_within, numbered_is}
 use Rattle.share_part.proofs.Failing.{run_none}
-use Rattle.share_part.proofs.Holding.{AreKept}
+use Rattle.share_part.proofs.Holding.{AreKept, same_kept}
 use Rattle.share_part.proofs.Looked.{nothing_read, read_all, read_not}
 use Rattle.share_part.proofs.Visiting.{err_is, fetched, held_by, took_by, unread_so, wells_took}
 use Rattle.share_part.proofs.shard.PartShard.visit_table.Goals as goal
@@ -30,11 +30,20 @@ returns-in_err-ready-clause-once g c = rw (← c.self.view_is) (none_ready g.D.D
     (record { conf = c.self.inside.conf; log = c.self.inside.log; states = c.self.inside.states; windows = c.self.inside.windows.entries; clock = c.self.inside.clock }) c.ready.new.windows.entries (nothing_read g.D.Disk.seen g.met.D.Disk.only_now c.self.inside.log) c.in_err-ready.ensures.held
     c.from_residual.result c.from_residual.ensures.0)
 
+pub invariant_of-self : goal.invariant_of-self
+invariant_of-self g c = record {
+  log_is = c.self.invariant.log_is;
+  hosted = c.self.invariant.hosted;
+  holds = same_kept c.self.inside.conf c.self.inside.log.batches (states_of c.self.inside.states.entries) (held_in g.W.Window.held c.self.inside.windows.entries)
+      (held_in g.W.Window.held c.ready.new.windows.entries) c.in_err-ready.ensures.held c.self.invariant.holds;
+  moment = c.self.invariant.moment;
+  scratch = let room = c.self.invariant.scratch in omega (arith, room, c.judge_acks-acks.ensures.room);
+}
+
 pub settle_acks-requires-clause-judged : goal.settle_acks-requires-clause-judged
 settle_acks-requires-clause-judged g c = subst (λ (h : Held). JudgesAcks c.self.inside.conf.limit c.args.visit.now c.self.inside.log.batches h
-    (share_state_at (states_of c.self.inside.states.entries) (key_of c.self.inside.conf c.args.visit.now.group)) c.args.acks.now) (sym (c.in_ok-ready.ensures.held c.args.visit.now.group))
-    (subst (λ (p : PartParts g.row.D.Denot g.row.W.Denot). JudgesAcks p.conf.limit c.args.visit.now p.log.batches (held_in g.W.Window.held p.windows c.args.visit.now.group)
-    (share_state_at (states_of p.states.entries) (key_of p.conf c.args.visit.now.group)) c.args.acks.now) (sym c.self.view_is) c.requires.judged)
+    (share_state_at (states_of c.self.inside.states.entries) (key_of c.self.inside.conf c.args.visit.now.group)) c.judge_acks-acks.new.rows.list c.judge_acks-acks.result) (sym (c.in_ok-ready.ensures.held c.args.visit.now.group))
+    c.judge_acks-acks.ensures.judged
 
 pub invariant_of-self-in_err-ack : goal.invariant_of-self-in_err-ack
 invariant_of-self-in_err-ack g c =
@@ -45,7 +54,7 @@ invariant_of-self-in_err-ack g c =
     (record { conf = c.self.inside.conf; log = c.self.inside.log; states = c.self.inside.states; windows = c.self.inside.windows.entries; clock = c.self.inside.clock })
     c.settle_acks.new.states c.settle_acks.new.windows.entries c.self.invariant.log_is c.settle_acks.ensures.range.few c.self.invariant.hosted c.self.invariant.holds
     (held_in g.W.Window.held c.ready.new.windows.entries) c.in_ok-ready.ensures.held c.settle_acks.result c.settle_acks.ensures.once) in
-    record { log_is = c.self.invariant.log_is; hosted = s.0; holds = s.1; moment = c.self.invariant.moment }
+    record { log_is = c.self.invariant.log_is; hosted = s.0; holds = s.1; moment = c.self.invariant.moment; scratch = let room = c.self.invariant.scratch in omega (arith, room, c.judge_acks-acks.ensures.room) }
 
 pub returns-in_err-ack-clause-once : goal.returns-in_err-ack-clause-once
 returns-in_err-ack-clause-once g c = rw (← c.self.view_is) (none_acked g.D.Disk.seen g.W.Window.held c.args.visit.now
@@ -63,8 +72,7 @@ append_batches-requires-clause-numbers g c = let goes = (goes_by g.D.Disk.seen g
     (record { conf = c.self.inside.conf; log = c.self.inside.log; states = c.self.inside.states; windows = c.self.inside.windows.entries; clock = c.self.inside.clock })
     c.settle_acks.new.states c.settle_acks.new.windows.entries c.self.invariant.log_is c.settle_acks.ensures.range.few c.self.invariant.hosted c.self.invariant.holds
     c.args.limits (subst (λ (p : PartParts g.row.D.Denot g.row.W.Denot). IsSome (share_state_at (states_of p.states.entries) (key_of p.conf c.args.visit.now.group))) (sym c.self.view_is) c.requires.table)
-    c.args.acks.now c.in_ok-ready.ready.stays c.in_ok-ready.ready.moves (subst (λ (p : PartParts g.row.D.Denot g.row.W.Denot). JudgesAcks p.conf.limit c.args.visit.now p.log.batches (held_in g.W.Window.held p.windows c.args.visit.now.group)
-    (share_state_at (states_of p.states.entries) (key_of p.conf c.args.visit.now.group)) c.args.acks.now) (sym c.self.view_is) c.requires.judged)
+    c.judge_acks-acks.new.rows.list c.judge_acks-acks.result c.in_ok-ready.ready.stays c.in_ok-ready.ready.moves c.judge_acks-acks.ensures.judged
     c.in_ok-ready.ensures.ready.stays c.in_ok-ready.ensures.ready.moves c.chosen-plan.result.0 c.in_ok-ack.ack
     (subst (Acked g.D.Disk.seen g.W.Window.held c.args.visit.now
     (record { conf = c.self.inside.conf; log = c.self.inside.log; states = c.self.inside.states; windows = c.self.inside.windows.entries; clock = c.self.inside.clock })
@@ -82,8 +90,7 @@ append_batches-requires-clause-spare g c = let goes = (goes_by g.D.Disk.seen g.W
     (record { conf = c.self.inside.conf; log = c.self.inside.log; states = c.self.inside.states; windows = c.self.inside.windows.entries; clock = c.self.inside.clock })
     c.settle_acks.new.states c.settle_acks.new.windows.entries c.self.invariant.log_is c.settle_acks.ensures.range.few c.self.invariant.hosted c.self.invariant.holds
     c.args.limits (subst (λ (p : PartParts g.row.D.Denot g.row.W.Denot). IsSome (share_state_at (states_of p.states.entries) (key_of p.conf c.args.visit.now.group))) (sym c.self.view_is) c.requires.table)
-    c.args.acks.now c.in_ok-ready.ready.stays c.in_ok-ready.ready.moves (subst (λ (p : PartParts g.row.D.Denot g.row.W.Denot). JudgesAcks p.conf.limit c.args.visit.now p.log.batches (held_in g.W.Window.held p.windows c.args.visit.now.group)
-    (share_state_at (states_of p.states.entries) (key_of p.conf c.args.visit.now.group)) c.args.acks.now) (sym c.self.view_is) c.requires.judged)
+    c.judge_acks-acks.new.rows.list c.judge_acks-acks.result c.in_ok-ready.ready.stays c.in_ok-ready.ready.moves c.judge_acks-acks.ensures.judged
     c.in_ok-ready.ensures.ready.stays c.in_ok-ready.ensures.ready.moves c.chosen-plan.result.0 c.in_ok-ack.ack
     (subst (Acked g.D.Disk.seen g.W.Window.held c.args.visit.now
     (record { conf = c.self.inside.conf; log = c.self.inside.log; states = c.self.inside.states; windows = c.self.inside.windows.entries; clock = c.self.inside.clock })
@@ -114,6 +121,7 @@ invariant_of-self-in-Err g c =
       hosted = subst (λ (l : List Batch). AreHosted c.self.inside.conf l (states_of c.settle_acks.new.states.entries)) (sym c.append_batches.ensures.log.reads.batches) s.0;
       holds = subst (λ (l : List Batch). AreKept c.self.inside.conf l (states_of c.settle_acks.new.states.entries) (held_in g.W.Window.held c.settle_acks.new.windows.entries)) (sym c.append_batches.ensures.log.reads.batches) s.1;
       moment = omega (arith, c.self.invariant.moment, c.requires.now, c.max-self-inside.ensures);
+      scratch = let room = c.self.invariant.scratch in omega (arith, room, c.judge_acks-acks.ensures.room);
     }
 
 pub returns-in-Err-clause-once : goal.returns-in-Err-clause-once
@@ -140,8 +148,7 @@ hand_out-answer-requires-clause-plan g c = (
       (record { conf = c.self.inside.conf; log = c.self.inside.log; states = c.self.inside.states; windows = c.self.inside.windows.entries; clock = c.self.inside.clock })
       c.settle_acks.new.states c.settle_acks.new.windows.entries c.self.invariant.log_is c.settle_acks.ensures.range.few c.self.invariant.hosted c.self.invariant.holds
       c.args.limits (subst (λ (p : PartParts g.row.D.Denot g.row.W.Denot). IsSome (share_state_at (states_of p.states.entries) (key_of p.conf c.args.visit.now.group))) (sym c.self.view_is) c.requires.table)
-      c.args.acks.now c.in_ok-ready.ready.stays c.in_ok-ready.ready.moves (subst (λ (p : PartParts g.row.D.Denot g.row.W.Denot). JudgesAcks p.conf.limit c.args.visit.now p.log.batches (held_in g.W.Window.held p.windows c.args.visit.now.group)
-      (share_state_at (states_of p.states.entries) (key_of p.conf c.args.visit.now.group)) c.args.acks.now) (sym c.self.view_is) c.requires.judged)
+      c.judge_acks-acks.new.rows.list c.judge_acks-acks.result c.in_ok-ready.ready.stays c.in_ok-ready.ready.moves c.judge_acks-acks.ensures.judged
       c.in_ok-ready.ensures.ready.stays c.in_ok-ready.ensures.ready.moves c.chosen-plan.result.0 c.in_ok-ack.ack
       (subst (Acked g.D.Disk.seen g.W.Window.held c.args.visit.now
       (record { conf = c.self.inside.conf; log = c.self.inside.log; states = c.self.inside.states; windows = c.self.inside.windows.entries; clock = c.self.inside.clock })
@@ -166,8 +173,7 @@ invariant_of-self-2 g c =
     (record { conf = c.self.inside.conf; log = c.self.inside.log; states = c.self.inside.states; windows = c.self.inside.windows.entries; clock = c.self.inside.clock })
     c.settle_acks.new.states c.settle_acks.new.windows.entries c.self.invariant.log_is c.settle_acks.ensures.range.few c.self.invariant.hosted c.self.invariant.holds
     c.args.limits (subst (λ (p : PartParts g.row.D.Denot g.row.W.Denot). IsSome (share_state_at (states_of p.states.entries) (key_of p.conf c.args.visit.now.group))) (sym c.self.view_is) c.requires.table)
-    c.args.acks.now c.in_ok-ready.ready.stays c.in_ok-ready.ready.moves (subst (λ (p : PartParts g.row.D.Denot g.row.W.Denot). JudgesAcks p.conf.limit c.args.visit.now p.log.batches (held_in g.W.Window.held p.windows c.args.visit.now.group)
-    (share_state_at (states_of p.states.entries) (key_of p.conf c.args.visit.now.group)) c.args.acks.now) (sym c.self.view_is) c.requires.judged)
+    c.judge_acks-acks.new.rows.list c.judge_acks-acks.result c.in_ok-ready.ready.stays c.in_ok-ready.ready.moves c.judge_acks-acks.ensures.judged
     c.in_ok-ready.ensures.ready.stays c.in_ok-ready.ensures.ready.moves c.chosen-plan.result.0 c.in_ok-ack.ack
     (subst (Acked g.D.Disk.seen g.W.Window.held c.args.visit.now
     (record { conf = c.self.inside.conf; log = c.self.inside.log; states = c.self.inside.states; windows = c.self.inside.windows.entries; clock = c.self.inside.clock })
@@ -192,6 +198,7 @@ invariant_of-self-2 g c =
           (c.max-self-inside.result + c.self.inside.conf.lock_ms) refl c.hand_out-answer.ensures.held)
           (Ok _) refl (end_of c.self.inside.log.batches) refl (made_there g.D.Disk.seen c.self.inside.conf c.args.visit.now.group (end_of c.self.inside.log.batches) c.settle_acks.new.states goes.its goes.there) s.0 s.1);
       moment = omega (arith, c.self.invariant.moment, c.requires.now, c.max-self-inside.ensures);
+      scratch = let room = c.self.invariant.scratch in omega (arith, room, c.judge_acks-acks.ensures.room);
     }
 
 pub returns-clause-once : goal.returns-clause-once
@@ -200,8 +207,7 @@ returns-clause-once g c =
     (record { conf = c.self.inside.conf; log = c.self.inside.log; states = c.self.inside.states; windows = c.self.inside.windows.entries; clock = c.self.inside.clock })
     c.settle_acks.new.states c.settle_acks.new.windows.entries c.self.invariant.log_is c.settle_acks.ensures.range.few c.self.invariant.hosted c.self.invariant.holds
     c.args.limits (subst (λ (p : PartParts g.row.D.Denot g.row.W.Denot). IsSome (share_state_at (states_of p.states.entries) (key_of p.conf c.args.visit.now.group))) (sym c.self.view_is) c.requires.table)
-    c.args.acks.now c.in_ok-ready.ready.stays c.in_ok-ready.ready.moves (subst (λ (p : PartParts g.row.D.Denot g.row.W.Denot). JudgesAcks p.conf.limit c.args.visit.now p.log.batches (held_in g.W.Window.held p.windows c.args.visit.now.group)
-    (share_state_at (states_of p.states.entries) (key_of p.conf c.args.visit.now.group)) c.args.acks.now) (sym c.self.view_is) c.requires.judged)
+    c.judge_acks-acks.new.rows.list c.judge_acks-acks.result c.in_ok-ready.ready.stays c.in_ok-ready.ready.moves c.judge_acks-acks.ensures.judged
     c.in_ok-ready.ensures.ready.stays c.in_ok-ready.ensures.ready.moves c.chosen-plan.result.0 c.in_ok-ack.ack
     (subst (Acked g.D.Disk.seen g.W.Window.held c.args.visit.now
     (record { conf = c.self.inside.conf; log = c.self.inside.log; states = c.self.inside.states; windows = c.self.inside.windows.entries; clock = c.self.inside.clock })
