@@ -4,6 +4,7 @@ ghost use Rattle.std.specs.Io.KnownBytes.{Consumes};
 ghost use Rattle.edge_io.specs.Causes.{HasCause};
 ghost use Rattle.topic_conf.specs.Configs.{ConfigParts};
 ghost use Rattle.conn_core.specs.HostedShards.{IsHostedPart};
+ghost use Rattle.conn_core.specs.Conns.{new_conn};
 ghost use Rattle.conn_core.specs.Turning.{Awaits};
 ghost use Rattle.broker_run.specs.Acting.{AreOf, HostsAll, StayOf};
 ghost use Rattle.broker_run.specs.Serving.{Asked, Breaks, CanServe, HasEndCause, HasTurnCause, IsServed};
@@ -232,6 +233,36 @@ fn finish<R: Wait, C: Clock, G: Gate, D: Disk>(
     unreachable!()
 }
 
+// Serves a connection that has just come, by this configuration.
+fn serve_new<R: Wait, D: Disk, K: Link, C: Clock, G: Gate>(
+    rt: &R,
+    conf: &Config,
+    shared: &Shared<D>,
+    passes: &mut Passes<D>,
+    number: u32,
+    conn: &mut Conn,
+    link: &mut K,
+    clock: &mut C,
+    gate: &G,
+) -> Ended
+    requires of { AreOf shared.now passes.old }
+    requires hosts { HostsAll conf.now shared.now }
+    requires new { conn.old ≡ new_conn }
+    ensures stay { StayOf shared.now passes.old passes.new }
+    ensures served { IsServed conf.now D.seen shared.now passes.old passes.new (K.left link.old) (K.left link.new)
+        (K.held link.old) (K.held link.new) (C.told clock.old) (C.told clock.new) result }
+    ensures cause { HasEndCause result (K.ended link.new) (K.left link.new) (K.faults link.old) (K.faults link.new) }
+    ensures later { K.faults link.old ≤ K.faults link.new }
+{
+    let Ok(ended) = talk(rt, conf, shared, passes, number, conn, link, clock, gate) else {
+        return Ended::NoMemory;
+    };
+    match finish(rt, conf, shared, passes, number, conn, clock, gate) {
+        Ok(()) => ended,
+        Err(NoMemory) => Ended::NoMemory,
+    }
+}
+
 // Serves one connection from its beginning, by this configuration.
 fn serve<R: Wait, D: Disk, K: Link, C: Clock, G: Gate>(
     rt: &R,
@@ -253,15 +284,11 @@ fn serve<R: Wait, D: Disk, K: Link, C: Clock, G: Gate>(
     ensures later { K.faults link.old ≤ K.faults link.new }
 {
     let mut conn = Conn::open(alloc);
-    let Ok(ended) = talk(
+    let ended = serve_new(
         rt, conf, shared, passes, number, &mut conn, link, clock, gate,
-    ) else {
-        return Ended::NoMemory;
-    };
-    match finish(rt, conf, shared, passes, number, &mut conn, clock, gate) {
-        Ok(()) => ended,
-        Err(NoMemory) => Ended::NoMemory,
-    }
+    );
+    drop(conn);
+    ended
 }
 
 /// Serves the connection of a link, through these passes, until it has closed and what its members held is released.

@@ -48,10 +48,10 @@ fn make_crew<K: Drop, G: Drop, D: Disk + Drop, B: Naming<D> + Drop>(
 ) -> Result<Crew<K, G, D, B>, NoMemory>
     requires { IsNamed B.shared shared }
 {
+    let shared = Named::new(Arc::new(alloc, shared)?);
     let gate = Arc::new(alloc, gate)?;
     let desk = Desk::new(alloc, seats)?;
     let desk = Arc::new(alloc, desk)?;
-    let shared = Named::new(Arc::new(alloc, shared)?);
     Ok(Crew { shared, desk, gate })
 }
 
