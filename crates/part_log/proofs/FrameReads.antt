@@ -1,37 +1,25 @@
 -- A content is read as one log, or is damaged at one place.
-use Rattle.std.proofs.Common.{◌≡◌, ◌+◌, ◌<◌, ◌≤◌, ℕ, List, [], ◌∷◌, ◌++◌, length, refl, sym, ap, subst, ◌∙◌, append_assoc, arith}
-use Rattle.std.proofs.lemmas.List.{append-nil}
-use Rattle.gate_journal.specs.Frames.{StandsFor, blocks}
-use Rattle.std.specs.List.{AllByRecursion}
-use Rattle.share_model.specs.Logs.{Batch, RisesFrom, end_of}
-use Rattle.part_log.specs.Batches.{IsStored}
+use Rattle.std.proofs.Common.{◌≡◌, ◌<◌, ℕ, List, [], ◌∷◌, ◌++◌, length, refl, sym, ap, subst, ◌∙◌, append_assoc, arith}
 use Rattle.std.proofs.Common.{inl, inr, ⊎_elim}
 use Rattle.std.proofs.lemmas.Bool.{cases_lt}
+use Rattle.std.proofs.lemmas.List.{append-nil}
+use Rattle.gate_journal.specs.Frames.{StandsFor, blocks}
 use Rattle.gate_journal.proofs.Once.{not_both, once, place_once}
 use Rattle.gate_journal.proofs.Total.{text_or_damaged}
-use Rattle.part_log.specs.Logs.{IsBadFrames, IsLogText, IsNoLogText, IsStoredLog, frames_of}
+use Rattle.part_log.specs.Starts.{Log, LogWrite, with_write}
+use Rattle.part_log.specs.Logs.{IsAllowed, IsBadFrames, IsLogText, IsNoLogText, Lead, frame_of, frames_of, no_log}
 use Rattle.part_log.proofs.Parts.{head_of, map_parted, tail_of}
-use Rattle.part_log.proofs.Rising.{frames_more, same_log, sound_more, sound_none}
+use Rattle.part_log.proofs.Rising.{sound_none}
+use Rattle.part_log.proofs.Writes.{frames_more, lead_more, lead_once, lead_parts}
 
 -- ---- a log has no frame that can't stand there
 
-stored_parts : (front : List Batch) (b : Batch) (back : List Batch) → AllByRecursion IsStored (front ++ (b ∷ back)) → AllByRecursion IsStored front × IsStored b
-stored_parts [] b back h = (tt, h.0)
-stored_parts (c ∷ front) b back h = let r = stored_parts front b back h.1 in ((h.0, r.0), r.1)
-
-rises_parts : (e : ℕ) (front : List Batch) (b : Batch) (back : List Batch) → RisesFrom e (front ++ (b ∷ back)) → RisesFrom e front × (end_of front ≤ b.base)
-rises_parts e [] b back h = (tt, omega arith)
-rises_parts e (c ∷ []) b back h = ((h.0, h.1, tt), h.2.0)
-rises_parts e (c ∷ d ∷ front) b back h = let r = rises_parts (c.last + 1) (d ∷ front) b back h.2 in ((h.0, h.1, r.0), r.1)
-
-pub bad_none : (frames : List (List ℕ)) (place : ℕ) (log : List Batch) → IsBadFrames frames place → IsStoredLog log → frames ≡ frames_of log → ⊥
-bad_none frames place log bad sound e =
-    let r = map_parted (λ (b : Batch). b.bytes) log (frames_of bad.before) bad.frame bad.after (sym e ∙ bad.is) in
-    let stored = stored_parts r.front r.x r.back (subst (AllByRecursion IsStored) r.whole sound.stored) in
-    let rises = rises_parts 0 r.front r.x r.back (subst (RisesFrom 0) r.whole sound.rises) in
-    let same : r.front ≡ bad.before = same_log r.front bad.before (record { stored = stored.0; rises = rises.0 }) bad.sound r.fronts in
-    let below = bad.none r.x r.same stored.1 in
-    omega (arith, below, rises.1, ap end_of same)
+pub bad_none : (frames : List (List ℕ)) (place : ℕ) (writes : List LogWrite) (log : Log) → IsBadFrames frames place → Lead no_log writes log → frames ≡ frames_of writes → ⊥
+bad_none frames place writes log bad leads e =
+    let r = map_parted frame_of writes (frames_of bad.before) bad.frame bad.after (sym e ∙ bad.is) in
+    let mid = lead_parts no_log r.front r.x r.back log (subst (λ (ws : List LogWrite). Lead no_log ws log) r.whole leads) in
+    let same : mid.0 ≡ bad.log = lead_once no_log sound_none r.front bad.before mid.0 bad.log mid.1 bad.leads r.fronts in
+    bad.none r.x r.same (subst (λ (l : Log). IsAllowed l r.x) same mid.2)
 
 -- ---- and at most one place
 
@@ -57,7 +45,8 @@ longer (f ∷ fs) (g ∷ gs) ds bs x lt e =
 shorter_none : (frames : List (List ℕ)) (p q : ℕ) (bad : IsBadFrames frames p) (other : IsBadFrames frames q) → length (frames_of bad.before) < length (frames_of other.before) → ⊥
 shorter_none frames p q bad other lt =
     let r = longer (frames_of bad.before) (frames_of other.before) bad.after (other.frame ∷ other.after) bad.frame lt (sym bad.is ∙ other.is) in
-    bad_none (frames_of other.before) p other.before (record { before = bad.before; frame = bad.frame; after = r.0; is = r.1; sound = bad.sound; at = bad.at; none = bad.none }) other.sound refl
+    bad_none (frames_of other.before) p other.before other.log
+    (record { before = bad.before; log = bad.log; frame = bad.frame; after = r.0; is = r.1; leads = bad.leads; at = bad.at; none = bad.none }) other.leads refl
 
 pub one_place : (frames : List (List ℕ)) (p q : ℕ) → IsBadFrames frames p → IsBadFrames frames q → p ≡ q
 one_place frames p q bad other =
@@ -68,9 +57,9 @@ one_place frames p q bad other =
     (cases_lt (length (frames_of bad.before)) (length (frames_of other.before)))
 
 module _ (c : List ℕ) where
-  pub text_sound : (log : List Batch) (place : ℕ) → IsLogText c log → IsNoLogText c place → ⊥
-  text_sound log place text (inl damaged) = not_both c (frames_of log) place text.frames damaged
-  text_sound log place text (inr bad) = bad_none bad.0 place log bad.2 text.sound (once c bad.0 (frames_of log) bad.1 text.frames)
+  pub text_sound : (log : Log) (place : ℕ) → IsLogText c log → IsNoLogText c place → ⊥
+  text_sound log place text (inl damaged) = not_both c (frames_of text.writes) place text.frames damaged
+  text_sound log place text (inr bad) = bad_none bad.0 place text.writes log bad.2 text.leads (once c bad.0 (frames_of text.writes) bad.1 text.frames)
 
   pub place_once_more : (p q : ℕ) → IsNoLogText c p → IsNoLogText c q → p ≡ q
   place_once_more p q (inl d) (inl e) = place_once c p q d e
@@ -80,24 +69,23 @@ module _ (c : List ℕ) where
 
 -- ---- and there is no third case
 
-module _ (frames : List (List ℕ)) (none : (log : List Batch) → IsStoredLog log → frames ≡ frames_of log → ⊥) (bad : (place : ℕ) → IsBadFrames frames place → ⊥) where
-  some_read : (rest : List (List ℕ)) (before : List Batch) → IsStoredLog before → frames ≡ frames_of before ++ rest → ⊥
-  some_read [] before sound is = none before sound (is ∙ append-nil (frames_of before))
-  some_read (f ∷ rest) before sound is = bad (length (blocks (frames_of before))) (record {
+module _ (frames : List (List ℕ)) (none : (writes : List LogWrite) (log : Log) → Lead no_log writes log → frames ≡ frames_of writes → ⊥) (bad : (place : ℕ) → IsBadFrames frames place → ⊥) where
+  some_read : (rest : List (List ℕ)) (before : List LogWrite) (log : Log) → Lead no_log before log → frames ≡ frames_of before ++ rest → ⊥
+  some_read [] before log leads is = none before log leads (is ∙ append-nil (frames_of before))
+  some_read (f ∷ rest) before log leads is = bad (length (blocks (frames_of before))) (record {
     before = before;
+    log = log;
     frame = f;
     after = rest;
     is = is;
-    sound = sound;
+    leads = leads;
     at = refl;
-    none = λ b e s. ⊎_elim (λ lt. lt)
-        (λ le. absurd (some_read rest (before ++ b ∷ []) (sound_more before b sound (record { stored = s; behind = le }))
-        (is ∙ ap (λ x. frames_of before ++ (x ∷ rest)) (sym e) ∙ sym (append_assoc (frames_of before) (b.bytes ∷ []) rest) ∙ ap (λ l. l ++ rest) (sym (frames_more before b)))))
-        (cases_lt b.base (end_of before));
+    none = λ w e a. some_read rest (before ++ w ∷ []) (with_write log w) (lead_more no_log before log w leads a)
+        (is ∙ ap (λ x. frames_of before ++ (x ∷ rest)) (sym e) ∙ sym (append_assoc (frames_of before) (frame_of w ∷ []) rest) ∙ ap (λ l. l ++ rest) (sym (frames_more before w)));
   })
 
-pub no_third : (c : List ℕ) → ((log : List Batch) → IsLogText c log → ⊥) → ((place : ℕ) → IsNoLogText c place → ⊥) → ⊥
+pub no_third : (c : List ℕ) → ((log : Log) → IsLogText c log → ⊥) → ((place : ℕ) → IsNoLogText c place → ⊥) → ⊥
 no_third c none bad = ⊎_elim
-    (λ t. some_read t.0 (λ log sound e. none log (record { frames = subst (StandsFor c) e t.1; sound = sound })) (λ place b. bad place (inr (t.0, t.1, b)))
-    t.0 [] sound_none refl)
+    (λ t. some_read t.0 (λ writes log leads e. none log (record { writes = writes; frames = subst (StandsFor c) e t.1; leads = leads })) (λ place b. bad place (inr (t.0, t.1, b)))
+    t.0 [] no_log refl refl)
     (λ d. bad d.0 (inl d.1)) (text_or_damaged c)

@@ -1,9 +1,9 @@
 -- A log that is held by an index over its journal, through what happens to the journal.
-use Rattle.std.proofs.Common.{◌≡◌, ℕ, ◌+◌, ◌≤◌, List, [], ◌∷◌, ◌++◌, length, refl, sym, ap, subst, ◌∙◌, arith}
+use Rattle.std.proofs.Common.{◌≡◌, ℕ, ◌+◌, ◌≤◌, ◌<◌, List, [], ◌∷◌, ◌++◌, length, refl, sym, ap, subst, ◌∙◌, arith}
 use Rattle.std.proofs.Common.{◌≢◌, Option, None, Result, Err, OnOk, append_assoc, length-append}
 use Rattle.std.proofs.lemmas.Result.{on_ok_weaker}
 use Rattle.std.specs.Prelude.{map}
-use Rattle.std.specs.Int.{w32, to_be_bytes}
+use Rattle.std.specs.Int.{w32, w64, to_be_bytes}
 use Rattle.std.proofs.lemmas.List.{map-append, length-map}
 use Rattle.edge_io.specs.Disk.{IsTold}
 use Rattle.edge_io.specs.Views.{DiskView}
@@ -13,6 +13,8 @@ use Rattle.gate_journal.specs.Reading.{HasFrameAt, IsFrameAt, ReadsOnly}
 use Rattle.gate_journal.specs.Visits.{placed}
 use Rattle.gate_journal.specs.declared.writer.Writer.{Writer}
 use Rattle.share_model.specs.Logs.{Batch, IsAt, end_of}
+use Rattle.part_log.specs.Starts.{LogWrite}
+use Rattle.part_log.specs.Starts.LogWrite.{Adds, Marks}
 use Rattle.share_model.specs.Rooms.{Appends, Filled}
 use Rattle.share_model.specs.declared.fault.BatchRead.{BatchRead}
 use Rattle.share_model.specs.declared.fault.BatchRead.TheVariants.{NoMemory}
@@ -20,22 +22,15 @@ use Rattle.log_index.specs.Indexes.{FillsWithin, IndexParts, Indexes, IsEntryAt}
 use Rattle.log_index.specs.declared.entry.Entry.{Entry}
 use Rattle.log_index.proofs.Fitting.{fits_none, fits_still, pushed_fits}
 use Rattle.part_log.specs.Batches.{batch_in}
-use Rattle.part_log.specs.Holding.{HasBadFrame, HoldsLog, IsIndexed, batches_of, entry_of}
-use Rattle.part_log.specs.Logs.{IsBadFrames, IsStoredLog, MayFollow, frames_of}
+use Rattle.part_log.specs.Holding.{HasBadFrame, HoldsLog, IsIndexed, batches_of, bytes_in, entry_of, kept_in, log_of}
+use Rattle.part_log.specs.Logs.{IsBadFrames, Lead, MayFollow, MayStartAt, frame_of, frames_of, no_log}
+use Rattle.part_log.proofs.Frames.{bounds}
+use Rattle.part_log.proofs.Kept.{Frames, batches_mark, batches_more, bytes_append, kept_batch, kept_mark, kept_parted}
 use Rattle.part_log.proofs.Parts.{head_of, map_parted, tail_of}
-use Rattle.part_log.proofs.Rising.{end_more, sound_more}
+use Rattle.part_log.proofs.Rising.{end_more}
+use Rattle.part_log.proofs.Writes.{frames_more, lead_more}
 
 -- ---- frames and their places
-
-abbrev Frames : Type 0
-Frames = List (ℕ × List ℕ)
-
-abbrev bytes_in : Frames → List (List ℕ)
-bytes_in frames = frames_of (batches_of frames)
-
-bytes_append : (xs ys : Frames) → bytes_in (xs ++ ys) ≡ bytes_in xs ++ bytes_in ys
-bytes_append [] ys = refl
-bytes_append (x ∷ xs) ys = ap (λ l. x.1 ∷ l) (bytes_append xs ys)
 
 pub bytes_placed : (at : ℕ) (fs : List (List ℕ)) → bytes_in (placed at fs) ≡ fs
 bytes_placed at [] = refl
@@ -77,39 +72,77 @@ frame_at frames front f back places whole = (
 
 -- ---- one frame more
 
-batches_more : (frames : Frames) (place : ℕ) (x : List ℕ) → batches_of (frames ++ (place, x) ∷ []) ≡ batches_of frames ++ batch_in x ∷ []
-batches_more frames place x = map-append (λ (f : ℕ × List ℕ). batch_in f.1) frames ((place, x) ∷ [])
+pub batches_stored : (frames more : Frames) (place : ℕ) (x frame : List ℕ) → 8 < length frame → x ≡ frame → more ≡ frames ++ (place, x) ∷ []
+    → batches_of more ≡ batches_of frames ++ batch_in frame ∷ []
+batches_stored frames more place x frame long same pushed =
+    ap batches_of (pushed ∙ ap (λ (l : List ℕ). frames ++ (place, l) ∷ []) same) ∙ batches_more frames place frame long
 
-pub batches_stored : (frames more : Frames) (place : ℕ) (x frame : List ℕ) → x ≡ frame → more ≡ frames ++ (place, x) ∷ [] → batches_of more ≡ batches_of frames ++ batch_in frame ∷ []
-batches_stored frames more place x frame same pushed = ap batches_of pushed ∙ batches_more frames place x ∙ ap (λ (l : List ℕ). batches_of frames ++ batch_in l ∷ []) same
+pub batches_marked : (frames more : Frames) (place : ℕ) (x : List ℕ) (start : ℕ) → x ≡ to_be_bytes w64 start → more ≡ frames ++ (place, x) ∷ []
+    → batches_of more ≡ batches_of frames
+batches_marked frames more place x start is pushed =
+    let short : length x ≡ 8 = ap length is in
+    ap batches_of pushed ∙ batches_mark frames place x short
 
-pub indexed_more : (frames : Frames) (index new : IndexParts) (end place : ℕ) (x : List ℕ) → IsIndexed frames index end → MayFollow (batches_of frames) (batch_in x)
-    → new.entries ≡ index.entries ++ entry_of (place, x) ∷ [] → IsIndexed (frames ++ (place, x) ∷ []) new ((batch_in x).last + 1)
-indexed_more frames index new end place x h follows pushed = record {
-  sound = subst IsStoredLog (sym (batches_more frames place x)) (sound_more (batches_of frames) (batch_in x) h.sound follows);
-  ends = sym (ap end_of (batches_more frames place x) ∙ end_more (batches_of frames) (batch_in x));
-  entries = pushed ∙ ap (λ (es : List Entry). es ++ entry_of (place, x) ∷ []) h.entries ∙ sym (map-append entry_of frames ((place, x) ∷ []));
-}
+-- the bytes of a stored batch are more than those of a mark
+pub longer : (log : List Batch) (x : List ℕ) → MayFollow log (batch_in x) → 8 < length x
+longer log x follows = omega (arith, (bounds (batch_in x) follows.stored).header)
+
+bytes_more : (frames : Frames) (place : ℕ) (x : List ℕ) (writes : List LogWrite) (w : LogWrite) → bytes_in frames ≡ frames_of writes → x ≡ frame_of w
+    → bytes_in (frames ++ (place, x) ∷ []) ≡ frames_of (writes ++ w ∷ [])
+bytes_more frames place x writes w are is =
+    bytes_append frames ((place, x) ∷ []) ∙ (λ i. are i ++ is i ∷ []) ∙ sym (frames_more writes w)
+
+pub indexed_more : (frames : Frames) (index new : IndexParts) (start end place : ℕ) (x : List ℕ) → IsIndexed frames index start end
+    → MayFollow (batches_of frames) (batch_in x) → new.entries ≡ index.entries ++ entry_of (place, x) ∷ []
+    → IsIndexed (frames ++ (place, x) ∷ []) new start ((batch_in x).last + 1)
+indexed_more frames index new start end place x h follows pushed =
+    let long = longer (batches_of frames) x follows in
+    let more = batches_more frames place x long in
+    record {
+      writes = h.writes ++ Adds (batch_in x) ∷ [];
+      are = bytes_more frames place x h.writes (Adds (batch_in x)) h.are refl;
+      leads = subst (λ (bs : List Batch). Lead no_log (h.writes ++ Adds (batch_in x) ∷ []) (record { batches = bs; start = start })) (sym more)
+          (lead_more no_log h.writes (log_of frames start) (Adds (batch_in x)) h.leads follows);
+      ends = sym (ap end_of more ∙ end_more (batches_of frames) (batch_in x));
+      entries = pushed ∙ ap (λ (es : List Entry). es ++ entry_of (place, x) ∷ []) h.entries
+          ∙ sym (ap (map entry_of) (kept_batch frames (place, x) long) ∙ map-append entry_of (kept_in frames) ((place, x) ∷ []));
+    }
+
+-- behind a mark
+pub indexed_mark : (frames : Frames) (index new : IndexParts) (start end place : ℕ) (x : List ℕ) (to : ℕ) → IsIndexed frames index start end
+    → MayStartAt (log_of frames start) to → x ≡ to_be_bytes w64 to → new.entries ≡ index.entries → IsIndexed (frames ++ (place, x) ∷ []) new to end
+indexed_mark frames index new start end place x to h follows is same =
+    let short : length x ≡ 8 = ap length is in
+    let still = batches_mark frames place x short in
+    record {
+      writes = h.writes ++ Marks to ∷ [];
+      are = bytes_more frames place x h.writes (Marks to) h.are is;
+      leads = subst (λ (bs : List Batch). Lead no_log (h.writes ++ Marks to ∷ []) (record { batches = bs; start = to })) (sym still)
+          (lead_more no_log h.writes (log_of frames start) (Marks to) h.leads follows);
+      ends = h.ends ∙ sym (ap end_of still);
+      entries = same ∙ h.entries ∙ sym (ap (map entry_of) (kept_mark frames (place, x) short));
+    }
 
 -- ---- the index over the journal
 
 module _ {D : Type 0} (seen : D → DiskView) where
   -- the frame of an entry
-  entry_frame : (frames : Frames) (entries : List Entry) (w : Writer D) (pending : Option (List ℕ)) → frames ≡ placed 0 (bytes_in frames) → entries ≡ map entry_of frames
+  entry_frame : (frames : Frames) (entries : List Entry) (w : Writer D) (pending : Option (List ℕ)) → frames ≡ placed 0 (bytes_in frames) → entries ≡ map entry_of (kept_in frames)
       → Stands seen w (bytes_in frames) pending → (number : ℕ) (e : Entry) → IsEntryAt entries number e
       → (frame : List ℕ) × HasFrameAt seen w e.place frame × (length frame ≡ e.size)
   entry_frame frames entries w pending places same stands number e at =
-      let p = map_parted entry_of frames at.0 e at.1 (sym same ∙ at.2) in (
+      let p = map_parted entry_of (kept_in frames) at.0 e at.1 (sym same ∙ at.2) in
+      let a = kept_parted frames p.front p.x p.back p.whole in (
         p.x.1,
         subst (λ (d : Entry). HasFrameAt seen w d.place p.x.1) p.same
-            (record { frames = bytes_in frames; pending = pending; stands = stands; at = frame_at frames p.front p.x p.back places p.whole }),
+            (record { frames = bytes_in frames; pending = pending; stands = stands; at = frame_at frames a.front p.x a.back places a.whole }),
         ap (λ (d : Entry). d.size) p.same,
       )
 
   -- at an opening
-  pub opened_holds : (fs : List (List ℕ)) (frames : Frames) (index : IndexParts) (w : Writer D) (end : ℕ) → frames ≡ placed 0 fs → IsIndexed frames index end
-      → index.cached ≡ [] → Stands seen w fs None → HoldsLog seen frames index w end
-  opened_holds fs frames index w end is indexed nothing stands =
+  pub opened_holds : (fs : List (List ℕ)) (frames : Frames) (index : IndexParts) (w : Writer D) (start end : ℕ) → frames ≡ placed 0 fs → IsIndexed frames index start end
+      → index.cached ≡ [] → Stands seen w fs None → HoldsLog seen frames index w start end
+  opened_holds fs frames index w start end is indexed nothing stands =
       let bytes : bytes_in frames ≡ fs = ap bytes_in is ∙ bytes_placed 0 fs in
       let places : frames ≡ placed 0 (bytes_in frames) = is ∙ ap (placed 0) (sym bytes) in
       let here : Stands seen w (bytes_in frames) None = subst (λ (l : List (List ℕ)). Stands seen w l None) (sym bytes) stands in
@@ -121,15 +154,19 @@ module _ {D : Type 0} (seen : D → DiskView) where
         fits = fits_none seen index w nothing (entry_frame frames index.entries w None places indexed.entries here);
       }
 
-  module _ (frames : Frames) (index : IndexParts) (journal : Writer D) (end : ℕ) (h : HoldsLog seen frames index journal end) where
+  module _ (frames : Frames) (index : IndexParts) (journal : Writer D) (start end : ℕ) (h : HoldsLog seen frames index journal start end) where
+    indexed_still : (new : IndexParts) → new.entries ≡ index.entries → IsIndexed frames new start end
+    indexed_still new entries =
+        record { writes = h.indexed.writes; are = h.indexed.are; leads = h.indexed.leads; ends = h.indexed.ends; entries = entries ∙ h.indexed.entries }
+
     -- nothing was pushed, and the journal has the frames that it had
     pub holds_still : (new : IndexParts) (w : Writer D) → new.entries ≡ index.entries → new.cached ≡ index.cached
         → ((fs : List (List ℕ)) (p : Option (List ℕ)) → Stands seen journal fs p → (q : Option (List ℕ)) × Stands seen w fs q)
-        → (IsTold (seen w.disk).content → IsTold (seen journal.disk).content) → HoldsLog seen frames new w end
+        → (IsTold (seen w.disk).content → IsTold (seen journal.disk).content) → HoldsLog seen frames new w start end
     holds_still new w entries cached goes back =
         let left = goes (bytes_in frames) h.pending h.stands in
         record {
-          indexed = record { sound = h.indexed.sound; ends = h.indexed.ends; entries = entries ∙ h.indexed.entries };
+          indexed = indexed_still new entries;
           places = h.places;
           pending = left.0;
           stands = left.1;
@@ -141,49 +178,61 @@ module _ {D : Type 0} (seen : D → DiskView) where
         }
 
     -- something was read
-    pub holds_read : (new : IndexParts) (w : Writer D) → new.entries ≡ index.entries → Indexes seen new w → ReadsOnly seen journal w → HoldsLog seen frames new w end
+    pub holds_read : (new : IndexParts) (w : Writer D) → new.entries ≡ index.entries → Indexes seen new w → ReadsOnly seen journal w → HoldsLog seen frames new w start end
     holds_read new w entries fits only = record {
-      indexed = record { sound = h.indexed.sound; ends = h.indexed.ends; entries = entries ∙ h.indexed.entries };
+      indexed = indexed_still new entries;
       places = h.places;
       pending = h.pending;
       stands = only.stands (bytes_in frames) h.pending h.stands;
       fits = fits;
     }
 
-    -- a batch was appended and pushed
-    pub holds_more : (new : IndexParts) (w : Writer D) (place : ℕ) (x : List ℕ) → MayFollow (batches_of frames) (batch_in x)
-        → new.entries ≡ index.entries ++ entry_of (place, x) ∷ [] → new.cached ≡ index.cached
-        → ((fs : List (List ℕ)) (p : Option (List ℕ)) → Stands seen journal fs p → place ≡ length (blocks fs))
-        → ((fs : List (List ℕ)) (p : Option (List ℕ)) → Stands seen journal fs p → IsAtRest seen w (fs ++ x ∷ []))
-        → (IsTold (seen w.disk).content → IsTold (seen journal.disk).content)
-        → HoldsLog seen (frames ++ (place, x) ∷ []) new w ((batch_in x).last + 1)
-    holds_more new w place x follows pushed cached at rests back =
-        let whole : bytes_in (frames ++ (place, x) ∷ []) ≡ bytes_in frames ++ x ∷ [] = bytes_append frames ((place, x) ∷ []) in
-        let indexed = indexed_more frames index new end place x h.indexed follows pushed in
-        let places = places_more frames place x h.places (at (bytes_in frames) h.pending h.stands) in
-        let stands : Stands seen w (bytes_in (frames ++ (place, x) ∷ [])) None =
-        subst (λ (l : List (List ℕ)). Stands seen w l None) (sym whole) (rests (bytes_in frames) h.pending h.stands).stands in
-        record {
-          indexed = indexed;
-          places = places;
-          pending = None;
-          stands = stands;
-          fits = pushed_fits seen index new journal w (entry_of (place, x)) x h.fits pushed cached
-              (λ p frame f. record {
-                frames = f.frames ++ x ∷ [];
-                pending = None;
-                stands = (rests f.frames f.pending f.stands).stands;
-                at = (f.at.0, f.at.1 ++ x ∷ [], ap (λ (l : List (List ℕ)). l ++ x ∷ []) f.at.2 ∙ append_assoc f.at.0 (frame ∷ f.at.1) (x ∷ []), f.at.3);
-              })
-              back
-              (record {
-                frames = bytes_in (frames ++ (place, x) ∷ []);
-                pending = None;
-                stands = stands;
-                at = frame_at (frames ++ (place, x) ∷ []) frames (place, x) [] places refl;
-              })
-              refl;
-        }
+    -- the journal has one frame more
+    module _ (w : Writer D) (place : ℕ) (x : List ℕ) (at : (fs : List (List ℕ)) (p : Option (List ℕ)) → Stands seen journal fs p → place ≡ length (blocks fs))
+        (rests : (fs : List (List ℕ)) (p : Option (List ℕ)) → Stands seen journal fs p → IsAtRest seen w (fs ++ x ∷ []))
+        (back : IsTold (seen w.disk).content → IsTold (seen journal.disk).content) where
+      there : frames ++ (place, x) ∷ [] ≡ placed 0 (bytes_in (frames ++ (place, x) ∷ []))
+      there = places_more frames place x h.places (at (bytes_in frames) h.pending h.stands)
+
+      stands_more : Stands seen w (bytes_in (frames ++ (place, x) ∷ [])) None
+      stands_more = subst (λ (l : List (List ℕ)). Stands seen w l None) (sym (bytes_append frames ((place, x) ∷ []))) (rests (bytes_in frames) h.pending h.stands).stands
+
+      kept_frames : (p : ℕ) (frame : List ℕ) → HasFrameAt seen journal p frame → HasFrameAt seen w p frame
+      kept_frames p frame f = record {
+        frames = f.frames ++ x ∷ [];
+        pending = None;
+        stands = (rests f.frames f.pending f.stands).stands;
+        at = (f.at.0, f.at.1 ++ x ∷ [], ap (λ (l : List (List ℕ)). l ++ x ∷ []) f.at.2 ∙ append_assoc f.at.0 (frame ∷ f.at.1) (x ∷ []), f.at.3);
+      }
+
+      -- a batch, which was pushed
+      pub holds_more : (new : IndexParts) → MayFollow (batches_of frames) (batch_in x)
+          → new.entries ≡ index.entries ++ entry_of (place, x) ∷ [] → new.cached ≡ index.cached
+          → HoldsLog seen (frames ++ (place, x) ∷ []) new w start ((batch_in x).last + 1)
+      holds_more new follows pushed cached = record {
+        indexed = indexed_more frames index new start end place x h.indexed follows pushed;
+        places = there;
+        pending = None;
+        stands = stands_more;
+        fits = pushed_fits seen index new journal w (entry_of (place, x)) x h.fits pushed cached kept_frames back
+            (record {
+              frames = bytes_in (frames ++ (place, x) ∷ []);
+              pending = None;
+              stands = stands_more;
+              at = frame_at (frames ++ (place, x) ∷ []) frames (place, x) [] there refl;
+            })
+            refl;
+      }
+
+      -- a mark
+      pub holds_marked : (to : ℕ) → MayStartAt (log_of frames start) to → x ≡ to_be_bytes w64 to → HoldsLog seen (frames ++ (place, x) ∷ []) index w to end
+      holds_marked to follows is = record {
+        indexed = indexed_mark frames index index start end place x to h.indexed follows is refl;
+        places = there;
+        pending = None;
+        stands = stands_more;
+        fits = fits_still seen index index journal w h.fits refl refl kept_frames back;
+      }
 
     -- and so it is after an append of this frame
     pub stored_holds : (new : IndexParts) (w : Writer D) (base last size place stop : ℕ) (x frame : List ℕ) (more : Frames) (mid : List Entry) → x ≡ frame → MayFollow (batches_of frames) (batch_in frame)
@@ -192,15 +241,26 @@ module _ {D : Type 0} (seen : D → DiskView) where
         → ((fs : List (List ℕ)) (p : Option (List ℕ)) → Stands seen journal fs p → place ≡ length (blocks fs))
         → ((fs : List (List ℕ)) (p : Option (List ℕ)) → Stands seen journal fs p → IsAtRest seen w (fs ++ frame ∷ []))
         → (IsTold (seen w.disk).content → IsTold (seen journal.disk).content)
-        → HoldsLog seen more new w stop
+        → HoldsLog seen more new w start stop
     stored_holds new w base last size place stop x frame more mid same follows is_base is_last is_size pushed stops entries kept cached at rests back =
         let len : size ≡ length frame = is_size ∙ ap length same in
         let entry : ◌≡◌ {A = Entry} (record { base = base; last = last; size = size; place = place }) (entry_of (place, frame)) =
         λ i. record { base = is_base i; last = is_last i; size = len i; place = place } in
         let whole : more ≡ frames ++ (place, frame) ∷ [] = pushed ∙ ap (λ (l : List ℕ). frames ++ (place, l) ∷ []) same in
-        let here = holds_more new w place frame follows (entries ∙ (λ i. kept i ++ entry i ∷ [])) cached at rests back in
-        subst (λ (l : Frames). HoldsLog seen l new w stop) (sym whole)
-        (subst (λ (n : ℕ). HoldsLog seen (frames ++ (place, frame) ∷ []) new w n) (sym (stops ∙ ap (λ (n : ℕ). n + 1) is_last)) here)
+        let here = holds_more w place frame at rests back new follows (entries ∙ (λ i. kept i ++ entry i ∷ [])) cached in
+        subst (λ (l : Frames). HoldsLog seen l new w start stop) (sym whole)
+        (subst (λ (n : ℕ). HoldsLog seen (frames ++ (place, frame) ∷ []) new w start n) (sym (stops ∙ ap (λ (n : ℕ). n + 1) is_last)) here)
+
+    -- or of a mark
+    pub marked_holds : (w : Writer D) (place to : ℕ) (x frame : List ℕ) (more : Frames) → x ≡ frame → frame ≡ to_be_bytes w64 to → MayStartAt (log_of frames start) to
+        → more ≡ frames ++ (place, x) ∷ []
+        → ((fs : List (List ℕ)) (p : Option (List ℕ)) → Stands seen journal fs p → place ≡ length (blocks fs))
+        → ((fs : List (List ℕ)) (p : Option (List ℕ)) → Stands seen journal fs p → IsAtRest seen w (fs ++ frame ∷ []))
+        → (IsTold (seen w.disk).content → IsTold (seen journal.disk).content)
+        → HoldsLog seen more index w to end
+    marked_holds w place to x frame more same is follows pushed at rests back =
+        subst (λ (l : Frames). HoldsLog seen l index w to end) (sym (pushed ∙ ap (λ (l : List ℕ). frames ++ (place, l) ∷ []) same))
+        (holds_marked w place frame at rests back to follows is)
 
     -- the frame of a batch by its number
     pub record Found (number : ℕ) (b : Batch) : Type 0 where
@@ -211,7 +271,8 @@ module _ {D : Type 0} (seen : D → DiskView) where
 
     pub found : (number : ℕ) (b : Batch) → IsAt (batches_of frames) number b → Found number b
     found number b at =
-        let p = map_parted (λ (f : ℕ × List ℕ). batch_in f.1) frames at.0 b at.1 at.2 in
+        let p = map_parted (λ (f : ℕ × List ℕ). batch_in f.1) (kept_in frames) at.0 b at.1 at.2 in
+        let a = kept_parted frames p.front p.x p.back p.whole in
         let bytes : p.x.1 ≡ b.bytes = ap (λ (c : Batch). c.bytes) p.same in
         record {
           entry = entry_of p.x;
@@ -222,7 +283,7 @@ module _ {D : Type 0} (seen : D → DiskView) where
             at.3 ∙ sym (ap length p.fronts) ∙ length-map p.front (λ (f : ℕ × List ℕ). batch_in f.1) ∙ sym (length-map p.front entry_of),
           );
           frame = subst (λ (l : List ℕ). HasFrameAt seen journal p.x.0 l) bytes
-              (record { frames = bytes_in frames; pending = h.pending; stands = h.stands; at = frame_at frames p.front p.x p.back h.places p.whole });
+              (record { frames = bytes_in frames; pending = h.pending; stands = h.stands; at = frame_at frames a.front p.x a.back h.places a.whole });
           size = ap length (sym bytes);
         }
 
@@ -247,12 +308,14 @@ pub bad_frames : (fs : List (List ℕ)) (frames : Frames) (place : ℕ) → fram
 bad_frames fs frames place is h =
     let bytes : bytes_in frames ≡ fs = ap bytes_in is ∙ bytes_placed 0 fs in
     let places : frames ≡ placed 0 (bytes_in frames) = is ∙ ap (placed 0) (sym bytes) in
+    let at = place_is 0 h.before (place, h.frame) h.after (subst (λ (l : Frames). l ≡ placed 0 (bytes_in l)) h.is places) in
     record {
-      before = batches_of h.before;
+      before = h.writes;
+      log = h.log;
       frame = h.frame;
       after = bytes_in h.after;
-      is = sym bytes ∙ ap bytes_in h.is ∙ bytes_append h.before ((place, h.frame) ∷ h.after);
-      sound = h.sound;
-      at = omega (arith, place_is 0 h.before (place, h.frame) h.after (subst (λ (l : Frames). l ≡ placed 0 (bytes_in l)) h.is places));
+      is = sym bytes ∙ ap bytes_in h.is ∙ bytes_append h.before ((place, h.frame) ∷ h.after) ∙ ap (λ (l : List (List ℕ)). l ++ (h.frame ∷ bytes_in h.after)) h.are;
+      leads = h.leads;
+      at = omega (arith, at, ap (λ (l : List (List ℕ)). length (blocks l)) h.are);
       none = h.none;
     }

@@ -1,11 +1,10 @@
 -- Logs that grow by a batch.
-use Rattle.std.proofs.Common.{◌≡◌, ℕ, ◌+◌, ◌^◌, ◌<◌, ◌≤◌, List, [], ◌∷◌, ◌++◌, refl, sym, ap, ◌∙◌, arith}
-use Rattle.std.specs.Prelude.{map}
+use Rattle.std.proofs.Common.{◌≡◌, ℕ, ◌+◌, ◌^◌, ◌<◌, ◌≤◌, List, [], ◌∷◌, ◌++◌, refl, arith}
 use Rattle.std.specs.List.{AllByRecursion}
 use Rattle.share_model.specs.Logs.{Batch, RisesFrom, end_of}
-use Rattle.part_log.specs.Batches.{IsStored, batch_in}
-use Rattle.part_log.specs.Logs.{IsStoredLog, MayFollow, frames_of}
-use Rattle.part_log.proofs.Frames.{bounds, only_by}
+use Rattle.part_log.specs.Batches.{IsStored}
+use Rattle.part_log.specs.Logs.{IsStoredLog, MayFollow}
+use Rattle.part_log.proofs.Frames.{bounds}
 
 pub end_more : (log : List Batch) (b : Batch) → end_of (log ++ b ∷ []) ≡ b.last + 1
 end_more [] b = refl
@@ -35,18 +34,7 @@ sound_more log b h f = record {
   rises = rises_more 0 log b h.rises (omega arith) f.behind (bounds b f.stored).order;
 }
 
-pub frames_more : (log : List Batch) (b : Batch) → frames_of (log ++ b ∷ []) ≡ frames_of log ++ b.bytes ∷ []
-frames_more [] b = refl
-frames_more (c ∷ log) b = ap (λ l. c.bytes ∷ l) (frames_more log b)
-
 pub end_bound : (log : List Batch) → AllByRecursion IsStored log → end_of log ≤ 2 ^ 62
 end_bound [] h = omega arith
 end_bound (b ∷ []) h = omega (arith, (bounds b h.0).below)
 end_bound (b ∷ c ∷ log) h = end_bound (c ∷ log) h.1
-
-again : (log : List Batch) → AllByRecursion IsStored log → log ≡ map batch_in (frames_of log)
-again [] h = refl
-again (b ∷ log) h = let p = only_by b h.0 in let q = again log h.1 in λ i. p i ∷ q i
-
-pub same_log : (log other : List Batch) → IsStoredLog log → IsStoredLog other → frames_of log ≡ frames_of other → log ≡ other
-same_log log other h k e = again log h.stored ∙ ap (map batch_in) e ∙ sym (again other k.stored)

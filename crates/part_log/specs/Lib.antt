@@ -1,4 +1,5 @@
 pub mod Batches
+pub mod Starts
 pub mod Logs
 pub mod Holding
 pub mod Shards

@@ -1,5 +1,6 @@
-// The batch of a frame, and the buffer of an append.
-ghost use Rattle.std.specs.Prelude.{◌≡◌, ◌+◌, ◌<◌, ◌≤◌, ◌^◌, length, IfOk, MatchOption, List};
+// What a frame says, and the buffer of an append.
+ghost use Rattle.std.specs.Prelude.{◌≡◌, ◌≢◌, ◌+◌, ◌<◌, ◌≤◌, ◌^◌, length, IfOk, MatchOption, List};
+ghost use Rattle.std.specs.Int.{w64, to_be_bytes};
 ghost use Rattle.gate_journal.specs.Frames.{frame_in};
 ghost use Rattle.rec_batch.specs.Placing.{placed};
 ghost use Rattle.share_model.specs.Logs.{Batch};
@@ -38,6 +39,31 @@ pub fn next_entry(place: u64, frame: &[u8], end: u64) -> Option<Entry>
         size: frame.len() as u32,
         place,
     })
+}
+
+/// The offset that a mark says. `None` where the frame isn't one of eight bytes.
+pub fn mark_in(frame: &[u8]) -> Option<u64>
+    ensures { MatchOption result (length frame.now ≢ 8)
+        (λ start. (frame.now ≡ to_be_bytes w64 start) × (start < 2 ^ 64)) }
+{
+    if frame.len() != 8 {
+        return None;
+    }
+    let mut eight = [0; 8];
+    eight.copy_from_slice(frame);
+    Some(u64::from_be_bytes(eight))
+}
+
+/// The buffer of a mark.
+pub fn mark_buffer(start: u64) -> [u8; 13]
+    ensures frame { frame_in result ≡ to_be_bytes w64 start }
+    ensures len { length result ≡ 13 }
+{
+    let mut buffer = [0; 13];
+    let (_, behind) = buffer.split_at_mut(4);
+    let (frame, _) = behind.split_at_mut(8);
+    frame.copy_from_slice(&start.to_be_bytes());
+    buffer
 }
 
 // Gives the batch in a buffer its place in a log.

@@ -1,4 +1,4 @@
-ghost use Rattle.std.specs.Prelude.{◌≡◌, ◌≢◌, ◌⊎◌, ◌↔◌, ◌+◌, ◌<◌, ◌≤◌, ◌^◌, ◌++◌, [], ◌∷◌, ℕ, List, length, map};
+ghost use Rattle.std.specs.Prelude.{◌≡◌, ◌≢◌, ◌⊎◌, ◌↔◌, ◌+◌, ◌<◌, ◌≤◌, ◌^◌, ◌++◌, [], ◌∷◌, ℕ, List, length, map, max};
 ghost use Rattle.std.specs.Prelude.{Some, None, IsOk, IfOk, IfErr, OnOk, OnErr, Err, MatchOption, MatchResult};
 ghost use Rattle.std.specs.declared.option.Option.{Option};
 ghost use Rattle.share_model.specs.declared.fault.BatchFault.{BatchFault};
@@ -8,20 +8,22 @@ ghost use Rattle.edge_io.specs.Causes.{Rose};
 ghost use Rattle.edge_io.specs.Counting.{MakesUpTo};
 ghost use Rattle.edge_io.specs.Disk.{IsTold};
 ghost use Rattle.edge_io.specs.Moments.{Elapses, LeavesOnly};
-ghost use Rattle.gate_journal.specs.Frames.{StandsAs, frame_in};
+ghost use Rattle.gate_journal.specs.Frames.{StandsAs, StandsFor, blocks, frame_in};
 ghost use Rattle.gate_journal.specs.Journals.{IsQuiet};
 ghost use Rattle.rec_batch.specs.Batches.{IsFirstFault};
 ghost use Rattle.rec_batch.specs.Placing.{placed};
-ghost use Rattle.share_model.specs.Logs.{Batch, IsAt, IsNextSlot, IsSlot, end_of};
+ghost use Rattle.share_model.specs.Logs.{Batch, IsAt, end_of};
+ghost use Rattle.part_log.specs.Starts.{IsNextSlotOf, IsSlotOf, Log, LogWrite};
+ghost use Rattle.part_log.specs.Starts.LogWrite.{Adds, Marks};
 ghost use Rattle.share_model.specs.Rooms.{Appends, Reserves};
 ghost use Rattle.log_index.specs.Indexes.{FillsWithin};
 ghost use Rattle.part_log.specs.Batches.{IsStored, batch_in};
-ghost use Rattle.part_log.specs.Logs.{IsLogText, IsNoLogText, Keeps};
-ghost use Rattle.part_log.specs.Shards.{CarriesLog, LogShardState, StepsLog};
+ghost use Rattle.part_log.specs.Logs.{IsLogText, IsNoLogText, Keeps, log_in};
+ghost use Rattle.part_log.specs.Shards.{CarriesLog, LogShardState, StepsLog, StepsRaise};
 
-use crate::entry::{inner, placed_copy};
+use crate::entry::{inner, mark_buffer, placed_copy};
 use crate::fault::OpenFault;
-use crate::reading::Reader;
+use crate::reading::{LogRead, Reader};
 use edge_io::{Disk, FaultMode};
 use gate_journal::{Journal, SeenFrames, StartFault, buffer_of, start_each};
 use log_index::LogIndex;
@@ -33,16 +35,18 @@ use std::marker::Model;
 const OFFSETS: u64 = 1 << 62;
 
 /// The log of a partition: a list of record batches on a disk, which grows by one batch at a time and survives a
-/// crash at any moment.
+/// crash at any moment; and a start, below which its records are deleted.
 ///
-/// A contract sees its batches, each with its first and last offset, the offsets of its records and its bytes, and
-/// beside them the writing end of its journal. Each batch stands in one frame of the journal. In memory are the
-/// offsets, the size and the place of each, and the bytes of the 64 that were read last.
+/// A contract sees its batches, each with its first and last offset, the offsets of its records and its bytes, its
+/// start, and beside them the writing end of its journal. Each batch stands in one frame of the journal, and each new
+/// start in a mark of eight bytes, its last one being the start; no space is given back. In memory are the offsets,
+/// the size and the place of each batch, and the bytes of the 64 that were read last.
 #[derive(Drop)]
 pub struct PartLog<D: Disk> {
     alloc: Global,
     journal: Journal<D>,
     index: LogIndex,
+    start: u64,
     end: u64,
     seen: SeenFrames,
 }
@@ -53,9 +57,9 @@ impl<D: Disk> Model for PartLog<D> {
 
     ghost Value = { LogParts D };
 
-    ghost view = { λ l. record { batches = batches_of l.seen.frames; journal = l.journal } };
+    ghost view = { λ l. record { batches = batches_of l.seen.frames; start = l.start; journal = l.journal } };
 
-    ghost invariant = { λ l. HoldsLog D.seen l.seen.frames l.index l.journal l.end };
+    ghost invariant = { λ l. HoldsLog D.seen l.seen.frames l.index l.journal l.start l.end };
 }
 
 // The disk of a journal was not opened.
@@ -80,21 +84,26 @@ fn last_offset(base: u64, last_delta: u32) -> Option<u64>
 }
 
 impl<D: Disk> PartLog<D> {
-    ghost use Rattle.part_log.specs.Logs.{AddsOnce, IsAdded, IsPlaceOf, IsUnwritten, IsWithin, MayFollow, LogParts};
-    ghost use Rattle.part_log.specs.Logs.{OnlyReads};
+    ghost use Rattle.part_log.specs.Logs.{AddsOnce, IsAdded, IsPlaceOf, IsRaised, IsUnwritten, IsWithin, MayFollow, LogParts};
+    ghost use Rattle.part_log.specs.Logs.{MayStartAt, OnlyReads, RaisesOnce};
 
-    /// Opens the log of a disk: reads the batches that its content stands for, in time linear in the content.
+    /// Opens the log of a disk: reads the batches and the start that its content stands for, in time linear in the
+    /// content.
     ///
     /// It syncs first, so that what it reads is what a crash would leave, and repairs the end of the journal. It reads
     /// in pieces, and keeps of a batch its offsets, its size and its place. At an `Err` the disk comes back.
     pub fn open(alloc: Global, disk: D) -> Result<PartLog<D>, (D, OpenFault)>
         // The log is the one that the content stands for; each image stands for it from now on, and nothing is pending.
         ensures kept { IfOk result (λ log. Keeps D.seen log None) }
-        ensures opens { IfOk result (λ log. (c : List ℕ) → (D.seen disk).content ≡ Some c → IsLogText c log.batches) }
+        ensures opens { IfOk result (λ log. (c : List ℕ) → (D.seen disk).content ≡ Some c → IsLogText c (log_in log)) }
+
+        // Its journal ends with a gate, behind the frames of the content.
+        ensures ends { IfOk result (λ log. (c : List ℕ) (frames : List (List ℕ)) → (D.seen disk).content ≡ Some c →
+            StandsFor c frames → log.journal.end ≡ length (blocks frames) + 1) }
 
         // A content that stands for a log is never damaged, and gives this log.
-        ensures recovers { (c : List ℕ) (batches : List Batch) → (D.seen disk).content ≡ Some c → IsLogText c batches →
-            MatchResult result (λ log. log.batches ≡ batches) (λ e. (place : ℕ) → e.1 ≢ OpenFault.Damaged place) }
+        ensures recovers { (c : List ℕ) (is : Log) → (D.seen disk).content ≡ Some c → IsLogText c is →
+            MatchResult result (λ log. log_in log ≡ is) (λ e. (place : ℕ) → e.1 ≢ OpenFault.Damaged place) }
 
         // Each refusal has its cause.
         ensures damaged { IfErr result (λ e. (place : ℕ) → e.1 ≡ OpenFault.Damaged place →
@@ -113,13 +122,22 @@ impl<D: Disk> PartLog<D> {
         };
         match start_each(alloc, disk, &mut reader) {
             Ok(journal) => match reader.finish() {
-                Ok((index, end, seen)) => Ok(PartLog {
-                    alloc,
-                    journal,
-                    index,
-                    end,
-                    seen,
-                }),
+                Ok(read) => {
+                    let LogRead {
+                        index,
+                        start,
+                        end,
+                        seen,
+                    } = read;
+                    Ok(PartLog {
+                        alloc,
+                        journal,
+                        index,
+                        start,
+                        end,
+                        seen,
+                    })
+                }
                 Err(place) => Err((journal.into_disk(), OpenFault::Damaged { place })),
             },
             Err((disk, fault)) => Err((disk, open_fault(fault))),
@@ -136,7 +154,7 @@ impl<D: Disk> PartLog<D> {
         ensures quiet { OnOk result (IsQuiet D.seen self.old.journal.disk self.new.journal.disk) }
         ensures base { IfOk result (λ n. n ≡ base) }
         ensures device { result ≡ Err (LogFault.Store StoreFault.Device) →
-            IsUnwritten D.seen self.old self.new (batch_in (frame_in buffer.items))
+            IsUnwritten D.seen self.old self.new (Adds (batch_in (frame_in buffer.items)))
             × Rose (D.seen self.old.journal.disk).faults (D.seen self.new.journal.disk).faults
             × StarvesUnarmed D.seen self.old.journal.disk self.new.journal.disk }
         ensures unchanged { (fault : LogFault) → result ≡ Err fault → fault ≢ LogFault.Store StoreFault.Device → self.new ≡ self.old }
@@ -146,8 +164,9 @@ impl<D: Disk> PartLog<D> {
             ⊎ (result ≡ Err (LogFault.Store (StoreFault.Full self.old.journal.end)))) }
         ensures no_batch { (fault : BatchFault) → result ≢ Err (LogFault.Batch fault) }
         ensures no_behind { (end : ℕ) → result ≢ Err (LogFault.Behind end) }
-        ensures any_moment { (pending : Option Batch) → Keeps D.seen self.old pending →
-            LeavesOnly D.seen self.old.journal.disk self.new.journal.disk (IsWithin self.old.batches pending (batch_in (frame_in buffer.items))) }
+        ensures any_moment { (pending : Option LogWrite) → Keeps D.seen self.old pending →
+            LeavesOnly D.seen self.old.journal.disk self.new.journal.disk
+            (IsWithin (log_in self.old) pending (Adds (batch_in (frame_in buffer.items)))) }
         ensures runs { RunsOn D.seen self.old.journal.disk self.new.journal.disk }
     {
         if let Err(_) = self.index.reserve() {
@@ -165,6 +184,34 @@ impl<D: Disk> PartLog<D> {
                 Ok(base)
             }
             Err(fault) => Err(LogFault::Store(fault)),
+        }
+    }
+
+    // Writes a mark.
+    fn mark(&mut self, start: u64) -> Result<(), StoreFault>
+        requires follows { MayStartAt (log_in self.old) start }
+        ensures ok { OnOk result (IsRaised D.seen self.old self.new start) }
+        ensures quiet { OnOk result (IsQuiet D.seen self.old.journal.disk self.new.journal.disk) }
+        ensures device { result ≡ Err StoreFault.Device → IsUnwritten D.seen self.old self.new (Marks start)
+            × Rose (D.seen self.old.journal.disk).faults (D.seen self.new.journal.disk).faults
+            × StarvesUnarmed D.seen self.old.journal.disk self.new.journal.disk }
+        ensures full { (end : ℕ) → (result ≡ Err (StoreFault.Full end))
+            ↔ ((end ≡ self.old.journal.end) × (2 ^ 62 < self.old.journal.end + 13)) }
+        ensures unchanged { (end : ℕ) → result ≡ Err (StoreFault.Full end) → self.new ≡ self.old }
+        ensures any_moment { (pending : Option LogWrite) → Keeps D.seen self.old pending →
+            LeavesOnly D.seen self.old.journal.disk self.new.journal.disk
+            (IsWithin (log_in self.old) pending (Marks start)) }
+        ensures runs { RunsOn D.seen self.old.journal.disk self.new.journal.disk }
+    {
+        let mut buffer = mark_buffer(start);
+        let gate = self.journal.last_gate();
+        match self.journal.append(&mut buffer) {
+            Ok(_) => {
+                self.seen = self.seen.with(&gate, inner(&buffer));
+                self.start = start;
+                Ok(())
+            }
+            Err(fault) => Err(fault),
         }
     }
 
@@ -250,17 +297,40 @@ impl<D: Disk> PartLog<D> {
         self.store(view.base, view.base + u64::from(view.last_delta), buffer)
     }
 
-    /// The least slot from an offset on, found in the logarithm of the number of batches.
-    pub fn next_slot(&self, from: u64) -> Option<u64>
-        ensures { IsNextSlot self.now.batches from result }
+    /// Deletes the records below an offset: from now on the log starts there. It writes a mark, and takes no memory.
+    ///
+    /// At `Device` the log starts where it did, and the mark is pending, or the write that was pending still is. At
+    /// `Full` the journal has no room for the mark, and nothing is changed.
+    pub fn raise(&mut self, to: u64) -> Result<(), StoreFault>
+        requires above { self.old.start < to }
+        requires within { to ≤ end_of self.old.batches }
+        ensures once { RaisesOnce D.seen self.old self.new to result }
+        ensures runs { RunsOn D.seen self.old.journal.disk self.new.journal.disk }
+
+        // It is a step of the log's shard.
+        ensures steps { (shard : LogShardState) → CarriesLog D.seen self.old shard →
+            (after : LogShardState) × CarriesLog D.seen self.new after
+            × StepsRaise (Rose (D.seen self.old.journal.disk).faults (D.seen self.new.journal.disk).faults)
+            self.old.journal.end shard to result after }
     {
-        self.index.next_slot(from)
+        self.mark(to)
     }
 
-    /// The batch that covers an offset, found in the logarithm of the number of batches.
-    pub fn batch_of(&self, offset: u64) -> Option<BatchPlace>
-        ensures { MatchOption result (IsSlot self.now.batches offset → ⊥) (IsPlaceOf self.now.batches offset) }
+    /// The least slot from an offset on, found in the logarithm of the number of batches.
+    pub fn next_slot(&self, from: u64) -> Option<u64>
+        ensures { IsNextSlotOf (log_in self.now) from result }
     {
+        self.index.next_slot(from.max(self.start))
+    }
+
+    /// The batch that covers a slot, found in the logarithm of the number of batches. `None` where the offset is none.
+    pub fn batch_of(&self, offset: u64) -> Option<BatchPlace>
+        ensures { MatchOption result (IsSlotOf (log_in self.now) offset → ⊥)
+            (λ place. (self.now.start ≤ offset) × IsPlaceOf self.now.batches offset place) }
+    {
+        if offset < self.start {
+            return None;
+        }
         self.index.batch_of(offset)
     }
 
@@ -271,7 +341,15 @@ impl<D: Disk> PartLog<D> {
         self.index.len()
     }
 
-    /// The offset behind the last slot, or 0.
+    /// The offset at which the log starts: 0, or where it was raised to last.
+    pub fn start(&self) -> u64
+        ensures value { result ≡ self.now.start }
+        ensures within { result ≤ end_of self.now.batches }
+    {
+        self.start
+    }
+
+    /// The offset behind the last one that a batch covers, or 0.
     pub fn end(&self) -> u64
         ensures end { result ≡ end_of self.now.batches }
         ensures below { result ≤ 2 ^ 62 }
@@ -318,7 +396,7 @@ impl<D: Disk> PartLog<D> {
         ensures disk { ArmsAlone D.seen after mode self.old.journal.disk self.new.journal.disk }
         ensures time { Elapses (D.seen self.old.journal.disk) (D.seen self.new.journal.disk) }
         ensures rest { self.new ≡ record self.old { journal = record self.old.journal { disk = self.new.journal.disk } } }
-        ensures stays { (pending : Option Batch) → Keeps D.seen self.old pending → Keeps D.seen self.new pending }
+        ensures stays { (pending : Option LogWrite) → Keeps D.seen self.old pending → Keeps D.seen self.new pending }
     {
         self.journal.arm(after, mode);
     }
