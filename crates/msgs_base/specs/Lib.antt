@@ -4,6 +4,8 @@ pub mod ApiVersionsRequest
 pub mod CoordinatorOfAll
 pub mod Counted
 pub mod CountedRead
+pub mod DeleteRecordsReply
+pub mod DeleteRecordsRequest
 pub mod FindCoordinatorReply
 pub mod FindCoordinatorRequest
 pub mod MetadataReply

@@ -1,5 +1,5 @@
-//! The calls that a Kafka client makes first, ApiVersions, Metadata and FindCoordinator, and a producer's call,
-//! Produce.
+//! The calls that a Kafka client makes first, ApiVersions, Metadata and FindCoordinator; a producer's call, Produce;
+//! and an operator's, DeleteRecords.
 //!
 //! Each message is a struct, its schema in `specs/`, and two calls that read and write its body.
 #![tactic(auto)]
@@ -9,6 +9,8 @@ mod api_versions_reply;
 mod api_versions_request;
 mod coordinator_of_all;
 mod counted;
+mod delete_records_reply;
+mod delete_records_request;
 mod find_coordinator_reply;
 mod find_coordinator_request;
 mod metadata_reply;
@@ -27,6 +29,14 @@ pub use api_versions_request::{
     ApiVersionsRequest, read_api_versions_request, write_api_versions_request,
 };
 pub use coordinator_of_all::{CoordinatorOfAll, write_coordinator_of_all};
+pub use delete_records_reply::{
+    DeleteRecordsPartitionResult, DeleteRecordsReply, DeleteRecordsTopicResult,
+    read_delete_records_reply, write_delete_records_reply,
+};
+pub use delete_records_request::{
+    DeleteRecordsPartition, DeleteRecordsRequest, DeleteRecordsTopic, read_delete_records_request,
+    write_delete_records_request,
+};
 pub use find_coordinator_reply::{
     Coordinator, FindCoordinatorReply, read_find_coordinator_reply, write_find_coordinator_reply,
 };
