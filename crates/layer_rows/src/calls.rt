@@ -1,12 +1,14 @@
 // Each message with its own two calls, which read and write its whole body.
 use flex_fields::{Bytes, NoMemory, WireFault};
 use msgs_base::{
-    ApiVersionsOldReply, ApiVersionsReply, ApiVersionsRequest, FindCoordinatorReply,
-    FindCoordinatorRequest, MetadataReply, MetadataRequest, ProduceReply, ProduceRequest,
-    read_api_versions_old_reply, read_api_versions_reply, read_api_versions_request,
-    read_find_coordinator_reply, read_find_coordinator_request, read_metadata_reply,
-    read_metadata_request, read_produce_reply, read_produce_request, write_api_versions_old_reply,
-    write_api_versions_reply, write_api_versions_request, write_find_coordinator_reply,
+    ApiVersionsOldReply, ApiVersionsReply, ApiVersionsRequest, DeleteRecordsReply,
+    DeleteRecordsRequest, FindCoordinatorReply, FindCoordinatorRequest, MetadataReply,
+    MetadataRequest, ProduceReply, ProduceRequest, read_api_versions_old_reply,
+    read_api_versions_reply, read_api_versions_request, read_delete_records_reply,
+    read_delete_records_request, read_find_coordinator_reply, read_find_coordinator_request,
+    read_metadata_reply, read_metadata_request, read_produce_reply, read_produce_request,
+    write_api_versions_old_reply, write_api_versions_reply, write_api_versions_request,
+    write_delete_records_reply, write_delete_records_request, write_find_coordinator_reply,
     write_find_coordinator_request, write_metadata_reply, write_metadata_request,
     write_produce_reply, write_produce_request,
 };
@@ -128,6 +130,26 @@ impl Message for ProduceReply {
 
     fn write(&self, alloc: Global) -> Result<Bytes, NoMemory> {
         write_produce_reply(alloc, self)
+    }
+}
+
+impl Message for DeleteRecordsRequest {
+    fn read(alloc: Global, bytes: &[u8]) -> Result<Self, WireFault> {
+        read_delete_records_request(alloc, bytes)
+    }
+
+    fn write(&self, alloc: Global) -> Result<Bytes, NoMemory> {
+        write_delete_records_request(alloc, self)
+    }
+}
+
+impl Message for DeleteRecordsReply {
+    fn read(alloc: Global, bytes: &[u8]) -> Result<Self, WireFault> {
+        read_delete_records_reply(alloc, bytes)
+    }
+
+    fn write(&self, alloc: Global) -> Result<Bytes, NoMemory> {
+        write_delete_records_reply(alloc, self)
     }
 }
 

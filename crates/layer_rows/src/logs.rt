@@ -5,7 +5,8 @@
 // | `open-log` | the log of the disk: its batches and its end, or `damaged PLACE`, or `fails` |
 // | `append-batch HEX ..`, `load-batch HEX ..` | adds a batch as a producer sends it, or as a log keeps it: its base, or why it is refused |
 // | `appends N HEX ..` | appends the batch N times, and gives the last answer |
-// | `log-end` | the offset behind the last one |
+// | `log-start`, `log-end` | the offset at which it starts, and the one behind the last one |
+// | `raise OFFSET` | raises the start: the new one, or `fails`, or `no such start` where it isn't above the start and at the end at most |
 // | `next-slot OFFSET` | the least slot from an offset on, or `none` |
 // | `batch-of OFFSET` | the number, the first and the last offset and the size of the batch that covers it, or `none` |
 // | `batch-bytes OFFSET` | the bytes of that batch, or `fails` |
@@ -104,6 +105,18 @@ fn add(
     Ok(Some(answer_text(alloc, answer)?))
 }
 
+/// Raises the start, where the log may start there, and tells it.
+fn raise(alloc: Global, log: &mut PartLog<MemDisk>, to: u64) -> io::Result<String> {
+    if to <= log.start() || to > log.end() {
+        return word(alloc, "no such start");
+    }
+    match log.raise(to) {
+        Ok(()) => number_text(alloc, log.start()),
+        Err(StoreFault::Device) => word(alloc, "fails"),
+        Err(StoreFault::Full { end }) => word_number(alloc, "full", end),
+    }
+}
+
 /// The batch that covers an offset, or `none`.
 fn place_text(alloc: Global, log: &PartLog<MemDisk>, offset: u64) -> io::Result<String> {
     match log.batch_of(offset) {
@@ -127,7 +140,9 @@ fn log_told(
     let told = match kind {
         "append-batch" | "load-batch" => return add(alloc, log, kind, text),
         "appends" => return appends(alloc, log, text),
+        "log-start" => number_text(alloc, log.start()),
         "log-end" => number_text(alloc, log.end()),
+        "raise" => raise(alloc, log, number),
         "next-slot" => match log.next_slot(number) {
             Some(slot) => number_text(alloc, slot),
             None => word(alloc, "none"),

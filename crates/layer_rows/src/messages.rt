@@ -4,8 +4,9 @@ use crate::kinds::read_told;
 use crate::plain::fault_text;
 use flex_fields::Wire;
 use msgs_base::{
-    ApiVersionsOldReply, ApiVersionsReply, ApiVersionsRequest, FindCoordinatorReply,
-    FindCoordinatorRequest, MetadataReply, MetadataRequest, ProduceReply, ProduceRequest,
+    ApiVersionsOldReply, ApiVersionsReply, ApiVersionsRequest, DeleteRecordsReply,
+    DeleteRecordsRequest, FindCoordinatorReply, FindCoordinatorRequest, MetadataReply,
+    MetadataRequest, ProduceReply, ProduceRequest,
 };
 use msgs_group::{HeartbeatReply, HeartbeatRequest};
 use msgs_share::{ShareAckReply, ShareAckRequest, ShareFetchReply, ShareFetchRequest};
@@ -25,8 +26,8 @@ fn told<M: Message + Wire + Debug>(alloc: Global, bytes: &[u8]) -> io::Result<St
     }
 }
 
-/// What bytes are as a message of a client's first calls, or of a producer, or as one of those below. `None` where
-/// there is no such kind.
+/// What bytes are as a message of a client's first calls, of a producer or of an operator, or as one of those below.
+/// `None` where there is no such kind.
 pub fn client_told(alloc: Global, kind: &str, bytes: &[u8]) -> io::Result<Option<String>> {
     let text = match kind {
         "ApiVersionsRequest" => told::<ApiVersionsRequest>(alloc, bytes),
@@ -38,6 +39,8 @@ pub fn client_told(alloc: Global, kind: &str, bytes: &[u8]) -> io::Result<Option
         "FindCoordinatorResponse" => told::<FindCoordinatorReply>(alloc, bytes),
         "ProduceRequest" => told::<ProduceRequest>(alloc, bytes),
         "ProduceResponse" => told::<ProduceReply>(alloc, bytes),
+        "DeleteRecordsRequest" => told::<DeleteRecordsRequest>(alloc, bytes),
+        "DeleteRecordsResponse" => told::<DeleteRecordsReply>(alloc, bytes),
         _ => return state_told(alloc, kind, bytes),
     };
     Ok(Some(text?))
