@@ -11,7 +11,6 @@ use Rattle.edge_io.specs.Causes.{Rose}
 use Rattle.flex_fields.specs.declared.fault.NoMemory.{NoMemory as want}
 use Rattle.share_model.specs.ForeignRules.{ShareStates, share_state_at}
 use Rattle.share_model.specs.Held.{Held}
-use Rattle.share_model.specs.Logs.{Batch}
 use Rattle.share_model.specs.ShareStates.{ShareState}
 use Rattle.share_model.specs.declared.ack.AckKind.{AckKind}
 use Rattle.share_model.specs.declared.fault.StoreFault.{StoreFault}
@@ -24,7 +23,8 @@ use Rattle.share_model.specs.declared.visit.ThenOutcome.{ThenOutcome}
 use Rattle.share_model.specs.declared.visit.ThenOutcome.TheVariants.{Done as then_done, Store as then_store}
 use Rattle.share_model.specs.declared.visit.Visit.{Visit}
 use Rattle.share_model.specs.declared.visit.VisitAnswer.{VisitAnswer}
-use Rattle.part_log.specs.Logs.{IsStoredLog, LogParts, OnlyReads}
+use Rattle.part_log.specs.Logs.{IsStoredLog, LogParts, OnlyReads, log_in}
+use Rattle.part_log.specs.Starts.{LogWrite}
 use Rattle.share_coord.specs.Parts.{StoreParts}
 use Rattle.share_coord.specs.Stored.{Entries}
 use Rattle.share_part.specs.Acknowledging.{Acknowledges, AreTheirs, NameNone, NameOne, StoresActs}
@@ -88,7 +88,7 @@ none_some o is some = let clash : IsSome {T = AckKind} None = subst (λ (o : Opt
 
 module _ {D W : Type 0} (seen : D → DiskView) (holding : W → Held) (visit : Visit) (old : PartParts D W) (states : StoreParts D)
     (windows : List (List ℕ × W)) (sound : IsStoredLog old.log.batches) (few : old.conf.limit ≤ 10)
-    (hosted : AreHosted old.conf old.log.batches (states_of old.states.entries))
+    (hosted : AreHosted old.conf (log_in old.log) (states_of old.states.entries))
     (kept : AreKept old.conf old.log.batches (states_of old.states.entries) (held_in holding old.windows)) where
   abbrev acts : Acts
   acts = kind_at visit.acks
@@ -132,7 +132,7 @@ module _ {D W : Type 0} (seen : D → DiskView) (holding : W → Held) (visit : 
   -- ---- what the shard keeps
 
   abbrev pub Stands : Type 0
-  Stands = AreHosted old.conf old.log.batches (states_of states.entries) × AreKept old.conf old.log.batches (states_of states.entries) (held_in holding windows)
+  Stands = AreHosted old.conf (log_in old.log) (states_of states.entries) × AreKept old.conf old.log.batches (states_of states.entries) (held_in holding windows)
 
   same_stand : states ≡ old.states → Same → Stands
   same_stand is same = stands_same seen holding visit.group acts old states windows old.clock sound few hosted kept
@@ -170,7 +170,7 @@ module _ {D W : Type 0} (seen : D → DiskView) (holding : W → Held) (visit : 
   clock_is s c = c.clock
 
   unmoved : (ack : AckOutcome) → states ≡ old.states → Same
-      → ((batch : Option Batch) (pending : Option Entries) → Acknowledges old.conf Rises old.states.journal.end (shard_of seen holding old batch pending) visit (shard_of seen holding old batch pending) ack)
+      → ((batch : Option LogWrite) (pending : Option Entries) → Acknowledges old.conf Rises old.states.journal.end (shard_of seen holding old batch pending) visit (shard_of seen holding old batch pending) ack)
       → AllSteps ack
   unmoved ack is same does s c =
       let st = still seen holding visit.group acts old states windows old.clock sound few hosted kept (DoesAcks ack) is same does s c in
@@ -203,7 +203,7 @@ module _ {D W : Type 0} (seen : D → DiskView) (holding : W → Held) (visit : 
   steps runs ack (inr (inr g)) = settled_steps runs ack g.0 g.2
 
   -- where nothing is to be written, nothing is
-  none_settled : (r : Result AckOutcome want) → IsWellFormed visit.acks → NameOne acts → Settles r → (batch : Option Batch) (pending : Option Entries)
+  none_settled : (r : Result AckOutcome want) → IsWellFormed visit.acks → NameOne acts → Settles r → (batch : Option LogWrite) (pending : Option Entries)
       → (AreToWrite (shard_of seen holding old batch pending) visit → ⊥) → states ≡ old.states
   none_settled (Ok (NotHeld o)) formed named h batch pending nothing = h.1
   none_settled (Ok (Malformed f)) formed named h batch pending nothing = absurd h
@@ -211,7 +211,7 @@ module _ {D W : Type 0} (seen : D → DiskView) (holding : W → Held) (visit : 
   none_settled (Ok (Store fault)) formed named h batch pending nothing = absurd (nothing ((formed, h.0), named))
   none_settled (Err e) formed named h batch pending nothing = h.0
 
-  none_written : (r : Result AckOutcome want) → Acked r → (batch : Option Batch) (pending : Option Entries)
+  none_written : (r : Result AckOutcome want) → Acked r → (batch : Option LogWrite) (pending : Option Entries)
       → (AreToWrite (shard_of seen holding old batch pending) visit → ⊥) → states ≡ old.states
   none_written r (inl m) batch pending nothing = m.3.0
   none_written r (inr (inl n)) batch pending nothing = n.3.0
@@ -451,7 +451,7 @@ module _ {D W : Type 0} (seen : D → DiskView) (holding : W → Held) (visit : 
           records = record {
             between = states;
             acks = writes_acked ack acked;
-            follows = subst (λ (h : Held). WritesUnless o.unread seen old.conf old.log.batches visit h states new.states inner.then visit.then) (holds_acked ack acked) o.records;
+            follows = subst (λ (h : Held). WritesUnless o.unread seen old.conf (log_in old.log) visit h states new.states inner.then visit.then) (holds_acked ack acked) o.records;
             quiet_acks = quiet_acked ack acked;
             quiet_then = o.quiet;
           };
@@ -504,7 +504,7 @@ raised now parts = record { conf = parts.conf; log = parts.log; states = parts.s
 
 module _ {D W : Type 0} (seen : D → DiskView) (holding : W → Held) (visit : Visit) (old : PartParts D W) (states : StoreParts D)
     (windows : List (List ℕ × W)) (sound : IsStoredLog old.log.batches) (few : old.conf.limit ≤ 10)
-    (hosted : AreHosted old.conf old.log.batches (states_of old.states.entries))
+    (hosted : AreHosted old.conf (log_in old.log) (states_of old.states.entries))
     (kept : AreKept old.conf old.log.batches (states_of old.states.entries) (held_in holding old.windows))
     (now : ℕ) (new : PartParts D W) (r : Result AckOutcome want) (ack : AckOutcome) (r_is : r ≡ Ok ack)
     (r_acked : Acked seen holding visit old states windows sound few hosted kept r)
@@ -520,6 +520,7 @@ module _ {D W : Type 0} (seen : D → DiskView) (holding : W → Held) (visit : 
     clock = ap (λ (n : ℕ). max n now) c.clock;
     hosted = c.hosted;
     pending_hosted = c.pending_hosted;
+    unmarked = c.unmarked;
   }
 
   abbrev once : PartParts D W

@@ -57,6 +57,11 @@ pub next_below : (log : List Batch) (from : ℕ) (r : Option ℕ) → IsStoredLo
 next_below log from None h is = tt
 next_below log from (Some slot) h is = (next_small log from (Some slot) h is).1
 
+-- where a start goes is no lower than what it was no lower than
+pub start_above : (log : List Batch) (stored : ℕ → Option Row) (start next low : ℕ) → IsNextStart log stored start next → low ≤ start → start ≤ end_of log → low ≤ next
+start_above log stored start next low (inl is) le within = let later = is.1 in omega (arith, le, later)
+start_above log stored start next low (inr is) le within = let at = is.0 in omega (arith, le, within, at)
+
 -- each slot from the start on and below this offset is closed
 pub record IsPassed (log : List Batch) (stored : ℕ → Option Row) (start from : ℕ) : Type 0 where
   pub later : start ≤ from

@@ -5,7 +5,8 @@ use Rattle.ack_ranges.specs.Batches.{kind_at}
 use Rattle.coord_checkpoint.specs.Disks.{HasFailed}
 use Rattle.edge_io.specs.Views.{DiskView}
 use Rattle.flex_fields.specs.declared.fault.NoMemory.{NoMemory as want}
-use Rattle.part_log.specs.Logs.{IsStoredLog}
+use Rattle.part_log.specs.Logs.{IsStoredLog, log_in}
+use Rattle.part_log.specs.Starts.{Log}
 use Rattle.share_coord.specs.Parts.{StoreParts}
 use Rattle.share_coord.specs.States.{states_of}
 use Rattle.share_coord.specs.Stored.{kept_at}
@@ -13,7 +14,6 @@ use Rattle.share_coord.specs.Parts.{KeptState}
 use Rattle.share_model.specs.ForeignRules.{ShareStates, share_state_at}
 use Rattle.share_model.specs.Held.{Held}
 use Rattle.share_model.specs.Keys.{KeyParts, key_cmp}
-use Rattle.share_model.specs.Logs.{end_of}
 use Rattle.share_model.specs.ShareStates.{ShareState}
 use Rattle.share_model.specs.declared.ack.AckFault.{AckFault}
 use Rattle.share_model.specs.declared.run.Run.{Run}
@@ -48,7 +48,7 @@ use Rattle.share_part.proofs.Writing.{seen_kept}
 
 module _ {D W : Type 0} (seen : D → DiskView) (holding : W → Held) (visit : Visit) (old : PartParts D W) (states : StoreParts D)
     (windows : List (List ℕ × W)) (sound : IsStoredLog old.log.batches) (few : old.conf.limit ≤ 10)
-    (hosted : AreHosted old.conf old.log.batches (states_of old.states.entries))
+    (hosted : AreHosted old.conf (log_in old.log) (states_of old.states.entries))
     (kept : AreKept old.conf old.log.batches (states_of old.states.entries) (held_in holding old.windows))
     (limits : Limits) (known : IsSome (share_state_at (states_of old.states.entries) (key_of old.conf visit.group)))
     (rows : List Run) (acks : Acks) (stays : Plan) (moves : Option Plan) where
@@ -62,7 +62,7 @@ module _ {D W : Type 0} (seen : D → DiskView) (holding : W → Held) (visit : 
   now = held_in holding windows visit.group
 
   abbrev State : StoreParts D → ShareState
-  State s = state_for old.conf old.log.batches s.entries visit.group
+  State s = state_for old.conf (log_in old.log) s.entries visit.group
 
   abbrev First : Table
   First = table_of (State old.states) was
@@ -82,7 +82,7 @@ module _ {D W : Type 0} (seen : D → DiskView) (holding : W → Held) (visit : 
         its = found.0;
         there = found.1;
         planned = subst (λ (s : ShareState). IsPlanOf old.log.batches plan (acquired old.log.batches (table_of s now) limits))
-            (sym (ap (λ (o : Option ShareState). unwrap_or o (new_state old.conf (end_of old.log.batches))) is)) planned;
+            (sym (ap (λ (o : Option ShareState). unwrap_or o (new_state old.conf (log_in old.log))) is)) planned;
       }
 
   -- the state that it had
@@ -95,7 +95,7 @@ module _ {D W : Type 0} (seen : D → DiskView) (holding : W → Held) (visit : 
       → states_of states.entries ≡ states_of old.states.entries → now ≡ was → GoesBy plan
   goes_still first plan is same held =
       let state = its_state (share_state_at (states_of old.states.entries) key) known in
-      let at : State old.states ≡ state.0 = ap (λ (o : Option ShareState). unwrap_or o (new_state old.conf (end_of old.log.batches))) state.1 in
+      let at : State old.states ≡ state.0 = ap (λ (o : Option ShareState). unwrap_or o (new_state old.conf (log_in old.log))) state.1 in
       goes_with plan state.0 (ap (λ (s : ShareStates). share_state_at s key) same ∙ state.1)
       (subst (λ (p : Plan). IsPlanOf old.log.batches p (acquired old.log.batches (table_of state.0 now) limits)) (sym is)
       (subst (λ (h : Held). IsPlanOf old.log.batches stays (acquired old.log.batches (table_of state.0 h) limits)) (sym held)
@@ -112,8 +112,8 @@ module _ {D W : Type 0} (seen : D → DiskView) (holding : W → Held) (visit : 
       let next = its_next seen holding visit.group (kind_at visit.acks) old states windows old.clock sound few hosted kept (Ok tt) st states.entries st.once.written in
       let settled = its_settled seen holding visit.group (kind_at visit.acks) old states windows old.clock sound few hosted kept (Ok tt) st states.entries st.once.written in
       let is = its_states seen holding visit.group (kind_at visit.acks) old states windows old.clock sound few hosted kept (Ok tt) st states.entries st.once.written in
-      let first : First ≡ table_of st.state was = ap (λ (o : Option ShareState). table_of (unwrap_or o (new_state old.conf (end_of old.log.batches))) was) st.known in
-      let other : First ≡ table_of found.0 was = ap (λ (o : Option ShareState). table_of (unwrap_or o (new_state old.conf (end_of old.log.batches))) was) found.1 in
+      let first : First ≡ table_of st.state was = ap (λ (o : Option ShareState). table_of (unwrap_or o (new_state old.conf (log_in old.log))) was) st.known in
+      let other : First ≡ table_of found.0 was = ap (λ (o : Option ShareState). table_of (unwrap_or o (new_state old.conf (log_in old.log))) was) found.1 in
       let change_is = subst (λ (t : Table). IsChange old.conf.limit (kind_at visit.acks) old.log.batches t change) (sym other) found.2 in
       let left = left_settled old.conf.limit (kind_at visit.acks) old.log.batches (table_of st.state was) change next
       (subst (λ (t : Table). IsChange old.conf.limit (kind_at visit.acks) old.log.batches t change) first change_is) settled in
@@ -196,9 +196,9 @@ none_ready seen holding now visit old windows read same (Err e) none = record {
 }
 
 -- a table that is there isn't made
-pub made_there : {D : Type 0} (seen : D → DiskView) (conf : PartConfParts) (group : List ℕ) (end : ℕ) (states : StoreParts D) (its : KeptState)
-    → kept_at states.entries (key_of conf group) ≡ Some its → MakesTableOnce seen (HasFailed seen) conf group end states states (Ok then_done)
-made_there seen conf group end states its there = record {
+pub made_there : {D : Type 0} (seen : D → DiskView) (conf : PartConfParts) (group : List ℕ) (log : Log) (states : StoreParts D) (its : KeptState)
+    → kept_at states.entries (key_of conf group) ≡ Some its → MakesTableOnce seen (HasFailed seen) conf group log states states (Ok then_done)
+made_there seen conf group log states its there = record {
   there = λ some. (refl, refl);
   absent = λ none. absurd (let never : ◌≡◌ {A = Option KeptState} None (Some its) = sym none ∙ there in let clash : ⊥ = cc in clash);
 }

@@ -9,7 +9,7 @@ use Rattle.std.specs.Map.{keys_of}
 use Rattle.std.specs.Ordering.{nat_cmp}
 use Rattle.flex_fields.specs.declared.fault.NoMemory.{NoMemory as want}
 use Rattle.share_coord.specs.Parts.{StoreParts}
-use Rattle.part_log.specs.Logs.{LogParts}
+use Rattle.part_log.specs.Logs.{LogParts, log_in}
 use Rattle.share_model.specs.Held.{Held}
 use Rattle.share_model.specs.Logs.{Batch}
 use Rattle.share_model.specs.declared.fault.StoreFault.{StoreFault}
@@ -87,7 +87,7 @@ module _ {D W : Type 0} (seen : D → DiskView) (holding : W → Held) (now : �
     pub few : freed ≤ 2 ^ 64 - 1
     pub steps : (s : PartShardState) → Carries seen holding entry s → Far s current i freed
 
-  pub begins : InOrder (keys_of entry.windows) → AreHosted entry.conf entry.log.batches (states_of entry.states.entries)
+  pub begins : InOrder (keys_of entry.windows) → AreHosted entry.conf (log_in entry.log) (states_of entry.states.entries)
       → AreKept entry.conf entry.log.batches (states_of entry.states.entries) (held_in holding entry.windows) → due ≡ due_groups holding (max entry.clock now) entry.windows → SoFar entry 0 0
   begins by_group hosted kept due_is = record {
     conf = refl;
@@ -352,6 +352,7 @@ module _ {D W : Type 0} (seen : D → DiskView) (holding : W → Held) (now : �
               clock = f.clock_is;
               hosted = f.carries.hosted;
               pending_hosted = f.carries.pending_hosted;
+              unmarked = f.carries.unmarked;
             },
             record {
               clock = f.clock_is ∙ ap (λ (n : ℕ). max n now) (sym c.clock);

@@ -2,7 +2,7 @@
 use Rattle.std.proofs.Common.{◌≡◌, ◌≢◌, ◌∙◌, refl, sym, ap, subst, ℕ, max, ◌≤◌, List, Option, Some, Bool, true, false}
 use Rattle.std.specs.Prelude.{Result, Ok, Err, IsErr, is_some}
 use Rattle.flex_fields.specs.declared.fault.NoMemory.{NoMemory as want}
-use Rattle.part_log.specs.Logs.{IsStoredLog}
+use Rattle.part_log.specs.Logs.{IsStoredLog, log_in}
 use Rattle.share_coord.specs.Parts.{StoreParts}
 use Rattle.share_model.specs.Held.{Held}
 use Rattle.share_model.specs.declared.fault.StoreFault.{StoreFault}
@@ -41,7 +41,7 @@ is_told (then_store its) fault e = ap (λ (f : StoreFault). then_store f) (let s
 
 module _ {D W : Type 0} (seen : D → DiskView) (holding : W → Held) (group : List ℕ) (whose : Whose) (old : PartParts D W) (states : StoreParts D)
     (windows : List (List ℕ × W)) (sound : IsStoredLog old.log.batches) (few : old.conf.limit ≤ 10)
-    (hosted : AreHosted old.conf old.log.batches (states_of old.states.entries))
+    (hosted : AreHosted old.conf (log_in old.log) (states_of old.states.entries))
     (kept : AreKept old.conf old.log.batches (states_of old.states.entries) (held_in holding old.windows)) where
   abbrev was : Held
   was = held_in holding old.windows group
@@ -57,7 +57,7 @@ module _ {D W : Type 0} (seen : D → DiskView) (holding : W → Held) (group : 
   Told r = Stores seen holding group acts old states windows old.clock sound few hosted kept (told_in r)
 
   pub released_stand : (r : Result Released want) → Told r
-      → AreHosted old.conf old.log.batches (states_of states.entries) × AreKept old.conf old.log.batches (states_of states.entries) (held_in holding windows)
+      → AreHosted old.conf (log_in old.log) (states_of states.entries) × AreKept old.conf old.log.batches (states_of states.entries) (held_in holding windows)
   released_stand r h = stands_stored seen holding group acts old states windows old.clock sound few hosted kept (told_in r) h
 
   module _ (runs : RunOnBoth seen old.states states) where
@@ -163,7 +163,7 @@ module _ {D W : Type 0} (seen : D → DiskView) (holding : W → Held)
             );
         follows = tt;
         memory = tt;
-        records = subst (WritesThen seen old.conf old.log.batches visit was_held old.states new.states answer.then) (sym is)
+        records = subst (WritesThen seen old.conf (log_in old.log) visit was_held old.states new.states answer.then) (sym is)
             (subst (WritesActs seen old.conf old.log.batches visit.group (releases_of visit.member was_held) was_held old.states new.states)
             (sym (ap fault_of empty.outcome_is ∙ same)) o.records);
         quiet = λ none. o.quiet (λ fault is. none refl fault (empty.outcome_is ∙ is_told outcome fault (same ∙ ap fault_in is)));

@@ -20,6 +20,7 @@ module _ {D : Type 0} (seen : D → DiskView)
   none_read log = record {
     reads = record {
       batches = refl;
+      start = refl;
       journal = record { looks = (looks_none seen only_now log.journal.disk).looks; rest = refl; stands = λ frames pending s. s };
     };
     calls = calls_none seen log.journal.disk;
@@ -49,7 +50,7 @@ module _ {D : Type 0} (seen : D → DiskView) where
   }
 
   pub only_on : (old mid new : LogParts D) → OnlyReads seen old mid → OnlyReads seen mid new → OnlyReads seen old new
-  only_on old mid new p q = record { batches = q.batches ∙ p.batches; journal = journal_on old.journal mid.journal new.journal p.journal q.journal }
+  only_on old mid new p q = record { batches = q.batches ∙ p.batches; start = q.start ∙ p.start; journal = journal_on old.journal mid.journal new.journal p.journal q.journal }
 
   -- one batch more
   pub reads_more : (old mid new : LogParts D) (failed : Type 0) → ReadsBatches seen ⊥ old mid → OnlyReads seen mid new

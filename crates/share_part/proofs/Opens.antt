@@ -6,8 +6,8 @@ use Rattle.coord_checkpoint.specs.Disks.{HasFailed}
 use Rattle.coord_checkpoint.specs.declared.fault.CoordOpen.{CoordOpen}
 use Rattle.coord_checkpoint.specs.declared.fault.CoordOpen.TheVariants.{Damaged as states_damaged, Device as states_device, NoMemory as states_memory}
 use Rattle.share_model.specs.Held.{Held}
-use Rattle.share_model.specs.Logs.{Batch}
-use Rattle.part_log.specs.Logs.{IsLogText, IsNoLogText, Keeps, LogParts}
+use Rattle.part_log.specs.Logs.{IsLogText, IsNoLogText, Keeps, LogParts, log_in}
+use Rattle.part_log.specs.Starts.{Log as PartitionLog}
 use Rattle.part_log.specs.declared.fault.OpenFault.{OpenFault}
 use Rattle.part_log.specs.declared.fault.OpenFault.TheVariants.{Damaged as log_damaged, Device as log_device, NoMemory as log_memory}
 use Rattle.share_coord.specs.Opening.{IsOpened as states_opened, IsNotOpened as states_not_opened}
@@ -48,22 +48,23 @@ module _ {D W : Type 0} (seen : D → DiskView) (holding : W → Held)
   -- ---- opened
 
   pub opened : (parts : PartParts D W) → parts.conf ≡ conf → parts.windows ≡ [] → parts.clock ≡ 0 → Keeps seen parts.log None
-      → ((c : List ℕ) → (seen disk).content ≡ Some c → IsLogText c parts.log.batches)
-      → ((c : List ℕ) (batches : List Batch) → (seen disk).content ≡ Some c → IsLogText c batches → parts.log.batches ≡ batches)
-      → states_opened seen a b parts.states → AreHosted conf parts.log.batches (states_of parts.states.entries)
+      → ((c : List ℕ) → (seen disk).content ≡ Some c → IsLogText c (log_in parts.log))
+      → ((c : List ℕ) (is : PartitionLog) → (seen disk).content ≡ Some c → IsLogText c is → log_in parts.log ≡ is)
+      → states_opened seen a b parts.states → AreHosted conf (log_in parts.log) (states_of parts.states.entries)
       → IsOpened seen holding conf disk a b parts
   opened parts is windows clock keeps opens only states hosted = record {
     conf_is = is;
     carries = record {
-      log = record { batches = refl; keeps = keeps };
+      log = record { batches = refl; start = refl; keeps = keeps };
       pending = None;
       holds = states.holds;
       states = refl;
       pending_is = refl;
       held = λ group. ap (λ (w : List (List ℕ × W)). held_in holding w group) (sym windows);
       clock = sym clock;
-      hosted = subst (λ (c : PartConfParts). AreHosted c parts.log.batches (states_of parts.states.entries)) (sym is) hosted;
+      hosted = subst (λ (c : PartConfParts). AreHosted c (log_in parts.log) (states_of parts.states.entries)) (sym is) hosted;
       pending_hosted = tt;
+      unmarked = λ start is. let clash : ⊥ = cc in clash;
     };
     opens = λ l x y at_l at_x at_y. record {
       log_is = opens l at_l;
@@ -83,7 +84,7 @@ module _ {D W : Type 0} (seen : D → DiskView) (holding : W → Held)
 
   pub by_log : (disk_now : D) (fault : OpenFault)
       → ((place : ℕ) → fault ≡ log_damaged place → (c : List ℕ) → (seen disk).content ≡ Some c → IsNoLogText c place)
-      → ((c : List ℕ) (batches : List Batch) → (seen disk).content ≡ Some c → IsLogText c batches → (place : ℕ) → fault ≢ log_damaged place)
+      → ((c : List ℕ) (is : PartitionLog) → (seen disk).content ≡ Some c → IsLogText c is → (place : ℕ) → fault ≢ log_damaged place)
       → (fault ≡ log_device → HasFailed seen disk disk_now) → Not disk_now a b (fault_of_log fault)
   by_log disk_now (log_damaged at) damaged sound device = record {
     damaged = λ place_disk place is l x y at_l at_x at_y.
@@ -120,7 +121,7 @@ module _ {D W : Type 0} (seen : D → DiskView) (holding : W → Held)
   device_by false a_now b_now n = (λ is. n.device refl, λ is. absurd (let clash : ⊥ = cc in clash), λ is. let clash : ⊥ = cc in clash)
   device_by true a_now b_now n = (λ is. absurd (let clash : ⊥ = cc in clash), λ is. n.second_device refl, λ is. let clash : ⊥ = cc in clash)
 
-  pub by_states : (disk_now a_now b_now : D) (fault : CoordOpen) (batches : List Batch) → ((c : List ℕ) → (seen disk).content ≡ Some c → IsLogText c batches)
+  pub by_states : (disk_now a_now b_now : D) (fault : CoordOpen) (its : PartitionLog) → ((c : List ℕ) → (seen disk).content ≡ Some c → IsLogText c its)
       → states_not_opened seen a b (a_now, b_now, fault)
       → Not disk_now a_now b_now (fault_of_states fault)
   by_states disk_now a_now b_now (states_damaged second at) its_log opens n = record {
@@ -150,19 +151,19 @@ module _ {D W : Type 0} (seen : D → DiskView) (holding : W → Held)
   }
 
   pub misplaced : (disk_now a_now b_now : D) (log : LogParts D) (store : StoreParts D)
-      → ((c : List ℕ) → (seen disk).content ≡ Some c → IsLogText c log.batches)
-      → ((c : List ℕ) (batches : List Batch) → (seen disk).content ≡ Some c → IsLogText c batches → log.batches ≡ batches)
-      → states_opened seen a b store → (AreHosted conf log.batches (states_of store.entries) → ⊥)
+      → ((c : List ℕ) → (seen disk).content ≡ Some c → IsLogText c (log_in log))
+      → ((c : List ℕ) (is : PartitionLog) → (seen disk).content ≡ Some c → IsLogText c is → log_in log ≡ is)
+      → states_opened seen a b store → (AreHosted conf (log_in log) (states_of store.entries) → ⊥)
       → Not disk_now a_now b_now (Damaged StateA 0)
   misplaced disk_now a_now b_now log store opens only states broken = record {
     damaged = λ place_disk place is l x y at_l at_x at_y.
         let d : StateA ≡ place_disk = cc in let p : 0 ≡ place = cc in
         subst (λ (k : DiskPlace). AreDamagedAt conf l x y k place) d (
-          (log.batches, opens l at_l),
+          (log_in log, opens l at_l),
           inr (
             sym p,
             record {
-              batches = log.batches;
+              is = log_in log;
               states = states_of store.entries;
               is_log = opens l at_l;
               are_states = record { entries = store.entries; stored = states.opens x y at_x at_y; is = refl };
@@ -171,9 +172,9 @@ module _ {D W : Type 0} (seen : D → DiskView) (holding : W → Held)
           ),
         );
     sound = λ l x y batches its at_l at_x at_y text place_disk place is.
-        let same_log : log.batches ≡ batches = only l batches at_l text.log_is in
+        let same_log : log_in log ≡ batches = only l batches at_l text.log_is in
         let same : its ≡ states_of store.entries = text.states_are.is ∙ ap states_of (sym (states.only x y text.states_are.entries at_x at_y text.states_are.stored)) in
-        broken (subst (AreHosted conf log.batches) same (subst (λ (bs : List Batch). AreHosted conf bs its) (sym same_log) text.hosted));
+        broken (subst (AreHosted conf (log_in log)) same (subst (λ (l : PartitionLog). AreHosted conf l its) (sym same_log) text.hosted));
     log_device = λ is. absurd (let clash : ⊥ = cc in clash);
     first_device = λ is. absurd (let clash : ⊥ = cc in clash);
     second_device = λ is. absurd (let clash : ⊥ = cc in clash);

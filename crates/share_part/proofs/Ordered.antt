@@ -26,6 +26,7 @@ use Rattle.share_part.specs.Releasing.{due_groups, has_due}
 use Rattle.share_part.specs.Settling.{is_chosen}
 use Rattle.share_part.specs.Shards.{held_in, held_of}
 use Rattle.share_part.specs.declared.settle.Whose.TheVariants.{Due}
+use Rattle.share_part.proofs.Slotting.{starting}
 use Rattle.share_part.proofs.Holding.{AreKept}
 use Rattle.share_part.proofs.Letting.{none_counted}
 use Rattle.share_part.proofs.Mapping.{at_is, at_self, equal_is, keys_exact, keys_total}
@@ -312,7 +313,8 @@ module _ (conf : PartConfParts) (log : List Batch) where
   in_order (e ∷ states) sorted part = (above_groups e.0 states part.0 sorted.0 part.1, in_order states sorted.1 part.1)
 
   -- they are in byte order
-  pub groups_order : (es : Entries) → IsStrictlySortedBy key_cmp (keys_of es) → AreHosted conf log (states_of es) → InOrder (groups_of (states_of es))
+  pub groups_order : {from : ℕ} → (es : Entries) → IsStrictlySortedBy key_cmp (keys_of es) → AreHosted conf (starting log from) (states_of es)
+      → InOrder (groups_of (states_of es))
   groups_order es sorted hosted = in_order (states_of es) (subst (IsStrictlySortedBy key_cmp) (sym (same_keys es)) sorted)
       (found_part es sorted (λ key state is. (hosted key state is).key_is))
 
@@ -411,8 +413,8 @@ module _ {W : Type 0} (holding : W → Held) (clock : ℕ) where
       ∙ none_due windows rest found.1 rises.1 nothing
 
   -- they are those of the groups with a table, in byte order
-  module _ (conf : PartConfParts) (log : List Batch) (es : Entries) (windows : List (List ℕ × W)) (by_key : IsStrictlySortedBy key_cmp (keys_of es)) (by_group : InOrder (keys_of windows))
-      (hosted : AreHosted conf log (states_of es)) (kept : AreKept conf log (states_of es) (held_in holding windows)) where
+  module _ {from : ℕ} (conf : PartConfParts) (log : List Batch) (es : Entries) (windows : List (List ℕ × W)) (by_key : IsStrictlySortedBy key_cmp (keys_of es)) (by_group : InOrder (keys_of windows))
+      (hosted : AreHosted conf (starting log from) (states_of es)) (kept : AreKept conf log (states_of es) (held_in holding windows)) where
     abbrev pub all : List (List ℕ)
     all = groups_of (states_of es)
 

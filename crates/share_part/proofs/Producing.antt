@@ -2,30 +2,27 @@
 use Rattle.std.proofs.Common.{◌≡◌, ◌≢◌, ◌⊎◌, ⊎_elim, ◌∙◌, inl, inr, refl, sym, ap, subst, arith, ℕ, zero, suc, ◌+◌, ◌<◌, ◌≤◌, max, List, [], ◌∷◌, ◌++◌, length, slice_index_or, Option, Some, None, Bool, true, false, nat_le, if◌then◌else◌}
 use Rattle.std.specs.Prelude.{Result, Ok, Err}
 use Rattle.std.specs.List.{Contains}
-use Rattle.std.specs.Option.{option_map}
 use Rattle.edge_io.specs.Armed.{StarvesUnarmed}
 use Rattle.edge_io.specs.Causes.{Rose}
 use Rattle.edge_io.specs.Moments.{LeavesOnly}
-use Rattle.gate_journal.specs.Journals.{IsQuiet, Stands}
+use Rattle.gate_journal.specs.Journals.{IsQuiet}
 use Rattle.share_model.specs.ForeignRules.{ShareStates, size_of}
 use Rattle.share_model.specs.Held.{Held}
 use Rattle.share_model.specs.Logs.{Batch, end_of}
 use Rattle.share_model.specs.declared.fault.LogFault.{LogFault}
 use Rattle.share_model.specs.declared.fault.LogFault.TheVariants.{Batch as BadBatch, Behind, Store, NoMemory}
 use Rattle.share_model.specs.declared.fault.StoreFault.TheVariants.{Device, Full}
-use Rattle.part_log.specs.Logs.{AddsOnce, IsAdded, IsStoredLog, IsWithin, Keeps, LogParts, MayFollow, frames_of}
-use Rattle.part_log.specs.Shards.{LogShardState, CarriesLog, IsLogOf, StepsLog, at_end}
+use Rattle.part_log.specs.Logs.{AddsOnce, IsStoredLog, IsWithin, Keeps, LogParts, MayFollow, log_in}
+use Rattle.part_log.specs.Shards.{LogShardState, CarriesLog, IsLogOf, StepsLog, at_end, log_at}
+use Rattle.part_log.specs.Starts.{Log, LogWrite, with_write}
+use Rattle.part_log.specs.Starts.LogWrite.{Adds, Marks}
 use Rattle.part_log.proofs.Frames.{bounds}
-use Rattle.part_log.proofs.Rising.{end_more, frames_more, sound_more}
+use Rattle.part_log.proofs.Rising.{end_more, sound_more}
 use Rattle.share_part.specs.Hosting.{PartConfParts, AreHosted}
 use Rattle.share_part.specs.Once.{ProducesOnce}
 use Rattle.share_part.specs.Shards.{PartShardState, PartParts, Carries, IsPendingHosted}
 use Rattle.share_part.specs.Slots.{and_more, next_slot, slots_from}
-use Rattle.share_part.proofs.Reaching.{later_end, same_end}
 use Rattle.edge_io.specs.Views.{DiskView}
-
-abbrev bytes_of : Batch → List ℕ
-bytes_of b = b.bytes
 
 -- ---- a log that grows
 
@@ -74,19 +71,21 @@ end_later log b f =
     omega (arith, end_more log b, order, behind)
 
 -- states that the partition may have stay so
-pub hosted_later : (conf : PartConfParts) (log : List Batch) (b : Batch) (states : ShareStates) → MayFollow log b → AreHosted conf log states → AreHosted conf (log ++ b ∷ []) states
+pub hosted_later : (conf : PartConfParts) (log : Log) (b : Batch) (states : ShareStates) → MayFollow log.batches b → AreHosted conf log states
+    → AreHosted conf (with_write log (Adds b)) states
 hosted_later conf log b states f h key state is =
     let was = h key state is in
     record {
       key_is = was.key_is;
       epochs = was.epochs;
-      start = (was.start.0, was.start.1, (let le = was.start.2 in let later = end_later log b f in omega (arith, le, later)));
+      start = (was.start.0, was.start.1, was.start.2, (let le = was.start.3 in let later = end_later log.batches b f in omega (arith, le, later)));
       rows = λ offset row at.
           let r = was.rows offset row at in
-          record { slot = contains_more 2000 log b (size_of state.start) offset r.slot; delivered = r.delivered; again = r.again };
+          record { slot = contains_more 2000 log.batches b (size_of state.start) offset r.slot; delivered = r.delivered; again = r.again };
     }
 
-pending_later : (conf : PartConfParts) (log : List Batch) (b : Batch) (pending : Option ShareStates) → MayFollow log b → IsPendingHosted conf log pending → IsPendingHosted conf (log ++ b ∷ []) pending
+pending_later : (conf : PartConfParts) (log : Log) (b : Batch) (pending : Option ShareStates) → MayFollow log.batches b → IsPendingHosted conf log pending
+    → IsPendingHosted conf (with_write log (Adds b)) pending
 pending_later conf log b None f h = tt
 pending_later conf log b (Some states) f h = hosted_later conf log b states f h
 
@@ -94,13 +93,27 @@ pending_later conf log b (Some states) f h = hosted_later conf log b states f h
 abbrev pub Grows : List Batch → List Batch → Type 0
 Grows log more = (more ≡ log) ⊎ ((b : Batch) × MayFollow log b × (more ≡ log ++ b ∷ []))
 
-grows_hosted : (conf : PartConfParts) (log more : List Batch) (states : ShareStates) → Grows log more → AreHosted conf log states → AreHosted conf more states
-grows_hosted conf log more states (inl is) h = subst (λ (l : List Batch). AreHosted conf l states) (sym is) h
-grows_hosted conf log more states (inr g) h = subst (λ (l : List Batch). AreHosted conf l states) (sym g.2) (hosted_later conf log g.0 states g.1 h)
+grown : (log more : Log) → (more.batches ≡ log.batches) → more.start ≡ log.start → log ≡ more
+grown log more is at = λ i. record { batches = sym is i; start = sym at i }
 
-grows_pending : (conf : PartConfParts) (log more : List Batch) (pending : Option ShareStates) → Grows log more → IsPendingHosted conf log pending → IsPendingHosted conf more pending
-grows_pending conf log more pending (inl is) h = subst (λ (l : List Batch). IsPendingHosted conf l pending) (sym is) h
-grows_pending conf log more pending (inr g) h = subst (λ (l : List Batch). IsPendingHosted conf l pending) (sym g.2) (pending_later conf log g.0 pending g.1 h)
+grown_by : (log more : Log) (b : Batch) → more.batches ≡ log.batches ++ b ∷ [] → more.start ≡ log.start → with_write log (Adds b) ≡ more
+grown_by log more b is at = λ i. record { batches = sym is i; start = sym at i }
+
+grows_hosted : (conf : PartConfParts) (log more : Log) (states : ShareStates) → Grows log.batches more.batches → more.start ≡ log.start
+    → AreHosted conf log states → AreHosted conf more states
+grows_hosted conf log more states (inl is) at h = subst (λ (l : Log). AreHosted conf l states) (grown log more is at) h
+grows_hosted conf log more states (inr g) at h =
+    subst (λ (l : Log). AreHosted conf l states) (grown_by log more g.0 g.2 at) (hosted_later conf log g.0 states g.1 h)
+
+grows_pending : (conf : PartConfParts) (log more : Log) (pending : Option ShareStates) → Grows log.batches more.batches → more.start ≡ log.start
+    → IsPendingHosted conf log pending → IsPendingHosted conf more pending
+grows_pending conf log more pending (inl is) at h = subst (λ (l : Log). IsPendingHosted conf l pending) (grown log more is at) h
+grows_pending conf log more pending (inr g) at h =
+    subst (λ (l : Log). IsPendingHosted conf l pending) (grown_by log more g.0 g.2 at) (pending_later conf log g.0 pending g.1 h)
+
+grows_within : (log more : List Batch) (start : ℕ) → Grows log more → start ≤ end_of log → start ≤ end_of more
+grows_within log more start (inl is) le = omega (arith, le, ap end_of is)
+grows_within log more start (inr g) le = let later = end_later log g.0 g.1 in omega (arith, le, later, ap end_of g.2)
 
 grows_sound : (log more : List Batch) → Grows log more → IsStoredLog log → IsStoredLog more
 grows_sound log more (inl is) h = subst IsStoredLog (sym is) h
@@ -113,6 +126,25 @@ step_grows rose end old new bytes (Err (Store Device)) s = inl s.1.same
 step_grows rose end old new bytes (Err (Store (Full at))) s = inl (ap (λ (l : LogShardState). l.batches) s.1)
 step_grows rose end old new bytes (Err (Behind at)) s = absurd s
 step_grows rose end old new bytes (Err NoMemory) s = absurd s
+
+step_start : (rose : Type 0) (end : ℕ) (old new : LogShardState) (bytes : List ℕ) (result : Result ℕ LogFault) → StepsLog rose end old bytes result new → new.start ≡ old.start
+step_start rose end old new bytes (Ok base) s = s.start
+step_start rose end old new bytes (Err (BadBatch fault)) s = ap (λ (l : LogShardState). l.start) s.1
+step_start rose end old new bytes (Err (Store Device)) s = s.1.start
+step_start rose end old new bytes (Err (Store (Full at))) s = ap (λ (l : LogShardState). l.start) s.1
+step_start rose end old new bytes (Err (Behind at)) s = absurd s
+step_start rose end old new bytes (Err NoMemory) s = absurd s
+
+-- no mark becomes pending
+step_unmarked : (rose : Type 0) (end : ℕ) (old new : LogShardState) (bytes : List ℕ) (result : Result ℕ LogFault) → StepsLog rose end old bytes result new
+    → ((start : ℕ) → old.pending ≢ Some (Marks start)) → (start : ℕ) → new.pending ≢ Some (Marks start)
+step_unmarked rose end old new bytes (Ok base) s h start is = absurd (let never : ◌≡◌ {A = Option LogWrite} None (Some (Marks start)) = sym s.nothing ∙ is in let clash : ⊥ = cc in clash)
+step_unmarked rose end old new bytes (Err (BadBatch fault)) s h start is = h start (sym (ap (λ (l : LogShardState). l.pending) s.1) ∙ is)
+step_unmarked rose end old new bytes (Err (Store Device)) s h start is = ⊎_elim (λ same. h start (sym same ∙ is))
+    (λ added. absurd (let never : Some (Adds (at_end old.batches bytes)) ≡ Some (Marks start) = sym added ∙ is in let clash : ⊥ = cc in clash)) s.1.pending
+step_unmarked rose end old new bytes (Err (Store (Full at))) s h start is = h start (sym (ap (λ (l : LogShardState). l.pending) s.1) ∙ is)
+step_unmarked rose end old new bytes (Err (Behind at)) s h start is = absurd s
+step_unmarked rose end old new bytes (Err NoMemory) s h start is = absurd s
 
 module _ {D W : Type 0} (seen : D → DiskView) (holding : W → Held) (now : ℕ) (bytes : List ℕ) (old : PartParts D W)
     (log : LogParts D) (clock : ℕ) (result : Result ℕ LogFault)
@@ -128,68 +160,69 @@ module _ {D W : Type 0} (seen : D → DiskView) (holding : W → Held) (now : �
   added_grows (Err (Store (Full at))) o = inl (ap (λ (l : LogParts D). l.batches) (o.unchanged (Store (Full at)) refl (λ e. let clash : ⊥ = cc in clash)))
   added_grows (Err NoMemory) o = inl (ap (λ (l : LogParts D). l.batches) (o.unchanged NoMemory refl (λ e. let clash : ⊥ = cc in clash)))
 
+  added_start : (r : Result ℕ LogFault) → AddsOnce seen old.log log (at_end old.log.batches bytes) r → log.start ≡ old.log.start
+  added_start (Ok base) o = o.ok.1.start
+  added_start (Err (Store Device)) o = (o.device refl).0.start
+  added_start (Err (BadBatch fault)) o = ap (λ (l : LogParts D). l.start) (o.unchanged (BadBatch fault) refl (λ e. let clash : ⊥ = cc in clash))
+  added_start (Err (Behind at)) o = ap (λ (l : LogParts D). l.start) (o.unchanged (Behind at) refl (λ e. let clash : ⊥ = cc in clash))
+  added_start (Err (Store (Full at))) o = ap (λ (l : LogParts D). l.start) (o.unchanged (Store (Full at)) refl (λ e. let clash : ⊥ = cc in clash))
+  added_start (Err NoMemory) o = ap (λ (l : LogParts D). l.start) (o.unchanged NoMemory refl (λ e. let clash : ⊥ = cc in clash))
+
   pub has_grown : Grows old.log.batches log.batches
   has_grown = added_grows result once
 
   pub stays_sound : IsStoredLog old.log.batches → IsStoredLog log.batches
   stays_sound h = grows_sound old.log.batches log.batches (added_grows result once) h
 
-  pub stays_hosted : (states : ShareStates) → AreHosted old.conf old.log.batches states → AreHosted old.conf log.batches states
-  stays_hosted states h = grows_hosted old.conf old.log.batches log.batches states (added_grows result once) h
+  pub stays_hosted : (states : ShareStates) → AreHosted old.conf (log_in old.log) states → AreHosted old.conf (log_in log) states
+  stays_hosted states h = grows_hosted old.conf (log_in old.log) (log_in log) states (added_grows result once) (added_start result once) h
+
+  pub stays_within : old.log.start ≤ end_of old.log.batches → log.start ≤ end_of log.batches
+  stays_within le =
+      let more = grows_within old.log.batches log.batches old.log.start (added_grows result once) le in omega (arith, more, added_start result once)
 
   abbrev Moments : LogShardState → Type 0
   Moments shard = LeavesOnly seen old.log.journal.disk log.journal.disk
-      (λ c. IsLogOf shard c ⊎ IsLogOf (record { batches = shard.batches; pending = Some (at_end shard.batches bytes) }) c)
+      (λ c. IsLogOf shard c ⊎ IsLogOf (record { batches = shard.batches; start = shard.start; pending = Some (Adds (at_end shard.batches bytes)) }) c)
 
-  found : (batches : List Batch) (pending : Option Batch) (c : List ℕ) → IsWithin batches pending (at_end batches bytes) c
-      → IsLogOf (record { batches = batches; pending = pending }) c ⊎ IsLogOf (record { batches = batches; pending = Some (at_end batches bytes) }) c
-  found batches pending c h = ⊎_elim (λ w. inl w) (λ w. inr (inr w)) h
+  found : (its : Log) (pending : Option LogWrite) (c : List ℕ) → IsWithin its pending (Adds (at_end its.batches bytes)) c
+      → IsLogOf (record { batches = its.batches; start = its.start; pending = pending }) c
+      ⊎ IsLogOf (record { batches = its.batches; start = its.start; pending = Some (Adds (at_end its.batches bytes)) }) c
+  found its pending c h = ⊎_elim (λ w. inl w) (λ w. inr (inr w)) h
 
-  moments_at : (pending : Option Batch) → Keeps seen old.log pending → Moments (record { batches = old.log.batches; pending = pending })
+  moments_at : (pending : Option LogWrite) → Keeps seen old.log pending
+      → Moments (record { batches = old.log.batches; start = old.log.start; pending = pending })
   moments_at pending keeps =
       let m = once.any_moment pending keeps in
       record {
         later = m.later;
-        each = λ c at. found old.log.batches pending c (m.each c at);
-        before = λ t c le at. ⊎_elim (λ was. inl was) (λ w. inr (found old.log.batches pending c w)) (m.before t c le at);
+        each = λ c at. found (log_in old.log) pending c (m.each c at);
+        before = λ t c le at. ⊎_elim (λ was. inl was) (λ w. inr (found (log_in old.log) pending c w)) (m.before t c le at);
       }
 
   moments : (shard : PartShardState) → Carries seen holding old shard → Moments shard.log
   moments shard c =
-      let is : record { batches = old.log.batches; pending = shard.log.pending } ≡ shard.log = λ i. record { batches = sym c.log.batches i; pending = shard.log.pending } in
+      let is : record { batches = old.log.batches; start = old.log.start; pending = shard.log.pending } ≡ shard.log =
+      λ i. record { batches = sym c.log.batches i; start = sym c.log.start i; pending = shard.log.pending } in
       subst Moments is (moments_at shard.log.pending c.log.keeps)
 
   -- the journal never ends before where it did
   abbrev Later : Type 0
-  Later = (pending : Option Batch) → Keeps seen old.log pending → old.log.journal.end ≤ log.journal.end
-
-  later_kept : (pending after : Option Batch) → log.batches ≡ old.log.batches → Keeps seen old.log pending → Keeps seen log after → old.log.journal.end ≤ log.journal.end
-  later_kept pending after same was is =
-      let ends : log.journal.end ≡ old.log.journal.end = same_end seen old.log.journal log.journal (frames_of old.log.batches) (option_map bytes_of pending)
-      (option_map bytes_of after) was.stands
-      (subst (λ (l : List Batch). Stands seen log.journal (frames_of l) (option_map bytes_of after)) same is.stands) in
-      omega (arith, ends)
+  Later = old.log.journal.end ≤ log.journal.end
 
   later_same : log ≡ old.log → Later
-  later_same same pending keeps = let ends : log.journal.end ≡ old.log.journal.end = λ i. (same i).journal.end in omega (arith, ends)
-
-  later_added : IsAdded seen old.log log (at_end old.log.batches bytes) → Later
-  later_added added pending keeps = later_end seen old.log.journal log.journal (frames_of old.log.batches) (option_map bytes_of pending) None
-      (at_end old.log.batches bytes).bytes keeps.stands
-      (subst (λ (fs : List (List ℕ)). Stands seen log.journal fs None) (ap frames_of added.batches ∙ frames_more old.log.batches (at_end old.log.batches bytes))
-      (added.kept pending keeps).stands)
+  later_same same = let ends : log.journal.end ≡ old.log.journal.end = λ i. (same i).journal.end in omega (arith, ends)
 
   later_by : (r : Result ℕ LogFault) → AddsOnce seen old.log log (at_end old.log.batches bytes) r → Later
-  later_by (Ok base) o = later_added o.ok.1
-  later_by (Err (Store Device)) o = λ pending keeps. let u = (o.device refl).0 in ⊎_elim
-      (λ k. later_kept pending pending u.batches keeps k) (λ k. later_kept pending (Some (at_end old.log.batches bytes)) u.batches keeps k) (u.kept pending keeps)
+  later_by (Ok base) o = let ends = o.ok.1.end in omega (arith, ends)
+  later_by (Err (Store Device)) o = let ends = (o.device refl).0.end in omega (arith, ends)
   later_by (Err (BadBatch fault)) o = later_same (o.unchanged (BadBatch fault) refl (λ e. let clash : ⊥ = cc in clash))
   later_by (Err (Behind at)) o = later_same (o.unchanged (Behind at) refl (λ e. let clash : ⊥ = cc in clash))
   later_by (Err (Store (Full at))) o = later_same (o.unchanged (Store (Full at)) refl (λ e. let clash : ⊥ = cc in clash))
   later_by (Err NoMemory) o = later_same (o.unchanged NoMemory refl (λ e. let clash : ⊥ = cc in clash))
 
-  ends : (shard : PartShardState) → Carries seen holding old shard → old.log.journal.end ≤ log.journal.end
-  ends shard c = later_by result once shard.log.pending c.log.keeps
+  ends : (shard : PartShardState) → Carries seen holding old shard → Later
+  ends shard c = later_by result once
 
   sound : result ≡ Err (Store Device) → StarvesUnarmed seen old.log.journal.disk log.journal.disk
   sound is = (once.device is).3
@@ -232,7 +265,8 @@ module _ {D W : Type 0} (seen : D → DiskView) (holding : W → Held) (now : �
   produced fed at steps = record {
     steps = λ same shard c.
         let s = steps fed shard.log c.log in
-        let grows = step_grows (Rose (seen old.log.journal.disk).faults (seen log.journal.disk).faults) old.log.journal.end shard.log s.0 bytes result s.2 in (
+        let grows = step_grows (Rose (seen old.log.journal.disk).faults (seen log.journal.disk).faults) old.log.journal.end shard.log s.0 bytes result s.2 in
+        let starts = step_start (Rose (seen old.log.journal.disk).faults (seen log.journal.disk).faults) old.log.journal.end shard.log s.0 bytes result s.2 in (
           record { log = s.0; states = shard.states; pending = shard.pending; held = shard.held; clock = clock },
           record {
             log = s.1;
@@ -242,8 +276,9 @@ module _ {D W : Type 0} (seen : D → DiskView) (holding : W → Held) (now : �
             pending_is = c.pending_is;
             held = c.held;
             clock = refl;
-            hosted = grows_hosted old.conf shard.log.batches s.0.batches shard.states grows c.hosted;
-            pending_hosted = grows_pending old.conf shard.log.batches s.0.batches shard.pending grows c.pending_hosted;
+            hosted = grows_hosted old.conf (log_at shard.log) (log_at s.0) shard.states grows starts c.hosted;
+            pending_hosted = grows_pending old.conf (log_at shard.log) (log_at s.0) shard.pending grows starts c.pending_hosted;
+            unmarked = step_unmarked (Rose (seen old.log.journal.disk).faults (seen log.journal.disk).faults) old.log.journal.end shard.log s.0 bytes result s.2 c.unmarked;
           },
           record { clock = at ∙ ap (λ (n : ℕ). max n now) (sym c.clock); log = s.2; still = record { states = refl; pending = refl; held = refl } },
         );

@@ -5,9 +5,10 @@ use Rattle.std.specs.declared.cmp.Ordering.{Ordering}
 use Rattle.std.specs.declared.cmp.Ordering.TheVariants.{Less, Equal, Greater}
 use Rattle.std.specs.Ordering.{match_ordering}
 use Rattle.std.specs.BTreeMap.{insert_entry, is_at}
-use Rattle.share_model.specs.ForeignRules.{ShareStates, share_state_at}
+use Rattle.share_model.specs.ForeignRules.{ShareStates, share_state_at, size_of}
 use Rattle.share_model.specs.Keys.{KeyParts, key_cmp}
-use Rattle.share_model.specs.Logs.{Batch, end_of}
+use Rattle.share_model.specs.Logs.{end_of}
+use Rattle.part_log.specs.Starts.{Log}
 use Rattle.share_model.specs.ShareStates.{ShareState}
 use Rattle.share_model.specs.declared.reset.Reset.{Reset}
 use Rattle.share_model.specs.declared.reset.Reset.TheVariants.{Latest, Earliest}
@@ -54,7 +55,7 @@ kept_view false kept = refl
 
 -- ---- states that a partition may have
 
-module _ (conf : PartConfParts) (log : List Batch) where
+module _ (conf : PartConfParts) (log : Log) where
   placed : (states : ShareStates) (key : KeyParts) (state : ShareState) → AreHosted conf log states → IsHosted conf log key state
       → (other : KeyParts) (its : ShareState) → share_state_at (insert_entry key_cmp states key state) other ≡ Some its
       → (b : Bool) → is_at (key_cmp other) key ≡ b → IsHosted conf log other its
@@ -70,17 +71,26 @@ module _ (conf : PartConfParts) (log : List Batch) where
       → AreHosted conf log (insert_entry key_cmp states key state)
   hosted_more states key state h new other its is = placed states key state h new other its is (is_at (key_cmp other) key) refl
 
-  start_within : (reset : Reset) (end : ℕ) → first_start reset end ≤ end
-  start_within Latest end = omega arith
-  start_within Earliest end = omega arith
+  start_within : log.start ≤ end_of log.batches → (reset : Reset) → (log.start ≤ first_start reset log) × (first_start reset log ≤ end_of log.batches)
+  start_within within Latest = (within, omega arith)
+  start_within within Earliest = (omega arith, within)
 
-  pub new_hosted : (group : List ℕ) → IsHosted conf log (key_of conf group) (new_state conf (end_of log))
-  new_hosted group = record {
+  pub new_hosted : log.start ≤ end_of log.batches → (group : List ℕ) → IsHosted conf log (key_of conf group) (new_state conf log)
+  new_hosted within group = record {
     key_is = refl;
     epochs = (refl, refl);
-    start = (first_start conf.reset (end_of log), refl, start_within conf.reset (end_of log));
+    start = (let s = start_within within conf.reset in (first_start conf.reset log, refl, s.0, s.1));
     rows = λ offset row is. absurd (let never : ⊥ = cc in never);
   }
+
+  -- a table starts where the log does, or behind
+  pub starts_above : (states : ShareStates) (key : KeyParts) (state : ShareState) → AreHosted conf log states → share_state_at states key ≡ Some state
+      → log.start ≤ size_of state.start
+  starts_above states key state h is =
+      let s = (h key state is).start in
+      let le = s.2 in
+      let at : size_of state.start ≡ s.0 = ap size_of s.1 in
+      omega (arith, le, at)
 
   -- what is stored of a group may go out
   pub goes_out : (states : ShareStates) (key : KeyParts) (state : ShareState) → AreHosted conf log states → share_state_at states key ≡ Some state → MayGoOut state.runs
@@ -88,6 +98,6 @@ module _ (conf : PartConfParts) (log : List Batch) where
 
 -- ---- a table that is stored
 
-pub made_is : (conf : PartConfParts) (end : ℕ) (es new : Entries) (group : List ℕ) → IsInitialised es (key_of conf group) (pos 0) (pos (first_start conf.reset end)) new
-    → states_of new ≡ insert_entry key_cmp (states_of es) (key_of conf group) (new_state conf end)
-made_is conf end es new group is = ap states_of is.is ∙ with_based is.checkpointed es (key_of conf group) _
+pub made_is : (conf : PartConfParts) (log : Log) (es new : Entries) (group : List ℕ) → IsInitialised es (key_of conf group) (pos 0) (pos (first_start conf.reset log)) new
+    → states_of new ≡ insert_entry key_cmp (states_of es) (key_of conf group) (new_state conf log)
+made_is conf log es new group is = ap states_of is.is ∙ with_based is.checkpointed es (key_of conf group) _

@@ -31,6 +31,7 @@ use Rattle.share_part.specs.declared.release.Released.{Released}
 use Rattle.share_part.specs.declared.settle.Judged.{Judged}
 use Rattle.share_part.specs.declared.settle.Judged.TheVariants.{NotHeld, Changes}
 use Rattle.share_part.specs.declared.settle.Moved.{Moved}
+use Rattle.share_part.proofs.Slotting.{starting}
 use Rattle.share_part.proofs.Visiting.{err_is}
 use Rattle.share_part.proofs.Writing.{start_bound, granted, not_many}
 use Rattle.edge_io.specs.Views.{DiskView}
@@ -96,11 +97,11 @@ module _ {D : Type 0} (seen : D → DiskView) (Failed : D → D → Type 0) (old
     unsettled member (Ok outcome) none = absurd (let clash : ⊥ = cc in clash)
     unsettled member (Err e) none = (stays, is_same)
 
-module _ {D : Type 0} (conf : PartConfParts) (log : List Batch) (group : List ℕ) (acts : Acts) (held : Held) (old : StoreParts D)
-    (sound : IsStoredLog log) (few : conf.limit ≤ 10) (hosted : AreHosted conf log (states_of old.entries))
+module _ {D : Type 0} {from : ℕ} (conf : PartConfParts) (log : List Batch) (group : List ℕ) (acts : Acts) (held : Held) (old : StoreParts D)
+    (sound : IsStoredLog log) (few : conf.limit ≤ 10) (hosted : AreHosted conf (starting log from) (states_of old.entries))
     (well : HoldsWell log (share_state_at (states_of old.entries) (key_of conf group)) held) (change : Change)
     (found : HasChange conf.limit acts log held (share_state_at (states_of old.entries) (key_of conf group)) change) where
-  was : IsHosted conf log (key_of conf group) found.0
+  was : IsHosted conf (starting log from) (key_of conf group) found.0
   was = hosted (key_of conf group) found.0 found.1
 
   holds : AreHeldWell log (size_of found.0.start) held

@@ -5,8 +5,13 @@ use Rattle.std.specs.List.{AllByRecursion}
 use Rattle.share_model.specs.Logs.{Batch, Covers, IsAt, IsLog, IsNextSlot, IsSlot, RisesFrom}
 use Rattle.part_log.specs.Batches.{IsStored}
 use Rattle.part_log.specs.Logs.{IsStoredLog}
+use Rattle.part_log.specs.Starts.{IsNextSlotOf, Log}
 use Rattle.part_log.proofs.Frames.{bounds}
 use Rattle.share_part.specs.Slots.{covers, next_slot, batch_at, and_more, slots_from}
+
+-- the log of these batches that starts there
+abbrev pub starting : List Batch → ℕ → Log
+starting batches start = record { batches = batches; start = start }
 
 pub le_yes : (m n : ℕ) → nat_le m n ≡ true → m ≤ n
 le_yes m n e = search rules
@@ -108,3 +113,8 @@ slots_none log from = refl
 pub next_small : (log : List Batch) (from : ℕ) (r : Option ℕ) → IsStoredLog log → IsNextSlot log from r → IfSome r (λ slot. IsSlot log slot × (slot < 2 ^ 62))
 next_small log from None h is = tt
 next_small log from (Some slot) h is = (is.0, slot_below log slot h.stored is.0)
+
+-- what a log with a start answers
+pub next_later : (log : Log) (from : ℕ) (r : Option ℕ) → IsNextSlotOf log from r → IfSome r (λ slot. from ≤ slot)
+next_later log from None h = tt
+next_later log from (Some slot) h = h.1

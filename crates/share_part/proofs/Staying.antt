@@ -24,7 +24,7 @@ use Rattle.share_part.specs.Slots.{and_more, next_slot, slots_from}
 use Rattle.share_part.specs.Tables.{table_of}
 use Rattle.share_part.proofs.Letting.{found_each}
 use Rattle.share_part.proofs.Producing.{front_or, front_in, behind_in, none_in}
-use Rattle.share_part.proofs.Slotting.{next_is, next_meets}
+use Rattle.share_part.proofs.Slotting.{next_is, next_meets, starting}
 
 -- ---- slots in order
 
@@ -109,8 +109,8 @@ was_or_act limit None hold was row e = inl e
 was_or_act limit (Some kind) None was row e = inl e
 was_or_act limit (Some kind) (Some hold) was row e = inr (kind, hold, refl, some_same (settled limit kind hold.count) row e)
 
-module _ (conf : PartConfParts) (log : List Batch) (group : List ℕ) (state : ShareState) (held : Held) (acts : Acts)
-    (is_log : IsLog log) (few : conf.limit ≤ 10) (was : IsHosted conf log (key_of conf group) state) (well : AreHeldWell log (size_of state.start) held) where
+module _ {from : ℕ} (conf : PartConfParts) (log : List Batch) (group : List ℕ) (state : ShareState) (held : Held) (acts : Acts)
+    (is_log : IsLog log) (few : conf.limit ≤ 10) (was : IsHosted conf (starting log from) (key_of conf group) state) (well : AreHeldWell log (size_of state.start) held) where
   -- the row of an act at an offset from a start on
   act_hosted : (start offset : ℕ) (row : Row) → size_of state.start ≤ start → start ≤ offset → IsOfAct conf.limit (hold_at held offset) row → IsHostedRow log start offset row
   act_hosted start offset row later up act =
@@ -134,7 +134,7 @@ module _ (conf : PartConfParts) (log : List Batch) (group : List ℕ) (state : S
   row_hosted start offset row later up (inr act) = act_hosted start offset row later up act
 
   old_start : size_of state.start ≤ end_of log
-  old_start = let le = was.start.2 in let at : size_of state.start ≡ was.start.0 = ap size_of was.start.1 in omega (arith, le, at)
+  old_start = let le = was.start.3 in let at : size_of state.start ≡ was.start.0 = ap size_of was.start.1 in omega (arith, le, at)
 
   pub start_later : (stored : ℕ → Option Row) (next : ℕ) → IsNextStart log stored (size_of state.start) next → (size_of state.start ≤ next) × (next ≤ end_of log)
   start_later stored next (inl is) = let below = slot_below_end 0 log is_log next is.0.slot in (is.1, omega (arith, below))
@@ -147,13 +147,18 @@ module _ (conf : PartConfParts) (log : List Batch) (group : List ℕ) (state : S
       by_test true is e = absurd (let clash : ⊥ = cc in clash)
       by_test false is e = (grind (arith, nat_tests), e)
 
-  pub settled_hosted : (next : ShareState) → IsSettled conf.limit acts log (table_of state held) next → IsHosted conf log (key_of conf group) next
+  pub settled_hosted : (next : ShareState) → IsSettled conf.limit acts log (table_of state held) next → IsHosted conf (starting log from) (key_of conf group) next
   settled_hosted next s =
       let starts = start_later (stored_after conf.limit acts (table_of state held)) s.start s.start_is in
       record {
         key_is = refl;
         epochs = s.epochs;
-        start = (s.start, s.start_told, starts.1);
+        start = (
+          s.start,
+          s.start_told,
+          (let le = was.start.2 in let at : size_of state.start ≡ was.start.0 = ap size_of was.start.1 in let later = starts.0 in omega (arith, le, at, later)),
+          starts.1,
+        );
         rows = λ offset row at.
             let there = from_start offset s.start (stored_after conf.limit acts (table_of state held) offset) row (sym (s.rows offset) ∙ at) in
             subst (λ (z : ℕ). IsHostedRow log z offset row) (sym (ap size_of s.start_told))

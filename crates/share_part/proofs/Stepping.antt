@@ -17,11 +17,12 @@ use Rattle.share_coord.specs.States.{states_of}
 use Rattle.share_part.specs.Settling.{Acts, Change, IsChange, IsSettled, acted, stored_after}
 use Rattle.share_part.specs.Storing.{IsStored, start_number}
 use Rattle.share_part.specs.Tables.{table_of}
+use Rattle.share_part.proofs.Slotting.{starting}
 use Rattle.share_part.proofs.Seeing.{kept_view, state_seen, view_of, with_based}
 use Rattle.share_part.proofs.Writing.{last_is, seen_kept, kept_one}
 
-module _ (conf : PartConfParts) (log : List Batch) (es new : Entries) (group : List ℕ) (state : ShareState) (held : Held) (acts : Acts) (change : Change)
-    (was : IsHosted conf log (key_of conf group) state) (known : share_state_at (states_of es) (key_of conf group) ≡ Some state)
+module _ {from : ℕ} (conf : PartConfParts) (log : List Batch) (es new : Entries) (group : List ℕ) (state : ShareState) (held : Held) (acts : Acts) (change : Change)
+    (was : IsHosted conf (starting log from) (key_of conf group) state) (known : share_state_at (states_of es) (key_of conf group) ≡ Some state)
     (ch : IsChange conf.limit acts log (table_of state held) change) (w : IsStored es (key_of conf group) change.start change.runs new) where
   abbrev pub next : ShareState
   next = (written_of w.kept (pos 0) (pos 0) (start_number change.start) w.laid).view

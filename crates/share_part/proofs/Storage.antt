@@ -8,11 +8,11 @@ use Rattle.flex_fields.specs.declared.fault.NoMemory.{NoMemory as want}
 use Rattle.share_model.specs.ForeignRules.{ShareStates}
 use Rattle.share_model.specs.Held.{Held}
 use Rattle.share_model.specs.Keys.{KeyParts, key_cmp}
-use Rattle.share_model.specs.Logs.{Batch}
 use Rattle.share_model.specs.ShareStates.{ShareState}
 use Rattle.share_model.specs.declared.fault.StoreFault.{StoreFault}
 use Rattle.share_model.specs.declared.fault.StoreFault.TheVariants.{Device, Full}
-use Rattle.part_log.specs.Logs.{IsStoredLog}
+use Rattle.part_log.specs.Logs.{IsStoredLog, log_in}
+use Rattle.part_log.specs.Starts.{LogWrite}
 use Rattle.share_coord.specs.Holding.{Holds}
 use Rattle.share_coord.specs.Parts.{StoreParts}
 use Rattle.share_coord.specs.Stored.{Entries}
@@ -38,7 +38,7 @@ use Rattle.edge_io.specs.Views.{DiskView}
 
 module _ {D W : Type 0} (seen : D → DiskView) (holding : W → Held) (group : List ℕ) (acts : Acts) (old : PartParts D W) (states : StoreParts D)
     (windows : List (List ℕ × W)) (clock : ℕ) (sound : IsStoredLog old.log.batches) (few : old.conf.limit ≤ 10)
-    (hosted : AreHosted old.conf old.log.batches (states_of old.states.entries))
+    (hosted : AreHosted old.conf (log_in old.log) (states_of old.states.entries))
     (kept : AreKept old.conf old.log.batches (states_of old.states.entries) (held_in holding old.windows)) where
   -- the shard behind the write
   abbrev pub behind : PartParts D W
@@ -71,7 +71,7 @@ module _ {D W : Type 0} (seen : D → DiskView) (holding : W → Held) (group : 
   -- ---- what is stored
 
   module _ (done : Result (Unit {0}) CoordFault) (st : Stored done) (es : Entries) (w : IsStored old.states.entries key st.change.start st.change.runs es) where
-    pub its_hosted : IsHosted old.conf old.log.batches key st.state
+    pub its_hosted : IsHosted old.conf (log_in old.log) key st.state
     its_hosted = hosted key st.state st.known
 
     pub its_kept : KeepsHolds old.log.batches (Some st.state) was
@@ -86,11 +86,11 @@ module _ {D W : Type 0} (seen : D → DiskView) (holding : W → Held) (group : 
     pub its_states : states_of es ≡ insert_entry key_cmp (states_of old.states.entries) key its_next
     its_states = now_states old.conf old.log.batches old.states.entries es group st.state was acts st.change its_hosted st.known st.is w
 
-    are_settled : (batch : Option Batch) (pending : Option Entries) → AreSettled old.conf (shard_of seen holding old batch pending) group acts (states_of es)
+    are_settled : (batch : Option LogWrite) (pending : Option Entries) → AreSettled old.conf (shard_of seen holding old batch pending) group acts (states_of es)
     are_settled batch pending = record { state = st.state; next = its_next; known = st.known; settled = its_settled; is = its_states }
 
-    set_hosted : AreHosted old.conf old.log.batches (states_of es)
-    set_hosted = subst (AreHosted old.conf old.log.batches) (sym its_states) (hosted_more old.conf old.log.batches (states_of old.states.entries) key its_next hosted
+    set_hosted : AreHosted old.conf (log_in old.log) (states_of es)
+    set_hosted = subst (AreHosted old.conf (log_in old.log)) (sym its_states) (hosted_more old.conf (log_in old.log) (states_of old.states.entries) key its_next hosted
         (settled_hosted old.conf old.log.batches group st.state was acts sound.rises few its_hosted its_kept.0 its_next its_settled))
 
     set_well : AreKept old.conf old.log.batches (states_of es) (with_held (held_in holding old.windows) group (held_after acts was))
@@ -101,11 +101,11 @@ module _ {D W : Type 0} (seen : D → DiskView) (holding : W → Held) (group : 
   -- ---- what the shard keeps
 
   abbrev pub Stands : Type 0
-  Stands = AreHosted old.conf old.log.batches (states_of states.entries) × AreKept old.conf old.log.batches (states_of states.entries) (held_in holding windows)
+  Stands = AreHosted old.conf (log_in old.log) (states_of states.entries) × AreKept old.conf old.log.batches (states_of states.entries) (held_in holding windows)
 
   pub stands_same : states_of states.entries ≡ states_of old.states.entries → Same → Stands
   stands_same is same = (
-    subst (AreHosted old.conf old.log.batches) (sym is) hosted,
+    subst (AreHosted old.conf (log_in old.log)) (sym is) hosted,
     same_kept old.conf old.log.batches (states_of states.entries) (held_in holding old.windows) (held_in holding windows) same
         (subst (λ (s : ShareStates). AreKept old.conf old.log.batches s (held_in holding old.windows)) (sym is) kept),
   )
@@ -134,22 +134,22 @@ module _ {D W : Type 0} (seen : D → DiskView) (holding : W → Held) (group : 
   AllSteps Does = (s : PartShardState) → Carries seen holding old s → Steps Does s
 
   -- the same states and holds
-  abbrev shard_same : Option Batch → Option Entries → PartShardState
+  abbrev shard_same : Option LogWrite → Option Entries → PartShardState
   shard_same batch pending = record {
-    log = record { batches = old.log.batches; pending = batch };
+    log = record { batches = old.log.batches; start = old.log.start; pending = batch };
     states = states_of old.states.entries;
     pending = option_map states_of pending;
     held = held_in holding old.windows;
     clock = clock;
   }
 
-  pub same_carried : (batch : Option Batch) (was_pending pending : Option Entries) → Keeping seen holding old batch was_pending → states_of states.entries ≡ states_of old.states.entries
-      → Holds seen states pending → IsPendingHosted old.conf old.log.batches (option_map states_of pending) → Same → Carries seen holding behind (shard_same batch pending)
+  pub same_carried : (batch : Option LogWrite) (was_pending pending : Option Entries) → Keeping seen holding old batch was_pending → states_of states.entries ≡ states_of old.states.entries
+      → Holds seen states pending → IsPendingHosted old.conf (log_in old.log) (option_map states_of pending) → Same → Carries seen holding behind (shard_same batch pending)
   same_carried batch was_pending pending k entries holds fine same =
       carries_with seen holding old behind batch was_pending pending (held_in holding old.windows) k refl (λ shard c. c) entries holds fine (λ group. sym (same group))
 
   pub still : (Does : PartShardState → PartShardState → Type 0) → states ≡ old.states → Same
-      → ((batch : Option Batch) (pending : Option Entries) → Does (shard_of seen holding old batch pending) (shard_same batch pending)) → AllSteps Does
+      → ((batch : Option LogWrite) (pending : Option Entries) → Does (shard_of seen holding old batch pending) (shard_same batch pending)) → AllSteps Does
   still Does is same does = carried seen holding old (Steps Does) (λ batch pending k. record {
     then = shard_same batch pending;
     carries = same_carried batch pending pending k (ap (λ (s : StoreParts D). states_of s.entries) is) (subst (λ (s : StoreParts D). Holds seen s pending) (sym is) k.holds) k.pending_hosted same;
@@ -165,7 +165,7 @@ module _ {D W : Type 0} (seen : D → DiskView) (holding : W → Held) (group : 
   stored_steps runs None (inl n) = still (DoesActs None) n.1 n.2 (λ batch pending. inl (n.0, record { states = refl; pending = refl; held = refl }))
   stored_steps runs None (inr h) = carried seen holding old (Steps (DoesActs None)) (λ batch pending k. record {
     then = record {
-      log = record { batches = old.log.batches; pending = batch };
+      log = record { batches = old.log.batches; start = old.log.start; pending = batch };
       states = states_of states.entries;
       pending = None;
       held = with_held (held_in holding old.windows) group (held_after acts was);
@@ -181,6 +181,7 @@ module _ {D W : Type 0} (seen : D → DiskView) (holding : W → Held) (group : 
       clock = refl;
       hosted = set_hosted (Ok tt) h.1 states.entries h.1.once.written;
       pending_hosted = tt;
+      unmarked = k.unmarked;
     };
     log = refl;
     clock_is = refl;

@@ -8,7 +8,7 @@ use Rattle.coord_checkpoint.specs.Disks.{HasFailed}
 use Rattle.share_model.specs.ForeignRules.{ShareStates, share_state_at}
 use Rattle.share_model.specs.Held.{Held}
 use Rattle.share_model.specs.Keys.{KeyParts, key_cmp}
-use Rattle.share_model.specs.Logs.{Batch, end_of}
+use Rattle.share_model.specs.Logs.{end_of}
 use Rattle.share_model.specs.ShareStates.{ShareState}
 use Rattle.share_model.specs.declared.fault.StoreFault.{StoreFault}
 use Rattle.share_model.specs.declared.fault.StoreFault.TheVariants.{Device, Full}
@@ -18,8 +18,11 @@ use Rattle.share_model.specs.declared.visit.ThenOutcome.{ThenOutcome}
 use Rattle.share_model.specs.declared.visit.ThenOutcome.TheVariants.{Done, Store as store_outcome}
 use Rattle.share_model.specs.declared.visit.Visit.{Visit}
 use Rattle.share_model.specs.declared.visit.VisitAnswer.{VisitAnswer}
-use Rattle.part_log.specs.Logs.{Keeps}
-use Rattle.part_log.specs.Shards.{CarriesLog, LogShardState}
+use Rattle.part_log.specs.Logs.{Keeps, log_in}
+use Rattle.part_log.specs.Shards.{CarriesLog, LogShardState, log_at}
+use Rattle.part_log.specs.Starts.{Log, LogWrite}
+use Rattle.part_log.specs.Starts.LogWrite.{Marks}
+use Rattle.part_log.proofs.Keeping.{keeps_start}
 use Rattle.part_log.proofs.Looking.{carries_on}
 use Rattle.share_coord.specs.Calls.{IsInitialised}
 use Rattle.share_coord.specs.Holding.{Holds, WritesOnce}
@@ -51,26 +54,28 @@ use Rattle.edge_io.specs.Views.{DiskView}
 
 module _ {D W : Type 0} (seen : D → DiskView) (holding : W → Held) where
   -- what a shard in memory carries, with these writes pending
-  abbrev pub shard_of : PartParts D W → Option Batch → Option Entries → PartShardState
+  abbrev pub shard_of : PartParts D W → Option LogWrite → Option Entries → PartShardState
   shard_of parts batch pending = record {
-    log = record { batches = parts.log.batches; pending = batch };
+    log = record { batches = parts.log.batches; start = parts.log.start; pending = batch };
     states = states_of parts.states.entries;
     pending = option_map states_of pending;
     held = held_in holding parts.windows;
     clock = parts.clock;
   }
 
-  pub record Keeping (parts : PartParts D W) (batch : Option Batch) (pending : Option Entries) : Type 0 where
-    pub log : CarriesLog seen parts.log (record { batches = parts.log.batches; pending = batch })
+  pub record Keeping (parts : PartParts D W) (batch : Option LogWrite) (pending : Option Entries) : Type 0 where
+    pub log : CarriesLog seen parts.log (record { batches = parts.log.batches; start = parts.log.start; pending = batch })
     pub holds : Holds seen parts.states pending
-    pub hosted : AreHosted parts.conf parts.log.batches (states_of parts.states.entries)
-    pub pending_hosted : IsPendingHosted parts.conf parts.log.batches (option_map states_of pending)
+    pub hosted : AreHosted parts.conf (log_in parts.log) (states_of parts.states.entries)
+    pub pending_hosted : IsPendingHosted parts.conf (log_in parts.log) (option_map states_of pending)
+    pub unmarked : (start : ℕ) → batch ≢ Some (Marks start)
 
   -- what holds of that holds of each shard that is carried
-  pub carried : (parts : PartParts D W) (P : PartShardState → Type 0) → ((batch : Option Batch) (pending : Option Entries) → Keeping parts batch pending → P (shard_of parts batch pending))
+  pub carried : (parts : PartParts D W) (P : PartShardState → Type 0) → ((batch : Option LogWrite) (pending : Option Entries) → Keeping parts batch pending → P (shard_of parts batch pending))
       → (shard : PartShardState) → Carries seen holding parts shard → P shard
   carried parts P f shard c =
-      let log : shard.log ≡ record { batches = parts.log.batches; pending = shard.log.pending } = λ i. record { batches = c.log.batches i; pending = shard.log.pending } in
+      let log : shard.log ≡ record { batches = parts.log.batches; start = parts.log.start; pending = shard.log.pending } =
+      λ i. record { batches = c.log.batches i; start = c.log.start i; pending = shard.log.pending } in
       let is : shard_of parts shard.log.pending c.pending ≡ shard = λ i. record {
         log = sym log i;
         states = sym c.states i;
@@ -83,55 +88,65 @@ module _ {D W : Type 0} (seen : D → DiskView) (holding : W → Held) where
         holds = c.holds;
         hosted = hosted_as c;
         pending_hosted = pending_as c;
+        unmarked = c.unmarked;
       }))
     where
-      hosted_as : Carries seen holding parts shard → AreHosted parts.conf parts.log.batches (states_of parts.states.entries)
-      hosted_as c = subst (λ (l : List Batch). AreHosted parts.conf l (states_of parts.states.entries)) c.log.batches
-          (subst (AreHosted parts.conf shard.log.batches) c.states c.hosted)
+      logs_as : (c : Carries seen holding parts shard) → log_at shard.log ≡ log_in parts.log
+      logs_as c = λ i. record { batches = c.log.batches i; start = c.log.start i }
 
-      pending_as : (c : Carries seen holding parts shard) → IsPendingHosted parts.conf parts.log.batches (option_map states_of c.pending)
-      pending_as c = subst (λ (l : List Batch). IsPendingHosted parts.conf l (option_map states_of c.pending)) c.log.batches
-          (subst (IsPendingHosted parts.conf shard.log.batches) c.pending_is c.pending_hosted)
+      hosted_as : Carries seen holding parts shard → AreHosted parts.conf (log_in parts.log) (states_of parts.states.entries)
+      hosted_as c = subst (λ (l : Log). AreHosted parts.conf l (states_of parts.states.entries)) (logs_as c)
+          (subst (AreHosted parts.conf (log_at shard.log)) c.states c.hosted)
+
+      pending_as : (c : Carries seen holding parts shard) → IsPendingHosted parts.conf (log_in parts.log) (option_map states_of c.pending)
+      pending_as c = subst (λ (l : Log). IsPendingHosted parts.conf l (option_map states_of c.pending)) (logs_as c)
+          (subst (IsPendingHosted parts.conf (log_at shard.log)) c.pending_is c.pending_hosted)
 
   -- with other holds, another clock, and a store of the same states
-  pub carries_with : (parts after : PartParts D W) (batch : Option Batch) (was pending : Option Entries) (held : List ℕ → Held) → Keeping parts batch was
+  pub carries_with : (parts after : PartParts D W) (batch : Option LogWrite) (was pending : Option Entries) (held : List ℕ → Held) → Keeping parts batch was
       → after.conf ≡ parts.conf → ((shard : LogShardState) → CarriesLog seen parts.log shard → CarriesLog seen after.log shard)
       → states_of after.states.entries ≡ states_of parts.states.entries → Holds seen after.states pending
-      → IsPendingHosted parts.conf parts.log.batches (option_map states_of pending) → ((group : List ℕ) → held group ≡ held_in holding after.windows group)
+      → IsPendingHosted parts.conf (log_in parts.log) (option_map states_of pending) → ((group : List ℕ) → held group ≡ held_in holding after.windows group)
       → Carries seen holding after (record {
-        log = record { batches = parts.log.batches; pending = batch };
+        log = record { batches = parts.log.batches; start = parts.log.start; pending = batch };
         states = states_of parts.states.entries;
         pending = option_map states_of pending;
         held = held;
         clock = after.clock;
       })
   carries_with parts after batch was pending held k conf log entries holds hosted same = record {
-    log = log (record { batches = parts.log.batches; pending = batch }) k.log;
+    log = log (record { batches = parts.log.batches; start = parts.log.start; pending = batch }) k.log;
     pending = pending;
     holds = holds;
     states = sym entries;
     pending_is = refl;
     held = same;
     clock = refl;
-    hosted = subst (λ (c : PartConfParts). AreHosted c parts.log.batches (states_of parts.states.entries)) (sym conf) k.hosted;
-    pending_hosted = subst (λ (c : PartConfParts). IsPendingHosted c parts.log.batches (option_map states_of pending)) (sym conf) hosted;
+    hosted = subst (λ (c : PartConfParts). AreHosted c (log_in parts.log) (states_of parts.states.entries)) (sym conf) k.hosted;
+    pending_hosted = subst (λ (c : PartConfParts). IsPendingHosted c (log_in parts.log) (option_map states_of pending)) (sym conf) hosted;
+    unmarked = k.unmarked;
   }
 
   -- with other devices that stand for the same
-  pub carries_armed : (old new : PartParts D W) (shard : PartShardState) → Carries seen holding old shard → new.conf ≡ old.conf → new.log.batches ≡ old.log.batches
-      → ((pending : Option Batch) → Keeps seen old.log pending → Keeps seen new.log pending) → new.states.entries ≡ old.states.entries
+  pub carries_armed : (old new : PartParts D W) (shard : PartShardState) → Carries seen holding old shard → new.conf ≡ old.conf → log_in new.log ≡ log_in old.log
+      → ((pending : Option LogWrite) → Keeps seen old.log pending → Keeps seen new.log pending) → new.states.entries ≡ old.states.entries
       → ((pending : Option Entries) → Holds seen old.states pending → Holds seen new.states pending) → new.windows ≡ old.windows → new.clock ≡ old.clock
       → Carries seen holding new shard
-  carries_armed old new shard c conf batches log entries states windows clock = record {
-    log = record { batches = c.log.batches ∙ sym batches; keeps = log shard.log.pending c.log.keeps };
+  carries_armed old new shard c conf logs log entries states windows clock = record {
+    log = record {
+      batches = c.log.batches ∙ sym (ap (λ (l : Log). l.batches) logs);
+      start = c.log.start ∙ sym (ap (λ (l : Log). l.start) logs);
+      keeps = log shard.log.pending c.log.keeps;
+    };
     pending = c.pending;
     holds = states c.pending c.holds;
     states = c.states ∙ ap states_of (sym entries);
     pending_is = c.pending_is;
     held = λ group. c.held group ∙ ap (λ (w : List (List ℕ × W)). held_in holding w group) (sym windows);
     clock = c.clock ∙ sym clock;
-    hosted = subst (λ (p : PartConfParts). AreHosted p shard.log.batches shard.states) (sym conf) c.hosted;
-    pending_hosted = subst (λ (p : PartConfParts). IsPendingHosted p shard.log.batches shard.pending) (sym conf) c.pending_hosted;
+    hosted = subst (λ (p : PartConfParts). AreHosted p (log_at shard.log) shard.states) (sym conf) c.hosted;
+    pending_hosted = subst (λ (p : PartConfParts). IsPendingHosted p (log_at shard.log) shard.pending) (sym conf) c.pending_hosted;
+    unmarked = c.unmarked;
   }
 
   -- where nothing has changed, what was carried is carried
@@ -139,7 +154,7 @@ module _ {D W : Type 0} (seen : D → DiskView) (holding : W → Held) where
       → Carries seen holding new shard
   untouched old new h = carried old (λ s. Carries seen holding new s) (λ batch pending k.
       subst (λ (c : ℕ). Carries seen holding new (record {
-        log = record { batches = old.log.batches; pending = batch };
+        log = record { batches = old.log.batches; start = old.log.start; pending = batch };
         states = states_of old.states.entries;
         pending = option_map states_of pending;
         held = held_in holding old.windows;
@@ -191,7 +206,7 @@ module _ {D W : Type 0} (seen : D → DiskView) (holding : W → Held) (now : �
   quiet_still same = quiet_same seen old.states new.states same
 
   abbrev Records : VisitAnswer → Type 0
-  Records answer = WritesUnless false seen old.conf old.log.batches visit (held_in holding old.windows visit.group) old.states new.states answer.then visit.then
+  Records answer = WritesUnless false seen old.conf (log_in old.log) visit (held_in holding old.windows visit.group) old.states new.states answer.then visit.then
 
   answered : (answer : VisitAnswer) → Writes → Records answer → (((fault : StoreFault) → answer.then ≢ store_outcome fault) → Quiet)
       → Followed seen holding now visit old new false answer → (answer.then ≡ store_outcome Device → Starves)
@@ -236,11 +251,11 @@ module _ {D W : Type 0} (seen : D → DiskView) (holding : W → Held) (now : �
   pub idly : (answer : VisitAnswer) → answer.ack ≡ acknowledged → IsEmptyAnswer Done answer → visit.then ≡ Nothing → new.log ≡ old.log
       → new.states ≡ old.states → new.windows ≡ old.windows → new.clock ≡ max old.clock now → Once (Ok answer)
   idly answer ack empty what still_log states windows clock = answered answer (writes_none states)
-      (subst (WritesThen seen old.conf old.log.batches visit (held_in holding old.windows visit.group) old.states new.states answer.then) (sym what) states)
+      (subst (WritesThen seen old.conf (log_in old.log) visit (held_in holding old.windows visit.group) old.states new.states answer.then) (sym what) states)
       (λ none. quiet_still states)
       (carried seen holding old (Leads answer) (λ batch pending k.
       let t : PartShardState = record {
-        log = record { batches = old.log.batches; pending = batch };
+        log = record { batches = old.log.batches; start = old.log.start; pending = batch };
         states = states_of old.states.entries;
         pending = option_map states_of pending;
         held = held_in holding old.windows;
@@ -288,27 +303,27 @@ module _ {D W : Type 0} (seen : D → DiskView) (holding : W → Held) (now : �
     not_fault : (answer : VisitAnswer) (state : ShareState) → Took answer state → answer.then ≡ store_outcome Device → Starves
     not_fault answer state took is = absurd (let never : Done ≡ store_outcome Device = sym took.outcome_is ∙ is in let clash : ⊥ = cc in clash)
 
-    abbrev shard_then : Option Batch → ShareStates → Option ShareStates → ShareState → PartShardState
+    abbrev shard_then : Option LogWrite → ShareStates → Option ShareStates → ShareState → PartShardState
     shard_then batch states pending state = record {
-      log = record { batches = old.log.batches; pending = batch };
+      log = record { batches = old.log.batches; start = old.log.start; pending = batch };
       states = states;
       pending = pending;
       held = held_then state;
       clock = new.clock;
     }
 
-    acquires : (batch : Option Batch) (pending : Option Entries) (states : ShareStates) (now_pending : Option ShareStates) (answer : VisitAnswer) (state : ShareState) → Took answer state
+    acquires : (batch : Option LogWrite) (pending : Option Entries) (states : ShareStates) (now_pending : Option ShareStates) (answer : VisitAnswer) (state : ShareState) → Took answer state
         → Acquires old.conf told_there (shard_of seen holding old batch pending) state visit limits answer (shard_then batch states now_pending state)
     acquires batch pending states now_pending answer state took =
         record { outcome_is = took.outcome_is; grants = took.grants; batches = took.batches; size = took.size; held = refl }
 
     -- what the store has answered, and was stored of the table
     abbrev Kept_by : ThenOutcome → Type 0
-    Kept_by outcome = MakesTableOnce seen (HasFailed seen) old.conf visit.group (end_of old.log.batches) old.states new.states (Ok outcome)
+    Kept_by outcome = MakesTableOnce seen (HasFailed seen) old.conf visit.group (log_in old.log) old.states new.states (Ok outcome)
 
     records_of : (answer : VisitAnswer) (outcome : ThenOutcome) → answer.then ≡ outcome → Kept_by outcome → Records answer
     records_of answer outcome is kept =
-        subst (WritesThen seen old.conf old.log.batches visit (held_in holding old.windows visit.group) old.states new.states answer.then) (sym is_fetch)
+        subst (WritesThen seen old.conf (log_in old.log) visit (held_in holding old.windows visit.group) old.states new.states answer.then) (sym is_fetch)
         (subst Kept_by (sym is) kept)
 
     -- the table was there
@@ -329,20 +344,21 @@ module _ {D W : Type 0} (seen : D → DiskView) (holding : W → Held) (now : �
         ))) (not_fault answer kept.view took) others_fetch
 
     abbrev made : ShareState
-    made = new_state old.conf (end_of old.log.batches)
+    made = new_state old.conf (log_in old.log)
 
     abbrev Written : Entries → Type 0
-    Written = IsInitialised old.states.entries key (pos 0) (pos (first_start old.conf.reset (end_of old.log.batches)))
+    Written = IsInitialised old.states.entries key (pos 0) (pos (first_start old.conf.reset (log_in old.log)))
 
     abbrev Wrote : Result (Unit {0}) CoordFault → Type 0
     Wrote done = WritesOnce seen (HasFailed seen) Written old.states new.states done
 
     made_states : (es : Entries) → Written es → states_of es ≡ insert_entry key_cmp (states_of old.states.entries) key made
-    made_states es is = made_is old.conf (end_of old.log.batches) old.states.entries es visit.group is
+    made_states es is = made_is old.conf (log_in old.log) old.states.entries es visit.group is
 
-    made_hosted : (es : Entries) → Written es → AreHosted old.conf old.log.batches (states_of old.states.entries) → AreHosted old.conf old.log.batches (states_of es)
-    made_hosted es is h = subst (AreHosted old.conf old.log.batches) (sym (made_states es is))
-        (hosted_more old.conf old.log.batches (states_of old.states.entries) key made h (new_hosted old.conf old.log.batches visit.group))
+    made_hosted : (es : Entries) → Written es → old.log.start ≤ end_of old.log.batches → AreHosted old.conf (log_in old.log) (states_of old.states.entries)
+        → AreHosted old.conf (log_in old.log) (states_of es)
+    made_hosted es is starts h = subst (AreHosted old.conf (log_in old.log)) (sym (made_states es is))
+        (hosted_more old.conf (log_in old.log) (states_of old.states.entries) key made h (new_hosted old.conf (log_in old.log) starts visit.group))
 
     none_there : kept_at old.states.entries key ≡ None → share_state_at (states_of old.states.entries) key ≡ None
     none_there is = state_seen old.states.entries key ∙ ap (option_map view_of) is
@@ -362,15 +378,16 @@ module _ {D W : Type 0} (seen : D → DiskView) (holding : W → Held) (now : �
         (carried seen holding old (Leads answer) (λ batch pending k. (
           shard_then batch (states_of new.states.entries) None made,
           record {
-            log = carries_read (record { batches = old.log.batches; pending = batch }) k.log;
+            log = carries_read (record { batches = old.log.batches; start = old.log.start; pending = batch }) k.log;
             pending = None;
             holds = once.kept pending k.holds;
             states = refl;
             pending_is = refl;
             held = λ group. sym (took.held group);
             clock = refl;
-            hosted = subst (λ (c : PartConfParts). AreHosted c old.log.batches (states_of new.states.entries)) (sym conf) (made_hosted new.states.entries once.written k.hosted);
+            hosted = subst (λ (c : PartConfParts). AreHosted c (log_in old.log) (states_of new.states.entries)) (sym conf) (made_hosted new.states.entries once.written (keeps_start seen old.log batch k.log.keeps) k.hosted);
             pending_hosted = tt;
+            unmarked = k.unmarked;
           },
           record {
             clock = took.clock;
@@ -393,17 +410,17 @@ module _ {D W : Type 0} (seen : D → DiskView) (holding : W → Held) (now : �
       pub held : (group : List ℕ) → held_in holding new.windows group ≡ held_in holding old.windows group
       pub clock : new.clock ≡ max old.clock now
 
-    abbrev shard_same : Option Batch → Option Entries → PartShardState
+    abbrev shard_same : Option LogWrite → Option Entries → PartShardState
     shard_same batch pending = record {
-      log = record { batches = old.log.batches; pending = batch };
+      log = record { batches = old.log.batches; start = old.log.start; pending = batch };
       states = states_of old.states.entries;
       pending = option_map states_of pending;
       held = held_in holding old.windows;
       clock = new.clock;
     }
 
-    unmade : (answer : VisitAnswer) (fault : StoreFault) (batch : Option Batch) (was pending : Option Entries) → Keeping seen holding old batch was → Refused answer fault
-        → states_of new.states.entries ≡ states_of old.states.entries → Holds seen new.states pending → IsPendingHosted old.conf old.log.batches (option_map states_of pending)
+    unmade : (answer : VisitAnswer) (fault : StoreFault) (batch : Option LogWrite) (was pending : Option Entries) → Keeping seen holding old batch was → Refused answer fault
+        → states_of new.states.entries ≡ states_of old.states.entries → Holds seen new.states pending → IsPendingHosted old.conf (log_in old.log) (option_map states_of pending)
         → kept_at old.states.entries key ≡ None
         → MakesTable old.conf told_there Rises old.states.journal.end (shard_of seen holding old batch was) visit limits answer (shard_same batch pending) (store_outcome fault)
         → Leads answer (shard_of seen holding old batch was)
@@ -429,7 +446,7 @@ module _ {D W : Type 0} (seen : D → DiskView) (holding : W → Held) (now : �
         ⊎_elim
         (λ holds. unmade answer Device batch pending pending k refused once.same holds k.pending_hosted none
         (rose, refused.empty, record { states = refl; pending = inl refl; held = refl }))
-        (λ lost. unmade answer Device batch pending (Some lost.0) k refused once.same lost.2 (made_hosted lost.0 lost.1 k.hosted) none
+        (λ lost. unmade answer Device batch pending (Some lost.0) k refused once.same lost.2 (made_hosted lost.0 lost.1 (keeps_start seen old.log batch k.log.keeps) k.hosted) none
         (rose, refused.empty, record { states = refl; pending = inr (states_of lost.0, refl, made_states lost.0 lost.1); held = refl }))
         (once.failed pending k.holds)))
         (λ is. starve_either seen old.states new.states failed) others_fetch
@@ -460,35 +477,37 @@ module _ {D W : Type 0} (seen : D → DiskView) (holding : W → Held) (now : �
     abbrev Failed : D → D → Type 0
     Failed = HasFailed seen
 
-    abbrev Made : ℕ → Result ThenOutcome want → Type 0
-    Made end result = MakesTableOnce seen Failed old.conf visit.group end old.states new.states result
+    abbrev Made : Log → Result ThenOutcome want → Type 0
+    Made there result = MakesTableOnce seen Failed old.conf visit.group there old.states new.states result
 
-    kept_by : (result : Result ThenOutcome want) (outcome : ThenOutcome) → result ≡ Ok outcome → (end : ℕ) → end ≡ end_of old.log.batches → Made end result → Kept_by outcome
-    kept_by result outcome is end at made = subst (λ (r : Result ThenOutcome want). Made (end_of old.log.batches) r) is (subst (λ (e : ℕ). Made e result) at made)
+    kept_by : (result : Result ThenOutcome want) (outcome : ThenOutcome) → result ≡ Ok outcome → (end : Log) → end ≡ log_in old.log → Made end result → Kept_by outcome
+    kept_by result outcome is end at made = subst (λ (r : Result ThenOutcome want). Made (log_in old.log) r) is (subst (λ (l : Log). Made l result) at made)
 
     -- what the store has answered
     abbrev Told : Option KeptState → Result ThenOutcome want → Type 0
     Told (Some kept) result = (new.states ≡ old.states) × (result ≡ Ok Done)
-    Told None result = MakesOnce seen Failed Written (IsTableRecord old.states.entries key (first_start old.conf.reset (end_of old.log.batches))) old.states new.states result
+    Told None result = MakesOnce seen Failed Written (IsTableRecord old.states.entries key (first_start old.conf.reset (log_in old.log))) old.states new.states result
 
-    told : (result : Result ThenOutcome want) (end : ℕ) → end ≡ end_of old.log.batches → Made end result → (o : Option KeptState) → kept_at old.states.entries key ≡ o → Told o result
-    told result end at made None is = (subst (λ (n : ℕ). Made n result) at made).absent is
+    told : (result : Result ThenOutcome want) (end : Log) → end ≡ log_in old.log → Made end result → (o : Option KeptState) → kept_at old.states.entries key ≡ o → Told o result
+    told result end at made None is = (subst (λ (l : Log). Made l result) at made).absent is
     told result end at made (Some kept) is = made.there (subst (λ (o : Option KeptState). IsSome o) (sym is) refl)
 
-    hosted_by : (result : Result ThenOutcome want) (done : Result (Unit {0}) CoordFault) → Wrote done → AreHosted old.conf old.log.batches (states_of old.states.entries)
-        → AreHosted old.conf old.log.batches (states_of new.states.entries)
-    hosted_by result (Ok u) once h = made_hosted new.states.entries once.written h
-    hosted_by result (Err e) once h = subst (AreHosted old.conf old.log.batches) (sym once.same) h
+    hosted_by : (result : Result ThenOutcome want) (done : Result (Unit {0}) CoordFault) → Wrote done → old.log.start ≤ end_of old.log.batches → AreHosted old.conf (log_in old.log) (states_of old.states.entries)
+        → AreHosted old.conf (log_in old.log) (states_of new.states.entries)
+    hosted_by result (Ok u) once starts h = made_hosted new.states.entries once.written starts h
+    hosted_by result (Err e) once starts h = subst (AreHosted old.conf (log_in old.log)) (sym once.same) h
 
-    hosted_told : (result : Result ThenOutcome want) (o : Option KeptState) → Told o result → AreHosted old.conf old.log.batches (states_of old.states.entries)
-        → AreHosted old.conf old.log.batches (states_of new.states.entries)
-    hosted_told result None told h = hosted_by result told.done told.once h
-    hosted_told result (Some kept) told h = subst (λ (s : StoreParts D). AreHosted old.conf old.log.batches (states_of s.entries)) (sym told.0) h
+    hosted_told : (result : Result ThenOutcome want) (o : Option KeptState) → Told o result → old.log.start ≤ end_of old.log.batches → AreHosted old.conf (log_in old.log) (states_of old.states.entries)
+        → AreHosted old.conf (log_in old.log) (states_of new.states.entries)
+    hosted_told result None told starts h = hosted_by result told.done told.once starts h
+    hosted_told result (Some kept) told starts h = subst (λ (s : StoreParts D). AreHosted old.conf (log_in old.log) (states_of s.entries)) (sym told.0) h
 
     -- the states are ones that the partition may have
-    pub hosted_after : (result : Result ThenOutcome want) (end : ℕ) → end ≡ end_of old.log.batches → Made end result
-        → AreHosted old.conf old.log.batches (states_of old.states.entries) → AreHosted old.conf old.log.batches (states_of new.states.entries)
-    hosted_after result end at made h = hosted_told result (kept_at old.states.entries key) (told result end at made (kept_at old.states.entries key) refl) h
+    pub hosted_after : (result : Result ThenOutcome want) (end : Log) → end ≡ log_in old.log → Made end result
+        → old.log.start ≤ end_of old.log.batches → AreHosted old.conf (log_in old.log) (states_of old.states.entries)
+        → AreHosted old.conf (log_in old.log) (states_of new.states.entries)
+    hosted_after result end at made starts h =
+        hosted_told result (kept_at old.states.entries key) (told result end at made (kept_at old.states.entries key) refl) starts h
 
     -- it found no memory
     stays_done : (done : Result (Unit {0}) CoordFault) (result : Result ThenOutcome want) → IsErr result → Tells done result → Wrote done → new.states ≡ old.states
@@ -505,7 +524,7 @@ module _ {D W : Type 0} (seen : D → DiskView) (holding : W → Held) (now : �
     stays_told result is None told = stays_done told.done result is told.tells told.once
     stays_told result is (Some kept) told = absurd (let e = told.1 in let clash : ⊥ = cc in clash)
 
-    pub unanswered : (answer : Result VisitAnswer want) → IsErr answer → (result : Result ThenOutcome want) → IsErr result → (end : ℕ) → end ≡ end_of old.log.batches → Made end result
+    pub unanswered : (answer : Result VisitAnswer want) → IsErr answer → (result : Result ThenOutcome want) → IsErr result → (end : Log) → end ≡ log_in old.log → Made end result
         → ((group : List ℕ) → held_in holding new.windows group ≡ held_in holding old.windows group) → new.clock ≡ old.clock → Once answer
     unanswered answer none result is end at made held clock =
         starved_so limits is_fetch answer none (stays_told result is (kept_at old.states.entries key) (told result end at made (kept_at old.states.entries key) refl)) held clock
@@ -535,14 +554,14 @@ module _ {D W : Type 0} (seen : D → DiskView) (holding : W → Held) (now : �
 
     pub refused : (answer : VisitAnswer) (outcome : ThenOutcome) → outcome ≢ Done → answer.ack ≡ acknowledged → IsEmptyAnswer outcome answer
         → ((group : List ℕ) → held_in holding new.windows group ≡ held_in holding old.windows group) → new.clock ≡ max old.clock now
-        → (result : Result ThenOutcome want) → result ≡ Ok outcome → (end : ℕ) → end ≡ end_of old.log.batches → Made end result → Once (Ok answer)
+        → (result : Result ThenOutcome want) → result ≡ Ok outcome → (end : Log) → end ≡ log_in old.log → Made end result → Once (Ok answer)
     refused answer outcome not ack empty held clock result is end at made =
         refused_by answer outcome not ack empty held clock
         (subst (Told (kept_at old.states.entries key)) is (told result end at made (kept_at old.states.entries key) refl)) (kept_by result outcome is end at made)
 
     -- it is there, or was made
     abbrev its_state : ShareState
-    its_state = state_for old.conf old.log.batches old.states.entries visit.group
+    its_state = state_for old.conf (log_in old.log) old.states.entries visit.group
 
     state_is : (o : Option KeptState) → kept_at old.states.entries key ≡ o → its_state ≡ unwrap_or (option_map view_of o) made
     state_is o is = ap (λ (s : Option ShareState). unwrap_or s made) (state_seen old.states.entries key ∙ ap (option_map view_of) is)
@@ -562,7 +581,7 @@ module _ {D W : Type 0} (seen : D → DiskView) (holding : W → Held) (now : �
     done_told answer None is told by took = done_so told.done answer told.tells told.once is by (subst (Took answer) (state_is None is) took)
     done_told answer (Some kept) is told by took = acquired_there answer kept is told.0 by (subst (Took answer) (state_is (Some kept) is) took)
 
-    pub fetched : (answer : VisitAnswer) → Took answer its_state → (result : Result ThenOutcome want) → result ≡ Ok Done → (end : ℕ) → end ≡ end_of old.log.batches → Made end result → Once (Ok answer)
+    pub fetched : (answer : VisitAnswer) → Took answer its_state → (result : Result ThenOutcome want) → result ≡ Ok Done → (end : Log) → end ≡ log_in old.log → Made end result → Once (Ok answer)
     fetched answer took result is end at made =
         done_told answer (kept_at old.states.entries key) refl (subst (Told (kept_at old.states.entries key)) is (told result end at made (kept_at old.states.entries key) refl))
         (kept_by result Done is end at made) took
@@ -624,7 +643,7 @@ module _ {D W : Type 0} (seen : D → DiskView) (holding : W → Held) (now : �
     moved_told result None is told = moved_by told.done told.once is
     moved_told result (Some kept) is told = inl (ap (λ (s : StoreParts D). states_of s.entries) told.0)
 
-    moved : (result : Result ThenOutcome want) (end : ℕ) → end ≡ end_of old.log.batches → Made end result → Moved
+    moved : (result : Result ThenOutcome want) (end : Log) → end ≡ log_in old.log → Made end result → Moved
     moved result end at made = moved_told result (kept_at old.states.entries key) refl (told result end at made (kept_at old.states.entries key) refl)
 
     wells_by : Moved → Wells (states_of old.states.entries) (held_in holding old.windows) → Wells (states_of new.states.entries) (held_in holding old.windows)
@@ -635,7 +654,7 @@ module _ {D W : Type 0} (seen : D → DiskView) (holding : W → Held) (now : �
         (table_kept old.conf old.log.batches (states_of old.states.entries) (held_in holding old.windows) visit.group made w
         (subst (KeepsHolds old.log.batches (Some made)) (sym none) (none_kept old.log.batches (Some made))))
 
-    pub wells_after : (result : Result ThenOutcome want) (end : ℕ) → end ≡ end_of old.log.batches → Made end result
+    pub wells_after : (result : Result ThenOutcome want) (end : Log) → end ≡ log_in old.log → Made end result
         → ((group : List ℕ) → held_in holding new.windows group ≡ held_in holding old.windows group)
         → Wells (states_of old.states.entries) (held_in holding old.windows) → Wells (states_of new.states.entries) (held_in holding new.windows)
     wells_after result end at made same w =
@@ -658,12 +677,12 @@ module _ {D W : Type 0} (seen : D → DiskView) (holding : W → Held) (now : �
         ∙ state_seen old.states.entries key ∙ ap (option_map view_of) is ∙ ap (λ (s : ShareState). Some s) (sym (state_is (Some kept) is))
 
     pub wells_took : ((group : List ℕ) → held_in holding new.windows group ≡ held_then its_state group) → (result : Result ThenOutcome want) → result ≡ Ok Done
-        → (end : ℕ) → end ≡ end_of old.log.batches → Made end result → AreHosted old.conf old.log.batches (states_of old.states.entries)
+        → (end : Log) → end ≡ log_in old.log → Made end result → old.log.start ≤ end_of old.log.batches → AreHosted old.conf (log_in old.log) (states_of old.states.entries)
         → Wells (states_of old.states.entries) (held_in holding old.windows) → Wells (states_of new.states.entries) (held_in holding new.windows)
-    wells_took held result is end at made hosted w =
+    wells_took held result is end at made starts hosted w =
         let there = there_told (kept_at old.states.entries key) refl (subst (Told (kept_at old.states.entries key)) is (told result end at made (kept_at old.states.entries key) refl)) in
         let first = wells_by (moved result end at made) w in
-        let out = goes_out old.conf old.log.batches (states_of new.states.entries) key its_state (hosted_after result end at made hosted) there in
+        let out = goes_out old.conf (log_in old.log) (states_of new.states.entries) key its_state (hosted_after result end at made starts hosted) there in
         let its : KeepsHolds old.log.batches (Some its_state) table_held = subst (λ (o : Option ShareState). KeepsHolds old.log.batches o table_held) there (first visit.group) in
         let more = kept_taken old.log.batches its_state table_held visit.member (new.clock + old.conf.lock_ms) limits out its in
         same_kept old.conf old.log.batches (states_of new.states.entries) (held_then its_state) (held_in holding new.windows) held
@@ -709,9 +728,9 @@ unread_so {D} {W} seen holding now visit old new conf log states asked answer ac
         × StepsThen old.conf (reading_of seen old.log new.log true) (FailuresRose seen old.states new.states) old.states.journal.end s now visit
         answer t
 
-    shard_same : Option Batch → Option Entries → PartShardState
+    shard_same : Option LogWrite → Option Entries → PartShardState
     shard_same batch pending = record {
-      log = record { batches = old.log.batches; pending = batch };
+      log = record { batches = old.log.batches; start = old.log.start; pending = batch };
       states = states_of old.states.entries;
       pending = option_map states_of pending;
       held = held_in holding old.windows;

@@ -29,7 +29,7 @@ use Rattle.share_part.specs.Storing.{start_number}
 use Rattle.share_part.specs.Tables.{table_of}
 use Rattle.share_part.proofs.Producing.{front_or, none_in}
 use Rattle.share_part.proofs.Seeing.{state_seen, view_of}
-use Rattle.share_part.proofs.Slotting.{next_meets, slot_below}
+use Rattle.share_part.proofs.Slotting.{next_meets, slot_below, starting}
 use Rattle.share_part.proofs.Staying.{all_writable, few_within, from_start, of_act, settled_count, start_later}
 
 -- ---- runs that are written
@@ -78,8 +78,8 @@ unless : (t : Bool) (a : Option Row) (row : Row) → (if t then None else a) ≡
 unless true a row e = absurd (let clash : ⊥ = cc in clash)
 unless false a row e = e
 
-module _ (conf : PartConfParts) (log : List Batch) (es : Entries) (group : List ℕ) (state : ShareState) (held : Held) (acts : Acts) (change : Change)
-    (sound : IsStoredLog log) (few : conf.limit ≤ 10) (was : IsHosted conf log (key_of conf group) state) (well : AreHeldWell log (size_of state.start) held)
+module _ {from : ℕ} (conf : PartConfParts) (log : List Batch) (es : Entries) (group : List ℕ) (state : ShareState) (held : Held) (acts : Acts) (change : Change)
+    (sound : IsStoredLog log) (few : conf.limit ≤ 10) (was : IsHosted conf (starting log from) (key_of conf group) state) (well : AreHeldWell log (size_of state.start) held)
     (known : share_state_at (states_of es) (key_of conf group) ≡ Some state) (ch : IsChange conf.limit acts log (table_of state held) change) where
   abbrev key : KeyParts
   key = key_of conf group

@@ -1,7 +1,8 @@
 -- What follows the acknowledgements of a visit, by what it asks for: nothing, a release of all that the member holds, or a fetch; and what
 -- that is answered and leaves of a shard (KIP-932; the pending writes and code 56 are this project's own).
--- A group's table is made at its first fetch, with the log's end as its start or 0, and is stored before anything is acquired. A lock
--- ends at the shard's clock plus the lock duration. A release is stored by one write, and there is none where the member holds nothing.
+-- A group's table is made at its first fetch, with the log's end or the log's start as its start, and is stored before
+-- anything is acquired. A lock ends at the shard's clock plus the lock duration. A release is stored by one write, and
+-- there is none where the member holds nothing.
 -- The batches of a fetch are read from the log's disk, before a table is made. Where one can't be read, nothing is
 -- acquired, and nothing written.
 -- Worked example: a log has one batch of three records from 0 to 2, `g` has no table, a new group begins at 0, locks last 30000. A fetch
@@ -12,7 +13,7 @@
 use Rattle.std.specs.Prelude.{◌≡◌, ◌≤◌, ◌+◌, max, ℕ, List, [], length, Option, Some, None, IsSome, Bool, true, false}
 use Rattle.share_model.specs.ForeignRules.{ShareStates, share_state_at}
 use Rattle.share_model.specs.Held.{Held}
-use Rattle.share_model.specs.Logs.{end_of}
+use Rattle.part_log.specs.Shards.{log_at}
 use Rattle.share_model.specs.ShareStates.{ShareState}
 use Rattle.share_model.specs.declared.fault.StoreFault.{StoreFault}
 use Rattle.share_model.specs.declared.fault.StoreFault.TheVariants.{Device, Full}
@@ -75,7 +76,7 @@ pub record FetchesThere (conf : PartConfParts) (told : Bool) (old : PartShardSta
 -- the first fetch of a group: its table is stored, and then records are acquired
 pub record FetchesFirst (conf : PartConfParts) (told : Bool) (old : PartShardState) (visit : Visit) (limits : Limits)
     (answer : VisitAnswer) (new : PartShardState) : Type 0 where
-  pub acquires : Acquires conf told old (new_state conf (end_of old.log.batches)) visit limits answer new
+  pub acquires : Acquires conf told old (new_state conf (log_at old.log)) visit limits answer new
   pub states : new.states ≡ with_new conf old visit.group
   pub nothing : new.pending ≡ None
 

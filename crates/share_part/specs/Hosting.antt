@@ -1,5 +1,7 @@
 -- Which share-partition states a hosted partition may have on its disks, and what its three disks stand for. This project's own.
--- Worked example: with an empty log, a state of `g` on this partition with start 0 and no rows may be there, and one with start 1 may not.
+-- Worked example: with an empty log, a state of `g` on this partition with start 0 and no rows may be there, and one
+-- with start 1 may not. With a log of one batch from 0 to 2 that starts at 2, one with start 2 may, and one with start 1
+-- may not.
 use Rattle.std.specs.Prelude.{◌≡◌, ◌≤◌, ◌^◌, ℕ, pos, List, [], Option, Some, None}
 use Rattle.std.specs.List.{Contains}
 use Rattle.share_model.specs.ForeignRules.{ShareStates, share_state_at, size_of}
@@ -13,6 +15,7 @@ use Rattle.share_model.specs.declared.reset.Reset.{Reset}
 use Rattle.share_model.specs.declared.row.Row.{Row}
 use Rattle.share_model.specs.declared.row.RowState.TheVariants.{Available}
 use Rattle.part_log.specs.Logs.{IsLogText, IsStoredLog}
+use Rattle.part_log.specs.Starts.{Log}
 use Rattle.share_coord.specs.States.{AreStates, states_of}
 use Rattle.share_coord.specs.Stored.{Entries}
 use Rattle.share_part.specs.Slots.{slots_from}
@@ -36,15 +39,17 @@ pub record IsHostedRow (log : List Batch) (start offset : ℕ) (row : Row) : Typ
   pub delivered : (1 ≤ row.count) × (row.count ≤ 10)
   pub again : row.state ≡ Available → row.count ≤ 9
 
--- a state of the partition
-pub record IsHosted (conf : PartConfParts) (log : List Batch) (key : KeyParts) (state : ShareState) : Type 0 where
+-- a state of the partition: it starts where the log does or behind, and at the log's end at most
+pub record IsHosted (conf : PartConfParts) (log : Log) (key : KeyParts) (state : ShareState) : Type 0 where
   pub key_is : key ≡ key_of conf key.group
   pub epochs : (state.state_epoch ≡ pos 0) × (state.leader_epoch ≡ pos 0)
-  pub start : (start : ℕ) × (state.start ≡ pos start) × (start ≤ end_of log)
-  pub rows : (offset : ℕ) (row : Row) → row_at state.runs offset ≡ Some row → IsHostedRow log (size_of state.start) offset row
+  pub start : (start : ℕ) × (state.start ≡ pos start) × (log.start ≤ start) × (start ≤ end_of log.batches)
+  pub rows : (offset : ℕ) (row : Row) → row_at state.runs offset ≡ Some row →
+      IsHostedRow log.batches (size_of state.start) offset row
 
-abbrev pub AreHosted : PartConfParts → List Batch → ShareStates → Type 0
-AreHosted conf log states = (key : KeyParts) (state : ShareState) → share_state_at states key ≡ Some state → IsHosted conf log key state
+abbrev pub AreHosted : PartConfParts → Log → ShareStates → Type 0
+AreHosted conf log states = (key : KeyParts) (state : ShareState) → share_state_at states key ≡ Some state →
+    IsHosted conf log key state
 
 -- A record that is held: its offset is one of the first 2000 slots from the start, and this is its first to tenth delivery.
 pub record IsHeldWell (log : List Batch) (start offset : ℕ) (hold : Hold) : Type 0 where
@@ -69,16 +74,19 @@ abbrev pub KeepsHolds : List Batch → Option ShareState → Held → Type 0
 KeepsHolds log state held = HoldsWell log state held × AreFree state held
 
 -- the contents of the three disks stand for this log and these states
-pub record ArePartText (conf : PartConfParts) (log first second : List ℕ) (batches : List Batch) (states : ShareStates) : Type 0 where
-  pub log_is : IsLogText log batches
+pub record ArePartText (conf : PartConfParts) (log first second : List ℕ) (is : Log) (states : ShareStates) : Type 0 where
+  pub log_is : IsLogText log is
   pub states_are : AreStates first second states
-  pub hosted : AreHosted conf batches states
+  pub hosted : AreHosted conf is states
 
--- what the parts of a shard in memory keep: the log is sound, the states are ones that the partition may have, each group holds what
--- it may hold, and there is memory for two runs for each of the 2000 records that a group may hold
-pub record IsKeptShard (conf : PartConfParts) (log : List Batch) (entries : Entries) (held : List ℕ → Held) (clock room : ℕ) : Type 0 where
-  pub log_is : IsStoredLog log
+-- what the parts of a shard in memory keep: the log is sound, the states are ones that the partition may have, each
+-- group holds what it may hold, and there is memory for two runs for each of the 2000 records that a group may hold
+pub record IsKeptShard (conf : PartConfParts) (log : Log) (entries : Entries) (held : List ℕ → Held) (clock room : ℕ)
+    : Type 0 where
+  pub log_is : IsStoredLog log.batches
+  pub within : log.start ≤ end_of log.batches
   pub hosted : AreHosted conf log (states_of entries)
-  pub holds : (group : List ℕ) → KeepsHolds log (share_state_at (states_of entries) (key_of conf group)) (held group)
+  pub holds : (group : List ℕ) →
+      KeepsHolds log.batches (share_state_at (states_of entries) (key_of conf group)) (held group)
   pub moment : clock ≤ 2 ^ 62
   pub scratch : 4000 ≤ room

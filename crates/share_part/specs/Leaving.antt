@@ -3,8 +3,9 @@
 -- states with or without the table.
 use Rattle.std.specs.Prelude.{◌≡◌, ◌⊎◌, List, ℕ, Option, Some}
 use Rattle.share_model.specs.ForeignRules.{ShareStates}
-use Rattle.share_model.specs.Logs.{Batch}
 use Rattle.part_log.specs.Logs.{and_pending}
+use Rattle.part_log.specs.Shards.{log_at}
+use Rattle.part_log.specs.Starts.{Log}
 use Rattle.share_part.specs.Hosting.{PartConfParts, ArePartText}
 use Rattle.share_part.specs.Shards.{PartShardState}
 
@@ -14,8 +15,8 @@ IsDoneOr done pending found = (found ≡ done) ⊎ (pending ≡ Some found)
 
 -- contents of the three disks that a crash may leave of a shard
 pub record IsLeftOf (conf : PartConfParts) (shard : PartShardState) (log first second : List ℕ) : Type 0 where
-  pub batches : List Batch
+  pub is : Log
   pub states : ShareStates
-  pub log_is : IsDoneOr shard.log.batches (and_pending shard.log.batches shard.log.pending) batches
+  pub log_is : IsDoneOr (log_at shard.log) (and_pending (log_at shard.log) shard.log.pending) is
   pub states_are : IsDoneOr shard.states shard.pending states
-  pub text : ArePartText conf log first second batches states
+  pub text : ArePartText conf log first second is states

@@ -3,7 +3,8 @@
 use Rattle.std.specs.Prelude.{◌≡◌, ◌++◌, ℕ, zero, suc, List, [], ◌∷◌, None, Result, Ok, Err, IsErr, IsSome, pos, unwrap_or}
 use Rattle.flex_fields.specs.declared.fault.NoMemory.{NoMemory as want}
 use Rattle.share_model.specs.ForeignRules.{share_state_at}
-use Rattle.share_model.specs.Logs.{Batch, end_of}
+use Rattle.share_model.specs.Logs.{Batch}
+use Rattle.part_log.specs.Starts.{Log}
 use Rattle.share_model.specs.Keys.{KeyParts}
 use Rattle.share_model.specs.ShareStates.{ShareState}
 use Rattle.share_model.specs.declared.visit.ThenOutcome.{ThenOutcome}
@@ -22,8 +23,8 @@ use Rattle.edge_io.specs.Views.{DiskView}
 use Rattle.state_records.specs.declared.record.StateRecord.{StateRecord}
 
 -- the state of a group's table, or of the one that it would get
-abbrev pub state_for : PartConfParts → List Batch → Entries → List ℕ → ShareState
-state_for conf log entries group = unwrap_or (share_state_at (states_of entries) (key_of conf group)) (new_state conf (end_of log))
+abbrev pub state_for : PartConfParts → Log → Entries → List ℕ → ShareState
+state_for conf log entries group = unwrap_or (share_state_at (states_of entries) (key_of conf group)) (new_state conf log)
 
 -- what became of a new table, by what the store has answered
 abbrev pub Tells : {T : Type 0} → Result T CoordFault → Result ThenOutcome want → Type 0
@@ -49,13 +50,14 @@ pub record MakesOnce {D : Type 0} (seen : D → DiskView) (Failed : D → D → 
   pub once : WritesOnce seen Failed Written old new done
   pub one : StoresOne seen Is old.journal new.journal done
 
--- The table of a group is there, or is made where the log ends at `end`.
+-- The table of a group is there, or is made.
 pub record MakesTableOnce {D : Type 0} (seen : D → DiskView) (Failed : D → D → Type 0)
-    (conf : PartConfParts) (group : List ℕ) (end : ℕ) (old new : StoreParts D) (result : Result ThenOutcome want) : Type 0 where
+    (conf : PartConfParts) (group : List ℕ) (log : Log) (old new : StoreParts D) (result : Result ThenOutcome want)
+    : Type 0 where
   pub there : IsSome (kept_at old.entries (key_of conf group)) → (new ≡ old) × (result ≡ Ok Done)
   pub absent : kept_at old.entries (key_of conf group) ≡ None →
-      MakesOnce seen Failed (IsInitialised old.entries (key_of conf group) (pos 0) (pos (first_start conf.reset end)))
-      (IsTableRecord old.entries (key_of conf group) (first_start conf.reset end)) old new result
+      MakesOnce seen Failed (IsInitialised old.entries (key_of conf group) (pos 0) (pos (first_start conf.reset log)))
+      (IsTableRecord old.entries (key_of conf group) (first_start conf.reset log)) old new result
 
 -- the bytes of the batch with this number
 abbrev pub bytes_at : List Batch → ℕ → List ℕ

@@ -18,8 +18,9 @@ use Rattle.share_model.specs.declared.visit.ExpireAnswer.TheVariants.{Done, Stor
 use Rattle.share_model.specs.declared.visit.ThenOutcome.TheVariants.{Store}
 use Rattle.share_model.specs.declared.visit.Visit.{Visit}
 use Rattle.share_model.specs.declared.visit.VisitAnswer.{VisitAnswer}
-use Rattle.part_log.specs.Logs.{LogParts, OnlyReads}
+use Rattle.part_log.specs.Logs.{LogParts, OnlyReads, log_in}
 use Rattle.part_log.specs.Shards.{IsLogOf, at_end}
+use Rattle.part_log.specs.Starts.LogWrite.{Adds}
 use Rattle.share_coord.specs.States.{states_of}
 use Rattle.share_part.specs.Acknowledging.{NameNone}
 use Rattle.share_part.specs.Expiring.{ExpiresPart, StepsExpire, ending, groups_of}
@@ -66,7 +67,7 @@ pub record FollowsOnce {D W : Type 0} (seen : D → DiskView) (holding : W → H
   pub memory : OnErr result (IsUntouched seen holding before after)
   pub follows : OnErr result (TakesMemory visit.member (held_in holding before.windows visit.group) visit.then)
   -- which record is stored
-  pub records : IfOk result (λ answer. WritesUnless unread seen before.conf before.log.batches visit
+  pub records : IfOk result (λ answer. WritesUnless unread seen before.conf (log_in before.log) visit
       (held_in holding before.windows visit.group) before.states after.states answer.then visit.then)
   -- where the answer tells no store fault, or the fault of a reading, no device call of the states failed but those of a checkpoint
   pub quiet : IfOk result (λ answer. (unread ≡ false → (fault : StoreFault) → answer.then ≢ Store fault) →
@@ -106,7 +107,7 @@ pub record VisitsOnce {D W : Type 0} (seen : D → DiskView) (holding : W → He
       ⊎ ((old : PartShardState) → Carries seen holding before old → AcksStand seen holding now visit before after old))
   -- which records are stored; where the answer tells no store fault of a write, no device call of it failed but those of a checkpoint
   pub records : MatchResult result
-      (WritesVisit unread seen before.conf before.log.batches visit (held_in holding before.windows visit.group)
+      (WritesVisit unread seen before.conf (log_in before.log) visit (held_in holding before.windows visit.group)
       before.states after.states)
       (λ e. WritesPart seen before.conf before.log.batches visit (held_in holding before.windows visit.group)
       before.states after.states)
@@ -176,7 +177,8 @@ pub record ProducesOnce {D W : Type 0} (seen : D → DiskView) (holding : W → 
   pub sound : result ≡ Err (log_store Device) → StarvesUnarmed seen before.log.journal.disk after.log.journal.disk
   -- at each moment since it began a crash leaves the log at entry, with or without its pending batch, or with this one
   pub any_moment : (old : PartShardState) → Carries seen holding before old → LeavesOnly seen before.log.journal.disk after.log.journal.disk
-      (λ c. IsLogOf old.log c ⊎ IsLogOf (record { batches = old.log.batches; pending = Some (at_end old.log.batches bytes) }) c)
+      (λ c. IsLogOf old.log c
+      ⊎ IsLogOf (record { batches = old.log.batches; start = old.log.start; pending = Some (Adds (at_end old.log.batches bytes)) }) c)
   -- its journal never ends before where it did
   pub ends : (old : PartShardState) → Carries seen holding before old → before.log.journal.end ≤ after.log.journal.end
   -- the states and their disks stay

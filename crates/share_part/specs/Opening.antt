@@ -6,8 +6,8 @@ use Rattle.edge_io.specs.declared.name.DiskPlace.TheVariants.{Log, StateA, State
 use Rattle.coord_checkpoint.specs.Disks.{HasFailed}
 use Rattle.share_model.specs.ForeignRules.{ShareStates}
 use Rattle.share_model.specs.Held.{Held}
-use Rattle.share_model.specs.Logs.{Batch}
-use Rattle.part_log.specs.Logs.{IsLogText, IsNoLogText}
+use Rattle.part_log.specs.Logs.{IsLogText, IsNoLogText, log_in}
+use Rattle.part_log.specs.Starts.{Log as PartitionLog}
 use Rattle.share_coord.specs.Stored.{AreDamaged}
 use Rattle.share_part.specs.Hosting.{PartConfParts, AreHosted, ArePartText}
 use Rattle.share_coord.specs.States.{AreStates, states_of}
@@ -21,23 +21,24 @@ pub record IsOpened {D W : Type 0} (seen : D → DiskView) (holding : W → Held
     (log a b : D) (parts : PartParts D W) : Type 0 where
   pub conf_is : parts.conf ≡ conf
   -- it stands for the log and the states that it has: nothing is held or pending, and the clock is 0
-  pub carries : Carries seen holding parts (shard_with parts.log.batches (states_of parts.states.entries))
+  pub carries : Carries seen holding parts (shard_with (log_in parts.log) (states_of parts.states.entries))
   -- the contents stood for these, and for no others
   pub opens : (l x y : List ℕ) → (seen log).content ≡ Some l → (seen a).content ≡ Some x → (seen b).content ≡ Some y →
-      ArePartText conf l x y parts.log.batches (states_of parts.states.entries)
-  pub only : (l x y : List ℕ) (batches : List Batch) (states : ShareStates) → (seen log).content ≡ Some l → (seen a).content ≡ Some x → (seen b).content ≡ Some y →
-      ArePartText conf l x y batches states → (batches ≡ parts.log.batches) × (states ≡ states_of parts.states.entries)
+      ArePartText conf l x y (log_in parts.log) (states_of parts.states.entries)
+  pub only : (l x y : List ℕ) (is : PartitionLog) (states : ShareStates) →
+      (seen log).content ≡ Some l → (seen a).content ≡ Some x → (seen b).content ≡ Some y →
+      ArePartText conf l x y is states → (is ≡ log_in parts.log) × (states ≡ states_of parts.states.entries)
 
 -- The states break the rules on a hosted partition.
 pub record AreMisplaced (conf : PartConfParts) (log first second : List ℕ) : Type 0 where
-  pub batches : List Batch
+  pub is : PartitionLog
   pub states : ShareStates
-  pub is_log : IsLogText log batches
+  pub is_log : IsLogText log is
   pub are_states : AreStates first second states
-  pub broken : AreHosted conf batches states → ⊥
+  pub broken : AreHosted conf is states → ⊥
 
 abbrev pub StandsForLog : List ℕ → Type 0
-StandsForLog log = (batches : List Batch) × IsLogText log batches
+StandsForLog log = (is : PartitionLog) × IsLogText log is
 
 -- Contents are damaged on that disk, at that place; rules that are broken are told of the first state disk and place 0. Where a state disk is
 -- told, the log is sound.
@@ -53,8 +54,9 @@ pub record IsNotOpened {D : Type 0} (seen : D → DiskView)
   -- contents are damaged at that place, and stand for no log and states
   pub damaged : (disk : DiskPlace) (place : ℕ) → fault ≡ Damaged disk place →
       (l x y : List ℕ) → (seen log).content ≡ Some l → (seen a).content ≡ Some x → (seen b).content ≡ Some y → AreDamagedAt conf l x y disk place
-  pub sound : (l x y : List ℕ) (batches : List Batch) (states : ShareStates) → (seen log).content ≡ Some l → (seen a).content ≡ Some x → (seen b).content ≡ Some y →
-      ArePartText conf l x y batches states → (disk : DiskPlace) (place : ℕ) → fault ≢ Damaged disk place
+  pub sound : (l x y : List ℕ) (is : PartitionLog) (states : ShareStates) →
+      (seen log).content ≡ Some l → (seen a).content ≡ Some x → (seen b).content ≡ Some y →
+      ArePartText conf l x y is states → (disk : DiskPlace) (place : ℕ) → fault ≢ Damaged disk place
   -- a disk failed
   pub log_device : fault ≡ Device Log → HasFailed seen log log_now
   pub first_device : fault ≡ Device StateA → HasFailed seen a a_now

@@ -3,7 +3,7 @@
 -- the shard was handed.
 -- Worked example: a log has one batch from 0 to 2, `g` has no table, and a new group begins at 0. Then the new table of `g` has start 0 and no
 -- rows. A batch that is produced at 5000 raises the clock from 0 to 5000, and one at 1000 leaves it there.
-use Rattle.std.specs.Prelude.{◌≡◌, max, ℕ, pos, List, [], Option, Some, None, Result, if◌then◌else◌}
+use Rattle.std.specs.Prelude.{◌≡◌, ◌≢◌, max, ℕ, pos, List, [], Option, Some, None, Result, if◌then◌else◌}
 use Rattle.std.specs.Option.{option_map}
 use Rattle.std.specs.BTreeMap.{insert_entry, is_at}
 use Rattle.std.specs.Cmp.Lexicographic.{slice_cmp}
@@ -12,13 +12,15 @@ use Rattle.std.specs.Ordering.{nat_cmp}
 use Rattle.share_model.specs.ForeignRules.{ShareStates}
 use Rattle.share_model.specs.Held.{Held}
 use Rattle.share_model.specs.Keys.{key_cmp}
-use Rattle.share_model.specs.Logs.{Batch, end_of}
+use Rattle.share_model.specs.Logs.{end_of}
 use Rattle.share_model.specs.ShareStates.{ShareState}
 use Rattle.share_model.specs.declared.fault.LogFault.{LogFault}
 use Rattle.share_model.specs.declared.reset.Reset.{Reset}
 use Rattle.share_model.specs.declared.reset.Reset.TheVariants.{Latest, Earliest}
 use Rattle.part_log.specs.Logs.{LogParts, OnlyReads}
-use Rattle.part_log.specs.Shards.{LogShardState, CarriesLog, StepsLog}
+use Rattle.part_log.specs.Shards.{LogShardState, CarriesLog, StepsLog, log_at}
+use Rattle.part_log.specs.Starts.{Log}
+use Rattle.part_log.specs.Starts.LogWrite.{Marks}
 use Rattle.share_coord.specs.Holding.{Holds}
 use Rattle.share_coord.specs.Parts.{StoreParts}
 use Rattle.share_coord.specs.Stored.{Entries}
@@ -37,9 +39,9 @@ pub record PartShardState : Type 0 where
   pub clock : ℕ
 
 -- what a shard is that was opened or has lost power: nothing is pending, nothing is held, and the clock is 0
-abbrev pub shard_with : List Batch → ShareStates → PartShardState
-shard_with batches states = record {
-  log = record { batches = batches; pending = None };
+abbrev pub shard_with : Log → ShareStates → PartShardState
+shard_with log states = record {
+  log = record { batches = log.batches; start = log.start; pending = None };
   states = states;
   pending = None;
   held = λ group. [];
@@ -51,17 +53,22 @@ abbrev pub with_held : (List ℕ → Held) → List ℕ → Held → List ℕ �
 with_held held group its other = if is_at (slice_cmp nat_cmp group) other then its else held other
 
 -- the start of a new table
-abbrev pub first_start : Reset → ℕ → ℕ
-first_start Latest end = end
-first_start Earliest end = 0
+abbrev pub first_start : Reset → Log → ℕ
+first_start Latest log = end_of log.batches
+first_start Earliest log = log.start
 
--- the state of a new table, where the log ends at `end`
-abbrev pub new_state : PartConfParts → ℕ → ShareState
-new_state conf end = record { state_epoch = pos 0; leader_epoch = pos 0; start = pos (first_start conf.reset end); runs = [] }
+-- the state of a new table
+abbrev pub new_state : PartConfParts → Log → ShareState
+new_state conf log = record {
+  state_epoch = pos 0;
+  leader_epoch = pos 0;
+  start = pos (first_start conf.reset log);
+  runs = [];
+}
 
 -- the states once a group's new table is stored
 abbrev pub with_new : PartConfParts → PartShardState → List ℕ → ShareStates
-with_new conf shard group = insert_entry key_cmp shard.states (key_of conf group) (new_state conf (end_of shard.log.batches))
+with_new conf shard group = insert_entry key_cmp shard.states (key_of conf group) (new_state conf (log_at shard.log))
 
 -- the states, the pending write and the holds are as they were
 pub record IsStill (old new : PartShardState) : Type 0 where
@@ -102,7 +109,7 @@ held_of held (Some window) = held window
 abbrev pub held_in : {W : Type 0} → (W → Held) → List (List ℕ × W) → List ℕ → Held
 held_in held windows group = held_of held (lookup (is_at (slice_cmp nat_cmp group)) windows)
 
-abbrev pub IsPendingHosted : PartConfParts → List Batch → Option ShareStates → Type 0
+abbrev pub IsPendingHosted : PartConfParts → Log → Option ShareStates → Type 0
 IsPendingHosted conf log None = Unit {0}
 IsPendingHosted conf log (Some states) = AreHosted conf log states
 
@@ -125,5 +132,7 @@ pub record Carries {D W : Type 0} (seen : D → DiskView) (holding : W → Held)
   pub pending_is : shard.pending ≡ option_map states_of pending
   pub held : (group : List ℕ) → shard.held group ≡ held_in holding parts.windows group
   pub clock : shard.clock ≡ parts.clock
-  pub hosted : AreHosted parts.conf shard.log.batches shard.states
-  pub pending_hosted : IsPendingHosted parts.conf shard.log.batches shard.pending
+  pub hosted : AreHosted parts.conf (log_at shard.log) shard.states
+  pub pending_hosted : IsPendingHosted parts.conf (log_at shard.log) shard.pending
+  -- no mark is pending, as no call writes one
+  pub unmarked : (start : ℕ) → shard.log.pending ≢ Some (Marks start)

@@ -14,7 +14,8 @@ use Rattle.flex_fields.specs.declared.fault.NoMemory.{NoMemory}
 use Rattle.share_coord.specs.Parts.{StoreParts}
 use Rattle.share_coord.specs.declared.fault.CoordFault.TheVariants.{Store as store_fault}
 use Rattle.share_model.specs.Held.{Held}
-use Rattle.share_model.specs.Logs.{Batch, end_of}
+use Rattle.share_model.specs.Logs.{Batch}
+use Rattle.part_log.specs.Starts.{Log}
 use Rattle.share_model.specs.declared.fault.StoreFault.{StoreFault}
 use Rattle.share_model.specs.declared.visit.AckOutcome.{AckOutcome}
 use Rattle.share_model.specs.declared.visit.AckOutcome.TheVariants.{Done, Malformed, NotHeld, Store}
@@ -65,26 +66,26 @@ held_behind visit was Done = held_after (kind_at visit.acks) was
 held_behind visit was (Store fault) = was
 
 -- what follows them, by its answer
-abbrev pub WritesThen : {D : Type 0} → (D → DiskView) → PartConfParts → (log : List Batch) → Visit → (was : Held)
+abbrev pub WritesThen : {D : Type 0} → (D → DiskView) → PartConfParts → (log : Log) → Visit → (was : Held)
     → (old new : StoreParts D) → ThenOutcome → Then → Type 0
 WritesThen seen conf log visit was old new outcome Nothing = new ≡ old
 WritesThen seen conf log visit was old new outcome Release =
-    WritesActs seen conf log visit.group (releases_of visit.member was) was old new (fault_of outcome)
+    WritesActs seen conf log.batches visit.group (releases_of visit.member was) was old new (fault_of outcome)
 WritesThen seen conf log visit was old new outcome (Fetch records bytes first) =
-    MakesTableOnce seen (HasFailed seen) conf visit.group (end_of log) old new (Ok outcome)
+    MakesTableOnce seen (HasFailed seen) conf visit.group log old new (Ok outcome)
 
 -- the same by whether a batch of it couldn't be read: then nothing is written
-abbrev pub WritesUnless : {D : Type 0} → (unread : Bool) → (D → DiskView) → PartConfParts → (log : List Batch) → Visit
+abbrev pub WritesUnless : {D : Type 0} → (unread : Bool) → (D → DiskView) → PartConfParts → (log : Log) → Visit
     → (was : Held) → (old new : StoreParts D) → ThenOutcome → Then → Type 0
 WritesUnless true seen conf log visit was old new outcome asked = new ≡ old
 WritesUnless false seen conf log visit was old new outcome asked = WritesThen seen conf log visit was old new outcome asked
 
 -- a visit that is answered
-pub record WritesVisit {D : Type 0} (unread : Bool) (seen : D → DiskView) (conf : PartConfParts) (log : List Batch)
+pub record WritesVisit {D : Type 0} (unread : Bool) (seen : D → DiskView) (conf : PartConfParts) (log : Log)
     (visit : Visit) (was : Held) (old new : StoreParts D) (answer : VisitAnswer) : Type 0 where
   -- the states between the two writes
   pub between : StoreParts D
-  pub acks : WritesAcks seen conf log visit was old between answer.ack
+  pub acks : WritesAcks seen conf log.batches visit was old between answer.ack
   pub follows :
       WritesUnless unread seen conf log visit (held_behind visit was answer.ack) between new answer.then visit.then
   -- where no store fault is told of one of both, no call of the state disks failed in it, but those of a checkpoint

@@ -4,7 +4,7 @@ ghost use Rattle.coord_checkpoint.specs.Disks.{HasFailed};
 ghost use Rattle.topic_conf.specs.Configs.{IsLimit};
 ghost use Rattle.ack_ranges.specs.Batches.{IsWellFormed, kind_at};
 ghost use Rattle.offset_runs.specs.Changes.{room_of};
-ghost use Rattle.part_log.specs.Logs.{IsStoredLog};
+ghost use Rattle.part_log.specs.Logs.{IsStoredLog, log_in};
 ghost use Rattle.share_model.specs.ForeignRules.{share_state_at};
 ghost use Rattle.share_part.specs.Acting.{IsFirstNamed, JudgesGroup};
 ghost use Rattle.share_part.specs.Hosting.{AreHosted, HoldsWell, key_of};
@@ -67,6 +67,7 @@ fn judge_group<D: Disk, W: Window>(
     first: u64,
 ) -> Judged
     requires sound { IsStoredLog log.now.batches }
+    requires hosted { AreHosted conf.now (log_in log.now) (states_of states.now.entries) }
     requires well_formed { IsWellFormed visit.now.acks }
     requires first { IsFirstNamed (kind_at visit.now.acks) first }
     requires well { HoldsWell log.now.batches
@@ -108,6 +109,7 @@ pub fn judge_acks<D: Disk, W: Window>(
     visit: &Visit,
 ) -> Acks
     requires sound { IsStoredLog log.now.batches }
+    requires hosted { AreHosted conf.now (log_in log.now) (states_of states.now.entries) }
     requires well { HoldsWell log.now.batches
         (share_state_at (states_of states.now.entries) (key_of conf.now visit.now.group))
         (held_in W.held windows.now.entries visit.now.group) }
@@ -146,7 +148,7 @@ pub fn settle_acks<D: Disk, W: Window>(
 ) -> Result<AckOutcome, NoMemory>
     requires sound { IsStoredLog log.now.batches }
     requires limit { IsLimit conf.now.limit }
-    requires hosted { AreHosted conf.now log.now.batches (states_of states.old.entries) }
+    requires hosted { AreHosted conf.now (log_in log.now) (states_of states.old.entries) }
     requires well { HoldsWell log.now.batches
         (share_state_at (states_of states.old.entries) (key_of conf.now visit.now.group))
         (held_in W.held windows.old.entries visit.now.group) }

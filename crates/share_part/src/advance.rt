@@ -97,7 +97,8 @@ fn laid_closed_to(rows: &[Run], stored: &[Run], offset: u64) -> Option<u64>
 
 // The next slot of a log. It lies below 2^62.
 fn slot_from<D: Disk>(log: &PartLog<D>, from: u64) -> Option<u64>
-    requires { IsStoredLog log.now.batches }
+    requires sound { IsStoredLog log.now.batches }
+    requires above { log.now.start ≤ from }
     ensures next { IsNextSlot log.now.batches from result }
     ensures below { IfSome result (λ slot. slot < 2 ^ 62) }
 {
@@ -107,6 +108,7 @@ fn slot_from<D: Disk>(log: &PartLog<D>, from: u64) -> Option<u64>
 /// Where a table's start goes once rows are laid over those that are stored. It costs the runs that it passes.
 pub fn advance<D: Disk>(log: &PartLog<D>, start: u64, rows: &[Run], stored: &[Run]) -> u64
     requires sound { IsStoredLog log.now.batches }
+    requires above { log.now.start ≤ start }
     requires rows { IsCanonical rows.now }
     requires stored { IsCanonical stored.now }
     ensures { IsNextStart log.now.batches (laid rows.now stored.now) start result }

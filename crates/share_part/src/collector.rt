@@ -62,6 +62,7 @@ impl Collector {
     // Makes the batch of a slot one of the answer's. False where it can't be.
     fn include<D: Disk>(&mut self, log: &PartLog<D>, slot: u64) -> Result<bool, NoMemory>
         requires sound { IsStoredLog log.now.batches }
+        requires above { log.now.start ≤ slot }
         requires slot { IsSlot log.now.batches slot }
         ensures goes { IfOk result (λ on. (walk : Walk) → Collects log.now.batches self.old walk →
             Goes log.now.batches self.new walk on (with_batch_of walk slot (batch_at log.now.batches slot))) }
@@ -148,6 +149,7 @@ impl Collector {
         most: u32,
     ) -> Result<Option<u32>, NoMemory>
         requires sound { IsStoredLog log.now.batches }
+        requires above { log.now.start ≤ slot }
         requires slot { IsSlot log.now.batches slot }
         requires order { slot ≤ last }
         requires count { count ≤ 10 }

@@ -9,7 +9,7 @@ ghost use Rattle.edge_io.specs.Disk.{IsTold};
 ghost use Rattle.coord_checkpoint.specs.Disks.{HasFailed};
 ghost use Rattle.share_model.specs.ForeignRules.{share_state_at, size_of};
 ghost use Rattle.share_model.specs.declared.fault.BatchRead.{BatchRead};
-ghost use Rattle.part_log.specs.Logs.{IsStoredLog};
+ghost use Rattle.part_log.specs.Logs.{IsStoredLog, log_in};
 ghost use Rattle.share_coord.specs.Calls.{IsInitialised};
 ghost use Rattle.share_coord.specs.Stored.{kept_at};
 ghost use Rattle.ack_ranges.specs.Batches.{kind_at};
@@ -47,15 +47,17 @@ pub fn start_of(view: &StateView) -> u64
     if view.start < 0 { 0 } else { view.start as u64 }
 }
 
-// Where a new group begins, in a log that ends here.
-fn first_start(reset: Reset, end: u64) -> u64
-    requires { end ≤ 2 ^ 62 }
-    ensures start { result ≡ first_start reset end }
+// Where a new group begins in a log.
+fn first_start<D: Disk>(reset: Reset, log: &PartLog<D>) -> u64
+    ensures start { result ≡ first_start reset (log_in log.now) }
+    ensures above { log.now.start ≤ result }
     ensures below { result ≤ 2 ^ 62 }
 {
+    let start = log.start();
+    let end = log.end();
     match reset {
         Reset::Latest => end,
-        Reset::Earliest => 0,
+        Reset::Earliest => start,
     }
 }
 
@@ -72,11 +74,11 @@ pub fn planned<D: Disk, W: Window>(
 ) -> Result<Plan, NoMemory>
     requires there { IsSome (lookup (is_at (slice_cmp nat_cmp group.now)) windows.now.entries) }
     requires sound { IsStoredLog log.now.batches }
-    requires hosted { AreHosted conf.now log.now.batches (states_of states.now.entries) }
+    requires hosted { AreHosted conf.now (log_in log.now) (states_of states.now.entries) }
     requires well { HoldsWell log.now.batches (share_state_at (states_of states.now.entries) (key_of conf.now group.now))
         (held_in W.held windows.now.entries group.now) }
     ensures is { IfOk result (λ plan. IsPlanOf log.now.batches plan (acquired log.now.batches
-        (table_of (state_for conf.now log.now.batches states.now.entries group.now) (held_in W.held windows.now.entries group.now)) limits)) }
+        (table_of (state_for conf.now (log_in log.now) states.now.entries group.now) (held_in W.held windows.now.entries group.now)) limits)) }
     ensures grants { IfOk result (λ plan. vec_len plan.grants ≤ 2001) }
 {
     let Some(window) = windows.get(group) else {
@@ -89,7 +91,7 @@ pub fn planned<D: Disk, W: Window>(
             plan(
                 alloc,
                 log,
-                first_start(conf.reset(), log.end()),
+                first_start(conf.reset(), log),
                 &rows,
                 window,
                 limits,
@@ -125,7 +127,7 @@ pub fn planned_behind<D: Disk, W: Window>(
     requires there { IsSome (lookup (is_at (slice_cmp nat_cmp visit.now.group)) windows.now.entries) }
     requires sound { IsStoredLog log.now.batches }
     requires limit { IsLimit conf.now.limit }
-    requires hosted { AreHosted conf.now log.now.batches (states_of states.now.entries) }
+    requires hosted { AreHosted conf.now (log_in log.now) (states_of states.now.entries) }
     requires well { HoldsWell log.now.batches
         (share_state_at (states_of states.now.entries) (key_of conf.now visit.now.group))
         (held_in W.held windows.now.entries visit.now.group) }
@@ -134,7 +136,7 @@ pub fn planned_behind<D: Disk, W: Window>(
         (share_state_at (states_of states.now.entries) (key_of conf.now visit.now.group))
         (change_of moved.now rows.now.list) }
     ensures is { IfOk result (IsPlanBehind conf.now.limit (kind_at visit.now.acks) log.now.batches
-        (table_of (state_for conf.now log.now.batches states.now.entries visit.now.group)
+        (table_of (state_for conf.now (log_in log.now) states.now.entries visit.now.group)
         (held_in W.held windows.now.entries visit.now.group))
         (change_of moved.now rows.now.list) limits) }
     ensures grants { IfOk result (λ plan. vec_len plan.grants ≤ 2001) }
@@ -173,20 +175,19 @@ fn store_state<D: Disk>(
     }
 }
 
-/// Stores the table of a group that has none, where the log ends at `end`.
+/// Stores the table of a group that has none.
 pub fn make_table<D: Disk>(
     states: &mut Coord<D>,
     conf: &PartConf,
     group: &Name,
-    end: u64,
+    log: &PartLog<D>,
 ) -> Result<ThenOutcome, NoMemory>
-    requires { end ≤ 2 ^ 62 }
     ensures made { MakesTableOnce D.seen (HasFailed D.seen)
-        conf.now group.now end states.old states.new result }
+        conf.now group.now (log_in log.now) states.old states.new result }
     ensures runs { RunOnBoth D.seen states.old states.new }
 {
     let key = conf.key(group);
-    store_state(states, &key, first_start(conf.reset(), end))
+    store_state(states, &key, first_start(conf.reset(), log))
 }
 
 // Why a batch couldn't be read, where there was memory for it.

@@ -2,7 +2,7 @@
 ghost use Rattle.std.specs.Prelude.{◌≡◌, ◌↔◌, ◌≤◌, ◌^◌, ℕ, pos, true};
 ghost use Rattle.share_model.specs.Logs.{IsSlot};
 ghost use Rattle.share_model.specs.Runs.{IsCanonical, row_of};
-ghost use Rattle.part_log.specs.Logs.{IsStoredLog};
+ghost use Rattle.part_log.specs.Logs.{IsStoredLog, log_in};
 ghost use Rattle.share_part.specs.Hosting.{AreHosted, IsHosted, IsHostedRow};
 ghost use Rattle.share_coord.specs.States.{states_of};
 ghost use Rattle.share_part.specs.Judging.{AllIn, IsBefore, MayBeStored, RowsMayStand, slot_behind};
@@ -17,7 +17,8 @@ use share_model::{Key, Row, RowState, Run};
 
 // The slot behind the first slots from a start.
 fn slot_behind<D: Disk>(log: &PartLog<D>, start: u64) -> Option<u64>
-    requires { IsStoredLog log.now.batches }
+    requires sound { IsStoredLog log.now.batches }
+    requires above { log.now.start ≤ start }
     ensures { result ≡ slot_behind 2000 log.now.batches start }
 {
     let mut from = start;
@@ -42,7 +43,8 @@ fn is_before(offset: u64, slot: Option<u64>) -> bool
 
 // Whether all offsets of a run are slots.
 fn are_slots<D: Disk>(log: &PartLog<D>, run: &Run) -> bool
-    requires { IsStoredLog log.now.batches }
+    requires sound { IsStoredLog log.now.batches }
+    requires above { log.now.start ≤ run.now.first }
     ensures { (result ≡ true) ↔ AllIn run.now (IsSlot log.now.batches) }
 {
     let last = run.last;
@@ -73,6 +75,7 @@ fn may_be_stored(row: Row) -> bool
 // Whether the rows of a run may stand in the log.
 fn may_stand<D: Disk>(log: &PartLog<D>, start: u64, behind: Option<u64>, run: &Run) -> bool
     requires sound { IsStoredLog log.now.batches }
+    requires above { log.now.start ≤ start }
     requires behind { behind ≡ slot_behind 2000 log.now.batches start }
     requires order { run.now.first ≤ run.now.last }
     ensures { (result ≡ true) ↔ AllIn run.now (λ offset. IsHostedRow log.now.batches start offset (row_of run.now)) }
@@ -92,6 +95,7 @@ fn may_stand<D: Disk>(log: &PartLog<D>, start: u64, behind: Option<u64>, run: &R
 // Whether the rows of canonical runs may stand in the log.
 fn rows_may_stand<D: Disk>(log: &PartLog<D>, start: u64, runs: &[Run]) -> bool
     requires sound { IsStoredLog log.now.batches }
+    requires above { log.now.start ≤ start }
     requires canonical { IsCanonical runs.now }
     ensures { (result ≡ true) ↔ RowsMayStand log.now.batches start runs.now }
 {
@@ -107,15 +111,15 @@ fn rows_may_stand<D: Disk>(log: &PartLog<D>, start: u64, runs: &[Run]) -> bool
     true
 }
 
-// Whether the start is an offset up to the log's end.
-fn starts_within(view: &StateView, end: u64) -> bool
+// Whether the start is an offset from the log's start on and up to its end.
+fn starts_within(view: &StateView, first: u64, end: u64) -> bool
     requires { end ≤ 2 ^ 62 }
-    ensures { (result ≡ true) ↔ ((offset : ℕ) × (view.now.state.start ≡ pos offset) × (offset ≤ end)) }
+    ensures { (result ≡ true) ↔ ((offset : ℕ) × (view.now.state.start ≡ pos offset) × (first ≤ offset) × (offset ≤ end)) }
 {
     if view.start < 0 {
         return false;
     }
-    start_of(view) <= end
+    (first..=end).contains(&start_of(view))
 }
 
 // Whether both epochs are 0.
@@ -128,7 +132,7 @@ fn has_no_epochs(view: &StateView) -> bool
 // Whether a state is one that the partition may have.
 fn is_hosted<D: Disk>(conf: &PartConf, log: &PartLog<D>, key: &Key, view: &StateView) -> bool
     requires { IsStoredLog log.now.batches }
-    ensures { (result ≡ true) ↔ IsHosted conf.now log.now.batches key.now view.now.state }
+    ensures { (result ≡ true) ↔ IsHosted conf.now (log_in log.now) key.now view.now.state }
 {
     if !conf.has_key(key) {
         return false;
@@ -136,7 +140,7 @@ fn is_hosted<D: Disk>(conf: &PartConf, log: &PartLog<D>, key: &Key, view: &State
     if !has_no_epochs(view) {
         return false;
     }
-    if !starts_within(view, log.end()) {
+    if !starts_within(view, log.start(), log.end()) {
         return false;
     }
     rows_may_stand(log, start_of(view), view.runs.list())
@@ -146,7 +150,7 @@ fn is_hosted<D: Disk>(conf: &PartConf, log: &PartLog<D>, key: &Key, view: &State
 /// slots.
 pub fn are_hosted<D: Disk>(conf: &PartConf, log: &PartLog<D>, states: &Coord<D>) -> bool
     requires sound { IsStoredLog log.now.batches }
-    ensures { (result ≡ true) ↔ AreHosted conf.now log.now.batches (states_of states.now.entries) }
+    ensures { (result ≡ true) ↔ AreHosted conf.now (log_in log.now) (states_of states.now.entries) }
 {
     for (key, view) in states.states() {
         if !is_hosted(conf, log, key, view) {

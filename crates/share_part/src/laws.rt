@@ -13,6 +13,7 @@ ghost use Rattle.share_model.specs.declared.run.Run.{Run};
 ghost use Rattle.share_model.specs.declared.hold.Hold.{Hold};
 ghost use Rattle.share_model.specs.declared.row.Row.{Row};
 ghost use Rattle.share_model.specs.declared.row.RowState.TheVariants.{Available, Archived};
+ghost use Rattle.part_log.specs.Starts.{Log};
 ghost use Rattle.share_coord.specs.Stored.{Entries};
 ghost use Rattle.share_part.specs.Hosting.{AreHeldWell, IsHosted, PartConfParts, key_of};
 ghost use Rattle.share_coord.specs.States.{states_of};
@@ -24,9 +25,10 @@ ghost use Rattle.share_part.specs.Tables.{Table, table_of};
 /// A state that a hosted partition may have stays one once acts on its table are stored, where what is held lies
 /// among the first 2000 slots and is delivered for the tenth time at most.
 pub fn settled_tables_stay_hosted()
-    ensures { (conf : PartConfParts) (log : List Batch) (group : List ℕ) (state next : ShareState) (held : Held) (acts : Acts) →
-        IsLog log → conf.limit ≤ 10 → IsHosted conf log (key_of conf group) state → AreHeldWell log (size_of state.start) held →
-        IsSettled conf.limit acts log (table_of state held) next → IsHosted conf log (key_of conf group) next }
+    ensures { (conf : PartConfParts) (log : Log) (group : List ℕ) (state next : ShareState) (held : Held) (acts : Acts) →
+        IsLog log.batches → conf.limit ≤ 10 → IsHosted conf log (key_of conf group) state →
+        AreHeldWell log.batches (size_of state.start) held →
+        IsSettled conf.limit acts log.batches (table_of state held) next → IsHosted conf log (key_of conf group) next }
 {}
 
 /// Canonical runs whose rows stand at the first 2000 slots from a start are at most 2000.
@@ -44,11 +46,12 @@ pub fn acts_in_order_are_acts_at_once()
 
 /// A write of what acts change leaves the state of their table after them.
 pub fn stored_changes_settle_a_table()
-    ensures { (conf : PartConfParts) (log : List Batch) (old new : Entries) (group : List ℕ) (state : ShareState) (held : Held) (acts : Acts)
-        (change : Change) →
+    ensures { (conf : PartConfParts) (log : Log) (old new : Entries) (group : List ℕ) (state : ShareState) (held : Held)
+        (acts : Acts) (change : Change) →
         IsHosted conf log (key_of conf group) state → share_state_at (states_of old) (key_of conf group) ≡ Some state →
-        IsChange conf.limit acts log (table_of state held) change → IsStored old (key_of conf group) change.start change.runs new →
-        (next : ShareState) × IsSettled conf.limit acts log (table_of state held) next
+        IsChange conf.limit acts log.batches (table_of state held) change →
+        IsStored old (key_of conf group) change.start change.runs new →
+        (next : ShareState) × IsSettled conf.limit acts log.batches (table_of state held) next
         × (states_of new ≡ insert_entry key_cmp (states_of old) (key_of conf group) next) }
 {}
 

@@ -5,7 +5,7 @@ ghost use Rattle.std.specs.Cmp.Lexicographic.{slice_cmp};
 ghost use Rattle.std.specs.List.{AllByRecursion};
 ghost use Rattle.std.specs.Map.{lookup};
 ghost use Rattle.std.specs.Ordering.{nat_cmp};
-ghost use Rattle.part_log.specs.Logs.{IsStoredLog};
+ghost use Rattle.part_log.specs.Logs.{IsStoredLog, log_in};
 ghost use Rattle.share_coord.specs.States.{states_of};
 ghost use Rattle.share_model.specs.ForeignRules.{share_state_at};
 ghost use Rattle.share_part.specs.Collecting.{IsPlanOf};
@@ -49,7 +49,7 @@ fn planned_moves<D: Disk, W: Window>(
     requires there { IsSome (lookup (is_at (slice_cmp nat_cmp visit.now.group)) windows.now.entries) }
     requires sound { IsStoredLog log.now.batches }
     requires limit { IsLimit conf.now.limit }
-    requires hosted { AreHosted conf.now log.now.batches (states_of states.now.entries) }
+    requires hosted { AreHosted conf.now (log_in log.now) (states_of states.now.entries) }
     requires well { HoldsWell log.now.batches
         (share_state_at (states_of states.now.entries) (key_of conf.now visit.now.group))
         (held_in W.held windows.now.entries visit.now.group) }
@@ -57,7 +57,7 @@ fn planned_moves<D: Disk, W: Window>(
         (held_in W.held windows.now.entries visit.now.group)
         (share_state_at (states_of states.now.entries) (key_of conf.now visit.now.group)) rows.now.list acks.now }
     ensures moves { IfOk result (MovesBy conf.now.limit visit.now log.now.batches
-        (table_of (state_for conf.now log.now.batches states.now.entries visit.now.group)
+        (table_of (state_for conf.now (log_in log.now) states.now.entries visit.now.group)
         (held_in W.held windows.now.entries visit.now.group))
         limits rows.now.list acks.now) }
     ensures told { IfOk result (λ moves. IfSome moves IsTold) }
@@ -101,7 +101,7 @@ pub fn ready<D: Disk, W: Window>(
 ) -> Result<Ready, NoMemory>
     requires sound { IsStoredLog log.now.batches }
     requires limit { IsLimit conf.now.limit }
-    requires hosted { AreHosted conf.now log.now.batches (states_of states.now.entries) }
+    requires hosted { AreHosted conf.now (log_in log.now) (states_of states.now.entries) }
     requires well { HoldsWell log.now.batches
         (share_state_at (states_of states.now.entries) (key_of conf.now visit.now.group))
         (held_in W.held windows.old.entries visit.now.group) }
@@ -111,7 +111,7 @@ pub fn ready<D: Disk, W: Window>(
     ensures held { (other : List ℕ) →
         held_in W.held windows.new.entries other ≡ held_in W.held windows.old.entries other }
     ensures ready { IfOk result (IsReady W.spare windows.new.entries conf.now.limit visit.now log.now.batches
-        (table_of (state_for conf.now log.now.batches states.now.entries visit.now.group)
+        (table_of (state_for conf.now (log_in log.now) states.now.entries visit.now.group)
         (held_in W.held windows.old.entries visit.now.group))
         rows.now.list acks.now limits) }
 {
@@ -137,14 +137,14 @@ pub fn prepared<D: Disk, W: Window>(
     limits: Limits,
 ) -> Result<(Plan, Room), NoMemory>
     requires sound { IsStoredLog log.now.batches }
-    requires hosted { AreHosted conf.now log.now.batches (states_of states.now.entries) }
+    requires hosted { AreHosted conf.now (log_in log.now) (states_of states.now.entries) }
     requires well { HoldsWell log.now.batches
         (share_state_at (states_of states.now.entries) (key_of conf.now group.now))
         (held_in W.held windows.old.entries group.now) }
     ensures held { (other : List ℕ) →
         held_in W.held windows.new.entries other ≡ held_in W.held windows.old.entries other }
     ensures prepared { IfOk result (λ x. IsPrepared W.spare windows.new.entries group.now log.now.batches
-        (table_of (state_for conf.now log.now.batches states.now.entries group.now)
+        (table_of (state_for conf.now (log_in log.now) states.now.entries group.now)
         (held_in W.held windows.old.entries group.now))
         limits x.0 x.1) }
 {

@@ -7,7 +7,7 @@ ghost use Rattle.std.specs.Ordering.{nat_cmp};
 ghost use Rattle.coord_checkpoint.specs.Disks.{HasFailed};
 ghost use Rattle.topic_conf.specs.Configs.{IsLimit};
 ghost use Rattle.offset_runs.specs.Changes.{room_of};
-ghost use Rattle.part_log.specs.Logs.{IsStoredLog};
+ghost use Rattle.part_log.specs.Logs.{IsStoredLog, log_in};
 ghost use Rattle.share_model.specs.ForeignRules.{share_state_at};
 ghost use Rattle.share_part.specs.Acknowledging.{NameOne};
 ghost use Rattle.share_part.specs.Following.{fault_of};
@@ -144,6 +144,7 @@ fn judge_release<D: Disk, W: Window>(
     whose: &Whose,
 ) -> Option<Moved>
     requires sound { IsStoredLog log.now.batches }
+    requires hosted { AreHosted conf.now (log_in log.now) (states_of states.now.entries) }
     requires well { HoldsWell log.now.batches (share_state_at (states_of states.now.entries) (key_of conf.now group.now))
         (held_in W.held windows.now.entries group.now) }
     requires room { 4000 ≤ room_of rows.old }
@@ -188,7 +189,7 @@ pub fn release_held<D: Disk, W: Window>(
 ) -> Result<Released, NoMemory>
     requires sound { IsStoredLog log.now.batches }
     requires limit { IsLimit conf.now.limit }
-    requires hosted { AreHosted conf.now log.now.batches (states_of states.old.entries) }
+    requires hosted { AreHosted conf.now (log_in log.now) (states_of states.old.entries) }
     requires well { HoldsWell log.now.batches (share_state_at (states_of states.old.entries) (key_of conf.now group.now))
         (held_in W.held windows.old.entries group.now) }
     requires room { 4000 ≤ room_of rows.old }

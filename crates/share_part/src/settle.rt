@@ -189,6 +189,7 @@ fn release_all<W: Window>(rows: &mut Runs, window: &W, whose: &Whose, limit: u16
 // Where the start goes once acts store these rows, of which those below it go.
 fn moved_by<D: Disk>(log: &PartLog<D>, start: u64, stored: &Runs, rows: &mut Runs) -> Moved
     requires sound { IsStoredLog log.now.batches }
+    requires above { log.now.start ≤ start }
     ensures is { (limit : ℕ) (acts : Acts) (held : Held) → AreRows limit acts held rows.old.list →
         IsChange limit acts log.now.batches (record { start = start; rows = stored.now.list; held = held })
         (change_of result rows.new.list) }
@@ -219,6 +220,7 @@ pub fn acknowledge<D: Disk, W: Window>(
     batches: &[AckBatch],
 ) -> Judged
     requires sound { IsStoredLog log.now.batches }
+    requires above { log.now.start ≤ start }
     requires well_formed { IsWellFormed batches.now }
     requires room { 2 * length (W.held window.now) ≤ room_of rows.old }
     ensures judged { Judges limit member.now (kind_at batches.now) log.now.batches
@@ -245,6 +247,7 @@ pub fn release<D: Disk, W: Window>(
     limit: u16,
 ) -> Option<Moved>
     requires sound { IsStoredLog log.now.batches }
+    requires above { log.now.start ≤ start }
     requires below { AreBelow (W.held window.now) }
     requires room { 2 * length (W.held window.now) ≤ room_of rows.old }
     ensures judged { ReleasesTable limit (releasing (is_chosen whose.now) (W.held window.now)) log.now.batches

@@ -64,6 +64,7 @@ pub struct PartShard<D: Disk, W: Window> {
 
 impl<D: Disk, W: Window> Model for PartShard<D, W> {
     ghost use Rattle.offset_runs.specs.Changes.{room_of};
+    ghost use Rattle.part_log.specs.Logs.{log_in};
     ghost use Rattle.share_part.specs.Hosting.{IsKeptShard};
     ghost use Rattle.share_part.specs.Shards.{PartParts, held_in};
 
@@ -71,7 +72,7 @@ impl<D: Disk, W: Window> Model for PartShard<D, W> {
 
     ghost view = { λ s. record { conf = s.conf; log = s.log; states = s.states; windows = s.windows.entries; clock = s.clock } };
 
-    ghost invariant = { λ s. IsKeptShard s.conf s.log.batches s.states.entries (held_in W.held s.windows.entries) s.clock (room_of s.changed) };
+    ghost invariant = { λ s. IsKeptShard s.conf (log_in s.log) s.states.entries (held_in W.held s.windows.entries) s.clock (room_of s.changed) };
 }
 
 // No rows, and memory for those of all that a group holds: two runs for each of 2000 records.
@@ -255,7 +256,7 @@ impl<D: Disk, W: Window> PartShard<D, W> {
             self.clock = self.clock.max(now);
             return Ok(unread(self.alloc));
         }
-        let outcome = make_table(&mut self.states, &self.conf, group, self.log.end())?;
+        let outcome = make_table(&mut self.states, &self.conf, group, &self.log)?;
         self.clock = self.clock.max(now);
         let ThenOutcome::Done = outcome else {
             return Ok(empty(self.alloc, outcome));

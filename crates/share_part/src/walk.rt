@@ -123,6 +123,7 @@ fn step<D: Disk, W: Window>(
     most: u32,
 ) -> Result<Option<u32>, NoMemory>
     requires sound { IsStoredLog log.now.batches }
+    requires above { log.now.start ≤ slot }
     requires slot { IsSlot log.now.batches slot }
     requires rows { MayGoOut rows.now.list }
     requires canonical { IsCanonical changed.now }
@@ -145,7 +146,9 @@ fn step<D: Disk, W: Window>(
 
 // A slot lies below 2^62.
 pub fn next_slot<D: Disk>(log: &PartLog<D>, from: u64) -> Option<u64>
-    requires { IsStoredLog log.now.batches }
+    requires sound { IsStoredLog log.now.batches }
+    requires above { log.now.start ≤ from }
+    ensures later { IfSome result (λ slot. from ≤ slot) }
     ensures value { result ≡ next_slot log.now.batches from }
     ensures slot { IfSome result (λ slot. IsSlot log.now.batches slot × (slot < 2 ^ 62)) }
 {
@@ -163,6 +166,7 @@ fn collect<D: Disk, W: Window>(
     limits: Limits,
 ) -> Result<Collector, NoMemory>
     requires sound { IsStoredLog log.now.batches }
+    requires above { log.now.start ≤ start }
     requires rows { MayGoOut rows.now.list }
     requires canonical { IsCanonical changed.now }
     requires changed { MayGoOut changed.now }
@@ -200,6 +204,7 @@ pub fn plan_laid<D: Disk, W: Window>(
     limits: Limits,
 ) -> Result<Plan, NoMemory>
     requires sound { IsStoredLog log.now.batches }
+    requires above { log.now.start ≤ start }
     requires rows { MayGoOut rows.now.list }
     requires canonical { IsCanonical changed.now }
     requires changed { MayGoOut changed.now }
@@ -222,6 +227,7 @@ pub fn plan<D: Disk, W: Window>(
     limits: Limits,
 ) -> Result<Plan, NoMemory>
     requires sound { IsStoredLog log.now.batches }
+    requires above { log.now.start ≤ start }
     requires rows { MayGoOut rows.now.list }
     requires lie { LieAtSlots log.now.batches rows.now.list (W.held window.now) }
     ensures is { IfOk result (λ plan. IsPlanOf log.now.batches plan

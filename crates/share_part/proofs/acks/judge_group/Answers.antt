@@ -1,4 +1,4 @@
-use Rattle.std.proofs.Common.{◌≡◌, ap, subst, arith, length, Some, None, Option}
+use Rattle.std.proofs.Common.{◌≡◌, ◌∙◌, ap, subst, sym, arith, length, Some, None, Option}
 use Rattle.std.specs.Option.{option_map}
 use Rattle.ack_ranges.specs.Batches.{kind_at}
 use Rattle.share_model.specs.ForeignRules.{share_state_at}
@@ -12,7 +12,8 @@ use Rattle.share_part.specs.Shards.{held_in, held_of}
 use Rattle.lock_index.specs.Windows.{IsRising}
 use Rattle.share_part.proofs.Staying.{few_held}
 use Rattle.share_part.proofs.Verdicts.{idle_held, judged_there, missing_judged, no_state, nothing_held}
-use Rattle.share_part.proofs.Seeing.{view_of}
+use Rattle.part_log.specs.Logs.{log_in}
+use Rattle.share_part.proofs.Seeing.{starts_above, state_seen, view_of}
 use Rattle.share_part.proofs.acks.judge_group.Goals as goal
 
 pub returns-in_default-clause-judged : goal.returns-in_default-clause-judged
@@ -43,3 +44,10 @@ acknowledge-requires-clause-room g c =
     (held_in g.W.Window.held c.args.windows.now.entries c.args.visit.now.group) c.requires.sound.rises (subst IsRising held c.known.ensures) c.requires.well in
     let room = c.requires.room in
     omega (arith, ap length held, few, room)
+
+pub acknowledge-requires-clause-above : goal.acknowledge-requires-clause-above
+acknowledge-requires-clause-above g c =
+    let there = subst (λ (k : KeyParts). Some c.in-Some-look.view.now.state ≡ option_map view_of (kept_at c.args.states.now.entries k)) c.key.ensures c.in-Some-look.ensures in
+    let le = starts_above c.args.conf.now (log_in c.args.log.now) (states_of c.args.states.now.entries) (key_of c.args.conf.now c.args.visit.now.group) c.in-Some-look.view.now.state
+    c.requires.hosted (state_seen c.args.states.now.entries (key_of c.args.conf.now c.args.visit.now.group) ∙ sym there) in
+    omega (arith, le, c.start_of.ensures)

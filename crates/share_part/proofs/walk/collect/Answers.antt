@@ -6,7 +6,7 @@ use Rattle.share_part.proofs.Walking.{IsWalking, begins, done, exhausted, stoppe
 use Rattle.share_part.proofs.walk.collect.Goals as goal
 
 pub loop-left-init : goal.loop-left-init
-loop-left-init g c = (omega (arith, c.new-collector.ensures.grants), begins c.args.log.now.batches _ c.args.limits c.new-collector.result (c.new-collector.ensures.begins c.args.log.now.batches))
+loop-left-init g c = (omega (arith, c.new-collector.ensures.grants), begins c.args.log.now.batches _ c.args.limits c.new-collector.result (c.new-collector.ensures.begins c.args.log.now.batches), c.requires.above)
 
 pub returns-in_default-clause-takes : goal.returns-in_default-clause-takes
 returns-in_default-clause-takes g c =
@@ -38,7 +38,14 @@ loop-left-preserved g c =
       subst (λ (k : ℕ). IsWalking c.args.log.now.batches table c.args.limits c.step.new.collector (c.loop-left.left - c.in-Some-2.n) (c.in-Some.slot + k)) (sym c.from.ensures)
           (went_over c.args.log.now.batches table c.args.limits c.requires.sound.rises c.loop-left.collector c.step.new.collector c.loop-left.left c.loop-left.from c.in-Some.slot c.in-Some-2.n
           w (sym c.next_slot.ensures.value ∙ c.in-Some.is) c.in-Some.ensures.slot.0 few goes),
+      (let later = c.in-Some.ensures.later in omega (arith, c.loop-left.invariant.2, later, c.from.ensures)),
     )
 
 pub returns-clause-takes : goal.returns-clause-takes
 returns-clause-takes g c = done c.args.log.now.batches _ c.args.limits c.loop-left.collector c.loop-left.left c.loop-left.from (omega (arith, c.loop-left-test.false)) c.loop-left.invariant.1
+
+pub next_slot-requires-clause-above : goal.next_slot-requires-clause-above
+next_slot-requires-clause-above g c = c.loop-left.invariant.2
+
+pub step-requires-clause-above : goal.step-requires-clause-above
+step-requires-clause-above g c = let later = c.in-Some.ensures.later in omega (arith, c.loop-left.invariant.2, later)

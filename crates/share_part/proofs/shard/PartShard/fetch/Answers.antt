@@ -1,7 +1,9 @@
 use Rattle.std.proofs.Common.{◌≡◌, ◌∙◌, ◌++◌, ◌≤◌, ◌<◌, ◌+◌, refl, sym, ap, subst, arith, length, List, ℕ, Ok}
 use Rattle.std.specs.List.{AllByRecursion}
 use Rattle.edge_io.specs.Disk.{IsTold}
-use Rattle.part_log.specs.Logs.{IsStoredLog}
+use Rattle.part_log.specs.Logs.{IsStoredLog, log_in}
+use Rattle.part_log.specs.Starts.{Log}
+use Rattle.part_log.proofs.Looking.{same_log}
 use Rattle.share_coord.specs.States.{states_of}
 use Rattle.share_model.specs.Logs.{Batch, end_of}
 use Rattle.share_model.specs.declared.visit.ThenOutcome.{ThenOutcome}
@@ -24,6 +26,7 @@ returns-in_err-plan-clause-once g c = rw (← c.self.view_is) (starved_so g.D.Di
 pub invariant_of-self : goal.invariant_of-self
 invariant_of-self g c = record {
   log_is = c.self.invariant.log_is;
+  within = c.self.invariant.within;
   hosted = c.self.invariant.hosted;
   holds = same_kept c.self.inside.conf c.self.inside.log.batches (states_of c.self.inside.states.entries) (held_in g.W.Window.held c.self.inside.windows.entries)
       (held_in g.W.Window.held c.prepared.new.windows.entries) c.in_err-plan.ensures.held c.self.invariant.holds;
@@ -46,7 +49,8 @@ append_batches-requires-clause-spare g c =
 pub invariant_of-self-in-Err : goal.invariant_of-self-in-Err
 invariant_of-self-in-Err g c = record {
   log_is = subst IsStoredLog (sym c.append_batches.ensures.log.reads.batches) c.self.invariant.log_is;
-  hosted = subst (λ (l : List Batch). AreHosted c.self.inside.conf l (states_of c.self.inside.states.entries)) (sym c.append_batches.ensures.log.reads.batches) c.self.invariant.hosted;
+  within = subst (λ (l : Log). l.start ≤ end_of l.batches) (same_log g.D.Disk.seen c.self.inside.log c.append_batches.new.log c.append_batches.ensures.log.reads) c.self.invariant.within;
+  hosted = subst (λ (l : Log). AreHosted c.self.inside.conf l (states_of c.self.inside.states.entries)) (same_log g.D.Disk.seen c.self.inside.log c.append_batches.new.log c.append_batches.ensures.log.reads) c.self.invariant.hosted;
   holds = subst (λ (l : List Batch). AreKept c.self.inside.conf l (states_of c.self.inside.states.entries) (held_in g.W.Window.held c.prepared.new.windows.entries)) (sym c.append_batches.ensures.log.reads.batches)
       (same_kept c.self.inside.conf c.self.inside.log.batches (states_of c.self.inside.states.entries) (held_in g.W.Window.held c.self.inside.windows.entries)
       (held_in g.W.Window.held c.prepared.new.windows.entries) c.in_ok-plan.ensures.held c.self.invariant.holds);
@@ -62,16 +66,17 @@ returns-in-Err-clause-once g c = rw (← c.self.view_is) (unread_so g.D.Disk.see
 pub invariant_of-self-in_err-outcome : goal.invariant_of-self-in_err-outcome
 invariant_of-self-in_err-outcome g c = record {
   log_is = subst IsStoredLog (sym c.append_batches.ensures.log.reads.batches) c.self.invariant.log_is;
-  hosted = subst (λ (l : List Batch). AreHosted c.self.inside.conf l (states_of c.make_table.new.states.entries)) (sym c.append_batches.ensures.log.reads.batches)
+  within = subst (λ (l : Log). l.start ≤ end_of l.batches) (same_log g.D.Disk.seen c.self.inside.log c.append_batches.new.log c.append_batches.ensures.log.reads) c.self.invariant.within;
+  hosted = subst (λ (l : Log). AreHosted c.self.inside.conf l (states_of c.make_table.new.states.entries)) (same_log g.D.Disk.seen c.self.inside.log c.append_batches.new.log c.append_batches.ensures.log.reads)
       (hosted_after g.D.Disk.seen g.W.Window.held c.args.now c.args.visit.now (record { conf = c.self.inside.conf; log = c.self.inside.log; states = c.self.inside.states; windows = c.self.inside.windows.entries; clock = c.self.inside.clock })
       (record { conf = c.self.inside.conf; log = c.append_batches.new.log; states = c.make_table.new.states; windows = c.prepared.new.windows.entries; clock = c.self.inside.clock }) refl (read_all g.D.Disk.seen c.self.inside.log c.append_batches.new.log c.append_batches.result c.in_default.not-Err c.append_batches.ensures.log)
       c.make_table.ensures.runs c.args.limits c.requires.fetch
-      c.make_table.result c.end.result (c.end.ensures.end ∙ ap end_of c.append_batches.ensures.log.reads.batches) c.make_table.ensures.made c.self.invariant.hosted);
+      c.make_table.result _ (sym (same_log g.D.Disk.seen c.self.inside.log c.append_batches.new.log c.append_batches.ensures.log.reads)) c.make_table.ensures.made c.self.invariant.within c.self.invariant.hosted);
   holds = subst (λ (l : List Batch). AreKept c.self.inside.conf l (states_of c.make_table.new.states.entries) (held_in g.W.Window.held c.prepared.new.windows.entries)) (sym c.append_batches.ensures.log.reads.batches)
       (wells_after g.D.Disk.seen g.W.Window.held c.args.now c.args.visit.now (record { conf = c.self.inside.conf; log = c.self.inside.log; states = c.self.inside.states; windows = c.self.inside.windows.entries; clock = c.self.inside.clock })
       (record { conf = c.self.inside.conf; log = c.append_batches.new.log; states = c.make_table.new.states; windows = c.prepared.new.windows.entries; clock = c.self.inside.clock }) refl (read_all g.D.Disk.seen c.self.inside.log c.append_batches.new.log c.append_batches.result c.in_default.not-Err c.append_batches.ensures.log)
       c.make_table.ensures.runs c.args.limits c.requires.fetch
-      c.make_table.result c.end.result (c.end.ensures.end ∙ ap end_of c.append_batches.ensures.log.reads.batches) c.make_table.ensures.made c.in_ok-plan.ensures.held c.self.invariant.holds);
+      c.make_table.result _ (sym (same_log g.D.Disk.seen c.self.inside.log c.append_batches.new.log c.append_batches.ensures.log.reads)) c.make_table.ensures.made c.in_ok-plan.ensures.held c.self.invariant.holds);
   moment = c.self.invariant.moment;
   scratch = c.self.invariant.scratch;
 }
@@ -79,21 +84,22 @@ invariant_of-self-in_err-outcome g c = record {
 pub returns-in_err-outcome-clause-once : goal.returns-in_err-outcome-clause-once
 returns-in_err-outcome-clause-once g c = rw (← c.self.view_is) (unanswered g.D.Disk.seen g.W.Window.held c.args.now c.args.visit.now _ _ refl (read_all g.D.Disk.seen c.self.inside.log c.append_batches.new.log c.append_batches.result c.in_default.not-Err c.append_batches.ensures.log) c.make_table.ensures.runs
     c.args.limits c.requires.fetch c.from_residual-in_err-outcome.result c.from_residual-in_err-outcome.ensures.0 c.make_table.result (err_is c.make_table.result _ c.in_err-outcome.was)
-    c.end.result (c.end.ensures.end ∙ ap end_of c.append_batches.ensures.log.reads.batches) c.make_table.ensures.made c.in_ok-plan.ensures.held refl)
+    _ (sym (same_log g.D.Disk.seen c.self.inside.log c.append_batches.new.log c.append_batches.ensures.log.reads)) c.make_table.ensures.made c.in_ok-plan.ensures.held refl)
 
 pub invariant_of-self-in_default-outcome : goal.invariant_of-self-in_default-outcome
 invariant_of-self-in_default-outcome g c = record {
   log_is = subst IsStoredLog (sym c.append_batches.ensures.log.reads.batches) c.self.invariant.log_is;
-  hosted = subst (λ (l : List Batch). AreHosted c.self.inside.conf l (states_of c.make_table.new.states.entries)) (sym c.append_batches.ensures.log.reads.batches)
+  within = subst (λ (l : Log). l.start ≤ end_of l.batches) (same_log g.D.Disk.seen c.self.inside.log c.append_batches.new.log c.append_batches.ensures.log.reads) c.self.invariant.within;
+  hosted = subst (λ (l : Log). AreHosted c.self.inside.conf l (states_of c.make_table.new.states.entries)) (same_log g.D.Disk.seen c.self.inside.log c.append_batches.new.log c.append_batches.ensures.log.reads)
       (hosted_after g.D.Disk.seen g.W.Window.held c.args.now c.args.visit.now (record { conf = c.self.inside.conf; log = c.self.inside.log; states = c.self.inside.states; windows = c.self.inside.windows.entries; clock = c.self.inside.clock })
       (record { conf = c.self.inside.conf; log = c.append_batches.new.log; states = c.make_table.new.states; windows = c.prepared.new.windows.entries; clock = c.max-self-inside-2.result }) refl (read_all g.D.Disk.seen c.self.inside.log c.append_batches.new.log c.append_batches.result c.in_default.not-Err c.append_batches.ensures.log)
       c.make_table.ensures.runs c.args.limits c.requires.fetch
-      c.make_table.result c.end.result (c.end.ensures.end ∙ ap end_of c.append_batches.ensures.log.reads.batches) c.make_table.ensures.made c.self.invariant.hosted);
+      c.make_table.result _ (sym (same_log g.D.Disk.seen c.self.inside.log c.append_batches.new.log c.append_batches.ensures.log.reads)) c.make_table.ensures.made c.self.invariant.within c.self.invariant.hosted);
   holds = subst (λ (l : List Batch). AreKept c.self.inside.conf l (states_of c.make_table.new.states.entries) (held_in g.W.Window.held c.prepared.new.windows.entries)) (sym c.append_batches.ensures.log.reads.batches)
       (wells_after g.D.Disk.seen g.W.Window.held c.args.now c.args.visit.now (record { conf = c.self.inside.conf; log = c.self.inside.log; states = c.self.inside.states; windows = c.self.inside.windows.entries; clock = c.self.inside.clock })
       (record { conf = c.self.inside.conf; log = c.append_batches.new.log; states = c.make_table.new.states; windows = c.prepared.new.windows.entries; clock = c.max-self-inside-2.result }) refl (read_all g.D.Disk.seen c.self.inside.log c.append_batches.new.log c.append_batches.result c.in_default.not-Err c.append_batches.ensures.log)
       c.make_table.ensures.runs c.args.limits c.requires.fetch
-      c.make_table.result c.end.result (c.end.ensures.end ∙ ap end_of c.append_batches.ensures.log.reads.batches) c.make_table.ensures.made c.in_ok-plan.ensures.held c.self.invariant.holds);
+      c.make_table.result _ (sym (same_log g.D.Disk.seen c.self.inside.log c.append_batches.new.log c.append_batches.ensures.log.reads)) c.make_table.ensures.made c.in_ok-plan.ensures.held c.self.invariant.holds);
   moment = omega (arith, c.self.invariant.moment, c.requires.now, c.max-self-inside-2.ensures);
   scratch = c.self.invariant.scratch;
 }
@@ -101,16 +107,17 @@ invariant_of-self-in_default-outcome g c = record {
 pub returns-in_default-outcome-clause-once : goal.returns-in_default-outcome-clause-once
 returns-in_default-outcome-clause-once g c = rw (← c.self.view_is) (refused g.D.Disk.seen g.W.Window.held c.args.now c.args.visit.now _ _ refl (read_all g.D.Disk.seen c.self.inside.log c.append_batches.new.log c.append_batches.result c.in_default.not-Err c.append_batches.ensures.log) c.make_table.ensures.runs
     c.args.limits c.requires.fetch c.empty.result c.in_ok-outcome.outcome c.in_default-outcome.not-Done c.empty.ensures.ack c.empty.ensures.answer c.in_ok-plan.ensures.held c.max-self-inside-2.ensures
-    c.make_table.result c.in_ok-outcome.was c.end.result (c.end.ensures.end ∙ ap end_of c.append_batches.ensures.log.reads.batches) c.make_table.ensures.made)
+    c.make_table.result c.in_ok-outcome.was _ (sym (same_log g.D.Disk.seen c.self.inside.log c.append_batches.new.log c.append_batches.ensures.log.reads)) c.make_table.ensures.made)
 
 pub invariant_of-self-2 : goal.invariant_of-self-2
 invariant_of-self-2 g c = record {
   log_is = subst IsStoredLog (sym c.append_batches.ensures.log.reads.batches) c.self.invariant.log_is;
-  hosted = subst (λ (l : List Batch). AreHosted c.self.inside.conf l (states_of c.make_table.new.states.entries)) (sym c.append_batches.ensures.log.reads.batches)
+  within = subst (λ (l : Log). l.start ≤ end_of l.batches) (same_log g.D.Disk.seen c.self.inside.log c.append_batches.new.log c.append_batches.ensures.log.reads) c.self.invariant.within;
+  hosted = subst (λ (l : Log). AreHosted c.self.inside.conf l (states_of c.make_table.new.states.entries)) (same_log g.D.Disk.seen c.self.inside.log c.append_batches.new.log c.append_batches.ensures.log.reads)
       (hosted_after g.D.Disk.seen g.W.Window.held c.args.now c.args.visit.now (record { conf = c.self.inside.conf; log = c.self.inside.log; states = c.self.inside.states; windows = c.self.inside.windows.entries; clock = c.self.inside.clock })
       (record { conf = c.self.inside.conf; log = c.append_batches.new.log; states = c.make_table.new.states; windows = c.hand_out.new.windows.entries; clock = c.max-self-inside-2.result }) refl (read_all g.D.Disk.seen c.self.inside.log c.append_batches.new.log c.append_batches.result c.in_default.not-Err c.append_batches.ensures.log)
       c.make_table.ensures.runs c.args.limits c.requires.fetch
-      c.make_table.result c.end.result (c.end.ensures.end ∙ ap end_of c.append_batches.ensures.log.reads.batches) c.make_table.ensures.made c.self.invariant.hosted);
+      c.make_table.result _ (sym (same_log g.D.Disk.seen c.self.inside.log c.append_batches.new.log c.append_batches.ensures.log.reads)) c.make_table.ensures.made c.self.invariant.within c.self.invariant.hosted);
   holds = subst (λ (l : List Batch). AreKept c.self.inside.conf l (states_of c.make_table.new.states.entries) (held_in g.W.Window.held c.hand_out.new.windows.entries)) (sym c.append_batches.ensures.log.reads.batches)
       (wells_took g.D.Disk.seen g.W.Window.held c.args.now c.args.visit.now (record { conf = c.self.inside.conf; log = c.self.inside.log; states = c.self.inside.states; windows = c.self.inside.windows.entries; clock = c.self.inside.clock })
       (record { conf = c.self.inside.conf; log = c.append_batches.new.log; states = c.make_table.new.states; windows = c.hand_out.new.windows.entries; clock = c.max-self-inside-2.result }) refl (read_all g.D.Disk.seen c.self.inside.log c.append_batches.new.log c.append_batches.result c.in_default.not-Err c.append_batches.ensures.log)
@@ -119,8 +126,8 @@ invariant_of-self-2 g c = record {
       (record { conf = c.self.inside.conf; log = c.append_batches.new.log; states = c.make_table.new.states; windows = c.hand_out.new.windows.entries; clock = c.max-self-inside-2.result }) refl (read_all g.D.Disk.seen c.self.inside.log c.append_batches.new.log c.append_batches.result c.in_default.not-Err c.append_batches.ensures.log)
       c.make_table.ensures.runs c.args.limits c.requires.fetch
       c.self.inside.windows.entries c.prepared.new.windows.entries (λ group. refl) c.in_ok-plan.ensures.held
-      c.in_ok-plan.plan (state_for c.self.inside.conf c.self.inside.log.batches c.self.inside.states.entries c.args.visit.now.group) c.in_ok-plan.ensures.prepared.is (c.max-self-inside-2.result + c.self.inside.conf.lock_ms) refl c.hand_out.ensures.held)
-      c.make_table.result (c.in_ok-outcome.was ∙ ap (λ (o : ThenOutcome). Ok o) c.in-Done.is) c.end.result (c.end.ensures.end ∙ ap end_of c.append_batches.ensures.log.reads.batches) c.make_table.ensures.made c.self.invariant.hosted c.self.invariant.holds);
+      c.in_ok-plan.plan (state_for c.self.inside.conf (log_in c.self.inside.log) c.self.inside.states.entries c.args.visit.now.group) c.in_ok-plan.ensures.prepared.is (c.max-self-inside-2.result + c.self.inside.conf.lock_ms) refl c.hand_out.ensures.held)
+      c.make_table.result (c.in_ok-outcome.was ∙ ap (λ (o : ThenOutcome). Ok o) c.in-Done.is) _ (sym (same_log g.D.Disk.seen c.self.inside.log c.append_batches.new.log c.append_batches.ensures.log.reads)) c.make_table.ensures.made c.self.invariant.within c.self.invariant.hosted c.self.invariant.holds);
   moment = omega (arith, c.self.invariant.moment, c.requires.now, c.max-self-inside-2.ensures);
   scratch = c.self.invariant.scratch;
 }
@@ -139,4 +146,4 @@ returns-clause-once g c =
     c.self.inside.windows.entries c.prepared.new.windows.entries (λ group. refl) c.in_ok-plan.ensures.held
     c.in_ok-plan.plan _ c.in_ok-plan.ensures.prepared.is _ c.hand_out.ensures.ack c.hand_out.ensures.outcome c.hand_out.ensures.grants bytes len (c.max-self-inside-2.result + c.self.inside.conf.lock_ms)
     refl c.hand_out.ensures.held c.max-self-inside-2.ensures)
-    c.make_table.result (c.in_ok-outcome.was ∙ ap (λ (o : ThenOutcome). Ok o) c.in-Done.is) c.end.result (c.end.ensures.end ∙ ap end_of c.append_batches.ensures.log.reads.batches) c.make_table.ensures.made)
+    c.make_table.result (c.in_ok-outcome.was ∙ ap (λ (o : ThenOutcome). Ok o) c.in-Done.is) _ (sym (same_log g.D.Disk.seen c.self.inside.log c.append_batches.new.log c.append_batches.ensures.log.reads)) c.make_table.ensures.made)

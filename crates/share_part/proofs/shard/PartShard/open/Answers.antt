@@ -1,4 +1,6 @@
-use Rattle.std.proofs.Common.{refl, sym, subst, arith}
+use Rattle.std.proofs.Common.{None, refl, sym, subst, arith}
+use Rattle.part_log.specs.Logs.{log_in}
+use Rattle.part_log.proofs.Keeping.{keeps_sound, keeps_start}
 use Rattle.share_part.specs.Opening.{IsNotOpened}
 use Rattle.share_part.specs.declared.opening.PartFault.{PartFault}
 use Rattle.share_coord.specs.States.{states_of}
@@ -17,7 +19,7 @@ returns-in-Err-open-clause-refused g c =
     subst (λ (f : PartFault). IsNotOpened g.D.Disk.seen c.args.conf c.args.disks.0 c.args.disks.1 c.args.disks.2
     c.into_disk.result c.in-Err-open.a c.in-Err-open.b f) (sym c.fault_of_states-fault.ensures)
     (by_states g.D.Disk.seen g.W.Window.held c.args.conf c.args.disks.0 c.args.disks.1 c.args.disks.2 c.into_disk.result c.in-Err-open.a c.in-Err-open.b c.in-Err-open.fault
-    c.in-Ok.log.batches c.in-Ok.ensures.opens c.in-Err-open.ensures.refused)
+    (log_in c.in-Ok.log) c.in-Ok.ensures.opens c.in-Err-open.ensures.refused)
 
 pub returns-then-not-are_hosted-clause-refused : goal.returns-then-not-are_hosted-clause-refused
 returns-then-not-are_hosted-clause-refused g c = misplaced g.D.Disk.seen g.W.Window.held c.args.conf c.args.disks.0 c.args.disks.1 c.args.disks.2 _ _ _ c.in-Ok.log c.in-Ok-open.states
@@ -26,7 +28,8 @@ returns-then-not-are_hosted-clause-refused g c = misplaced g.D.Disk.seen g.W.Win
 
 pub invariant_of-result : goal.invariant_of-result
 invariant_of-result g c = record {
-  log_is = c.in-Ok.ensures.kept.sound;
+  log_is = keeps_sound g.D.Disk.seen c.in-Ok.log None c.in-Ok.ensures.kept;
+  within = keeps_start g.D.Disk.seen c.in-Ok.log None c.in-Ok.ensures.kept;
   hosted = c.are_hosted.ensures.0 c.if-not-are_hosted.false;
   holds = empty_kept g.W.Window.held c.args.conf c.in-Ok.log.batches (states_of c.in-Ok-open.states.entries) _ c.new.ensures.empty;
   moment = omega arith;
@@ -43,3 +46,6 @@ returns-in_default-clause-refused g c = unscratched g.D.Disk.seen g.W.Window.hel
 
 pub returns-in_default-clause-log : goal.returns-in_default-clause-log
 returns-in_default-clause-log g c = left_alone g.D.Disk.seen g.met.D.Disk.only_now c.args.disks.0
+
+pub are_hosted-requires : goal.are_hosted-requires
+are_hosted-requires g c = record { sound = keeps_sound g.D.Disk.seen c.in-Ok.log None c.in-Ok.ensures.kept }

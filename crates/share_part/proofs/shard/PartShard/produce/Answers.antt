@@ -2,7 +2,7 @@ use Rattle.std.proofs.Common.{◌≡◌, ◌∙◌, refl, sym, arith, true, fals
 use Rattle.share_coord.specs.States.{states_of}
 use Rattle.share_part.specs.Shards.{held_in}
 use Rattle.share_part.proofs.Holding.{all_later}
-use Rattle.share_part.proofs.Producing.{has_grown, hungry, produced, stays_hosted, stays_sound}
+use Rattle.share_part.proofs.Producing.{has_grown, hungry, produced, stays_hosted, stays_sound, stays_within}
 use Rattle.share_part.proofs.shard.PartShard.produce.Goals as goal
 
 pub returns-then-has_no_memory-clause-once : goal.returns-then-has_no_memory-clause-once
@@ -11,6 +11,7 @@ returns-then-has_no_memory-clause-once g c = rw (← c.self.view_is) (hungry g.D
 pub invariant_of-self-2 : goal.invariant_of-self-2
 invariant_of-self-2 g c = record {
   log_is = stays_sound g.D.Disk.seen g.W.Window.held c.args.now c.args.batch.now (record { conf = c.self.inside.conf; log = c.self.inside.log; states = c.self.inside.states; windows = c.self.inside.windows.entries; clock = c.self.inside.clock }) c.append-result.new.self c.max-self-inside.result c.append-result.result c.append-result.ensures.once c.self.invariant.log_is;
+  within = stays_within g.D.Disk.seen g.W.Window.held c.args.now c.args.batch.now (record { conf = c.self.inside.conf; log = c.self.inside.log; states = c.self.inside.states; windows = c.self.inside.windows.entries; clock = c.self.inside.clock }) c.append-result.new.self c.max-self-inside.result c.append-result.result c.append-result.ensures.once c.self.invariant.within;
   hosted = stays_hosted g.D.Disk.seen g.W.Window.held c.args.now c.args.batch.now (record { conf = c.self.inside.conf; log = c.self.inside.log; states = c.self.inside.states; windows = c.self.inside.windows.entries; clock = c.self.inside.clock }) c.append-result.new.self c.max-self-inside.result c.append-result.result c.append-result.ensures.once _ c.self.invariant.hosted;
   holds = all_later c.self.inside.conf c.self.inside.log.batches c.append-result.new.self.batches (states_of c.self.inside.states.entries) (held_in g.W.Window.held c.self.inside.windows.entries)
       (has_grown g.D.Disk.seen g.W.Window.held c.args.now c.args.batch.now (record { conf = c.self.inside.conf; log = c.self.inside.log; states = c.self.inside.states; windows = c.self.inside.windows.entries; clock = c.self.inside.clock }) c.append-result.new.self c.max-self-inside.result c.append-result.result c.append-result.ensures.once) c.self.invariant.holds;

@@ -7,7 +7,7 @@ invariant_of-self g c =
     let s = released_stand g.D.Disk.seen g.W.Window.held c.args.group.now c.args.whose.now
     (record { conf = c.self.inside.conf; log = c.self.inside.log; states = c.self.inside.states; windows = c.self.inside.windows.entries; clock = c.self.inside.clock })
     c.release_held.new.states c.release_held.new.windows.entries c.self.invariant.log_is c.release_held.ensures.range.few c.self.invariant.hosted c.self.invariant.holds c.release_held.result c.release_held.ensures.once in
-    record { log_is = c.self.invariant.log_is; hosted = s.0; holds = s.1; moment = c.self.invariant.moment; scratch = let room = c.self.invariant.scratch in omega (arith, room, c.release_held.ensures.room) }
+    record { log_is = c.self.invariant.log_is; within = c.self.invariant.within; hosted = s.0; holds = s.1; moment = c.self.invariant.moment; scratch = let room = c.self.invariant.scratch in omega (arith, room, c.release_held.ensures.room) }
 
 pub returns-in_err-released-clause-once : goal.returns-in_err-released-clause-once
 returns-in_err-released-clause-once g c = rw (← c.self.view_is) (unreleased g.D.Disk.seen g.W.Window.held c.args.group.now c.args.whose.now
@@ -20,7 +20,7 @@ invariant_of-self-2 g c =
     let s = released_stand g.D.Disk.seen g.W.Window.held c.args.group.now c.args.whose.now
     (record { conf = c.self.inside.conf; log = c.self.inside.log; states = c.self.inside.states; windows = c.self.inside.windows.entries; clock = c.self.inside.clock })
     c.release_held.new.states c.release_held.new.windows.entries c.self.invariant.log_is c.release_held.ensures.range.few c.self.invariant.hosted c.self.invariant.holds c.release_held.result c.release_held.ensures.once in
-    record { log_is = c.self.invariant.log_is; hosted = s.0; holds = s.1; moment = c.requires.clock; scratch = let room = c.self.invariant.scratch in omega (arith, room, c.release_held.ensures.room) }
+    record { log_is = c.self.invariant.log_is; within = c.self.invariant.within; hosted = s.0; holds = s.1; moment = c.requires.clock; scratch = let room = c.self.invariant.scratch in omega (arith, room, c.release_held.ensures.room) }
 
 pub returns-clause-once : goal.returns-clause-once
 returns-clause-once g c = rw (← c.self.view_is) (released g.D.Disk.seen g.W.Window.held c.args.group.now c.args.whose.now

@@ -17,7 +17,7 @@ invariant_of-self g c =
     let s = stands g.D.Disk.seen g.W.Window.held c.args.visit.now
     (record { conf = c.self.inside.conf; log = c.self.inside.log; states = c.self.inside.states; windows = c.self.inside.windows.entries; clock = c.self.inside.clock })
     c.settle_acks.new.states c.settle_acks.new.windows.entries c.self.invariant.log_is c.settle_acks.ensures.range.few c.self.invariant.hosted c.self.invariant.holds c.settle_acks.result c.settle_acks.ensures.once in
-    record { log_is = c.self.invariant.log_is; hosted = s.0; holds = s.1; moment = c.self.invariant.moment; scratch = let room = c.self.invariant.scratch in omega (arith, room, c.judge_acks-acks.ensures.room) }
+    record { log_is = c.self.invariant.log_is; within = c.self.invariant.within; hosted = s.0; holds = s.1; moment = c.self.invariant.moment; scratch = let room = c.self.invariant.scratch in omega (arith, room, c.judge_acks-acks.ensures.room) }
 
 pub returns-in_err-ack-clause-once : goal.returns-in_err-ack-clause-once
 returns-in_err-ack-clause-once g c = rw (← c.self.view_is) (none_acked g.D.Disk.seen g.W.Window.held c.args.visit.now
@@ -31,7 +31,7 @@ invariant_of-self-2 g c =
     let s = stands g.D.Disk.seen g.W.Window.held c.args.visit.now
     (record { conf = c.self.inside.conf; log = c.self.inside.log; states = c.self.inside.states; windows = c.self.inside.windows.entries; clock = c.self.inside.clock })
     c.settle_acks.new.states c.settle_acks.new.windows.entries c.self.invariant.log_is c.settle_acks.ensures.range.few c.self.invariant.hosted c.self.invariant.holds c.settle_acks.result c.settle_acks.ensures.once in
-    record { log_is = c.self.invariant.log_is; hosted = s.0; holds = s.1; moment = c.self.invariant.moment; scratch = let room = c.self.invariant.scratch in omega (arith, room, c.judge_acks-acks.ensures.room) }
+    record { log_is = c.self.invariant.log_is; within = c.self.invariant.within; hosted = s.0; holds = s.1; moment = c.self.invariant.moment; scratch = let room = c.self.invariant.scratch in omega (arith, room, c.judge_acks-acks.ensures.room) }
 
 pub are_written-requires : goal.are_written-requires
 are_written-requires g c = formed_done g.D.Disk.seen g.W.Window.held c.args.visit.now

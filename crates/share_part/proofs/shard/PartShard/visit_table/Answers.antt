@@ -2,7 +2,9 @@ use Rattle.std.proofs.Common.{◌≡◌, ◌∙◌, ◌+◌, ◌++◌, ◌≤◌
 use Rattle.std.specs.List.{AllByRecursion}
 use Rattle.std.specs.Prelude.{Ok, IsSome}
 use Rattle.edge_io.specs.Disk.{IsTold}
-use Rattle.part_log.specs.Logs.{IsStoredLog}
+use Rattle.part_log.specs.Logs.{IsStoredLog, log_in}
+use Rattle.part_log.specs.Starts.{Log}
+use Rattle.part_log.proofs.Looking.{same_log}
 use Rattle.share_coord.specs.States.{states_of}
 use Rattle.share_model.specs.ForeignRules.{share_state_at}
 use Rattle.share_model.specs.Held.{Held}
@@ -33,6 +35,7 @@ returns-in_err-ready-clause-once g c = rw (← c.self.view_is) (none_ready g.D.D
 pub invariant_of-self : goal.invariant_of-self
 invariant_of-self g c = record {
   log_is = c.self.invariant.log_is;
+  within = c.self.invariant.within;
   hosted = c.self.invariant.hosted;
   holds = same_kept c.self.inside.conf c.self.inside.log.batches (states_of c.self.inside.states.entries) (held_in g.W.Window.held c.self.inside.windows.entries)
       (held_in g.W.Window.held c.ready.new.windows.entries) c.in_err-ready.ensures.held c.self.invariant.holds;
@@ -54,7 +57,7 @@ invariant_of-self-in_err-ack g c =
     (record { conf = c.self.inside.conf; log = c.self.inside.log; states = c.self.inside.states; windows = c.self.inside.windows.entries; clock = c.self.inside.clock })
     c.settle_acks.new.states c.settle_acks.new.windows.entries c.self.invariant.log_is c.settle_acks.ensures.range.few c.self.invariant.hosted c.self.invariant.holds
     (held_in g.W.Window.held c.ready.new.windows.entries) c.in_ok-ready.ensures.held c.settle_acks.result c.settle_acks.ensures.once) in
-    record { log_is = c.self.invariant.log_is; hosted = s.0; holds = s.1; moment = c.self.invariant.moment; scratch = let room = c.self.invariant.scratch in omega (arith, room, c.judge_acks-acks.ensures.room) }
+    record { log_is = c.self.invariant.log_is; within = c.self.invariant.within; hosted = s.0; holds = s.1; moment = c.self.invariant.moment; scratch = let room = c.self.invariant.scratch in omega (arith, room, c.judge_acks-acks.ensures.room) }
 
 pub returns-in_err-ack-clause-once : goal.returns-in_err-ack-clause-once
 returns-in_err-ack-clause-once g c = rw (← c.self.view_is) (none_acked g.D.Disk.seen g.W.Window.held c.args.visit.now
@@ -118,7 +121,8 @@ invariant_of-self-in-Err g c =
     (held_in g.W.Window.held c.ready.new.windows.entries) c.in_ok-ready.ensures.held c.settle_acks.result c.settle_acks.ensures.once) in
     record {
       log_is = subst IsStoredLog (sym c.append_batches.ensures.log.reads.batches) c.self.invariant.log_is;
-      hosted = subst (λ (l : List Batch). AreHosted c.self.inside.conf l (states_of c.settle_acks.new.states.entries)) (sym c.append_batches.ensures.log.reads.batches) s.0;
+      within = subst (λ (l : Log). l.start ≤ end_of l.batches) (same_log g.D.Disk.seen c.self.inside.log c.append_batches.new.log c.append_batches.ensures.log.reads) c.self.invariant.within;
+      hosted = subst (λ (l : Log). AreHosted c.self.inside.conf l (states_of c.settle_acks.new.states.entries)) (same_log g.D.Disk.seen c.self.inside.log c.append_batches.new.log c.append_batches.ensures.log.reads) s.0;
       holds = subst (λ (l : List Batch). AreKept c.self.inside.conf l (states_of c.settle_acks.new.states.entries) (held_in g.W.Window.held c.settle_acks.new.windows.entries)) (sym c.append_batches.ensures.log.reads.batches) s.1;
       moment = omega (arith, c.self.invariant.moment, c.requires.now, c.max-self-inside.ensures);
       scratch = let room = c.self.invariant.scratch in omega (arith, room, c.judge_acks-acks.ensures.room);
@@ -185,7 +189,8 @@ invariant_of-self-2 g c =
     (λ fault is. ok_same c.in_ok-ack.ack (Malformed fault) (sym c.in_ok-ack.was ∙ c.settle_acks.ensures.malformed fault is)) c.chosen-plan.ensures.done c.chosen-plan.ensures.others) in
     record {
       log_is = subst IsStoredLog (sym c.append_batches.ensures.log.reads.batches) c.self.invariant.log_is;
-      hosted = subst (λ (l : List Batch). AreHosted c.self.inside.conf l (states_of c.settle_acks.new.states.entries)) (sym c.append_batches.ensures.log.reads.batches) s.0;
+      within = subst (λ (l : Log). l.start ≤ end_of l.batches) (same_log g.D.Disk.seen c.self.inside.log c.append_batches.new.log c.append_batches.ensures.log.reads) c.self.invariant.within;
+      hosted = subst (λ (l : Log). AreHosted c.self.inside.conf l (states_of c.settle_acks.new.states.entries)) (same_log g.D.Disk.seen c.self.inside.log c.append_batches.new.log c.append_batches.ensures.log.reads) s.0;
       holds = subst (λ (l : List Batch). AreKept c.self.inside.conf l (states_of c.settle_acks.new.states.entries) (held_in g.W.Window.held c.hand_out-answer.new.windows.entries)) (sym c.append_batches.ensures.log.reads.batches)
           (wells_took g.D.Disk.seen g.W.Window.held c.args.now c.args.visit.now (record { conf = c.self.inside.conf; log = c.self.inside.log; states = c.settle_acks.new.states; windows = c.settle_acks.new.windows.entries; clock = c.self.inside.clock })
           (record { conf = c.self.inside.conf; log = c.append_batches.new.log; states = c.settle_acks.new.states; windows = c.hand_out-answer.new.windows.entries; clock = c.max-self-inside.result })
@@ -194,9 +199,9 @@ invariant_of-self-2 g c =
           (record { conf = c.self.inside.conf; log = c.append_batches.new.log; states = c.settle_acks.new.states; windows = c.hand_out-answer.new.windows.entries; clock = c.max-self-inside.result })
           refl (read_all g.D.Disk.seen c.self.inside.log c.append_batches.new.log c.append_batches.result c.in_default.not-Err c.append_batches.ensures.log) (run_none g.D.Disk.seen c.settle_acks.new.states) c.args.limits c.requires.fetch
           c.settle_acks.new.windows.entries c.settle_acks.new.windows.entries (λ group. refl) (λ group. refl)
-          c.chosen-plan.result.0 (state_for c.self.inside.conf c.self.inside.log.batches c.settle_acks.new.states.entries c.args.visit.now.group) goes.planned
+          c.chosen-plan.result.0 (state_for c.self.inside.conf (log_in c.self.inside.log) c.settle_acks.new.states.entries c.args.visit.now.group) goes.planned
           (c.max-self-inside.result + c.self.inside.conf.lock_ms) refl c.hand_out-answer.ensures.held)
-          (Ok _) refl (end_of c.self.inside.log.batches) refl (made_there g.D.Disk.seen c.self.inside.conf c.args.visit.now.group (end_of c.self.inside.log.batches) c.settle_acks.new.states goes.its goes.there) s.0 s.1);
+          (Ok _) refl (log_in c.self.inside.log) refl (made_there g.D.Disk.seen c.self.inside.conf c.args.visit.now.group (log_in c.self.inside.log) c.settle_acks.new.states goes.its goes.there) c.self.invariant.within s.0 s.1);
       moment = omega (arith, c.self.invariant.moment, c.requires.now, c.max-self-inside.ensures);
       scratch = let room = c.self.invariant.scratch in omega (arith, room, c.judge_acks-acks.ensures.room);
     }
@@ -244,4 +249,4 @@ returns-clause-once g c =
     c.settle_acks.new.windows.entries c.settle_acks.new.windows.entries (λ group. refl) (λ group. refl)
     c.chosen-plan.result.0 _ goes.planned c.hand_out-answer.result c.hand_out-answer.ensures.ack c.hand_out-answer.ensures.outcome c.hand_out-answer.ensures.grants bytes len
     (c.max-self-inside.result + c.self.inside.conf.lock_ms) refl c.hand_out-answer.ensures.held c.max-self-inside.ensures)
-    (Ok _) refl (end_of c.self.inside.log.batches) refl (made_there g.D.Disk.seen c.self.inside.conf c.args.visit.now.group (end_of c.self.inside.log.batches) c.settle_acks.new.states goes.its goes.there))))
+    (Ok _) refl (log_in c.self.inside.log) refl (made_there g.D.Disk.seen c.self.inside.conf c.args.visit.now.group (log_in c.self.inside.log) c.settle_acks.new.states goes.its goes.there))))
