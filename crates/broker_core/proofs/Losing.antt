@@ -7,11 +7,12 @@ use Rattle.edge_io.specs.declared.name.DiskPlace.TheVariants.{Log, StateA, State
 use Rattle.edge_io.specs.Causes.{Rose}
 use Rattle.edge_io.specs.Names.{IsTopicName}
 use Rattle.share_model.specs.ForeignRules.{ShareStates}
-use Rattle.share_model.specs.Logs.{Batch as LogBatch}
 use Rattle.share_model.specs.Pending.{WithPending}
 use Rattle.share_members.specs.Groups.{Memberships}
 use Rattle.foreign_coord.specs.Shards.{ForeignShardState}
 use Rattle.part_log.specs.Logs.{and_pending}
+use Rattle.part_log.specs.Shards.{log_at}
+use Rattle.part_log.specs.Starts.{Log as PartitionLog}
 use Rattle.share_part.specs.Hosting.{ArePartText, PartConfParts}
 use Rattle.share_part.specs.Leaving.{IsLeftOf, IsDoneOr}
 use Rattle.share_part.specs.Shards.{PartShardState, shard_with}
@@ -128,11 +129,11 @@ module _ {D : Type 0} (seen : D → DiskView) where
   -- a partition of which the last losses left this
   pub record Stands (y : PartSlot D) (f : HostedPart) : Type 0 where
     pub hosted : f.hosted ≡ hosted_slot y
-    pub batches : List LogBatch
+    pub is : PartitionLog
     pub states : ShareStates
-    pub shard : f.shard ≡ shard_with batches states
+    pub shard : f.shard ≡ shard_with is states
     pub text : ArePartText f.hosted.conf (last_content (slot_facts y Log).losses) (last_content (slot_facts y StateA).losses)
-        (last_content (slot_facts y StateB).losses) batches states
+        (last_content (slot_facts y StateB).losses) is states
 
   last_of : (choice : ℕ) (x y : PartSlot D) (place : DiskPlace) (p : Opens choice x y) (c : List ℕ)
       → (seen (open_disk p.is place)).losses ≡ (seen (open_disk p.was place)).losses ++ (choice, c) ∷ [] → last_content (slot_facts y place).losses ≡ c
@@ -188,20 +189,20 @@ module _ {D : Type 0} (seen : D → DiskView) where
       let p = z.0 in
       let r = p.reopens e.shard (was_in x p.was e p.old_is k.0) in
       record {
-        after = record { hosted = hosted_slot x; shard = shard_with r.batches r.states } ∷ more.after;
+        after = record { hosted = hosted_slot x; shard = shard_with r.is r.states } ∷ more.after;
         zip = (
           record {
             hosted = sym (hosted_y choice x y p);
             state =
-                subst (λ (c : PartConfParts). IsPartState seen c y.state (shard_with r.batches r.states)) (sym p.conf)
-                (subst (λ (s : PartState D). IsPartState seen x.conf s (shard_with r.batches r.states)) (sym p.new_is) r.carried);
+                subst (λ (c : PartConfParts). IsPartState seen c y.state (shard_with r.is r.states)) (sym p.conf)
+                (subst (λ (s : PartState D). IsPartState seen x.conf s (shard_with r.is r.states)) (sym p.new_is) r.carried);
           },
           more.zip,
         );
         lands = (
           record {
             hosted = sym k.0.hosted;
-            batches = r.batches;
+            log = r.is;
             states = r.states;
             log_is = r.log_is;
             states_are = r.states_are;
@@ -212,15 +213,15 @@ module _ {D : Type 0} (seen : D → DiskView) where
         stands = (
           record {
             hosted = sym (hosted_y choice x y p);
-            batches = r.batches;
+            is = r.is;
             states = r.states;
             shard = refl;
             text =
-                subst (λ (l : List ℕ). ArePartText x.conf l (last_content (slot_facts y StateA).losses) (last_content (slot_facts y StateB).losses) r.batches r.states)
+                subst (λ (l : List ℕ). ArePartText x.conf l (last_content (slot_facts y StateA).losses) (last_content (slot_facts y StateB).losses) r.is r.states)
                 (sym (last_of choice x y Log p r.l r.log_lost))
-                (subst (λ (a : List ℕ). ArePartText x.conf r.l a (last_content (slot_facts y StateB).losses) r.batches r.states)
+                (subst (λ (a : List ℕ). ArePartText x.conf r.l a (last_content (slot_facts y StateB).losses) r.is r.states)
                 (sym (last_of choice x y StateA p r.a r.first_lost))
-                (subst (λ (b : List ℕ). ArePartText x.conf r.l r.a b r.batches r.states) (sym (last_of choice x y StateB p r.b r.second_lost)) r.stands));
+                (subst (λ (b : List ℕ). ArePartText x.conf r.l r.a b r.is r.states) (sym (last_of choice x y StateB p r.b r.second_lost)) r.stands));
           },
           more.stands,
         );
@@ -336,18 +337,18 @@ module _ {D : Type 0} (seen : D → DiskView) where
     open_parts (y ∷ ys) [] each z = absurd z
     open_parts (y ∷ ys) (f ∷ fs) each z = (
       record {
-        batches = z.0.batches;
+        log = z.0.is;
         states = z.0.states;
         shard = z.0.shard;
         stands =
-            subst (λ (h : Hosted). ArePartText f.hosted.conf (contents (log_of h)) (contents (first_of h)) (contents (second_of h)) z.0.batches z.0.states)
+            subst (λ (h : Hosted). ArePartText f.hosted.conf (contents (log_of h)) (contents (first_of h)) (contents (second_of h)) z.0.is z.0.states)
             (sym z.0.hosted)
             (subst (λ (g : Facts). ArePartText f.hosted.conf (last_content g.losses) (contents (first_of (hosted_slot y))) (contents (second_of (hosted_slot y)))
-            z.0.batches z.0.states) (sym each.0.0)
+            z.0.is z.0.states) (sym each.0.0)
             (subst (λ (g : Facts). ArePartText f.hosted.conf (last_content (slot_facts y Log).losses) (last_content g.losses) (contents (second_of (hosted_slot y)))
-            z.0.batches z.0.states) (sym each.0.1.0)
+            z.0.is z.0.states) (sym each.0.1.0)
             (subst (λ (g : Facts). ArePartText f.hosted.conf (last_content (slot_facts y Log).losses) (last_content (slot_facts y StateA).losses) (last_content g.losses)
-            z.0.batches z.0.states) (sym each.0.1.1.0) z.0.text)));
+            z.0.is z.0.states) (sym each.0.1.1.0) z.0.text)));
       },
       open_parts ys fs each.1 z.1,
     )
@@ -385,17 +386,17 @@ module _ {D : Type 0} (seen : D → DiskView) where
   -- ---- one was not opened again
 
   -- contents that stand for the shard that landed stand for the old one, with or without its pending writes
-  landed_left : (conf : PartConfParts) (old : PartShardState) (batches : List LogBatch) (states : ShareStates) (l a b : List ℕ)
-      → IsDoneOr old.log.batches (and_pending old.log.batches old.log.pending) batches → IsDoneOr old.states old.pending states
-      → IsLeftOf conf (shard_with batches states) l a b → IsLeftOf conf old l a b
-  landed_left conf old batches states l a b log_is states_are t = record {
-    batches = batches;
+  landed_left : (conf : PartConfParts) (old : PartShardState) (its : PartitionLog) (states : ShareStates) (l a b : List ℕ)
+      → IsDoneOr (log_at old.log) (and_pending (log_at old.log) old.log.pending) its → IsDoneOr old.states old.pending states
+      → IsLeftOf conf (shard_with its states) l a b → IsLeftOf conf old l a b
+  landed_left conf old its states l a b log_is states_are t = record {
+    is = its;
     states = states;
     log_is = log_is;
     states_are = states_are;
     text =
-        subst (λ (bs : List LogBatch). ArePartText conf l a b bs states) (done batches t.batches t.log_is)
-        (subst (λ (ss : ShareStates). ArePartText conf l a b t.batches ss) (done states t.states t.states_are) t.text);
+        subst (λ (x : PartitionLog). ArePartText conf l a b x states) (done its t.is t.log_is)
+        (subst (λ (ss : ShareStates). ArePartText conf l a b t.is ss) (done states t.states t.states_are) t.text);
   }
     where
       done : {S : Type 0} (x y : S) → IsDoneOr x None y → y ≡ x
@@ -416,8 +417,8 @@ module _ {D : Type 0} (seen : D → DiskView) where
         second_is = λ i. (second_of (sym is i), part_disk (p.new_is i) StateB);
         alone = record {
           stand = λ l a b on_log on_first on_second. subst (λ (h : Hosted). IsLeftOf h.conf e.shard l a b) (sym k.hosted)
-              (landed_left x.conf e.shard r.batches r.states l a b r.log_is r.states_are
-              (part_left seen x.conf p.is (shard_with r.batches r.states) r.carried l a b on_log on_first on_second));
+              (landed_left x.conf e.shard r.is r.states l a b r.log_is r.states_are
+              (part_left seen x.conf p.is (shard_with r.is r.states) r.carried l a b on_log on_first on_second));
           log_told = r.carried.log.told;
           first_told = r.carried.first.told;
           second_told = r.carried.second.told;

@@ -19,6 +19,7 @@ use Rattle.share_model.specs.declared.visit.Then.TheVariants.{Nothing, Release, 
 use Rattle.share_model.specs.declared.visit.Visit.{Visit}
 use Rattle.share_model.specs.declared.visit.VisitAnswer.{VisitAnswer}
 use Rattle.part_log.specs.Logs.{LogParts}
+use Rattle.part_log.specs.Shards.{log_at}
 use Rattle.share_coord.specs.Parts.{StoreParts}
 use Rattle.share_coord.specs.Holding.{Holds}
 use Rattle.share_coord.specs.States.{states_of}
@@ -243,8 +244,9 @@ module _ {D : Type 0} (seen : D → DiskView) where
     pending_is = k.pending_is;
     held = λ group. k.held group ∙ sym (same.held group);
     clock = k.clock ∙ sym same.clock;
-    hosted = subst (λ (p : PartConfParts). AreHosted p s.log.batches s.states) (sym same.conf) k.hosted;
-    pending_hosted = subst (λ (p : PartConfParts). IsPendingHosted p s.log.batches s.pending) (sym same.conf) k.pending_hosted;
+    hosted = subst (λ (p : PartConfParts). AreHosted p (log_at s.log) s.states) (sym same.conf) k.hosted;
+    pending_hosted = subst (λ (p : PartConfParts). IsPendingHosted p (log_at s.log) s.pending) (sym same.conf) k.pending_hosted;
+    unmarked = k.unmarked;
   }
 
   pub visit_refused : (old new : OpenPart D) (now : ℕ) (visit : Visit) → OnStates old new

@@ -10,7 +10,7 @@ use Rattle.edge_io.specs.Bays.{IsAsTold, SameSlot}
 use Rattle.edge_io.specs.Causes.{Rose}
 use Rattle.edge_io.specs.Disk.{IsTold}
 use Rattle.share_model.specs.ForeignRules.{ShareStates}
-use Rattle.share_model.specs.Logs.{Batch}
+use Rattle.part_log.specs.Starts.{Log as PartitionLog}
 use Rattle.share_part.specs.Hosting.{ArePartText}
 use Rattle.broker_model.specs.Hosted.{Hosted, IsOneOf, disks_of, first_of, log_of, part_disks, second_of}
 use Rattle.broker_core.specs.declared.fault.CoreOpen.{CoreOpen}
@@ -150,8 +150,8 @@ module _ {B D : Type 0} (bay_seen : B → BayView D) (seen : D → DiskView) whe
     -- they were put back behind an opening that was refused
     pub refused_part : (old mid new : B) (log_now first_now second_now : D) (fault : CoreOpen) → GetsAll bay_seen seen three old mid
         → Puts (back log_now first_now second_now) mid new
-        → ((l a b : List ℕ) (batches : List Batch) (states : ShareStates) → (seen log).content ≡ Some l → (seen first).content ≡ Some a → (seen second).content ≡ Some b
-        → ArePartText h.conf l a b batches states → (n : List ℕ) (place : ℕ) → fault ≢ Damaged n place)
+        → ((l a b : List ℕ) (its : PartitionLog) (states : ShareStates) → (seen log).content ≡ Some l → (seen first).content ≡ Some a → (seen second).content ≡ Some b
+        → ArePartText h.conf l a b its states → (n : List ℕ) (place : ℕ) → fault ≢ Damaged n place)
         → (IsTold (seen log).content → IsTold (seen first).content → IsTold (seen second).content → (seen log).armed ≡ Nothing → (seen first).armed ≡ Nothing → (seen second).armed ≡ Nothing
         → fault ≢ Device)
         → ((n : List ℕ) (place : ℕ) → fault ≡ Damaged n place → (l a b : List ℕ) → (seen log).content ≡ Some l → (seen first).content ≡ Some a → (seen second).content ≡ Some b

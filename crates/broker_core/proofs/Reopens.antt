@@ -6,8 +6,9 @@ use Rattle.edge_io.specs.Disk.{IsTold, Within}
 use Rattle.gate_journal.specs.Frames.{StandsAs, StandsFor}
 use Rattle.gate_journal.proofs.Once.{once}
 use Rattle.share_model.specs.ForeignRules.{ShareStates}
-use Rattle.share_model.specs.Logs.{Batch as LogBatch}
-use Rattle.part_log.specs.Logs.{IsLogText, and_pending, frames_of}
+use Rattle.part_log.specs.Logs.{IsLogText, and_pending, frames_of, log_in}
+use Rattle.part_log.specs.Shards.{log_at}
+use Rattle.part_log.specs.Starts.{Log}
 use Rattle.share_coord.specs.States.{AreStates, states_of}
 use Rattle.share_part.specs.Hosting.{ArePartText, PartConfParts}
 use Rattle.share_part.specs.Leaving.{IsLeftOf, IsDoneOr}
@@ -23,11 +24,12 @@ use Rattle.broker_core.proofs.Opening.{AreAlike, one_fault_left, opened_disk, re
 use Rattle.edge_io.specs.Views.{DiskView}
 
 -- they stand for the same log
-pub same_text : (c x : List ℕ) (b : List LogBatch) → AreAlike c x → IsLogText c b → IsLogText x b
+pub same_text : (c x : List ℕ) (b : Log) → AreAlike c x → IsLogText c b → IsLogText x b
 same_text c x b (inl e) h = subst (λ y. IsLogText y b) e h
 same_text c x b (inr f) h = record {
-  frames = subst (λ fs. StandsFor x fs) (once c f.0 (frames_of b) f.1 h.frames) f.2;
-  sound = h.sound;
+  writes = h.writes;
+  frames = subst (λ fs. StandsFor x fs) (once c f.0 (frames_of h.writes) f.1 h.frames) f.2;
+  leads = h.leads;
 }
 
 -- and for the same states
@@ -38,10 +40,10 @@ same_states a b x y states on_first on_second h = record {
   is = h.is;
 }
 
-pub same_part : (conf : PartConfParts) (l x a y b z : List ℕ) (batches : List LogBatch) (states : ShareStates) → AreAlike l x → AreAlike a y → AreAlike b z
-    → ArePartText conf l a b batches states → ArePartText conf x y z batches states
-same_part conf l x a y b z batches states on_log on_first on_second t = record {
-  log_is = same_text l x batches on_log t.log_is;
+pub same_part : (conf : PartConfParts) (l x a y b z : List ℕ) (its : Log) (states : ShareStates) → AreAlike l x → AreAlike a y → AreAlike b z
+    → ArePartText conf l a b its states → ArePartText conf x y z its states
+same_part conf l x a y b z its states on_log on_first on_second t = record {
+  log_is = same_text l x its on_log t.log_is;
   states_are = same_states a b y z states on_first on_second t.states_are;
   hosted = t.hosted;
 }
@@ -88,7 +90,7 @@ module _ {D : Type 0} (seen : D → DiskView) where
       → (seen part.states.journal.first.disk).starved ≡ false → (seen part.states.journal.second.disk).starved ≡ false
       → IsOpenedPart seen conf log first second l a b part
   opened_part conf log first second l a b part is is_first is_second o runs first_runs second_runs fed first_fed second_fed = record {
-    batches = part.log.batches;
+    is = log_in part.log;
     states = states_of part.states.entries;
     carried = record {
       conf_is = o.conf_is;
@@ -113,7 +115,7 @@ module _ {D : Type 0} (seen : D → DiskView) where
       → IsRestartedPart seen choice conf part s new
   restarted_part choice conf part s log first second l a b new k p q r o =
       let t = part_left conf part s k l a b p.was q.was r.was in
-      let e = o.only t.batches t.states t.text in
+      let e = o.only t.is t.states t.text in
       let on_log = restarted_disk seen choice part.log.journal.disk log new.log.journal.disk l p o.on_log in
       let on_first = restarted_disk seen choice part.states.journal.first.disk first new.states.journal.first.disk a q o.on_first in
       let on_second = restarted_disk seen choice part.states.journal.second.disk second new.states.journal.second.disk b r o.on_second in
@@ -121,10 +123,10 @@ module _ {D : Type 0} (seen : D → DiskView) where
         l = l;
         a = a;
         b = b;
-        batches = o.batches;
+        is = o.is;
         states = o.states;
         carried = o.carried;
-        log_is = subst (λ (bs : List LogBatch). IsDoneOr s.log.batches (and_pending s.log.batches s.log.pending) bs) (sym e.0) t.log_is;
+        log_is = subst (λ (l : Log). IsDoneOr (log_at s.log) (and_pending (log_at s.log) s.log.pending) l) (sym e.0) t.log_is;
         states_are = subst (λ (st : ShareStates). IsDoneOr s.states s.pending st) (sym e.1) t.states_are;
         stands = o.stands;
         were = (p.was, q.was, r.was);
@@ -186,11 +188,11 @@ module _ {D : Type 0} (seen : D → DiskView) where
         → PartStandsAlone seen conf s new_log new_first new_second
     not_opened new_log new_first new_second i told first_told second_told = record {
       stand = λ x y z on_log on_first on_second. record {
-        batches = left.batches;
+        is = left.is;
         states = left.states;
         log_is = left.log_is;
         states_are = left.states_are;
-        text = same_part conf l x a y b z left.batches left.states (alike choice part.log.journal.disk log l x p (i.on_log x on_log))
+        text = same_part conf l x a y b z left.is left.states (alike choice part.log.journal.disk log l x p (i.on_log x on_log))
             (alike choice part.states.journal.first.disk first a y q (i.on_first y on_first))
             (alike choice part.states.journal.second.disk second b z r (i.on_second z on_second)) left.text;
       };
@@ -200,18 +202,18 @@ module _ {D : Type 0} (seen : D → DiskView) where
     }
 
     only_memory : (e : CoreOpen)
-        → ((x y z : List ℕ) (batches : List LogBatch) (states : ShareStates) → (seen log).content ≡ Some x → (seen first).content ≡ Some y → (seen second).content ≡ Some z
-        → ArePartText conf x y z batches states → (name : List ℕ) (place : ℕ) → e ≢ fault.Damaged name place)
+        → ((x y z : List ℕ) (its : Log) (states : ShareStates) → (seen log).content ≡ Some x → (seen first).content ≡ Some y → (seen second).content ≡ Some z
+        → ArePartText conf x y z its states → (name : List ℕ) (place : ℕ) → e ≢ fault.Damaged name place)
         → (IsTold (seen log).content → IsTold (seen first).content → IsTold (seen second).content → (seen log).armed ≡ Nothing → (seen first).armed ≡ Nothing → (seen second).armed ≡ Nothing
         → e ≢ fault.Device) → e ≢ fault.Bay → e ≡ fault.NoMemory
     only_memory e recovers sound no_bay =
-        one_fault_left e (recovers l a b left.batches left.states p.is q.is r.is left.text)
+        one_fault_left e (recovers l a b left.is left.states p.is q.is r.is left.text)
         (sound (told_of (seen log).content l p.is) (told_of (seen first).content a q.is) (told_of (seen second).content b r.is) p.disarmed q.disarmed r.disarmed) no_bay
 
     pub part_stays_shut : {T : Type 0} (result : Result T ((D × D × D) × CoreOpen))
         → IfErr result (λ e. PartImagesStandAs seen log first second e.0.0 e.0.1 e.0.2)
-        → ((x y z : List ℕ) (batches : List LogBatch) (states : ShareStates) → (seen log).content ≡ Some x → (seen first).content ≡ Some y → (seen second).content ≡ Some z
-        → ArePartText conf x y z batches states → IfErr result (λ e. (name : List ℕ) (place : ℕ) → e.1 ≢ fault.Damaged name place))
+        → ((x y z : List ℕ) (its : Log) (states : ShareStates) → (seen log).content ≡ Some x → (seen first).content ≡ Some y → (seen second).content ≡ Some z
+        → ArePartText conf x y z its states → IfErr result (λ e. (name : List ℕ) (place : ℕ) → e.1 ≢ fault.Damaged name place))
         → (IsTold (seen log).content → IsTold (seen first).content → IsTold (seen second).content → (seen log).armed ≡ Nothing → (seen first).armed ≡ Nothing → (seen second).armed ≡ Nothing
         → IfErr result (λ e. e.1 ≢ fault.Device)) → IfErr result (λ e. e.1 ≢ fault.Bay)
         → IfErr result (λ e. is_some (seen e.0.0).content ≡ is_some (seen log).content) → IfErr result (λ e. is_some (seen e.0.1).content ≡ is_some (seen first).content)

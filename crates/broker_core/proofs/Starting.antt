@@ -123,15 +123,15 @@ module _ {B D : Type 0} (bay_seen : B → BayView D) (seen : D → DiskView) whe
       let o = all.0.opens (contents (log_of (hosted_slot s))) (contents (first_of (hosted_slot s))) (contents (second_of (hosted_slot s)))
       (ap (λ d. (seen d).content) is_log ∙ l.2) (ap (λ d. (seen d).content) is_first ∙ a.2) (ap (λ d. (seen d).content) is_second ∙ b.2) in
       record {
-        parts = record { hosted = hosted_slot s; shard = shard_with o.batches o.states } ∷ more.parts;
+        parts = record { hosted = hosted_slot s; shard = shard_with o.is o.states } ∷ more.parts;
         zip = (
           record {
             hosted = refl;
-            state = subst (λ (st : PartState D). IsPartState seen s.conf st (shard_with o.batches o.states)) (sym all.0.is_open) o.carried;
+            state = subst (λ (st : PartState D). IsPartState seen s.conf st (shard_with o.is o.states)) (sym all.0.is_open) o.carried;
           },
           more.zip,
         );
-        opens = (record { batches = o.batches; states = o.states; shard = refl; stands = o.stands }, more.opens);
+        opens = (record { log = o.is; states = o.states; shard = refl; stands = o.stands }, more.opens);
         hosts = ap (λ (hs : List Hosted). hosted_slot s ∷ hs) more.hosts;
         known = (
           known_one was (λ st. part_disk st Log) s.state _ _ all.0.on_log.given l.0 all.0.is_open refl (log_of (hosted_slot s)) is_log l.3 o.on_log,
@@ -157,7 +157,7 @@ module _ {B D : Type 0} (bay_seen : B → BayView D) (seen : D → DiskView) whe
       let o = all.0.opens (contents (log_of (hosted_slot s))) (contents (first_of (hosted_slot s))) (contents (second_of (hosted_slot s)))
       (ap (λ d. (seen d).content) (all.0.on_log.as_told l.0 l.1) ∙ l.2) (ap (λ d. (seen d).content) (all.0.on_first.as_told a.0 a.1) ∙ a.2)
       (ap (λ d. (seen d).content) (all.0.on_second.as_told b.0 b.1) ∙ b.2) in
-      ((o.batches, o.states, o.stands), had_tables contents old new slots (λ name one. tells name (inr (inr (inr one)))) all.1)
+      ((o.is, o.states, o.stands), had_tables contents old new slots (λ name one. tells name (inr (inr (inr one)))) all.1)
 
   before_had_tables : (contents : List ℕ → List ℕ) (hosted : List Hosted) (old : B) (slots : List (PartSlot D)) (mid : B) → AreDistinct (part_disks hosted)
       → Before hosted old slots mid → TellsThese bay_seen seen (part_disks hosted) old contents → AllByRecursion (StandsForTables contents) hosted

@@ -15,6 +15,7 @@ use Rattle.foreign_coord.specs.Once.{HasRisen}
 use Rattle.foreign_coord.specs.Shards.{ForeignShardState, Carries as CarriesForeign, StepsForeign}
 use Rattle.lock_index.specs.Windows.{WindowParts}
 use Rattle.share_part.specs.Hosting.{PartConfParts}
+use Rattle.part_log.specs.Logs.{log_in}
 use Rattle.share_part.specs.Shards.{PartParts, PartShardState, Carries, shard_with}
 use Rattle.broker_model.specs.Acting.{Begun, EndsGoOn, HalvesOn, StepsOn}
 use Rattle.broker_model.specs.Hosted.{state_a, same_name}
@@ -100,7 +101,7 @@ pub record IsPartCarried {D : Type 0} (seen : D → DiskView)
 -- It stands for the log and the tables that it has in memory, whether its disks tell their contents or not: nothing is pending or held, and its
 -- clock is 0.
 abbrev pub IsFresh : {D : Type 0} → (D → DiskView) → OpenPart D → Type 0
-IsFresh seen part = Carries seen holding part (shard_with part.log.batches (states_of part.states.entries))
+IsFresh seen part = Carries seen holding part (shard_with (log_in part.log) (states_of part.states.entries))
 
 -- its three disks go on
 pub record PartGoesOn {D : Type 0} (seen : D → DiskView) (old new : OpenPart D) : Type 0 where

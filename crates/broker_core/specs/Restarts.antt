@@ -11,8 +11,9 @@ use Rattle.edge_io.specs.Disk.{IsTold}
 use Rattle.edge_io.specs.Names.{hosted_name}
 use Rattle.gate_journal.specs.Frames.{StandsAs}
 use Rattle.share_model.specs.ForeignRules.{ShareStates}
-use Rattle.share_model.specs.Logs.{Batch}
 use Rattle.part_log.specs.Logs.{and_pending}
+use Rattle.part_log.specs.Shards.{log_at}
+use Rattle.part_log.specs.Starts.{Log}
 use Rattle.share_coord.specs.Parts.{StoreParts}
 use Rattle.share_coord.specs.Stored.{AreDamaged}
 use Rattle.foreign_coord.specs.Shards.{ForeignShardState}
@@ -76,8 +77,8 @@ IsDamagedPart h log first second name place =
 
 -- the contents of a partition's three disks, by their names, stand for a log and tables
 abbrev pub StandsForTables : (List ℕ → List ℕ) → Hosted → Type 0
-StandsForTables contents h = (batches : List Batch) × (states : ShareStates)
-    × ArePartText h.conf (contents (log_of h)) (contents (first_of h)) (contents (second_of h)) batches states
+StandsForTables contents h = (log : Log) × (states : ShareStates)
+    × ArePartText h.conf (contents (log_of h)) (contents (first_of h)) (contents (second_of h)) log states
 
 -- This disk of the broker stands for nothing, by this place: one of a partition, or of foreign state, behind partitions whose disks stand for
 -- logs and tables. The partitions come in the order of the configuration, and foreign state last.
@@ -118,11 +119,11 @@ pub record IsNotRestarted {D : Type 0} (seen : D → DiskView) (shard : ForeignS
 -- or held and the clock at 0.
 pub record IsOpenedPart {D : Type 0} (seen : D → DiskView) (conf : PartConfParts)
     (log first second : D) (l a b : List ℕ) (part : OpenPart D) : Type 0 where
-  pub batches : List Batch
+  pub is : Log
   pub states : ShareStates
-  pub carried : IsPartCarried seen conf part (shard_with batches states)
-  pub stands : ArePartText conf l a b batches states
-  pub only : (other : List Batch) (others : ShareStates) → ArePartText conf l a b other others → (batches ≡ other) × (states ≡ others)
+  pub carried : IsPartCarried seen conf part (shard_with is states)
+  pub stands : ArePartText conf l a b is states
+  pub only : (other : Log) (others : ShareStates) → ArePartText conf l a b other others → (is ≡ other) × (states ≡ others)
   pub on_log : IsOpenedDisk (facts_of seen log) (facts_of seen part.log.journal.disk)
   pub on_first : IsOpenedDisk (facts_of seen first) (facts_of seen part.states.journal.first.disk)
   pub on_second : IsOpenedDisk (facts_of seen second) (facts_of seen part.states.journal.second.disk)
@@ -156,12 +157,12 @@ pub record IsRestartedPart {D : Type 0} (seen : D → DiskView)
   pub l : List ℕ
   pub a : List ℕ
   pub b : List ℕ
-  pub batches : List Batch
+  pub is : Log
   pub states : ShareStates
-  pub carried : IsPartCarried seen conf new (shard_with batches states)
-  pub log_is : IsDoneOr shard.log.batches (and_pending shard.log.batches shard.log.pending) batches
+  pub carried : IsPartCarried seen conf new (shard_with is states)
+  pub log_is : IsDoneOr (log_at shard.log) (and_pending (log_at shard.log) shard.log.pending) is
   pub states_are : IsDoneOr shard.states shard.pending states
-  pub stands : ArePartText conf l a b batches states
+  pub stands : ArePartText conf l a b is states
   pub were : (seen old.log.journal.disk).image l × (seen old.states.journal.first.disk).image a × (seen old.states.journal.second.disk).image b
   pub log_lost : (seen new.log.journal.disk).losses ≡ (seen old.log.journal.disk).losses ++ (choice, l) ∷ []
   pub first_lost : (seen new.states.journal.first.disk).losses ≡ (seen old.states.journal.first.disk).losses ++ (choice, a) ∷ []

@@ -6,7 +6,7 @@ ghost use Rattle.edge_io.specs.Causes.{Rose};
 ghost use Rattle.edge_io.specs.Disk.{IsTold};
 ghost use Rattle.edge_io.specs.Names.{IsTopicName, hosted_name};
 ghost use Rattle.share_model.specs.ForeignRules.{ShareStates, share_state_at};
-ghost use Rattle.share_model.specs.Logs.{Batch};
+ghost use Rattle.part_log.specs.Starts.{Log};
 ghost use Rattle.share_model.specs.declared.visit.ExpireAnswer.{ExpireAnswer};
 ghost use Rattle.share_model.specs.declared.visit.VisitAnswer.{VisitAnswer};
 ghost use Rattle.call_fold.specs.Parts.{HasTellableBase, IsTellableLook, IsTellableVisit};
@@ -180,8 +180,8 @@ pub fn open_part<D: Disk>(
         IsOpenedPart D.seen conf disks.0 disks.1 disks.2 l a b part) }
     ensures fresh { IfOk result (IsFresh D.seen) }
     // Contents that stand for a log and tables are opened, where memory is found and nothing is armed; and these come.
-    ensures recovers { (l a b : List ℕ) (batches : List Batch) (states : ShareStates) → (D.seen disks.0).content ≡ Some l → (D.seen disks.1).content ≡ Some a →
-        (D.seen disks.2).content ≡ Some b → ArePartText conf l a b batches states →
+    ensures recovers { (l a b : List ℕ) (log : Log) (states : ShareStates) → (D.seen disks.0).content ≡ Some l → (D.seen disks.1).content ≡ Some a →
+        (D.seen disks.2).content ≡ Some b → ArePartText conf l a b log states →
         IfErr result (λ e. (name : List ℕ) (place : ℕ) → e.1 ≢ CoreOpen.Damaged name place) }
     ensures sound { IsTold (D.seen disks.0).content → IsTold (D.seen disks.1).content → IsTold (D.seen disks.2).content →
         (D.seen disks.0).armed ≡ Nothing → (D.seen disks.1).armed ≡ Nothing → (D.seen disks.2).armed ≡ Nothing → IfErr result (λ e. e.1 ≢ CoreOpen.Device) }

@@ -33,7 +33,7 @@ use Rattle.share_model.specs.declared.visit.ThenOutcome.{ThenOutcome}
 use Rattle.share_model.specs.declared.visit.ThenOutcome.TheVariants.{Done as followed, Store as then_store}
 use Rattle.share_model.specs.declared.visit.Visit.{Visit}
 use Rattle.share_model.specs.declared.visit.VisitAnswer.{VisitAnswer}
-use Rattle.part_log.specs.Shards.{LogShardState}
+use Rattle.part_log.specs.Shards.{LogShardState, log_at}
 use Rattle.part_log.proofs.Rising.{end_more}
 use Rattle.share_part.specs.Acknowledging.{Acknowledges, AreSettled, IsActedOn, StoresActs}
 use Rattle.share_part.specs.Expiring.{StepsGroups, ending}
@@ -242,11 +242,11 @@ module _ (o : ℕ) (row : Row) (closed : is_closed_state row.state ≡ true) whe
       other_group none k one = subst (KeptIn o row log) (ap (λ (g : List ℕ). table_at conf a.states g) (sym one) ∙ none) k.now
 
       new_keeps : (states : ShareStates) → table_at conf a.states visit.group ≡ None → IsStill a
-          → states ≡ insert_entry key_cmp a.states (key_of conf visit.group) (new_state conf (end_of a.log.batches)) → Kept states
+          → states ≡ insert_entry key_cmp a.states (key_of conf visit.group) (new_state conf (log_at a.log)) → Kept states
       new_keeps states none k is = ⊎_elim
           (λ one. absurd (other_group none k one.0))
           (λ other. subst (KeptIn o row log) (sym (ap (λ (x : ShareStates). table_at conf x group) is ∙ other)) k.now)
-          (table_set conf a.states visit.group group (new_state conf (end_of a.log.batches)))
+          (table_set conf a.states visit.group group (new_state conf (log_at a.log)))
 
       made_keeps : (limits : Limits) (t : ThenOutcome) → table_at conf a.states visit.group ≡ None → MakesTable conf told rose end a visit limits answer b t
           → IsStill a → IsStill b

@@ -6,8 +6,10 @@ use Rattle.share_model.specs.Logs.{Batch as LogBatch}
 use Rattle.share_model.specs.declared.fault.StoreFault.TheVariants.{Device, Full}
 use Rattle.rec_batch.specs.Placing.{placed}
 use Rattle.part_log.specs.Batches.{batch_in}
+use Rattle.part_log.specs.Starts.{Log, LogWrite, with_write}
+use Rattle.part_log.specs.Starts.LogWrite.{Adds, Marks}
 use Rattle.part_log.specs.Logs.{and_pending}
-use Rattle.part_log.specs.Shards.{LogShardState, StepsLog}
+use Rattle.part_log.specs.Shards.{LogShardState, StepsLog, log_at}
 use Rattle.share_part.specs.Leaving.{IsDoneOr}
 use Rattle.share_part.specs.Shards.{PartShardState}
 use Rattle.topic_conf.specs.Configs.{ConfigParts}
@@ -101,15 +103,16 @@ module _ (counts : Counts) (ends : Ends) where
 some_is : {A : Type 0} (a b : A) → ◌≡◌ {A = Option A} (Some a) (Some b) → a ≡ b
 some_is a b e = cc
 
-landed : (log : List LogBatch) (pending : Option LogBatch) (new : List LogBatch) → IsDoneOr log (and_pending log pending) new
-    → (more : List LogBatch) × (new ≡ log ++ more)
-landed log pending new (inl is) = ([], is ∙ sym (append-nil log))
+landed : (log : Log) (pending : Option LogWrite) (new : Log) → IsDoneOr log (and_pending log pending) new
+    → (more : List LogBatch) × (new.batches ≡ log.batches ++ more)
+landed log pending new (inl is) = ([], ap (λ (l : Log). l.batches) is ∙ sym (append-nil log.batches))
 landed log None new (inr is) = absurd (let clash : ⊥ = cc in clash)
-landed log (Some b) new (inr is) = (b ∷ [], sym (some_is (log ++ b ∷ []) new is))
+landed log (Some (Adds b)) new (inr is) = (b ∷ [], ap (λ (l : Log). l.batches) (sym (some_is (with_write log (Adds b)) new is)))
+landed log (Some (Marks n)) new (inr is) = ([], ap (λ (l : Log). l.batches) (sym (some_is (with_write log (Marks n)) new is)) ∙ sym (append-nil log.batches))
 
 lands_one : (x y : HostedPart) → LandsPart x y → GoesOnAs x y
 lands_one x y p =
-    let g = landed x.shard.log.batches x.shard.log.pending p.batches p.log_is in
+    let g = landed (log_at x.shard.log) x.shard.log.pending p.log p.log_is in
     record { more = g.0; hosted = p.hosted; batches = ap (λ (s : PartShardState). s.log.batches) p.shard ∙ g.1 }
 
 lands_grow : (old new : List HostedPart) → AllZip LandsPart old new → Grow old new

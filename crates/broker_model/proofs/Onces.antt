@@ -12,7 +12,7 @@ use Rattle.rec_batch.specs.declared.form.Form.TheVariants.{Produced as ProducedF
 use Rattle.share_model.specs.ForeignRules.{share_state_at}
 use Rattle.share_model.specs.Held.{Held}
 use Rattle.share_model.specs.Keys.{key_cmp}
-use Rattle.share_model.specs.Logs.{Batch as LogBatch, end_of}
+use Rattle.share_model.specs.Logs.{Batch as LogBatch}
 use Rattle.share_model.specs.ForeignRules.{ShareStates}
 use Rattle.share_model.specs.ShareStates.{ShareState}
 use Rattle.share_model.specs.declared.ack.AckFault.{AckFault}
@@ -30,7 +30,7 @@ use Rattle.share_model.specs.declared.visit.ThenOutcome.TheVariants.{Done as fol
 use Rattle.share_model.specs.declared.visit.Visit.{Visit}
 use Rattle.share_model.specs.declared.visit.VisitAnswer.{VisitAnswer}
 use Rattle.share_model.proofs.OneList.{one_list}
-use Rattle.part_log.specs.Shards.{LogShardState, StepsLog}
+use Rattle.part_log.specs.Shards.{LogShardState, StepsLog, log_at}
 use Rattle.share_part.specs.Acknowledging.{Acknowledges, AreSettled, StoresActs}
 use Rattle.share_part.specs.Expiring.{StepsGroups, due_count, ending, more_freed}
 use Rattle.share_part.specs.Following.{Acquires, Does, Fetches, FetchesFirst, Follows, MakesTable, Reading, fault_of, releases_of}
@@ -231,7 +231,7 @@ module _ (conf : PartConfParts) (rose also : Type 0) (end at : ℕ) (a : PartSha
 
   first_once : (limits : Limits) → FetchesFirst conf true a visit limits answer one → FetchesFirst conf true a visit limits told other → IsThen
   first_once limits p q =
-      let t = acquires_once (new_state conf (end_of a.log.batches)) limits p.acquires q.acquires in
+      let t = acquires_once (new_state conf (log_at a.log)) limits p.acquires q.acquires in
       record {
         outcome = outcomes;
         grants = t.grants;
@@ -334,7 +334,7 @@ log_once : (rose also : Type 0) (end there : ℕ) (old one other : LogShardState
     → (produced ≡ told) × (one ≡ other)
 log_once rose also end there old one other batch (Base base) (Base more) n m p q = (
   ap (λ (b : ℕ). Base b) (p.base_is ∙ sym q.base_is),
-  λ i. record { batches = (p.batches ∙ sym q.batches) i; pending = (p.nothing ∙ sym q.nothing) i },
+  λ i. record { batches = (p.batches ∙ sym q.batches) i; start = (p.start ∙ sym q.start) i; pending = (p.nothing ∙ sym q.nothing) i },
 )
 log_once rose also end there old one other batch (Base base) (Batch fault) n m p q = absurd (p.form fault q.0)
 log_once rose also end there old one other batch (Base base) (Store fault) n m p q = absurd (none_not fault (sym m))

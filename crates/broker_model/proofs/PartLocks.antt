@@ -7,7 +7,7 @@ use Rattle.edge_io.specs.Causes.{Rose}
 use Rattle.ack_ranges.specs.Batches.{kind_at}
 use Rattle.share_model.specs.ForeignRules.{share_state_at}
 use Rattle.share_model.specs.Held.{Held, hold_at}
-use Rattle.share_model.specs.Logs.{end_of}
+use Rattle.part_log.specs.Shards.{log_at}
 use Rattle.share_model.specs.ShareStates.{ShareState}
 use Rattle.share_model.specs.declared.ack.AckKind.{AckKind}
 use Rattle.share_model.specs.declared.fault.StoreFault.TheVariants.{Device, Full}
@@ -74,7 +74,7 @@ module _ (conf : PartConfParts) (told : Bool) (rose : Type 0) (end : ℕ) (a : P
 
   made_keep : (o : ThenOutcome) → MakesTable conf told rose end a visit limits answer b o → (other : List ℕ) (offset : ℕ) (hold : Hold)
       → hold_in a other offset ≡ Some hold → hold_in b other offset ≡ Some hold
-  made_keep followed p other offset hold at = acquires_keep (new_state conf (end_of a.log.batches)) p.acquires other offset hold at
+  made_keep followed p other offset hold at = acquires_keep (new_state conf (log_at a.log)) p.acquires other offset hold at
   made_keep (then_store Device) p other offset hold at = ap (λ (h : List ℕ → Held). hold_at (h other) offset) p.2.held ∙ at
   made_keep (then_store (Full place)) p other offset hold at = ap (λ (h : List ℕ → Held). hold_at (h other) offset) p.2.held ∙ at
 
@@ -110,7 +110,7 @@ module _ (conf : PartConfParts) (told : Bool) (rose : Type 0) (end : ℕ) (a : P
 
   made_grant : (t : ThenOutcome) → MakesTable conf told rose end a visit limits answer b t → (o : ℕ) (g : Grant) → IsOf answer.grants g → g.first ≤ o → o ≤ g.last
       → IsNew o
-  made_grant followed p o g is low high = acquires_grant (new_state conf (end_of a.log.batches)) p.acquires o g is low high
+  made_grant followed p o g is low high = acquires_grant (new_state conf (log_at a.log)) p.acquires o g is low high
   made_grant (then_store Device) p o g is low high = none_granted o g p.1.grants is
   made_grant (then_store (Full place)) p o g is low high = none_granted o g p.1.grants is
 

@@ -32,7 +32,10 @@ use Rattle.share_model.specs.declared.visit.ThenOutcome.TheVariants.{Done as fol
 use Rattle.share_model.specs.declared.visit.Visit.{Visit}
 use Rattle.share_model.specs.declared.visit.VisitAnswer.{VisitAnswer}
 use Rattle.part_log.specs.Logs.{and_pending}
-use Rattle.part_log.specs.Shards.{LogShardState, StepsLog}
+use Rattle.part_log.specs.Shards.{LogShardState, StepsLog, log_at}
+use Rattle.part_log.specs.Starts.{Log, LogWrite, with_write}
+use Rattle.part_log.specs.Starts.LogWrite.{Adds, Marks}
+use Rattle.part_log.proofs.Writes.{text_is_sound}
 use Rattle.part_log.proofs.Frames.{bounds}
 use Rattle.part_log.proofs.Rising.{end_from, end_more, rises_more}
 use Rattle.share_part.specs.Acknowledging.{Acknowledges, AreSettled, StoresActs}
@@ -138,11 +141,12 @@ log_goes rose end old new batch (Store (Full at)) p = log_stays old.batches new.
 log_same : (old new : PartShardState) → new.log ≡ old.log → LogGoes old.log.batches new.log.batches
 log_same old new is = log_stays old.log.batches new.log.batches (ap (λ (l : LogShardState). l.batches) is)
 
-landed_log : (log : List LogBatch) (pending : Option LogBatch) (new : List LogBatch) → IsDoneOr log (and_pending log pending) new
-    → (new ≡ log) ⊎ ((b : LogBatch) × (new ≡ log ++ b ∷ []))
-landed_log log pending new (inl is) = inl is
+landed_log : (log : Log) (pending : Option LogWrite) (new : Log) → IsDoneOr log (and_pending log pending) new
+    → (new.batches ≡ log.batches) ⊎ ((b : LogBatch) × (new.batches ≡ log.batches ++ b ∷ []))
+landed_log log pending new (inl is) = inl (ap (λ (l : Log). l.batches) is)
 landed_log log None new (inr is) = absurd (none_not new is)
-landed_log log (Some b) new (inr is) = inr (b, sym (some_same (log ++ b ∷ []) new is))
+landed_log log (Some (Adds b)) new (inr is) = inr (b, ap (λ (l : Log). l.batches) (sym (some_same (with_write log (Adds b)) new is)))
+landed_log log (Some (Marks n)) new (inr is) = inl (ap (λ (l : Log). l.batches) (sym (some_same (with_write log (Marks n)) new is)))
 
 -- ---- the table of a group
 
@@ -300,8 +304,8 @@ module _ (o : ℕ) where
         p.2.pending
 
     -- a new table begins at its start
-    no_row : (conf_of : PartConfParts) (end : ℕ) → IsClosedRow o (Some (new_state conf_of end)) → ⊥
-    no_row conf_of end closed = true≢false (sym closed)
+    no_row : (conf_of : PartConfParts) (log : Log) → IsClosedRow o (Some (new_state conf_of log)) → ⊥
+    no_row conf_of log closed = true≢false (sym closed)
 
     made_so : (told : Bool) (rose : Type 0) (end : ℕ) (a : PartShardState) (visit : Visit) (limits : Limits) (answer : VisitAnswer) (b : PartShardState) (t : ThenOutcome)
         → table_at conf a.states visit.group ≡ None → (table_at conf a.states group ≡ None → IsBelow o (table_at conf b.states group) → Reason)
@@ -309,13 +313,13 @@ module _ (o : ℕ) where
     made_so told rose end a visit limits answer b followed none cause p r = record {
       now = λ passed. ⊎_elim
           (λ one.
-          let fresh : table_at conf b.states group ≡ Some (new_state conf (end_of a.log.batches)) = ap (λ (x : ShareStates). table_at conf x group) p.states ∙ one.1 in
+          let fresh : table_at conf b.states group ≡ Some (new_state conf (log_at a.log)) = ap (λ (x : ShareStates). table_at conf x group) p.states ∙ one.1 in
           ⊎_elim
           (λ below. cause (ap (λ (g : List ℕ). table_at conf a.states g) (sym one.0) ∙ none) below)
-          (λ closed. absurd (no_row conf (end_of a.log.batches) (subst (IsClosedRow o) fresh closed)))
+          (λ closed. absurd (no_row conf (log_at a.log) (subst (IsClosedRow o) fresh closed)))
           passed)
           (λ other. r.now (subst Passed (ap (λ (x : ShareStates). table_at conf x group) p.states ∙ other) passed))
-          (table_set conf a.states visit.group group (new_state conf (end_of a.log.batches)));
+          (table_set conf a.states visit.group group (new_state conf (log_at a.log)));
       lost = nothing_lost b p.nothing;
     }
     made_so told rose end a visit limits answer b (then_store (Full at)) none cause p r = still a b p.2.states p.2.pending r
@@ -327,17 +331,17 @@ module _ (o : ℕ) where
               let is : _ ≡ found = sym own.2 ∙ some_same own.0 found (sym own.1 ∙ at) in
               ⊎_elim
               (λ one.
-              let fresh : table_at conf found group ≡ Some (new_state conf (end_of a.log.batches)) =
+              let fresh : table_at conf found group ≡ Some (new_state conf (log_at a.log)) =
               sym (ap (λ (x : ShareStates). table_at conf x group) is) ∙ one.1 in
               ⊎_elim
               (λ below. inr (
                 ap (λ (x : ShareStates). table_at conf x group) p.2.states ∙ ap (λ (g : List ℕ). table_at conf a.states g) (sym one.0) ∙ none,
                 below,
               ))
-              (λ closed. absurd (no_row conf (end_of a.log.batches) (subst (IsClosedRow o) fresh closed)))
+              (λ closed. absurd (no_row conf (log_at a.log) (subst (IsClosedRow o) fresh closed)))
               passed)
               (λ other. inl (r.now (subst Passed (sym (ap (λ (x : ShareStates). table_at conf x group) is) ∙ other) passed)))
-              (table_set conf a.states visit.group group (new_state conf (end_of a.log.batches)));
+              (table_set conf a.states visit.group group (new_state conf (log_at a.log)));
         })
         p.2.pending
 
@@ -572,12 +576,12 @@ pub goes_log : (n : ℕ) (s : Step) (x y : HostedPart) → Goes n s x y → LogG
 goes_log n s x y (inl same) = log_stays x.shard.log.batches y.shard.log.batches (ap (λ (p : HostedPart). p.shard.log.batches) same)
 goes_log n s x y (inr (inl c)) = part_log s c.now c.hosted x.shard y.shard c.did c.step.step
 goes_log n s x y (inr (inr lost)) =
-    let is : y.shard.log.batches ≡ lost.lands.batches = ap (λ (z : PartShardState). z.log.batches) lost.lands.shard in
-    let opened : y.shard.log.batches ≡ lost.opens.batches = ap (λ (z : PartShardState). z.log.batches) lost.opens.shard in
+    let is : y.shard.log.batches ≡ lost.lands.log.batches = ap (λ (z : PartShardState). z.log.batches) lost.lands.shard in
+    let opened : y.shard.log.batches ≡ lost.opens.log.batches = ap (λ (z : PartShardState). z.log.batches) lost.opens.shard in
     record {
       same_or_more = ⊎_elim (λ same. inl (is ∙ same)) (λ more. inr (more.0, is ∙ more.1))
-          (landed_log x.shard.log.batches x.shard.log.pending lost.lands.batches lost.lands.log_is);
-      still = λ was. subst IsLog (sym opened) lost.opens.stands.log_is.sound.rises;
+          (landed_log (log_at x.shard.log) x.shard.log.pending lost.lands.log lost.lands.log_is);
+      still = λ was. subst IsLog (sym opened) (text_is_sound _ lost.opens.log lost.opens.stands.log_is).rises;
     }
 
 module _ (conf : ConfigParts) (n : ℕ) where
@@ -643,7 +647,7 @@ opened_well : (contents : List ℕ → List ℕ) (parts : List HostedPart) → A
 opened_well contents [] all = tt
 opened_well contents (p ∷ parts) all = (
   (
-    subst IsLog (sym (ap (λ (z : PartShardState). z.log.batches) all.0.shard)) all.0.stands.log_is.sound.rises,
+    subst IsLog (sym (ap (λ (z : PartShardState). z.log.batches) all.0.shard)) (text_is_sound _ all.0.log all.0.stands.log_is).rises,
     ap (λ (z : PartShardState). z.pending) all.0.shard,
   ),
   opened_well contents parts all.1,

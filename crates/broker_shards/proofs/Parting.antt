@@ -16,6 +16,7 @@ use Rattle.share_model.specs.declared.visit.Visit.{Visit}
 use Rattle.share_model.specs.declared.visit.VisitAnswer.{VisitAnswer}
 use Rattle.gate_journal.specs.declared.writer.Writer.{Writer}
 use Rattle.part_log.specs.Logs.{LogParts, OnlyReads}
+use Rattle.part_log.specs.Shards.{log_at}
 use Rattle.part_log.proofs.Looking.{carries_on}
 use Rattle.share_coord.specs.Parts.{StoreParts}
 use Rattle.share_coord.specs.Holding.{Holds}
@@ -133,8 +134,9 @@ module _ {D W : Type 0} (seen : D → DiskView) (holding : W → Held) (old new 
     pending_is = k.pending_is;
     held = λ group. k.held group ∙ sym (same.held group);
     clock = k.clock ∙ sym same.clock;
-    hosted = subst (λ (p : PartConfParts). AreHosted p s.log.batches s.states) (sym same.conf) k.hosted;
-    pending_hosted = subst (λ (p : PartConfParts). IsPendingHosted p s.log.batches s.pending) (sym same.conf) k.pending_hosted;
+    hosted = subst (λ (p : PartConfParts). AreHosted p (log_at s.log) s.states) (sym same.conf) k.hosted;
+    pending_hosted = subst (λ (p : PartConfParts). IsPendingHosted p (log_at s.log) s.pending) (sym same.conf) k.pending_hosted;
+    unmarked = k.unmarked;
   }
 
   pub visit_refused : (now : ℕ) (visit : Visit)

@@ -4,11 +4,12 @@
 -- the crate that makes it. What is found behind any act stands for the state that the history has then.
 -- For example while a batch is produced, the log of three records is found with or without what was pending, or with the batch, and on the two
 -- disks of the tables nothing new is found.
-use Rattle.std.specs.Prelude.{◌⊎◌, ℕ, List, Some, max}
+use Rattle.std.specs.Prelude.{◌⊎◌, ℕ, Some, max}
 use Rattle.edge_io.specs.Moments.{LeavesOnly}
 use Rattle.edge_io.specs.Views.{DiskView}
 use Rattle.share_model.specs.Held.{Held}
 use Rattle.part_log.specs.Shards.{IsLogOf, at_end}
+use Rattle.part_log.specs.Starts.LogWrite.{Adds}
 use Rattle.share_coord.specs.Parts.{StoreParts}
 use Rattle.share_part.specs.Following.{HasNothingToWrite}
 use Rattle.share_part.specs.Once.{IsNothingDue}
@@ -25,7 +26,7 @@ FindsNothingNew seen old new = LeavesOnly seen old new (seen old).image
 abbrev pub FoundOnLog : {D W : Type 0} → (D → DiskView) → (W → Held) → PartAsk → PartParts D W → PartParts D W → Type 0
 FoundOnLog seen holding (asks.Produce batch) old new = (s : PartShardState) → Carries seen holding old s →
     LeavesOnly seen old.log.journal.disk new.log.journal.disk
-    (λ c. IsLogOf s.log c ⊎ IsLogOf (record { batches = s.log.batches; pending = Some (at_end s.log.batches batch) }) c)
+    (λ c. IsLogOf s.log c ⊎ IsLogOf (record { batches = s.log.batches; start = s.log.start; pending = Some (Adds (at_end s.log.batches batch)) }) c)
 FoundOnLog seen holding (asks.Visit visit) old new = FindsNothingNew seen old.log.journal.disk new.log.journal.disk
 FoundOnLog seen holding (asks.Look group) old new = FindsNothingNew seen old.log.journal.disk new.log.journal.disk
 FoundOnLog seen holding asks.Expire old new = FindsNothingNew seen old.log.journal.disk new.log.journal.disk
