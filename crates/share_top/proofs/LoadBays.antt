@@ -1,4 +1,7 @@
 -- A load on the disk of a bay: what is said of the log and its disk is said of the bay's.
+use Rattle.std.specs.Prelude.{map}
+use Rattle.std.proofs.Common.{◌++◌, ⊥, length, length-append}
+use Rattle.std.proofs.lemmas.List.{map-append}
 use Rattle.std.proofs.Common.{◌≡◌, ◌+◌, ◌-◌, ◌<◌, ◌≤◌, ◌^◌, ◌↔◌, inl, inr, ⊎_elim, ℕ, List, [], ◌∷◌, All, Bool, true, false, ◌||◌, Option, Some, None, IfSome, MatchOption, is_some, min, refl, sym, ap, subst, ◌∙◌, arith}
 use Rattle.std.specs.Option.{IsSome}
 use Rattle.std.proofs.lemmas.Bool.{cases_lt}
@@ -7,12 +10,17 @@ use Rattle.edge_io.specs.Bays.{Holds, IsAsTold}
 use Rattle.edge_io.specs.Causes.{Rose}
 use Rattle.edge_io.specs.Moments.{LeavesOnly}
 use Rattle.edge_io.specs.Names.{IsTopicName, hosted_name, most_partitions}
-use Rattle.edge_io.specs.declared.name.DiskPlace.TheVariants.{Log}
-use Rattle.gate_journal.specs.Frames.{StandsAs}
+use Rattle.edge_io.specs.declared.name.DiskPlace.TheVariants.{Log as log_place}
+use Rattle.gate_journal.specs.Frames.{StandsAs, StandsFor, blocks}
+use Rattle.gate_journal.proofs.FrameReads.{blocks_append}
 use Rattle.share_model.specs.Logs.{Batch}
 use Rattle.part_log.specs.declared.fault.OpenFault.{OpenFault}
 use Rattle.part_log.specs.declared.fault.OpenFault.TheVariants as open_fault
-use Rattle.part_log.specs.Logs.{IsLogText, IsNoLogText, LogParts}
+use Rattle.part_log.specs.Logs.{IsLogText, IsNoLogText, Keeps as KeepsLog, Lead, LogParts, frame_of, frames_of, log_in, no_log}
+use Rattle.part_log.specs.Shards.{HasNoRoomAt}
+use Rattle.part_log.specs.Starts.{Log, LogWrite}
+use Rattle.part_log.specs.Starts.LogWrite.{Adds}
+use Rattle.part_log.proofs.Ending.{end_of_stands}
 use Rattle.topic_conf.specs.declared.topic.Topic.{Topic}
 use Rattle.topic_conf.specs.Topics.{IsTopic, partitions}
 use Rattle.topic_conf.proofs.Lists.{partitions_cons, all_front, all_others}
@@ -20,20 +28,20 @@ use Rattle.share_top.specs.declared.status.Status.{Status}
 use Rattle.share_top.specs.declared.status.Status.TheVariants.{Done, Usage, Malformed, ReadFault, WriteFault, Damaged, Device, NoMemory, Listener, Spawner}
 use Rattle.share_top.specs.Changes.{InputChange, OutputChange}
 use Rattle.share_top.specs.Sessions.{WritesFrontOf}
-use Rattle.share_top.specs.Loading.{LoadEnding, IsWhole, IsRefusedSegment, IsBegunSegment, WithLine, WithPlace, IsLoaded, IsNotLoaded, IsLogDisk, OverDisk, IsStored, StoresIn, StaysIn, DamagesIn, DiskCountRose, FailsWithMemory}
-use Rattle.share_top.specs.Loads.{IsGrown, IsLogRefusal}
+use Rattle.share_top.specs.Loading.{LoadEnding, RoomEnding, HasNoRoomIn, IsWhole, IsRefusedSegment, IsBegunSegment, WithLine, WithPlace, IsLoaded, IsNotLoaded, IsLogDisk, OverDisk, IsStored, StoresIn, StaysIn, DamagesIn, DiskCountRose, FailsWithMemory}
+use Rattle.share_top.specs.Loads.{IsGrown, IsLogRefusal, LacksRoom}
 use Rattle.edge_io.specs.Views.{DiskView, BayView}
 
 -- ---- the disk of a shard
 
 module _ (topics : List Topic) (topic : Topic) (others : List Topic) (shard : ℕ) (split : topics ≡ topic ∷ others) where
-  here_disk : shard < topic.parts → IsLogDisk topics shard (hosted_name topic.name shard Log)
+  here_disk : shard < topic.parts → IsLogDisk topics shard (hosted_name topic.name shard log_place)
   here_disk lt = (topic, shard, record { before = []; after = others; topics_are = split; within = lt; shard_is = omega arith }, refl)
 
-  pub here : (text : List ℕ) (result : Option (List ℕ)) → text ≡ topic.name → IfSome result (λ n. n ≡ hosted_name text shard Log)
+  pub here : (text : List ℕ) (result : Option (List ℕ)) → text ≡ topic.name → IfSome result (λ n. n ≡ hosted_name text shard log_place)
       → (IsSome result ↔ (IsTopicName text × (shard < 64))) → All IsTopic topics → partitions topics ≤ most_partitions → shard < topic.parts
       → MatchOption result (partitions topics ≤ shard) (IsLogDisk topics shard)
-  here text (Some name) named some exact each few lt = subst (IsLogDisk topics shard) (sym (some ∙ ap (λ (t : List ℕ). hosted_name t shard Log) named)) (here_disk lt)
+  here text (Some name) named some exact each few lt = subst (IsLogDisk topics shard) (sym (some ∙ ap (λ (t : List ℕ). hosted_name t shard log_place) named)) (here_disk lt)
   here text None named some exact each few lt =
       let is = all_front IsTopic topic others (subst (All IsTopic) split each) in
       let sum = ap partitions split ∙ partitions_cons topic others in
@@ -63,8 +71,9 @@ module _ (topics : List Topic) (topic : Topic) (others : List Topic) (shard : �
 
 -- ---- a table of one kind of endings gives that of another
 
-module _ (input : InputChange) (output : OutputChange) (E F : LoadEnding) (R S : Type 0)
-    (f : (log batches : List Batch) (pending : Option Batch) → E log batches pending → F log batches pending) (g : R → S) where
+module _ (input : InputChange) (output : OutputChange) (E F : LoadEnding) (N M : RoomEnding) (R S : Type 0)
+    (f : (log : Log) (batches : List Batch) (pending : Option Batch) → E log batches pending → F log batches pending)
+    (n : (log : Log) (batches : List Batch) (next : Batch) (at : ℕ) → N log batches next at → M log batches next at) (g : R → S) where
   whole : (Tells : List ℕ → Type 0) → IsWhole input (WithLine E Tells) → IsWhole input (WithLine F Tells)
   whole Tells w = record {
     log = w.log;
@@ -81,7 +90,7 @@ module _ (input : InputChange) (output : OutputChange) (E F : LoadEnding) (R S :
   begun : IsBegunSegment input E → IsBegunSegment input F
   begun b = record { log = b.log; batches = b.batches; pending = b.pending; begins = b.begins; ends = f b.log b.batches b.pending b.ends }
 
-  pub weakens : (status : Status) → IsLoaded input output E R status → IsLoaded input output F S status
+  pub weakens : (status : Status) → IsLoaded input output E N R status → IsLoaded input output F M S status
   weakens Done w = whole (Appends output.held output.held_after) w
   weakens Usage w = w
   weakens Listener w = w
@@ -111,7 +120,7 @@ module _ (input : InputChange) (output : OutputChange) (E F : LoadEnding) (R S :
       next = w.next;
       at = w.at;
       begins = w.begins;
-      no_room = w.no_room;
+      no_room = n w.log w.batches w.next w.at w.no_room;
       ends = f w.log w.batches None w.ends;
     }),
   )
@@ -145,14 +154,46 @@ module _ {B D : Type 0} (bay_seen : B → BayView D) (seen : D → DiskView)
         (λ c left is has x on. l.each x (counts last (seen first).moment x l.later on))
 
     pub stores : ((d : D) (c : List ℕ) → (seen d).content ≡ Some c → (seen d).image c) → (opened new_log : LogParts D) → last ≡ new_log.journal.disk
-        → ((c : List ℕ) → (seen first).content ≡ Some c → IsLogText c opened.batches)
-        → (log batches : List Batch) (pending : Option Batch) → IsGrown seen opened new_log log batches pending → StoresIn bay_seen seen name old new log batches pending
+        → ((c : List ℕ) → (seen first).content ≡ Some c → IsLogText c (log_in opened))
+        → (log : Log) (batches : List Batch) (pending : Option Batch) → IsGrown seen opened new_log log batches pending → StoresIn bay_seen seen name old new log batches pending
     stores read opened new_log at opens log batches pending h = over (λ d c e left. IsStored seen log batches pending c e left)
         (λ c left is has. record {
           before = subst (IsLogText c) (sym h.was) (opens c is);
           images = λ x on. h.images x (subst (λ (d : D). (seen d).image x) at on);
           read = read last left has;
         })
+
+    pub lacks : (opened : LogParts D) → KeepsLog seen opened None
+        → ((c : List ℕ) → (seen first).content ≡ Some c → IsLogText c (log_in opened))
+        → ((c : List ℕ) (frames : List (List ℕ)) → (seen first).content ≡ Some c → StandsFor c frames → opened.journal.end ≡ length (blocks frames) + 1)
+        → (log : Log) (batches : List Batch) (next : Batch) (at : ℕ) → LacksRoom opened log batches next at → HasNoRoomIn bay_seen seen name old log batches next at
+    lacks opened kept opens ends log batches next at h = by (seen first).content refl where
+      with_these : (writes : List LogWrite) → Lead no_log writes (log_in opened) → opened.journal.end ≡ length (blocks (frames_of writes)) + 1
+          → ((d : D) (c : List ℕ) → (bay_seen old).disk name ≡ Some d → (seen d).content ≡ Some c → StandsFor c (frames_of writes))
+          → HasNoRoomIn bay_seen seen name old log batches next at
+      with_these writes leads end on_disk =
+          let more = frames_of (map Adds batches) in
+          let sum : length (blocks (frames_of (writes ++ map Adds batches))) ≡ length (blocks (frames_of writes)) + length (blocks (frames_of (map Adds batches))) =
+          ap (λ (l : List (List ℕ)). length (blocks l)) (map-append frame_of writes (map Adds batches)) ∙ ap length (blocks_append (frames_of writes) more)
+          ∙ length-append (blocks (frames_of writes)) (blocks more) in
+          let there : opened.journal.end + length (blocks (frames_of (map Adds batches))) ≡ length (blocks (frames_of (writes ++ map Adds batches))) + 1 = omega (arith, end, sum) in
+          record {
+            writes = writes;
+            leads = subst (Lead no_log writes) (sym h.was) leads;
+            none = subst (λ (k : ℕ). HasNoRoomAt k (log.batches ++ batches) next at) there h.none;
+            on_disk = on_disk;
+          }
+
+      by : (o : Option (List ℕ)) → (seen first).content ≡ o → HasNoRoomIn bay_seen seen name old log batches next at
+      by (Some c) is =
+          let text = opens c is in
+          with_these text.writes text.leads (ends c (frames_of text.writes) is text.frames)
+          (λ d x told has.
+          let both : Some c ≡ Some x = sym is ∙ ap (λ d. (seen d).content) (given d told) ∙ has in
+          let same : c ≡ x = cc in
+          subst (λ (y : List ℕ). StandsFor y (frames_of text.writes)) same text.frames)
+      by None is = with_these kept.writes kept.leads (end_of_stands seen opened.journal (frames_of kept.writes) None kept.stands)
+          (λ d x told has. absurd (let never : ◌≡◌ {A = Option (List ℕ)} None (Some x) = sym is ∙ ap (λ d. (seen d).content) (given d told) ∙ has in let clash : ⊥ = cc in clash))
 
   pub damages : (first : D) → IsAsTold ((bay_seen old).disk name) first → (fault : OpenFault)
       → ((place : ℕ) → fault ≡ open_fault.Damaged place → (c : List ℕ) → (seen first).content ≡ Some c → IsNoLogText c place)

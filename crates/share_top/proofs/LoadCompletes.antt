@@ -8,6 +8,7 @@ use Rattle.session_script.specs.Script.{longest}
 use Rattle.share_model.specs.Logs.{Batch, RisesFrom, end_of}
 use Rattle.part_log.specs.Batches.{IsStored, batch_in}
 use Rattle.part_log.specs.Logs.{IsLogText, IsStoredLog, MayFollow}
+use Rattle.part_log.specs.Starts.{Log}
 use Rattle.part_log.proofs.Frames.{bounds, only_by}
 use Rattle.part_log.proofs.FrameReads.{text_sound}
 use Rattle.part_log.proofs.Keeping.{logs_once}
@@ -102,12 +103,12 @@ none_refused text log batches others s r =
 
 module _ {B D : Type 0} (bay_seen : B → BayView D) (seen : D → DiskView)
     (name : List ℕ) (old new : B) (input : InputChange) (output : OutputChange)
-    (d : D) (c : List ℕ) (log batches : List Batch) (told : (bay_seen old).disk name ≡ Some d) (has : (seen d).content ≡ Some c) (text : IsLogText c log) where
+    (d : D) (c : List ℕ) (log : Log) (batches : List Batch) (told : (bay_seen old).disk name ≡ Some d) (has : (seen d).content ≡ Some c) (text : IsLogText c log) where
   abbrev Whole : ℕ → Type 0
-  Whole number = IfSome input.left (λ text. IsSegment text log batches → (number ≡ 0) ⊎ ((number ≡ 7) ⊎ (number ≡ 8)))
+  Whole number = IfSome input.left (λ text. IsSegment text log.batches batches → (number ≡ 0) ⊎ ((number ≡ 7) ⊎ (number ≡ 8)))
 
   always : (left : Option (List ℕ)) (number : ℕ) → (number ≡ 0) ⊎ ((number ≡ 7) ⊎ (number ≡ 8))
-      → IfSome left (λ text. IsSegment text log batches → (number ≡ 0) ⊎ ((number ≡ 7) ⊎ (number ≡ 8)))
+      → IfSome left (λ text. IsSegment text log.batches batches → (number ≡ 0) ⊎ ((number ≡ 7) ⊎ (number ≡ 8)))
   always None number h = tt
   always (Some text) number h = λ s. h
 
@@ -125,8 +126,8 @@ module _ {B D : Type 0} (bay_seen : B → BayView D) (seen : D → DiskView)
   completes number Malformed is (inl e) read write =
       let over = e.ends.0 d c told has in
       let same : e.log ≡ log = logs_once c e.log log over.4.before text in
-      some_then input.left (λ text. IsRefused text e.log e.batches) (λ text. IsSegment text log batches → (number ≡ 0) ⊎ ((number ≡ 7) ⊎ (number ≡ 8)))
-      (λ text r s. absurd (none_refused text log batches e.batches s (subst (λ (l : List Batch). IsRefused text l e.batches) same r))) e.refused
+      some_then input.left (λ text. IsRefused text e.log.batches e.batches) (λ text. IsSegment text log.batches batches → (number ≡ 0) ⊎ ((number ≡ 7) ⊎ (number ≡ 8)))
+      (λ text r s. absurd (none_refused text log.batches batches e.batches s (subst (λ (l : Log). IsRefused text l.batches e.batches) same r))) e.refused
   completes number Malformed is (inr e) read write = absurd e.2
   completes number ReadFault is (inl e) read write = absurd (read e.0)
   completes number ReadFault is (inr e) read write = absurd e.2

@@ -5,32 +5,38 @@ use Rattle.std.proofs.lemmas.List.Concat.{flat_map-append}
 use Rattle.std.specs.Io.KnownBytes.{Consumes, IsAtEnd}
 use Rattle.std.proofs.KnownBytes.{Consumes-trans}
 use Rattle.edge_io.specs.Causes.{Rose}
-use Rattle.gate_journal.specs.Frames.{blocks}
-use Rattle.gate_journal.specs.Journals.{Mends}
-use Rattle.gate_journal.specs.declared.writer.Writer.{Writer}
-use Rattle.gate_journal.specs.declared.writer.Mending.{Mending}
-use Rattle.gate_journal.specs.declared.writer.Mending.TheVariants.{Nothing, Behind, Gate}
+use Rattle.gate_journal.specs.Frames.{behind_gate, blocks}
+use Rattle.gate_journal.proofs.FrameReads.{blocks_append}
+use Rattle.std.proofs.lemmas.List.{map-append}
+use Rattle.std.specs.Prelude.{map}
+use Rattle.std.specs.Int.{w32, to_be_bytes}
 use Rattle.session_script.specs.Script.{longest}
 use Rattle.session_script.specs.Unread.{Unread}
 use Rattle.session_script.specs.Reading.{Takes}
 use Rattle.session_script.specs.Output.{malformed_line}
 use Rattle.share_model.specs.Logs.{Batch, end_of}
 use Rattle.share_model.specs.Pending.{WithPending}
-use Rattle.part_log.specs.Logs.{IsAdded, IsUnwritten, IsLogText, IsStoredLog, LogParts, MayFollow, Keeps as KeepsLog, frames_of}
+use Rattle.part_log.specs.Logs.{IsAdded, IsUnwritten, IsLogText, IsStoredLog, LogParts, MayFollow, Keeps as KeepsLog, frame_of, frames_of, log_in}
+use Rattle.part_log.specs.Starts.{Log, LogWrite, with_write}
+use Rattle.part_log.specs.Starts.LogWrite.{Adds}
+use Rattle.part_log.proofs.Keeping.{keeps_sound}
 use Rattle.part_log.specs.Shards.{HasNoRoomAt}
 use Rattle.part_log.proofs.Rising.{sound_more}
 use Rattle.share_top.specs.declared.load.Stop.{Stop}
 use Rattle.share_top.specs.declared.load.Stop.TheVariants.{Refused, Read, Full, Device, NoMemory}
 use Rattle.share_top.specs.Changes.{InputChange}
 use Rattle.share_top.specs.Segments.{Begins, IsSegment, IsRefused, HasNoBatch, segment_of}
-use Rattle.share_top.specs.Loading.{LoadEnding, IsWhole, IsRefusedSegment, IsBegunSegment, WithLine, WithPlace, loaded_line}
-use Rattle.share_top.specs.Loads.{IsNext, LoadsNext, HasLoaded, IsGrown, AtPlace, LoadsAll}
+use Rattle.share_top.specs.Loading.{LoadEnding, IsWhole, IsRefusedSegment, IsBegunSegment, WithLine, WithPlace, loaded_line, with_batches}
+use Rattle.share_top.specs.Loads.{IsNext, LacksRoom, LoadsNext, HasLoaded, IsGrown, AtPlace, LoadsAll}
 use Rattle.share_top.proofs.SegmentReads.{same_consumes}
 use Rattle.edge_io.specs.Views.{DiskView}
 
 segment_more : (batches : List Batch) (b : Batch) → segment_of (batches ++ b ∷ []) ≡ segment_of batches ++ b.bytes
 segment_more batches b =
     flat_map-append (λ (x : Batch). x.bytes) batches (b ∷ []) ∙ ap (λ (l : List ℕ). segment_of batches ++ l) (append-nil b.bytes)
+
+one_block : (x : List ℕ) → length (blocks (x ∷ [])) ≡ length x + 5
+one_block x = omega (arith, length-append (behind_gate x) [], length-append (to_be_bytes w32 (length x)) x)
 
 pub starts : {D : Type 0} (seen : D → DiskView) (first : LogParts D) (left : Option (List ℕ)) → KeepsLog seen first None
     → HasLoaded seen first first left left (record { place = 0; pending = [] })
@@ -40,7 +46,8 @@ starts seen first left kept = record {
   consumed = same_consumes left;
   parts = refl;
   place = refl;
-  added = sym (append-nil first.batches);
+  added = ap (λ (l : List Batch). record { batches = l; start = first.start }) (sym (append-nil first.batches));
+  end = omega arith;
   kept = kept;
 }
 
@@ -56,18 +63,31 @@ module _ {D : Type 0} (seen : D → DiskView) (first log : LogParts D) (left mid
         ∙ ap (λ (l : List ℕ). segment_of h.batches ++ l) t.parts ∙ sym (append_assoc (segment_of h.batches) b.bytes v.pending)
         ∙ ap (λ (l : List ℕ). l ++ v.pending) (sym (segment_more h.batches b));
     place = let size = ap length (segment_more h.batches b) in let sum = length-append (segment_of h.batches) b.bytes in omega (arith, t.place, h.place, size, sum);
-    added = a.batches ∙ ap (λ (l : List Batch). l ++ b ∷ []) h.added ∙ append_assoc first.batches h.batches (b ∷ []);
+    added =
+        let bs : new.batches ≡ first.batches ++ (h.batches ++ b ∷ []) =
+        a.batches ∙ ap (λ (l : Log). l.batches ++ b ∷ []) h.added ∙ append_assoc first.batches h.batches (b ∷ []) in
+        let at : new.start ≡ first.start = a.start ∙ ap (λ (l : Log). l.start) h.added in
+        λ i. record { batches = bs i; start = at i };
+    end =
+        let more = ap (λ (l : List LogWrite). length (blocks (frames_of l))) (map-append Adds h.batches (b ∷ []))
+        ∙ ap (λ (l : List (List ℕ)). length (blocks l)) (map-append frame_of (map Adds h.batches) (Adds b ∷ []))
+        ∙ ap length (blocks_append (frames_of (map Adds h.batches)) (b.bytes ∷ []))
+        ∙ length-append (blocks (frames_of (map Adds h.batches))) (blocks (b.bytes ∷ [])) in
+        omega (arith, a.end, h.end, more, one_block b.bytes);
     kept = a.kept None h.kept;
   }
 
-  sound : IsStoredLog (first.batches ++ h.batches)
-  sound = subst IsStoredLog h.added h.kept.sound
+  has_batches : log.batches ≡ first.batches ++ h.batches
+  has_batches = ap (λ (l : Log). l.batches) h.added
 
-  pub grown : IsGrown seen first log first.batches h.batches None
+  sound : IsStoredLog (first.batches ++ h.batches)
+  sound = subst IsStoredLog has_batches (keeps_sound seen log None h.kept)
+
+  pub grown : IsGrown seen first log (log_in first) h.batches None
   grown = record {
     was = refl;
     has = h.added;
-    images = λ c on. subst (λ (l : List Batch). WithPending (IsLogText c) l None) h.added (h.kept.images c on);
+    images = λ c on. subst (λ (l : Log). WithPending (IsLogText c) l None) h.added (h.kept.images c on);
   }
 
 -- ---- texts
@@ -98,12 +118,6 @@ some_each (Some more) P h = h more
 pub some_then : (after : Option (List ℕ)) (P Q : List ℕ → Type 0) → ((more : List ℕ) → P more → Q more) → IfSome after P → IfSome after Q
 some_then None P Q f h = tt
 some_then (Some more) P Q f h = f more h
-
--- where the last gate of a journal ends
-end_of_writer : {D : Type 0} (seen : D → DiskView) (w : Writer D) (m : Mending) (frames : List (List ℕ)) → Mends seen w m frames None → w.end ≡ length (blocks frames) + 1
-end_of_writer seen w Nothing frames s = s.1.end
-end_of_writer seen w Behind frames s = s.end
-end_of_writer seen w Gate frames s = absurd (let e = s.1 in cc)
 
 -- ---- the end, or a stop
 
@@ -141,17 +155,17 @@ module _ {D : Type 0} (seen : D → DiskView) (first log new : LogParts D) (left
   at t = omega (arith, t.place, h.place)
 
   has_none : (t : Took) (rest : List ℕ) → HasNoBatch v.place log.batches rest → HasNoBatch (length (segment_of h.batches)) (first.batches ++ h.batches) rest
-  has_none t rest none = subst (λ (n : ℕ). HasNoBatch n (first.batches ++ h.batches) rest) (at t) (subst (λ (l : List Batch). HasNoBatch v.place l rest) h.added none)
+  has_none t rest none = subst (λ (n : ℕ). HasNoBatch n (first.batches ++ h.batches) rest) (at t) (subst (λ (l : Log). HasNoBatch v.place l.batches rest) h.added none)
 
   abbrev Ends : LoadEnding
   Ends log batches pending = IsGrown seen first new log batches pending
 
-  same : new ≡ log → Ends first.batches h.batches None
-  same e = subst (λ (l : LogParts D). IsGrown seen first l first.batches h.batches None) (sym e) (grown seen first log left mid u h)
+  same : new ≡ log → Ends (log_in first) h.batches None
+  same e = subst (λ (l : LogParts D). IsGrown seen first l (log_in first) h.batches None) (sym e) (grown seen first log left mid u h)
 
   pub done : LoadsNext seen log new u v step (Ok false) → IsWhole input Ends
   done (t, none, end, has_ended, e) = record {
-    log = first.batches;
+    log = log_in first;
     batches = h.batches;
     segment = whole_text left after (h.given ++ t.given) (λ text. IsSegment text first.batches h.batches) (all_given t)
         (some_end after (λ more. IsSegment ((h.given ++ t.given) ++ more) first.batches h.batches) end
@@ -161,9 +175,9 @@ module _ {D : Type 0} (seen : D → DiskView) (first log new : LogParts D) (left
     ends = same e;
   }
 
-  begun : (t : Took) → Ends first.batches h.batches None → IsBegunSegment input Ends
+  begun : (t : Took) → Ends (log_in first) h.batches None → IsBegunSegment input Ends
   begun t ends = record {
-    log = first.batches;
+    log = log_in first;
     batches = h.batches;
     pending = None;
     begins = whole_text left after (h.given ++ t.given) (λ text. (rest : List ℕ) × Begins text first.batches (h.batches ++ []) rest) (all_given t)
@@ -174,7 +188,7 @@ module _ {D : Type 0} (seen : D → DiskView) (first log new : LogParts D) (left
 
   begins_next : (t : Took) (b : Batch) (n : IsNext log.batches v b) → IfSome left (λ text. (rest : List ℕ) × Begins text first.batches (h.batches ++ b ∷ []) rest)
   begins_next t b n =
-      let follows = subst (λ (l : List Batch). MayFollow l b) h.added n.follows in
+      let follows = subst (λ (l : Log). MayFollow l.batches b) h.added n.follows in
       let within : length (segment_of h.batches) + length b.bytes ≤ longest = omega (arith, at t, n.within) in
       whole_text left after (h.given ++ t.given) (λ text. (rest : List ℕ) × Begins text first.batches (h.batches ++ b ∷ []) rest) (all_given t)
       (some_each after (λ more. (rest : List ℕ) × Begins ((h.given ++ t.given) ++ more) first.batches (h.batches ++ b ∷ []) rest)
@@ -185,26 +199,29 @@ module _ {D : Type 0} (seen : D → DiskView) (first log new : LogParts D) (left
       )))
 
   -- the write of the batch at the front failed
-  unwritten : (t : Took) (b : Batch) → IsNext log.batches v b → IsUnwritten seen log new b → IsBegunSegment input Ends
+  unwritten : (t : Took) (b : Batch) → IsNext log.batches v b → IsUnwritten seen log new (Adds b) → IsBegunSegment input Ends
   unwritten t b n w = go (w.kept None h.kept) where
-    has : new.batches ≡ first.batches ++ h.batches
-    has = w.batches ∙ h.added
+    still : log_in new ≡ log_in log
+    still = λ i. record { batches = w.batches i; start = w.start i }
 
-    go : KeepsLog seen new None ⊎ KeepsLog seen new (Some b) → IsBegunSegment input Ends
+    has : log_in new ≡ with_batches (log_in first) h.batches
+    has = still ∙ h.added
+
+    go : KeepsLog seen new None ⊎ KeepsLog seen new (Some (Adds b)) → IsBegunSegment input Ends
     go (inl k) = begun t (record {
       was = refl;
       has = has;
-      images = λ c on. subst (λ (l : List Batch). WithPending (IsLogText c) l None) has (k.images c on);
+      images = λ c on. subst (λ (l : Log). WithPending (IsLogText c) l None) has (k.images c on);
     })
     go (inr k) = record {
-      log = first.batches;
+      log = log_in first;
       batches = h.batches;
       pending = Some b;
       begins = begins_next t b n;
       ends = record {
         was = refl;
         has = has;
-        images = λ c on. subst (λ (l : List Batch). WithPending (IsLogText c) l (Some (l ++ b ∷ []))) has (k.images c on);
+        images = λ c on. subst (λ (l : Log). WithPending (IsLogText c) l (Some (with_write l (Adds b)))) has (k.images c on);
       };
     }
 
@@ -212,9 +229,9 @@ module _ {D : Type 0} (seen : D → DiskView) (first log new : LogParts D) (left
   rose a b c le r = omega (arith, le, r)
 
   pub stopped : (stop : Stop) → LoadsNext seen log new u v step (Err stop)
-      → LoadsAll input Ends (Rose (seen first.journal.disk).faults (seen new.journal.disk).faults) (Err stop)
+      → LoadsAll input Ends (LacksRoom first) (Rose (seen first.journal.disk).faults (seen new.journal.disk).faults) (Err stop)
   stopped (Refused place) (t, is, e, none) = record {
-    log = first.batches;
+    log = log_in first;
     batches = h.batches;
     refused = whole_text left after (h.given ++ t.given) (λ text. IsRefused text first.batches h.batches) (all_given t)
         (some_then after (λ more. HasNoBatch v.place log.batches (v.pending ++ more) × (v.pending ++ more ≢ []))
@@ -225,7 +242,7 @@ module _ {D : Type 0} (seen : D → DiskView) (first log new : LogParts D) (left
   stopped Read (t, e, none, r) = (
     rose f g k read r,
     record {
-      log = first.batches;
+      log = log_in first;
       batches = h.batches;
       given = h.given ++ t.given;
       consumed = all_given t;
@@ -234,15 +251,17 @@ module _ {D : Type 0} (seen : D → DiskView) (first log new : LogParts D) (left
     },
   )
   stopped Full (t, e, (b, end, n, room)) = record {
-    log = first.batches;
+    log = log_in first;
     batches = h.batches;
     next = b;
     at = end;
     begins = begins_next t b n;
-    no_room =
-        let is : log.journal.end ≡ length (blocks (frames_of log.batches)) + 1 = end_of_writer seen log.journal log.journal.mending (frames_of log.batches) h.kept.stands.mends in
-        subst (λ (l : List Batch). HasNoRoomAt (length (blocks (frames_of l)) + 1) l b end) h.added
-        (subst (λ (n : ℕ). HasNoRoomAt n log.batches b end) is room);
+    no_room = record {
+      was = refl;
+      none =
+          subst (λ (n : ℕ). HasNoRoomAt n (first.batches ++ h.batches) b end) h.end
+          (subst (λ (l : Log). HasNoRoomAt log.journal.end l.batches b end) h.added room);
+    };
     ends = same e;
   }
   stopped Device (t, (b, n, w), r) = (rose _ _ _ disks r, unwritten t b n w)
@@ -258,18 +277,18 @@ module _ {D : Type 0} (seen : D → DiskView) (first new : LogParts D) (input : 
   pub with_line : (Tells : List ℕ → Type 0) (before count end : ℕ) → before ≡ length first.batches → count ≡ length new.batches - before → end ≡ end_of new.batches
       → Tells (loaded_line count end) → IsWhole input Grows → IsWhole input (WithLine Grows Tells)
   with_line Tells before count end b c e told w =
-      let size = ap length w.ends.has in
-      let sum = length-append w.log w.batches in
-      let was = ap length w.ends.was in
+      let size = ap (λ (l : Log). length l.batches) w.ends.has in
+      let sum = length-append w.log.batches w.batches in
+      let was = ap (λ (l : Log). length l.batches) w.ends.was in
       let same : count ≡ length w.batches = omega (arith, b, c, size, sum, was) in
-      let at : end ≡ end_of (w.log ++ w.batches) = e ∙ ap end_of w.ends.has in
+      let at : end ≡ end_of (w.log.batches ++ w.batches) = e ∙ ap (λ (l : Log). end_of l.batches) w.ends.has in
       record {
         log = w.log;
         batches = w.batches;
         segment = w.segment;
         whole = w.whole;
         ended = w.ended;
-        ends = (w.ends, subst (λ (n : ℕ). Tells (loaded_line n (end_of (w.log ++ w.batches)))) same (subst (λ (n : ℕ). Tells (loaded_line count n)) at told));
+        ends = (w.ends, subst (λ (n : ℕ). Tells (loaded_line n (end_of (w.log.batches ++ w.batches)))) same (subst (λ (n : ℕ). Tells (loaded_line count n)) at told));
       }
 
   pub with_place : (Tells : List ℕ → Type 0) (place : ℕ) → Tells (malformed_line place) → IsRefusedSegment input (AtPlace place Grows) → IsRefusedSegment input (WithPlace Grows Tells)
@@ -286,8 +305,8 @@ module _ {D : Type 0} (seen : D → DiskView) (first new : LogParts D) (input : 
     log = w.log;
     batches = w.batches;
     pending = None;
-    begins = some_then input.left (λ text. IsSegment text w.log w.batches) (λ text. (rest : List ℕ) × Begins text w.log (w.batches ++ []) rest)
-        (λ text s. ([], subst (λ (l : List Batch). Begins text w.log l []) (sym (append-nil w.batches)) s)) w.segment;
+    begins = some_then input.left (λ text. IsSegment text w.log.batches w.batches) (λ text. (rest : List ℕ) × Begins text w.log.batches (w.batches ++ []) rest)
+        (λ text s. ([], subst (λ (l : List Batch). Begins text w.log.batches l []) (sym (append-nil w.batches)) s)) w.segment;
     ends = w.ends;
   }
 
@@ -296,7 +315,7 @@ module _ {D : Type 0} (seen : D → DiskView) (first new : LogParts D) (input : 
     log = r.log;
     batches = r.batches;
     pending = None;
-    begins = some_then input.left (λ text. IsRefused text r.log r.batches) (λ text. (rest : List ℕ) × Begins text r.log (r.batches ++ []) rest)
-        (λ text s. (s.0, subst (λ (l : List Batch). Begins text r.log l s.0) (sym (append-nil r.batches)) s.1)) r.refused;
+    begins = some_then input.left (λ text. IsRefused text r.log.batches r.batches) (λ text. (rest : List ℕ) × Begins text r.log.batches (r.batches ++ []) rest)
+        (λ text s. (s.0, subst (λ (l : List Batch). Begins text r.log.batches l s.0) (sym (append-nil r.batches)) s.1)) r.refused;
     ends = r.ends.0;
   }

@@ -49,7 +49,7 @@ module _ {B D : Type 0} (bay_seen : B → BayView D) (seen : D → DiskView)
 
   pub hungry_completes : (number : ℕ) → number ≡ 8 → Completes number
   hungry_completes number is conf shard name are at rises read write d c log batches told has text =
-      all_of input.left (λ text. IsSegment text log batches → (number ≡ 0) ⊎ ((number ≡ 7) ⊎ (number ≡ 8))) (λ text s. inr (inr is))
+      all_of input.left (λ text. IsSegment text log.batches batches → (number ≡ 0) ⊎ ((number ≡ 7) ⊎ (number ≡ 8))) (λ text s. inr (inr is))
 
   -- words of a load
   module _ (conf : ConfigParts) (shard : ℕ) (are : AreLoadWords (texts words) conf shard) (status : Status) (number : ℕ) (is : number ≡ status_number status)

@@ -1,20 +1,22 @@
 -- The loading of a segment into the log of one partition (this project's own).
 -- For example a segment of a batch of 69 bytes with base 0 and one of 61 bytes with base 1000000000000 and last delta
 -- 4, loaded into an empty log, ends with status 0 and the line `loaded 2 1000000000005`.
-use Rattle.std.specs.Prelude.{◌≡◌, ◌⊎◌, ◌<◌, ◌≤◌, ◌+◌, ◌-◌, ◌^◌, ℕ, List, [], ◌∷◌, ◌++◌, true, false, Some, None, IfSome, String, length, codes}
+use Rattle.std.specs.Prelude.{◌≡◌, ◌⊎◌, ◌≤◌, ◌+◌, ◌-◌, ◌^◌, ℕ, List, [], ◌∷◌, ◌++◌, true, false, Some, None, IfSome, String, length, map, codes}
 use Rattle.std.specs.declared.option.Option.{Option}
 use Rattle.std.specs.declared.alloc.Global.{Global}
-use Rattle.std.specs.Option.{option_to_list}
+use Rattle.std.specs.Option.{option_map, option_to_list}
 use Rattle.std.specs.Fmt.{decimal}
 use Rattle.std.specs.Io.KnownBytes.{Appends, Keeps, Consumes, IsAtEnd}
 use Rattle.edge_io.specs.Causes.{Rose}
 use Rattle.edge_io.specs.Names.{hosted_name}
-use Rattle.edge_io.specs.declared.name.DiskPlace.TheVariants.{Log}
-use Rattle.gate_journal.specs.Frames.{StandsAs, blocks}
+use Rattle.edge_io.specs.declared.name.DiskPlace.TheVariants.{Log as log_place}
+use Rattle.gate_journal.specs.Frames.{StandsAs, StandsFor, blocks}
 use Rattle.share_model.specs.Logs.{Batch, end_of}
 use Rattle.share_model.specs.Pending.{WithPending}
-use Rattle.part_log.specs.Logs.{IsLogText, IsNoLogText, and_pending, frames_of}
+use Rattle.part_log.specs.Logs.{IsLogText, IsNoLogText, Lead, and_pending, frames_of, no_log}
 use Rattle.part_log.specs.Shards.{HasNoRoomAt}
+use Rattle.part_log.specs.Starts.{Log, LogWrite}
+use Rattle.part_log.specs.Starts.LogWrite.{Adds}
 use Rattle.session_script.specs.Output.{malformed_line, damaged_line}
 use Rattle.topic_conf.specs.declared.topic.Topic.{Topic}
 use Rattle.topic_conf.specs.Configs.{ConfigParts}
@@ -31,61 +33,67 @@ use Rattle.edge_io.specs.Views.{DiskView, BayView}
 abbrev pub loaded_line : ℕ → ℕ → List ℕ
 loaded_line count end = codes "loaded" ++ 32 ∷ (decimal count ++ 32 ∷ (decimal end ++ 10 ∷ []))
 
--- ---- what was read. `Ends` is said of the log at entry, of the batches of the segment that were added to it, and of the one whose write
--- is pending, if one is.
+-- ---- what was read. `Ends` is said of the log at entry, of the batches of the segment that were added to it, and of the
+-- one whose write is pending, if one is.
 
 abbrev pub LoadEnding : Type 1
-LoadEnding = List Batch → List Batch → Option Batch → Type 0
+LoadEnding = Log → List Batch → Option Batch → Type 0
+
+-- `NoRoom` is said of these, of a batch for which there is no room behind them, and of where the log or its journal ends
+abbrev pub RoomEnding : Type 1
+RoomEnding = Log → List Batch → (next : Batch) → (at : ℕ) → Type 0
+
+-- a log with these batches behind it
+abbrev pub with_batches : Log → List Batch → Log
+with_batches log batches = record { batches = log.batches ++ batches; start = log.start }
 
 -- the input, read to its end, is a segment of batches that may stand behind the log
 pub record IsWhole (input : InputChange) (Ends : LoadEnding) : Type 0 where
-  pub log : List Batch
+  pub log : Log
   pub batches : List Batch
-  pub segment : IfSome input.left (λ text. IsSegment text log batches)
+  pub segment : IfSome input.left (λ text. IsSegment text log.batches batches)
   pub whole : IsAtEnd input.left_after
   pub ended : input.ended ≡ true
   pub ends : Ends log batches None
 
 -- behind these batches the input has something that is no batch that may stand there
 pub record IsRefusedSegment (input : InputChange) (Ends : LoadEnding) : Type 0 where
-  pub log : List Batch
+  pub log : Log
   pub batches : List Batch
-  pub refused : IfSome input.left (λ text. IsRefused text log batches)
+  pub refused : IfSome input.left (λ text. IsRefused text log.batches batches)
   pub ends : Ends log batches None
 
 -- these are the batches that stand whole in the bytes that the input gave
 pub record IsCutSegment (input : InputChange) (Ends : LoadEnding) : Type 0 where
-  pub log : List Batch
+  pub log : Log
   pub batches : List Batch
   pub given : List ℕ
   pub consumed : Consumes input.left input.left_after given
-  pub whole : StandWhole given log batches
+  pub whole : StandWhole given log.batches batches
   pub ends : Ends log batches None
 
 -- the input begins with these batches, and with the pending one behind them
 pub record IsBegunSegment (input : InputChange) (Ends : LoadEnding) : Type 0 where
-  pub log : List Batch
+  pub log : Log
   pub batches : List Batch
   pub pending : Option Batch
-  pub begins : IfSome input.left (λ text. (rest : List ℕ) × Begins text log (batches ++ option_to_list pending) rest)
+  pub begins : IfSome input.left (λ text. (rest : List ℕ) × Begins text log.batches (batches ++ option_to_list pending) rest)
   pub ends : Ends log batches pending
 
--- The log has no room for the batch behind these: the batch's offsets reach 2^62, or its frame would end past 2^62
--- bytes behind the log's journal, which ends with a gate, the byte behind the frames. `at` is where the log or the
--- journal ends.
-pub record IsFullSegment (input : InputChange) (Ends : LoadEnding) : Type 0 where
-  pub log : List Batch
+-- the log has no room for the batch behind these
+pub record IsFullSegment (input : InputChange) (Ends : LoadEnding) (NoRoom : RoomEnding) : Type 0 where
+  pub log : Log
   pub batches : List Batch
   pub next : Batch
   pub at : ℕ
-  pub begins : IfSome input.left (λ text. (rest : List ℕ) × Begins text log (batches ++ next ∷ []) rest)
-  pub no_room : HasNoRoomAt (length (blocks (frames_of (log ++ batches))) + 1) (log ++ batches) next at
+  pub begins : IfSome input.left (λ text. (rest : List ℕ) × Begins text log.batches (batches ++ next ∷ []) rest)
+  pub no_room : NoRoom log batches next at
   pub ends : Ends log batches None
 
 -- and of the count of the batches and the log's end
 abbrev pub WithLine : LoadEnding → (List ℕ → Type 0) → LoadEnding
 WithLine Ends Tells log batches pending = Ends log batches pending
-    × Tells (loaded_line (length batches) (end_of (log ++ batches)))
+    × Tells (loaded_line (length batches) (end_of (log.batches ++ batches)))
 
 -- and of the place behind the batches
 abbrev pub WithPlace : LoadEnding → (List ℕ → Type 0) → LoadEnding
@@ -96,28 +104,28 @@ WithPlace Ends Tells log batches pending = Ends log batches pending
 
 -- The log was opened. `Ends` is said of what was read and of the log, and `Rises` says that a count of the disk or the
 -- bay rose.
-abbrev pub IsLoaded : InputChange → OutputChange → LoadEnding → Type 0 → Status → Type 0
+abbrev pub IsLoaded : InputChange → OutputChange → LoadEnding → RoomEnding → Type 0 → Status → Type 0
 -- the batches of the segment were added
-IsLoaded input output Ends Rises Done = IsWhole input (WithLine Ends (Appends output.held output.held_after))
+IsLoaded input output Ends NoRoom Rises Done = IsWhole input (WithLine Ends (Appends output.held output.held_after))
 -- those before the first one that was refused were, and the last line names the first byte of that
-IsLoaded input output Ends Rises Malformed =
+IsLoaded input output Ends NoRoom Rises Malformed =
     IsRefusedSegment input (WithPlace Ends (Appends output.held output.held_after))
 -- those that the input gave whole were
-IsLoaded input output Ends Rises ReadFault = Rose input.faults input.faults_after × Keeps output.held output.held_after
+IsLoaded input output Ends NoRoom Rises ReadFault = Rose input.faults input.faults_after × Keeps output.held output.held_after
     × IsCutSegment input Ends
 -- the output took a front of the last line
-IsLoaded input output Ends Rises WriteFault = Rose output.faults output.faults_after
+IsLoaded input output Ends NoRoom Rises WriteFault = Rose output.faults output.faults_after
     × (IsWhole input (WithLine Ends (λ line. WritesFrontOf line output))
     ⊎ IsRefusedSegment input (WithPlace Ends (λ line. WritesFrontOf line output)))
 -- those before the one that couldn't be stored were, and that one is pending, if one is; or the log has no room for it
-IsLoaded input output Ends Rises Device = Keeps output.held output.held_after
-    × ((Rises × IsBegunSegment input Ends) ⊎ IsFullSegment input Ends)
-IsLoaded input output Ends Rises NoMemory = Keeps output.held output.held_after × IsBegunSegment input Ends
+IsLoaded input output Ends NoRoom Rises Device = Keeps output.held output.held_after
+    × ((Rises × IsBegunSegment input Ends) ⊎ IsFullSegment input Ends NoRoom)
+IsLoaded input output Ends NoRoom Rises NoMemory = Keeps output.held output.held_after × IsBegunSegment input Ends
 -- the others don't come
-IsLoaded input output Ends Rises Damaged = ⊥
-IsLoaded input output Ends Rises Usage = ⊥
-IsLoaded input output Ends Rises Listener = ⊥
-IsLoaded input output Ends Rises Spawner = ⊥
+IsLoaded input output Ends NoRoom Rises Damaged = ⊥
+IsLoaded input output Ends NoRoom Rises Usage = ⊥
+IsLoaded input output Ends NoRoom Rises Listener = ⊥
+IsLoaded input output Ends NoRoom Rises Spawner = ⊥
 
 -- The log was not opened. `Damages` says of a place that the content of the disk isn't a log's, by this place.
 abbrev pub IsNotLoaded : OutputChange → List ℕ → (ℕ → Type 0) → Type 0 → Status → Type 0
@@ -146,7 +154,7 @@ NoneIsOut bay_seen bay = (name : List ℕ) → (bay_seen bay).out name ≡ false
 -- the disk of the log of a shard's partition
 abbrev pub IsLogDisk : List Topic → ℕ → List ℕ → Type 0
 IsLogDisk topics shard name = (topic : Topic) × (number : ℕ) × IsPartitionOf topics shard topic number
-    × (name ≡ hosted_name topic.name number Log)
+    × (name ≡ hosted_name topic.name number log_place)
 
 -- where a bay tells the disk of this name, it tells it behind the call as well
 abbrev pub OverDisk : {B D : Type 0} → (B → BayView D) → (D → DiskView) → List ℕ → B → B
@@ -157,16 +165,28 @@ OverDisk bay_seen seen name old new P = (d : _) (c : List ℕ) → (bay_seen old
 
 -- The disk stood for the log. A crash behind the call leaves the log with these batches, with or without the pending
 -- one; so does a read.
-pub record IsStored {D : Type 0} (seen : D → DiskView) (log batches : List Batch) (pending : Option Batch)
+pub record IsStored {D : Type 0} (seen : D → DiskView) (log : Log) (batches : List Batch) (pending : Option Batch)
     (content : List ℕ) (now : D) (left : List ℕ) : Type 0 where
   pub before : IsLogText content log
   pub images : (c : List ℕ) → (seen now).image c
-      → WithPending (IsLogText c) (log ++ batches) (and_pending (log ++ batches) pending)
+      → WithPending (IsLogText c) (with_batches log batches)
+      (and_pending (with_batches log batches) (option_map Adds pending))
   pub read : (seen now).image left
 
 abbrev pub StoresIn : {B D : Type 0} → (B → BayView D) → (D → DiskView) → List ℕ → B → B → LoadEnding
 StoresIn bay_seen seen name old new log batches pending =
     OverDisk bay_seen seen name old new (λ d c e left. IsStored seen log batches pending c e left)
+
+-- The log's journal, which has the frames of these writes, has no room for the batch behind them and these batches: the
+-- batch's offsets reach 2^62, or its frame would end past 2^62 bytes behind the journal, which ends with a gate, the
+-- byte behind the frames. `at` is where the log or the journal ends.
+pub record HasNoRoomIn {B D : Type 0} (bay_seen : B → BayView D) (seen : D → DiskView) (name : List ℕ) (old : B)
+    (log : Log) (batches : List Batch) (next : Batch) (at : ℕ) : Type 0 where
+  pub writes : List LogWrite
+  pub leads : Lead no_log writes log
+  pub none : HasNoRoomAt (length (blocks (frames_of (writes ++ map Adds batches))) + 1) (log.batches ++ batches) next at
+  pub on_disk : (d : D) (c : List ℕ) → (bay_seen old).disk name ≡ Some d → (seen d).content ≡ Some c →
+      StandsFor c (frames_of writes)
 
 -- a crash behind the call leaves what one before it might have left, or what stands for the same frames
 abbrev pub StaysIn : {B D : Type 0} → (B → BayView D) → (D → DiskView) → List ℕ → B → B → Type 0
@@ -196,7 +216,8 @@ pub record FailsWithMemory {B D : Type 0} (bay_seen : B → BayView D) (seen : D
 abbrev pub IsLoad : {B D : Type 0} → (B → BayView D) → (D → DiskView)
     → List ℕ → B → B → InputChange → OutputChange → Status → Type 0
 IsLoad bay_seen seen name old new input output status =
-    IsLoaded input output (StoresIn bay_seen seen name old new) (FailsWithMemory bay_seen seen name old new) status
+    IsLoaded input output (StoresIn bay_seen seen name old new) (HasNoRoomIn bay_seen seen name old)
+    (FailsWithMemory bay_seen seen name old new) status
     ⊎ (input.Same × StaysIn bay_seen seen name old new
     × IsNotLoaded output name (DamagesIn bay_seen seen name old) (FailsWithMemory bay_seen seen name old new) status)
 
@@ -220,6 +241,6 @@ LoadCompletes bay_seen seen old new words input output number =
     → IsLogDisk conf.topics shard name
     → (DiskCountRose bay_seen name old new → ⊥)
     → (Rose input.faults input.faults_after → ⊥) → (Rose output.faults output.faults_after → ⊥)
-    → (d : _) (c : List ℕ) (log batches : List Batch) → (bay_seen old).disk name ≡ Some d → (seen d).content ≡ Some c
+    → (d : _) (c : List ℕ) (log : Log) (batches : List Batch) → (bay_seen old).disk name ≡ Some d → (seen d).content ≡ Some c
     → IsLogText c log
-    → IfSome input.left (λ text. IsSegment text log batches → (number ≡ 0) ⊎ ((number ≡ 7) ⊎ (number ≡ 8)))
+    → IfSome input.left (λ text. IsSegment text log.batches batches → (number ≡ 0) ⊎ ((number ≡ 7) ⊎ (number ≡ 8)))

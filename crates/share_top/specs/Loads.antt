@@ -1,7 +1,8 @@
 -- How far a load has come, and how one batch ends. Private clauses cite this alone.
 -- For example behind the first of two batches the place is that batch's size.
-use Rattle.std.specs.Prelude.{◌≡◌, ◌≢◌, ◌⊎◌, ◌<◌, ◌≤◌, ◌+◌, ◌^◌, ℕ, List, [], ◌++◌, Bool, true, false, None, IfSome, length, Result, Ok, Err}
+use Rattle.std.specs.Prelude.{◌≡◌, ◌≢◌, ◌⊎◌, ◌≤◌, ◌+◌, ℕ, List, [], ◌++◌, Bool, true, false, None, IfSome, length, map, Result, Ok, Err}
 use Rattle.std.specs.declared.option.Option.{Option}
+use Rattle.std.specs.Option.{option_map}
 use Rattle.std.specs.Io.KnownBytes.{Appends, Consumes, IsAtEnd, Keeps as KeepsText}
 use Rattle.edge_io.specs.Causes.{Rose}
 use Rattle.session_script.specs.Script.{longest}
@@ -18,13 +19,16 @@ use Rattle.share_model.specs.declared.fault.LogFault.TheVariants as log_fault
 use Rattle.share_model.specs.declared.fault.StoreFault.TheVariants as store_fault
 use Rattle.share_model.specs.Logs.{Batch}
 use Rattle.share_model.specs.Pending.{WithPending}
-use Rattle.part_log.specs.Logs.{IsAdded, IsUnwritten, IsLogText, LogParts, MayFollow, Keeps, and_pending}
+use Rattle.part_log.specs.Logs.{IsAdded, IsUnwritten, IsLogText, LogParts, MayFollow, Keeps, and_pending, frames_of, log_in}
+use Rattle.part_log.specs.Starts.{Log}
+use Rattle.part_log.specs.Starts.LogWrite.{Adds}
+use Rattle.gate_journal.specs.Frames.{blocks}
 use Rattle.part_log.specs.Shards.{HasNoRoomAt}
 use Rattle.share_top.specs.declared.load.Stop.{Stop}
 use Rattle.share_top.specs.declared.load.Stop.TheVariants.{Refused, Read, Full, Device, NoMemory}
 use Rattle.share_top.specs.Changes.{InputChange, OutputChange}
 use Rattle.share_top.specs.Segments.{HasNoBatch, segment_of}
-use Rattle.share_top.specs.Loading.{LoadEnding, IsWhole, IsRefusedSegment, IsCutSegment, IsBegunSegment, IsFullSegment}
+use Rattle.share_top.specs.Loading.{LoadEnding, IsWhole, IsRefusedSegment, IsCutSegment, IsBegunSegment, IsFullSegment, RoomEnding, with_batches}
 use Rattle.edge_io.specs.Views.{DiskView}
 
 -- ---- one batch
@@ -62,10 +66,10 @@ LoadsNext seen old new unread now input (Err Read) = Takes unread now input.left
 LoadsNext seen old new unread now input (Err Full) = Takes unread now input.left input.left_after [] × (new ≡ old)
     × ((b : Batch) × (at : ℕ) × IsNext old.batches now b × HasNoRoomAt old.journal.end old.batches b at)
 LoadsNext seen old new unread now input (Err Device) = Takes unread now input.left input.left_after []
-    × ((b : Batch) × IsNext old.batches now b × IsUnwritten seen old new b)
+    × ((b : Batch) × IsNext old.batches now b × IsUnwritten seen old new (Adds b))
     × Rose (seen old.journal.disk).faults (seen new.journal.disk).faults
 LoadsNext seen old new unread now input (Err NoMemory) = Takes unread now input.left input.left_after []
-    × ((new ≡ old) ⊎ ((b : Batch) × IsNext old.batches now b × IsUnwritten seen old new b))
+    × ((new ≡ old) ⊎ ((b : Batch) × IsNext old.batches now b × IsUnwritten seen old new (Adds b)))
 
 -- ---- all batches
 
@@ -77,16 +81,24 @@ pub record HasLoaded {D : Type 0} (seen : D → DiskView) (first log : LogParts 
   pub consumed : Consumes left now given
   pub parts : given ≡ segment_of batches ++ unread.pending
   pub place : unread.place ≡ length (segment_of batches)
-  pub added : log.batches ≡ first.batches ++ batches
+  pub added : log_in log ≡ with_batches (log_in first) batches
+  pub end : log.journal.end ≡ first.journal.end + length (blocks (frames_of (map Adds batches)))
   pub kept : Keeps seen log None
 
 -- the log was this one, has these batches more, and a crash leaves it with or without the pending one
-pub record IsGrown {D : Type 0} (seen : D → DiskView) (first new : LogParts D) (log batches : List Batch)
+pub record IsGrown {D : Type 0} (seen : D → DiskView) (first new : LogParts D) (log : Log) (batches : List Batch)
     (pending : Option Batch) : Type 0 where
-  pub was : log ≡ first.batches
-  pub has : new.batches ≡ log ++ batches
+  pub was : log ≡ log_in first
+  pub has : log_in new ≡ with_batches log batches
   pub images : (c : List ℕ) → (seen new.journal.disk).image c
-      → WithPending (IsLogText c) (log ++ batches) (and_pending (log ++ batches) pending)
+      → WithPending (IsLogText c) (with_batches log batches)
+      (and_pending (with_batches log batches) (option_map Adds pending))
+
+-- the journal of the log, which was this one, has no room for the batch behind these
+pub record LacksRoom {D : Type 0} (first : LogParts D) (log : Log) (batches : List Batch) (next : Batch) (at : ℕ)
+    : Type 0 where
+  pub was : log ≡ log_in first
+  pub none : HasNoRoomAt (first.journal.end + length (blocks (frames_of (map Adds batches)))) (log.batches ++ batches) next at
 
 -- and the place is that behind the batches
 abbrev pub AtPlace : ℕ → LoadEnding → LoadEnding
@@ -100,13 +112,13 @@ pub record FailsFed {D : Type 0} (seen : D → DiskView) (starved : Bool) (old n
   pub bay : starved ≡ false
 
 -- all of the segment was loaded, or it was stopped
-abbrev pub LoadsAll : InputChange → LoadEnding → Type 0 → Result (Unit {0}) Stop → Type 0
-LoadsAll input Ends Rises (Ok done) = IsWhole input Ends
-LoadsAll input Ends Rises (Err (Refused place)) = IsRefusedSegment input (AtPlace place Ends)
-LoadsAll input Ends Rises (Err Read) = Rose input.faults input.faults_after × IsCutSegment input Ends
-LoadsAll input Ends Rises (Err Full) = IsFullSegment input Ends
-LoadsAll input Ends Rises (Err Device) = Rises × IsBegunSegment input Ends
-LoadsAll input Ends Rises (Err NoMemory) = IsBegunSegment input Ends
+abbrev pub LoadsAll : InputChange → LoadEnding → RoomEnding → Type 0 → Result (Unit {0}) Stop → Type 0
+LoadsAll input Ends NoRoom Rises (Ok done) = IsWhole input Ends
+LoadsAll input Ends NoRoom Rises (Err (Refused place)) = IsRefusedSegment input (AtPlace place Ends)
+LoadsAll input Ends NoRoom Rises (Err Read) = Rose input.faults input.faults_after × IsCutSegment input Ends
+LoadsAll input Ends NoRoom Rises (Err Full) = IsFullSegment input Ends NoRoom
+LoadsAll input Ends NoRoom Rises (Err Device) = Rises × IsBegunSegment input Ends
+LoadsAll input Ends NoRoom Rises (Err NoMemory) = IsBegunSegment input Ends
 
 -- ---- the opening
 

@@ -13,7 +13,7 @@ ghost use Rattle.share_top.specs.Apart.{RunsDisk};
 ghost use Rattle.share_top.specs.Changes.{input_change, output_change};
 ghost use Rattle.share_top.specs.Loading.{IsLoad, IsLoaded, IsLogDisk, NoneIsOut, loaded_line};
 ghost use Rattle.share_top.specs.Segments.{HasOneReading};
-ghost use Rattle.share_top.specs.Loads.{FailsFed, LoadsNext, LoadsAll, IsGrown, IsLogRefusal, stop_by};
+ghost use Rattle.share_top.specs.Loads.{FailsFed, LacksRoom, LoadsNext, LoadsAll, IsGrown, IsLogRefusal, stop_by};
 
 use crate::segment::{Front, SegmentFault, SegmentReader};
 use crate::status::Status;
@@ -97,7 +97,7 @@ fn load_all<D: Disk, I: Source>(
 ) -> Result<(), Stop>
     requires { Keeps D.seen log.old None }
     ensures loads { LoadsAll (input_change I.left I.ended I.faults input.old input.new) (IsGrown D.seen log.old log.new)
-        (Rose (D.seen log.old.journal.disk).faults (D.seen log.new.journal.disk).faults) result }
+        (LacksRoom log.old) (Rose (D.seen log.old.journal.disk).faults (D.seen log.new.journal.disk).faults) result }
     ensures fed { result ≡ Err Stop.Device → (D.seen log.new.journal.disk).starved ≡ false }
     ensures runs { RunsOn D.seen log.old.journal.disk log.new.journal.disk }
 {
@@ -137,7 +137,7 @@ fn load_into<D: Disk, I: Source, O: Sink>(
 ) -> Status
     requires { Keeps D.seen log.old None }
     ensures loaded { IsLoaded (input_change I.left I.ended I.faults input.old input.new) (output_change O.held O.faults output.old output.new)
-        (IsGrown D.seen log.old log.new) (FailsFed D.seen starved log.old.journal.disk log.new.journal.disk) result }
+        (IsGrown D.seen log.old log.new) (LacksRoom log.old) (FailsFed D.seen starved log.old.journal.disk log.new.journal.disk) result }
     ensures counted { result ≢ Status.WriteFault → O.faults output.new ≡ O.faults output.old }
     ensures runs { RunsOn D.seen log.old.journal.disk log.new.journal.disk }
 {

@@ -1,11 +1,11 @@
 use Rattle.std.proofs.Common.{inl, inr, refl, sym, ap, ◌∙◌, subst, is_some}
 use Rattle.edge_io.specs.Armed.{RunsOn}
 use Rattle.share_top.specs.Changes.{input_change, output_change}
-use Rattle.share_top.specs.Loading.{StoresIn, DamagesIn, FailsWithMemory}
-use Rattle.share_top.specs.Loads.{FailsFed, IsGrown}
+use Rattle.share_top.specs.Loading.{StoresIn, DamagesIn, FailsWithMemory, HasNoRoomIn}
+use Rattle.share_top.specs.Loads.{FailsFed, IsGrown, LacksRoom}
 use Rattle.edge_io.proofs.Runs.{runs_then}
 use Rattle.share_top.proofs.Apart.{runs_back, slot_then}
-use Rattle.share_top.proofs.LoadBays.{weakens, stores, stays, damages, none_starved, fed_as, rises, rose_on, not_loaded, with_memory}
+use Rattle.share_top.proofs.LoadBays.{weakens, stores, lacks, stays, damages, none_starved, fed_as, rises, rose_on, not_loaded, with_memory}
 use Rattle.share_top.proofs.load.load_on.Goals as goal
 
 pub returns-in-Ok-open-clause-loads : goal.returns-in-Ok-open-clause-loads
@@ -18,12 +18,17 @@ returns-in-Ok-open-clause-loads g c =
     (output_change g.O.Sink.held g.O.Sink.faults c.args.output.now c.load_into-status.new.output)
     (IsGrown g.B.D.Disk.seen c.in-Ok-open.log c.load_into-status.new.log)
     (StoresIn g.B.Bay.seen g.B.D.Disk.seen c.args.name.now c.args.bay.now c.put_back.new.self)
+    (LacksRoom c.in-Ok-open.log) (HasNoRoomIn g.B.Bay.seen g.B.D.Disk.seen c.args.name.now c.args.bay.now)
     (FailsFed g.B.D.Disk.seen c.starved-starved.result c.in-Ok-open.log.journal.disk last)
     (FailsWithMemory g.B.Bay.seen g.B.D.Disk.seen c.args.name.now c.args.bay.now c.put_back.new.self)
     (stores g.B.Bay.seen g.B.D.Disk.seen c.args.name.now c.args.bay.now c.take.new.self c.put_back.new.self
     c.in-Ok.disk c.into_disk.result given c.in-Ok.ensures.told c.put_back.ensures.there
     (ap (λ (d : g.row.B-D.Denot). is_some (g.B.D.Disk.seen d).content) c.into_disk.ensures ∙ run.told ∙ opened.told)
     (λ d x e. (g.met.B.D.Disk.read_is_image d x e).0) c.in-Ok-open.log c.load_into-status.new.log c.into_disk.ensures c.in-Ok-open.ensures.opens)
+    (lacks g.B.Bay.seen g.B.D.Disk.seen c.args.name.now c.args.bay.now c.take.new.self c.put_back.new.self
+    c.in-Ok.disk c.into_disk.result given c.in-Ok.ensures.told c.put_back.ensures.there
+    (ap (λ (d : g.row.B-D.Denot). is_some (g.B.D.Disk.seen d).content) c.into_disk.ensures ∙ run.told ∙ opened.told)
+    c.in-Ok-open.log c.in-Ok-open.ensures.kept c.in-Ok-open.ensures.opens c.in-Ok-open.ensures.ends)
     (λ fails. with_memory g.B.Bay.seen g.B.D.Disk.seen c.args.name.now c.args.bay.now c.take.new.self c.put_back.new.self
     c.into_disk.result c.starved-starved.result c.in-Ok.ensures.told c.put_back.ensures.there
     (rises g.B.Bay.seen g.B.D.Disk.seen c.args.name.now c.args.bay.now c.take.new.self c.put_back.new.self
