@@ -61,12 +61,12 @@ left_stands a b entries frames sealing unwritten pending taken leaves sealed fou
     stands_then a b entries more.0 pending more.1
     (states_by a b found more.0 listed (subst (λ (l : List (List ℕ)). AreTaken l more.0) (sym h.2) (taken_then frames frame entries more.0 taken more.2)))
 
-pub holds_by : {D : Type 0} (seen : D → DiskView) (journal : JournalParts D) (entries : Entries) (frames : List (List ℕ)) (sealing : Option (List (List ℕ)))
+pub holds_by : {D : Type 0} (seen : D → DiskView) (journal : JournalParts D) (entries : Entries) (room : ℕ) (frames : List (List ℕ)) (sealing : Option (List (List ℕ)))
     (unwritten : Option (List ℕ)) (pending : Option Entries) → Keeps seen journal frames sealing unwritten → AreTaken frames entries
     → length frames < 2 ^ 63 → Leaves entries unwritten pending
     → ((landed : List (List ℕ)) → sealing ≡ Some landed → AreTaken landed (renewed entries))
-    → Holds seen (record { journal = journal; entries = entries }) pending
-holds_by seen journal entries frames sealing unwritten pending keeps taken few leaves sealed = record {
+    → Holds seen (record { journal = journal; entries = entries; room = room }) pending
+holds_by seen journal entries room frames sealing unwritten pending keeps taken few leaves sealed = record {
   frames = frames;
   unwritten = unwritten;
   sealing = sealing;
@@ -85,7 +85,7 @@ none_lands entries landed is = let never : ⊥ = cc in absurd never
 
 -- ---- one record more
 
-module _ {D : Type 0} (seen : D → DiskView) (plain : StateRecord) (fresh : Option StateRecord) (old new : JournalParts D) (entries : Entries)
+module _ {D : Type 0} (seen : D → DiskView) (plain : StateRecord) (fresh : Option StateRecord) (old new : JournalParts D) (entries : Entries) (room : ℕ)
     (sorted : IsStrictlySortedBy key_cmp (keys_of entries)) (next : Bool → Entries)
     (follows : (c : Bool) (one : StateRecord) → IsPut plain fresh c one → Follows (based c entries) one (next c)) where
   checkpoint_taken : (frames base : List (List ℕ)) → AreTaken frames entries → IsCheckpoint (snapshot_frames entries) base → AreTaken base (renewed entries)
@@ -108,12 +108,12 @@ module _ {D : Type 0} (seen : D → DiskView) (plain : StateRecord) (fresh : Opt
   -- the record is written
   pub done : (c : Bool) → ((frames : List (List ℕ)) (sealing : Option (List (List ℕ))) (pending : Option (List ℕ)) → Keeps seen old frames sealing pending
       → HasPut seen new frames (snapshot_frames entries) plain fresh c)
-      → (pending : Option Entries) → Holds seen (record { journal = old; entries = entries }) pending
-      → Holds seen (record { journal = new; entries = next c }) None
+      → (pending : Option Entries) → Holds seen (record { journal = old; entries = entries; room = room }) pending
+      → Holds seen (record { journal = new; entries = next c; room = room }) None
   done c keeps pending held =
       let h = keeps held.frames held.sealing held.unwritten held.keeps in
       let few = h.few in
-      holds_by seen new (next c) (h.base ++ record_bytes h.one ∷ []) None None None h.keeps
+      holds_by seen new (next c) room (h.base ++ record_bytes h.one ∷ []) None None None h.keeps
       (taken_then h.base (record_bytes h.one) (based c entries) (next c) (base_taken c held.frames h.base held.taken h.from) (accepts c h.one h.is h.valid))
       (omega (arith, few, length-append h.base (record_bytes h.one ∷ []))) tt (none_lands (next c))
 
@@ -138,27 +138,27 @@ module _ {D : Type 0} (seen : D → DiskView) (plain : StateRecord) (fresh : Opt
     -- the record is pending, or the one from before
     pub lost : (c : Bool) → ((frames : List (List ℕ)) (sealing : Option (List (List ℕ))) (pending : Option (List ℕ)) → Keeps seen old frames sealing pending
         → HasNotPut seen new frames sealing pending (snapshot_frames entries) plain fresh c)
-        → (pending : Option Entries) → Holds seen (record { journal = old; entries = entries }) pending
-        → Holds seen (record { journal = new; entries = based c entries }) pending
-        ⊎ ((left : Entries) × Written left × Holds seen (record { journal = new; entries = based c entries }) (Some left))
+        → (pending : Option Entries) → Holds seen (record { journal = old; entries = entries; room = room }) pending
+        → Holds seen (record { journal = new; entries = based c entries; room = room }) pending
+        ⊎ ((left : Entries) × Written left × Holds seen (record { journal = new; entries = based c entries; room = room }) (Some left))
     lost c keeps pending held =
         let h = keeps held.frames held.sealing held.unwritten held.keeps in
         let taken = base_taken c held.frames h.base held.taken h.from in
         let few = base_few c held.frames h.base held.few h.from in
         let sealed : (landed : List (List ℕ)) → h.seals ≡ Some landed → AreTaken landed (renewed (based c entries)) =
         λ landed at. landed_taken c held.frames held.sealing landed held.taken held.sealed (h.may landed at) in
-        let stays : Leaves (based c entries) h.waits pending → Holds seen (record { journal = new; entries = based c entries }) pending =
-        λ leaves. holds_by seen new (based c entries) h.base h.seals h.waits pending h.keeps taken few leaves sealed in
+        let stays : Leaves (based c entries) h.waits pending → Holds seen (record { journal = new; entries = based c entries; room = room }) pending =
+        λ leaves. holds_by seen new (based c entries) room h.base h.seals h.waits pending h.keeps taken few leaves sealed in
         ⊎_elim (λ none. inl (stays (subst (λ (u : Option (List ℕ)). Leaves (based c entries) u pending) (sym none) tt)))
         (λ other. ⊎_elim (λ was. inl (stays (leaves_by c h.waits held.unwritten pending held.leaves was)))
         (λ this. inr (
           next c,
           is c this.0 this.1,
-          holds_by seen new (based c entries) h.base h.seals h.waits (Some (next c)) h.keeps taken few
+          holds_by seen new (based c entries) room h.base h.seals h.waits (Some (next c)) h.keeps taken few
               (subst (λ (u : Option (List ℕ)). Leaves (based c entries) u (Some (next c))) (sym this.3) (next c, refl, accepts c this.0 this.1 this.2)) sealed,
         )) other) h.which
 
-    within : (a b : List ℕ) (pending : Option Entries) (held : Holds seen (record { journal = old; entries = entries }) pending) (found : List (List ℕ)) → IsListed a b found
+    within : (a b : List ℕ) (pending : Option Entries) (held : Holds seen (record { journal = old; entries = entries; room = room }) pending) (found : List (List ℕ)) → IsListed a b found
         → IsPutWithin held.frames held.sealing held.unwritten (snapshot_frames entries) plain fresh found → IsWithin Written entries pending a b
     within a b pending held found listed (inl left) =
         inl (left_stands a b entries held.frames held.sealing held.unwritten pending held.taken held.leaves held.sealed found listed left)
@@ -178,7 +178,7 @@ module _ {D : Type 0} (seen : D → DiskView) (plain : StateRecord) (fresh : Opt
     pub moments : ((frames : List (List ℕ)) (sealing : Option (List (List ℕ))) (pending : Option (List ℕ)) → Keeps seen old frames sealing pending
         → LeavesPairs seen old.first.disk new.first.disk old.second.disk new.second.disk
         (Finds (IsPutWithin frames sealing pending (snapshot_frames entries) plain fresh)))
-        → (pending : Option Entries) → Holds seen (record { journal = old; entries = entries }) pending
+        → (pending : Option Entries) → Holds seen (record { journal = old; entries = entries; room = room }) pending
         → LeavesPairs seen old.first.disk new.first.disk old.second.disk new.second.disk (IsWithin Written entries pending)
     moments run pending held =
         let pairs = run held.frames held.sealing held.unwritten held.keeps in

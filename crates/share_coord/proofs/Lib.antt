@@ -21,3 +21,6 @@ pub mod Starting
 pub mod Removing
 pub mod Replaying
 pub mod Tables
+pub mod Rooms
+pub mod Framed
+pub mod Owning

@@ -88,3 +88,43 @@ pub causes_in : {T : Type 0} (r : Result T CoordFault) (refusal : Option CoordFa
     → IfErr r (Causes None (λ _. ⊥)) → IfErr r (Causes refusal Many)
 causes_in (Ok x) refusal Many none h = tt
 causes_in (Err e) refusal Many none h = causes_weaker refusal Many none e h
+
+-- ---- a refusal by numbers has its cause
+
+abbrev IsByNumbers : CoordFault → Type 0
+IsByNumbers Invalid = Unit {0}
+IsByNumbers Unknown = Unit {0}
+IsByNumbers (FencedLeader n) = Unit {0}
+IsByNumbers (FencedState n) = Unit {0}
+IsByNumbers (TooMany n) = ⊥
+IsByNumbers (Store fault) = ⊥
+IsByNumbers NoMemory = ⊥
+
+abbrev ByNumbers : Option CoordFault → Type 0
+ByNumbers None = Unit {0}
+ByNumbers (Some fault) = IsByNumbers fault
+
+either_by : (b : Bool) (x y : Option CoordFault) → ByNumbers x → ByNumbers y → ByNumbers (if b then x else y)
+either_by true x y p q = p
+either_by false x y p q = q
+
+known_by_numbers : (known : Option KeptState) (state leader : ℤ) → ByNumbers (fenced_write known state leader)
+known_by_numbers None state leader = tt
+known_by_numbers (Some kept) state leader =
+    either_by (int_lt leader kept.view.leader_epoch) (Some (FencedLeader kept.view.leader_epoch)) (fenced_state kept state) tt
+    (either_by (int_lt state kept.view.state_epoch) (Some (FencedState kept.view.state_epoch)) None tt tt)
+
+caused : (refusal : Option CoordFault) (Many : ℕ → Type 0) (e : CoordFault) → refusal ≡ Some e → IsByNumbers e → Causes refusal Many e
+caused refusal Many Invalid is by = is
+caused refusal Many Unknown is by = is
+caused refusal Many (FencedLeader n) is by = is
+caused refusal Many (FencedState n) is by = is
+caused refusal Many (TooMany n) is by = absurd by
+caused refusal Many (Store fault) is by = absurd by
+caused refusal Many NoMemory is by = absurd by
+
+pub write_caused : (known : Option KeptState) (state leader start : ℤ) (runs : List Run) (Many : ℕ → Type 0) (e : CoordFault)
+    → write_refusal known state leader start runs ≡ Some e → Causes (write_refusal known state leader start runs) Many e
+write_caused known state leader start runs Many e is = caused (write_refusal known state leader start runs) Many e is
+    (subst ByNumbers is (either_by ((int_lt state (pos 0) || int_lt leader (pos 0)) || (int_lt start (negsuc 0) || not (list_all is_writable runs)))
+    (Some Invalid) (fenced_write known state leader) tt (known_by_numbers known state leader)))

@@ -53,30 +53,32 @@ on_ok_at {T} {E} r x P is h = subst (λ (q : Result T E). OnOk q P) is h
 pub if_err_at : {T E : Type 0} (r : Result T E) (e : E) (P : E → Type 0) → r ≡ Err e → IfErr r P → P e
 if_err_at {T} {E} r e P is h = subst (λ (q : Result T E). IfErr q P) is h
 
-module _ {D : Type 0} (seen : D → DiskView) (plain : StateRecord) (fresh : Option StateRecord) (old new : JournalParts D) (entries : Entries)
+module _ {D : Type 0} (seen : D → DiskView) (plain : StateRecord) (fresh : Option StateRecord) (old new : JournalParts D) (entries : Entries) (room : ℕ)
     (sorted : IsStrictlySortedBy key_cmp (keys_of entries)) (next : Bool → Entries)
     (follows : (c : Bool) (one : StateRecord) → IsPut plain fresh c one → Follows (based c entries) one (next c))
     (Written : Entries → Type 0) (is : (c : Bool) (one : StateRecord) → IsPut plain fresh c one → Written (next c))
-    (fits : IsFrame (record_bytes plain)) (held : IsHeld seen (record { journal = old; entries = entries })) (c : Bool) (r : Result (Unit {0}) CoordFault)
+    (fits : IsFrame (record_bytes plain)) (held : IsHeld seen (record { journal = old; entries = entries; room = room })) (c : Bool) (r : Result (Unit {0}) CoordFault)
     (puts : Puts seen (snapshot_frames entries) plain fresh old new c r) where
-  stored : {T : Type 0} (x : T) → r ≡ Ok tt → WritesOnce seen (HasFailed seen) Written (record { journal = old; entries = entries }) (record { journal = new; entries = next c }) (Ok x)
+  stored : {T : Type 0} (x : T) → r ≡ Ok tt → WritesOnce seen (HasFailed seen) Written (record { journal = old; entries = entries; room = room }) (record { journal = new; entries = next c; room = room }) (Ok x)
   stored x at = record {
     quiet = on_ok_at r tt _ at puts.quiet;
     written = is c puts.chosen puts.is;
-    kept = done seen plain fresh old new entries sorted next follows c (on_ok_at r tt _ at puts.kept);
+    kept = done seen plain fresh old new entries room sorted next follows c (on_ok_at r tt _ at puts.kept);
     same = tt;
     unchanged = tt;
     failed = tt;
     device = λ e. absurd (ok_is_no_err x _ e);
     full = λ end e. absurd (ok_is_no_err x _ e);
-    any_moment = moments seen plain fresh old new entries sorted next follows Written is puts.any_moment;
+    any_moment = moments seen plain fresh old new entries room sorted next follows Written is puts.any_moment;
   }
 
-  pub stored_at : {T : Type 0} (x : T) (es : Entries) → es ≡ next c → r ≡ Ok tt
-      → WritesOnce seen (HasFailed seen) Written (record { journal = old; entries = entries }) (record { journal = new; entries = es }) (Ok x)
-  stored_at x es same at =
-      subst (λ (l : Entries). WritesOnce seen (HasFailed seen) Written (record { journal = old; entries = entries }) (record { journal = new; entries = l }) (Ok x))
-      (sym same) (stored x at)
+  pub stored_at : {T : Type 0} (x : T) (es : Entries) (now : ℕ) → now ≡ room → es ≡ next c → r ≡ Ok tt
+      → WritesOnce seen (HasFailed seen) Written (record { journal = old; entries = entries; room = room }) (record { journal = new; entries = es; room = now }) (Ok x)
+  stored_at x es now is_room same at =
+      subst (λ (n : ℕ). WritesOnce seen (HasFailed seen) Written (record { journal = old; entries = entries; room = room }) (record { journal = new; entries = es; room = n }) (Ok x))
+      (sym is_room)
+      (subst (λ (l : Entries). WritesOnce seen (HasFailed seen) Written (record { journal = old; entries = entries; room = room }) (record { journal = new; entries = l; room = room }) (Ok x))
+      (sym same) (stored x at))
 
   same_store : (e : CoordFault) → r ≡ Err e → e ≢ Store Device → (new ≡ old) × (c ≡ false)
   same_store e at other = by_cause (if_err_at r e (λ f. (f ≡ NoMemory) ⊎ ((fault : StoreFault) × (f ≡ Store fault))) at puts.causes)
@@ -90,33 +92,35 @@ module _ {D : Type 0} (seen : D → DiskView) (plain : StateRecord) (fresh : Opt
       by_cause (inr here) = by_fault here.0 here.1
 
   refused : {T : Type 0} (e : CoordFault) → r ≡ Err e
-      → WritesOnce {T = T} seen (HasFailed seen) Written (record { journal = old; entries = entries }) (record { journal = new; entries = based c entries }) (Err e)
+      → WritesOnce {T = T} seen (HasFailed seen) Written (record { journal = old; entries = entries; room = room }) (record { journal = new; entries = based c entries; room = room }) (Err e)
   refused e at = record {
     quiet = tt;
     written = tt;
     kept = tt;
     same = states_based c entries;
-    unchanged = λ other. let s = same_store e at other in λ i. record { journal = s.0 i; entries = ap (λ (b : Bool). based b entries) s.1 i };
-    failed = lost seen plain fresh old new entries sorted next follows Written is c (on_err_at r e _ at puts.failed);
+    unchanged = λ other. let s = same_store e at other in λ i. record { journal = s.0 i; entries = ap (λ (b : Bool). based b entries) s.1 i; room = room };
+    failed = lost seen plain fresh old new entries room sorted next follows Written is c (on_err_at r e _ at puts.failed);
     device = λ here. (puts.device (at ∙ ap Err (err_of e _ here)), (next c, is c puts.chosen puts.is));
     full = λ end here.
         let f = puts.full held.1.frames held.1.sealing held.1.unwritten held.1.keeps end (at ∙ ap Err (err_of e _ here)) in
-        (f.0, (record_bytes plain, next false, is false plain refl, accepts seen plain fresh old new entries sorted next follows false plain refl f.1, fits, f.2));
-    any_moment = moments seen plain fresh old new entries sorted next follows Written is puts.any_moment;
+        (f.0, (record_bytes plain, next false, is false plain refl, accepts seen plain fresh old new entries room sorted next follows false plain refl f.1, fits, f.2));
+    any_moment = moments seen plain fresh old new entries room sorted next follows Written is puts.any_moment;
   }
 
-  pub refused_at : {T : Type 0} (e : CoordFault) (es : Entries) → es ≡ based c entries → r ≡ Err e
-      → WritesOnce {T = T} seen (HasFailed seen) Written (record { journal = old; entries = entries }) (record { journal = new; entries = es }) (Err e)
-  refused_at {T} e es same at =
-      subst (λ (l : Entries). WritesOnce {T = T} seen (HasFailed seen) Written (record { journal = old; entries = entries }) (record { journal = new; entries = l }) (Err e))
-      (sym same) (refused e at)
+  pub refused_at : {T : Type 0} (e : CoordFault) (es : Entries) (now : ℕ) → now ≡ room → es ≡ based c entries → r ≡ Err e
+      → WritesOnce {T = T} seen (HasFailed seen) Written (record { journal = old; entries = entries; room = room }) (record { journal = new; entries = es; room = now }) (Err e)
+  refused_at {T} e es now is_room same at =
+      subst (λ (n : ℕ). WritesOnce {T = T} seen (HasFailed seen) Written (record { journal = old; entries = entries; room = room }) (record { journal = new; entries = es; room = n }) (Err e))
+      (sym is_room)
+      (subst (λ (l : Entries). WritesOnce {T = T} seen (HasFailed seen) Written (record { journal = old; entries = entries; room = room }) (record { journal = new; entries = l; room = room }) (Err e))
+      (sym same) (refused e at))
 
 module _ {D T : Type 0} (seen : D → DiskView) (Failed : D → D → Type 0)
     (Written : Entries → Type 0) (old new : StoreParts D) where
   -- a store whose entries are the same
   pub same_entries : (es : Entries) (r : Result T CoordFault) → es ≡ new.entries → WritesOnce seen Failed Written old new r
-      → WritesOnce seen Failed Written old (record { journal = new.journal; entries = es }) r
-  same_entries es r same once = subst (λ (l : Entries). WritesOnce seen Failed Written old (record { journal = new.journal; entries = l }) r) (sym same) once
+      → WritesOnce seen Failed Written old (record { journal = new.journal; entries = es; room = new.room }) r
+  same_entries es r same once = subst (λ (l : Entries). WritesOnce seen Failed Written old (record { journal = new.journal; entries = l; room = new.room }) r) (sym same) once
 
 -- a refusal of what was put is none by numbers
 pub put_causes : (r : Result (Unit {0}) CoordFault) (e : CoordFault) → r ≡ Err e → IfErr r (λ f. (f ≡ NoMemory) ⊎ ((fault : StoreFault) × (f ≡ Store fault)))

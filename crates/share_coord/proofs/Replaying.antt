@@ -114,7 +114,7 @@ refused_at handed place places is = record {
 }
 
 -- a store of the frames that were handed over
-pub replayed : {D : Type 0} (seen : D → DiskView) (journal : JournalParts D) (handed : Handed) (entries : Entries) → Keeps seen journal (frames_in handed) None None
-    → AreTaken (frames_in handed) entries → length handed < 2 ^ 63 → Holds seen (record { journal = journal; entries = entries }) None
-replayed seen journal handed entries keeps taken few =
-    holds_by seen journal entries (frames_in handed) None None None keeps taken (omega (arith, few, in_length handed)) tt (none_lands entries)
+pub replayed : {D : Type 0} (seen : D → DiskView) (journal : JournalParts D) (handed : Handed) (entries : Entries) (room : ℕ) → Keeps seen journal (frames_in handed) None None
+    → AreTaken (frames_in handed) entries → length handed < 2 ^ 63 → Holds seen (record { journal = journal; entries = entries; room = room }) None
+replayed seen journal handed entries room keeps taken few =
+    holds_by seen journal entries room (frames_in handed) None None None keeps taken (omega (arith, few, in_length handed)) tt (none_lands entries)

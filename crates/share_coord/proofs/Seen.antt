@@ -10,6 +10,7 @@ use Rattle.share_coord.specs.Stored.{Entries, kept_at}
 use Rattle.share_coord.specs.Calls.{IsInitialised, IsWritten, IsForgotten}
 use Rattle.share_coord.specs.Holding.{Holds, WritesOnce}
 use Rattle.share_coord.specs.Recorded.{IsInitRecord, IsWriteRecord, StoresOne}
+use Rattle.share_coord.specs.Rooms.{IsOwnRecord, IsOwnWritten}
 use Rattle.state_records.specs.declared.record.StateRecord.TheVariants.{Removal}
 use Rattle.share_coord.specs.declared.fault.CoordFault.{CoordFault}
 use Rattle.share_coord.specs.Parts.{KeptState}
@@ -38,6 +39,13 @@ module _ {D T : Type 0} (seen : D → DiskView) (Failed : D → D → Type 0)
       (IsWritten shown.entries key state leader start runs) shown new r
       (λ es is. written_as shown.entries key state leader start runs es es f g h is refl) once)
 
+  pub seen_own : (start : ℤ) (runs : List Run) → FitsSigned w64 start
+      → WritesOnce seen Failed (IsOwnWritten shown.entries key (to_z w64 (of_z w64 start)) runs) shown new r
+      → WritesOnce seen Failed (IsOwnWritten now.entries key start runs) now new r
+  seen_own start runs h once =
+      subst (λ (p : StoreParts D). WritesOnce seen Failed (IsOwnWritten p.entries key start runs) p new r) same
+      (subst (λ (z : ℤ). WritesOnce seen Failed (IsOwnWritten shown.entries key z runs) shown new r) (to_z-of_z w64 start h) once)
+
   pub seen_remove : (IsSome (kept_at shown.entries key) → WritesOnce seen Failed (IsForgotten shown.entries key) shown new r)
       → IsSome (kept_at now.entries key) → WritesOnce seen Failed (IsForgotten now.entries key) now new r
   seen_remove once =
@@ -64,6 +72,13 @@ module _ {D T : Type 0} (seen : D → DiskView) (shown now new : StoreParts D) (
       (IsWriteRecord shown.entries key state leader start runs) shown.journal new.journal
       (λ one is. write_stored shown.entries key state leader start runs one f g i is) r h)
 
+  pub stored_own : (start : ℤ) (runs : List Run) → FitsSigned w64 start
+      → StoresOne seen (IsOwnRecord shown.entries key (to_z w64 (of_z w64 start)) runs) shown.journal new.journal r
+      → StoresOne seen (IsOwnRecord now.entries key start runs) now.journal new.journal r
+  stored_own start runs h stored =
+      subst (λ (p : StoreParts D). StoresOne seen (IsOwnRecord p.entries key start runs) p.journal new.journal r) same
+      (subst (λ (z : ℤ). StoresOne seen (IsOwnRecord shown.entries key z runs) shown.journal new.journal r) (to_z-of_z w64 start h) stored)
+
   pub stored_remove : (IsSome (kept_at shown.entries key) → StoresOne seen (λ one. one ≡ Removal key) shown.journal new.journal r)
       → IsSome (kept_at now.entries key) → StoresOne seen (λ one. one ≡ Removal key) now.journal new.journal r
   stored_remove h =
@@ -74,8 +89,8 @@ either_there None = inl refl
 either_there (Some kept) = inr refl
 
 -- a fault was armed
-pub rearmed : {D : Type 0} (seen : D → DiskView) (old new : JournalParts D) (entries : Entries)
+pub rearmed : {D : Type 0} (seen : D → DiskView) (old new : JournalParts D) (entries : Entries) (room : ℕ)
     → ((frames : List (List ℕ)) (sealing : Option (List (List ℕ))) (pending : Option (List ℕ)) → Keeps seen old frames sealing pending → Keeps seen new frames sealing pending)
-    → (pending : Option Entries) → Holds seen (record { journal = old; entries = entries }) pending → Holds seen (record { journal = new; entries = entries }) pending
-rearmed seen old new entries stays pending held =
-    holds_by seen new entries held.frames held.sealing held.unwritten pending (stays held.frames held.sealing held.unwritten held.keeps) held.taken held.few held.leaves held.sealed
+    → (pending : Option Entries) → Holds seen (record { journal = old; entries = entries; room = room }) pending → Holds seen (record { journal = new; entries = entries; room = room }) pending
+rearmed seen old new entries room stays pending held =
+    holds_by seen new entries room held.frames held.sealing held.unwritten pending (stays held.frames held.sealing held.unwritten held.keeps) held.taken held.few held.leaves held.sealed

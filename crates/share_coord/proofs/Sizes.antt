@@ -1,5 +1,5 @@
 -- A record fits a frame.
-use Rattle.std.proofs.Common.{◌≡◌, ◌≤◌, ◌*◌, refl, sym, subst, arith, ℕ, List, [], ◌∷◌, ◌++◌, length, length-append, Option, Some, None, w32, w64}
+use Rattle.std.proofs.Common.{◌≡◌, ◌≤◌, ◌*◌, refl, sym, subst, arith, ℕ, List, [], ◌∷◌, ◌++◌, length, length-append, ◌+◌, Bool, true, false, Option, Some, None, w32, w64}
 use Rattle.std.specs.Int.{to_be_bytes}
 use Rattle.std.specs.List.{flat_map}
 use Rattle.gate_journal.specs.Frames.{IsFrame}
@@ -7,6 +7,7 @@ use Rattle.share_model.specs.Keys.{KeyParts}
 use Rattle.share_model.specs.declared.run.Run.{Run}
 use Rattle.state_records.specs.Spelling.{complete_bytes, epoch_number, start_number, key_bytes, run_bytes, runs_bytes, state_bytes, record_bytes}
 use Rattle.state_records.specs.States.{StateParts, IsKey}
+use Rattle.share_coord.specs.Reserved.{lent_record}
 use Rattle.state_records.specs.declared.record.StateRecord.{StateRecord}
 use Rattle.state_records.specs.declared.record.StateRecord.TheVariants.{Snapshot, Update, Removal}
 
@@ -39,6 +40,25 @@ state_size state is few =
           ++ (to_be_bytes w32 (epoch_number state.leader_epoch) ++ (to_be_bytes w64 (start_number state.start)
           ++ (complete_bytes state.complete ++ runs_bytes state.runs))))),
     )
+
+-- a record of version 1, by the number of its runs
+state_least : (state : StateParts) → IsKey state.key → length (state_bytes state) ≤ 313 + 19 * length state.runs
+state_least state is =
+    omega (
+      arith,
+      key_size state.key is,
+      runs_size state.runs,
+      complete_size state.complete,
+      length-append (complete_bytes state.complete) (runs_bytes state.runs),
+      length-append (key_bytes state.key)
+          (to_be_bytes w64 state.snapshot ++ (to_be_bytes w32 (epoch_number state.state_epoch)
+          ++ (to_be_bytes w32 (epoch_number state.leader_epoch) ++ (to_be_bytes w64 (start_number state.start)
+          ++ (complete_bytes state.complete ++ runs_bytes state.runs))))),
+    )
+
+pub lent_size : (updates : Bool) (state : StateParts) → IsKey state.key → length (record_bytes (lent_record updates state)) ≤ 315 + 19 * length state.runs
+lent_size true state is = omega (arith, state_least state is)
+lent_size false state is = omega (arith, state_least state is)
 
 pub update_fits : (r : StateRecord) (state : StateParts) → r ≡ Update state → IsKey state.key → length state.runs ≤ 1000000 → IsFrame (record_bytes r)
 update_fits r state e is few = subst (λ (x : StateRecord). IsFrame (record_bytes x)) (sym e) (omega arith, omega (arith, state_size state is few))

@@ -3,7 +3,9 @@ use Rattle.std.proofs.Common.{◌≡◌, refl, sym, ap, ◌∙◌, List, [], ◌
 use Rattle.std.specs.declared.cmp.Ordering.{Ordering}
 use Rattle.std.specs.declared.cmp.Ordering.TheVariants.{Less, Equal, Greater}
 use Rattle.std.specs.Ordering.{match_ordering}
-use Rattle.std.specs.Option.{option_map}
+use Rattle.std.specs.Option.{IsSome, option_map}
+use Rattle.share_coord.specs.Parts.{KeptState}
+use Rattle.share_coord.proofs.Keys.{some_none}
 use Rattle.std.specs.BTreeMap.{insert_entry, is_at}
 use Rattle.std.specs.Map.{keys_of, lookup, remove_entry}
 use Rattle.std.specs.Map.Iter.{TakesFirst, deref_pair}
@@ -77,3 +79,7 @@ same_some (Some kept) = refl
 
 pub is_found : (table : Table) (entries : Entries) (key : KeyParts) → entries_in table ≡ entries → is_some (kept_in table key) ≡ is_some (kept_at entries key)
 is_found table entries key same = same_some (kept_in table key) ∙ ap is_some (found_at table entries key same (kept_in table key) refl)
+
+pub some_shown : (o : Option Kept) (k : KeptState) → option_map shown o ≡ Some k → IsSome o
+some_shown None k is = absurd (some_none k (sym is))
+some_shown (Some kept) k is = refl

@@ -20,7 +20,7 @@ use Rattle.edge_io.specs.Views.{DiskView}
 
 -- a store in memory, as it is seen
 abbrev pub parts_of : {D : Type 0} → Store D → StoreParts D
-parts_of store = record { journal = store.journal; entries = store.table }
+parts_of store = record { journal = store.journal; entries = store.table.entries; room = store.room }
 
 -- What the frame that is pending would leave. Where none is, a write that was pending before a checkpoint, which mended it away, is
 -- still told as pending until the next write that is done.

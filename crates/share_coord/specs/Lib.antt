@@ -6,6 +6,8 @@ pub mod States
 pub mod Calls
 pub mod Holding
 pub mod Recorded
+pub mod Rooms
+pub mod Reserved
 pub mod Putting
 pub mod Planning
 pub mod Opening

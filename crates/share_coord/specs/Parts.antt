@@ -10,7 +10,8 @@ pub record KeptState : Type 0 where
   pub snapshot : ℕ
   pub updates : ℕ
 
--- the journal on the two disks, and what is kept of each key, in the order of the keys
+-- the journal on the two disks; what is kept of each key, in the order of the keys; and for how many runs of a key a write takes no memory
 pub record StoreParts (D : Type 0) : Type 0 where
   pub journal : JournalParts D
   pub entries : List (KeyParts × KeptState)
+  pub room : ℕ

@@ -74,6 +74,11 @@ abbrev pub told_as : Result ℕ StoreFault → Result (Unit {0}) CoordFault
 told_as (Ok number) = Ok tt
 told_as (Err fault) = Err (Store fault)
 
+-- the same of a call that is refused for no other reason
+abbrev pub stored_as : Result (Unit {0}) StoreFault → Result (Unit {0}) CoordFault
+stored_as (Ok done) = Ok done
+stored_as (Err fault) = Err (Store fault)
+
 -- The record is put into the journal, or it is told why not. `snapshots` are those of all keys.
 pub record Puts {D : Type 0} (seen : D → DiskView) (snapshots : List (List ℕ)) (plain : StateRecord) (fresh : Option StateRecord)
     (old new : JournalParts D) (checkpointed : Bool) (result : Result (Unit {0}) CoordFault) : Type 0 where

@@ -1,6 +1,7 @@
 -- What is in memory of the keys, as what is kept of them: without how much memory there is. This project's own.
 -- For example a key with rows of one run, which has memory for 6000, is kept as one with memory for that run alone.
-use Rattle.std.specs.Prelude.{List, map, Option}
+use Rattle.std.specs.Prelude.{◌≤◌, ℕ, List, map, Option}
+use Rattle.std.specs.List.{AllByRecursion}
 use Rattle.std.specs.Option.{option_copied, option_map}
 use Rattle.share_model.specs.Keys.{KeyParts}
 use Rattle.share_coord.specs.Parts.{KeptState}
@@ -12,6 +13,15 @@ shown kept = record { view = kept.view.state; snapshot = kept.snapshot; updates 
 
 abbrev pub entries_in : List (KeyParts × Kept) → List (KeyParts × KeptState)
 entries_in entries = map (λ e. (e.0, shown e.1)) entries
+
+-- the rows of each key have memory for so many runs
+abbrev pub AreRoomy : ℕ → List (KeyParts × Kept) → Type 0
+AreRoomy room entries = AllByRecursion (λ e. room ≤ e.1.view.room) entries
+
+-- a table as it is seen: what is kept of its keys, and for how many runs the rows of each have memory
+pub record TableParts : Type 0 where
+  pub entries : List (KeyParts × KeptState)
+  pub room : ℕ
 
 -- what was found of a key, if it is there
 abbrev pub found : Option (Bor Kept) → Option KeptState

@@ -1,4 +1,4 @@
-ghost use Rattle.std.specs.Prelude.{◌≡◌, ◌⊎◌, ◌↔◌, ◌<◌, ◌^◌, length, true, false, Some, None, Ok, Err, is_some, IsSome, IfOk, IfErr, slice_get, MatchResult};
+ghost use Rattle.std.specs.Prelude.{◌≡◌, ◌⊎◌, ◌↔◌, ◌≤◌, ◌<◌, ◌^◌, length, OnOk, OnErr, IsOk, true, false, Some, None, Ok, Err, is_some, IsSome, IfOk, IfErr, slice_get, MatchResult};
 ghost use Rattle.std.specs.List.Sorted.{IsStrictlySortedBy};
 ghost use Rattle.std.specs.Option.{option_map, option_copied};
 ghost use Rattle.std.specs.Map.{keys_of};
@@ -11,6 +11,8 @@ ghost use Rattle.share_coord.specs.Calls.{Causes, IsInitialised, IsWritten, IsTo
 ghost use Rattle.share_coord.specs.Holding.{Holds, WritesOnce};
 ghost use Rattle.share_coord.specs.Opening.{IsOpened, IsNotOpened};
 ghost use Rattle.share_coord.specs.Recorded.{IsInitRecord, IsWriteRecord, StoresOne};
+ghost use Rattle.share_coord.specs.Putting.{stored_as};
+ghost use Rattle.share_coord.specs.Rooms.{IsGranted, IsOwnRecord, IsOwnWritten};
 ghost use Rattle.share_coord.specs.States.{state_found, states_of};
 ghost use Rattle.state_records.specs.declared.record.StateRecord.TheVariants.{Removal};
 
@@ -21,7 +23,8 @@ use crate::store::Store;
 use crate::view::StateView;
 use coord_checkpoint::CoordOpen;
 use edge_io::{Disk, DiskPlace, FaultMode};
-use share_model::{Key, Run};
+use offset_runs::Runs;
+use share_model::{Key, NoMemory, Run, StoreFault};
 use std::alloc::Global;
 use std::marker::Model;
 
@@ -45,12 +48,13 @@ pub struct Coord<D: Disk> {
 impl<D: Disk> Model for Coord<D> {
     ghost use Rattle.share_coord.specs.Holding.{IsHeld};
     ghost use Rattle.share_coord.specs.Parts.{StoreParts};
+    ghost use Rattle.share_coord.specs.Rooms.{HasRoom};
 
     ghost Value = { StoreParts D };
 
-    ghost view = { λ c. record { journal = c.store.journal; entries = c.store.table } };
+    ghost view = { λ c. record { journal = c.store.journal; entries = c.store.table.entries; room = c.store.room } };
 
-    ghost invariant = { λ c. IsHeld D.seen (record { journal = c.store.journal; entries = c.store.table }) };
+    ghost invariant = { λ c. IsHeld D.seen (record { journal = c.store.journal; entries = c.store.table.entries; room = c.store.room }) × HasRoom c.store };
 }
 
 impl<D: Disk> Coord<D> {
@@ -66,6 +70,9 @@ impl<D: Disk> Coord<D> {
             (λ c. RunsBoth D.seen a b c.journal.first.disk c.journal.second.disk)
             (λ e. RunsBoth D.seen a b e.0 e.1) }
     {
+        let Ok(buffer) = Vec::with_capacity(alloc, 320) else {
+            return Err((a, b, CoordOpen::NoMemory));
+        };
         let (ones, twos) = (Replay::new(alloc), Replay::new(alloc));
         let (journal, replay) = match coord_checkpoint::open(alloc, a, b, ones, twos) {
             Ok(opened) => opened,
@@ -77,6 +84,10 @@ impl<D: Disk> Coord<D> {
                     journal,
                     table,
                     alloc,
+                    room: 0,
+                    written: Runs::new(alloc),
+                    laid: Runs::new(alloc),
+                    buffer,
                 },
             }),
             Err(place) => {
@@ -99,6 +110,7 @@ impl<D: Disk> Coord<D> {
         ensures stored { StoresOne D.seen (IsInitRecord self.old.entries key.now state_epoch start)
             self.old.journal self.new.journal result }
         ensures runs { RunsOn D.seen self.old.journal.first.disk self.new.journal.first.disk × RunsOn D.seen self.old.journal.second.disk self.new.journal.second.disk }
+        ensures room { self.new.room ≡ self.old.room }
     {
         self.store.init(key, state_epoch, start)
     }
@@ -128,9 +140,39 @@ impl<D: Disk> Coord<D> {
             (IsWriteRecord self.old.entries key.now state_epoch leader_epoch start runs.now)
             self.old.journal self.new.journal result }
         ensures runs { RunsOn D.seen self.old.journal.first.disk self.new.journal.first.disk × RunsOn D.seen self.old.journal.second.disk self.new.journal.second.disk }
+        ensures room { self.new.room ≡ self.old.room }
     {
         self.store
             .write(key, state_epoch, leader_epoch, start, runs)
+    }
+
+    /// Sets memory aside for [`Coord::write_reserved`], so that the room is at least `room`: 24 bytes for each run in the
+    /// rows of each key, of a key that is initialised later too, and 67 for each run beside them. After want of memory
+    /// the store is as it was.
+    pub fn reserve(&mut self, room: u32) -> Result<(), NoMemory>
+        ensures ok { OnOk result (room ≤ self.new.room) }
+        ensures err { OnErr result (self.new ≡ self.old) }
+        ensures same { self.new ≡ record self.old { room = self.new.room } }
+        ensures kept { self.old.room ≤ self.new.room }
+        ensures spared { room ≤ self.old.room → IsOk result }
+    {
+        self.store.reserve(room)
+    }
+
+    /// Does what [`Coord::write`] does with the epochs that the key has. It takes no memory, leaves the room, and tries no
+    /// checkpoint.
+    ///
+    /// The key is there, the start and the runs are in range, and the number of the key's runs and twice that of the
+    /// given ones are at most the room and at most 1000000.
+    pub fn write_reserved(&mut self, key: &Key, start: i64, runs: &[Run]) -> Result<(), StoreFault>
+        requires { IsGranted self.old.entries key.now start runs.now self.old.room }
+        ensures once { WritesOnce D.seen (HasFailed D.seen) (IsOwnWritten self.old.entries key.now start runs.now) self.old self.new (stored_as result) }
+        ensures stored { StoresOne D.seen (IsOwnRecord self.old.entries key.now start runs.now)
+            self.old.journal self.new.journal (stored_as result) }
+        ensures runs { RunsOn D.seen self.old.journal.first.disk self.new.journal.first.disk × RunsOn D.seen self.old.journal.second.disk self.new.journal.second.disk }
+        ensures room { self.new.room ≡ self.old.room }
+    {
+        self.store.write_reserved(key, start, runs)
     }
 
     /// Takes a key away. False where it isn't there, and then nothing is done.
@@ -143,6 +185,7 @@ impl<D: Disk> Coord<D> {
         ensures stored { IsSome (kept_at self.old.entries key.now) →
             StoresOne D.seen (λ one. one ≡ Removal key.now) self.old.journal self.new.journal result }
         ensures runs { RunsOn D.seen self.old.journal.first.disk self.new.journal.first.disk × RunsOn D.seen self.old.journal.second.disk self.new.journal.second.disk }
+        ensures room { self.new.room ≡ self.old.room }
     {
         self.store.remove(key)
     }

@@ -8,6 +8,7 @@ mod plan;
 mod records;
 mod refusals;
 mod replay;
+mod reserved;
 mod rows;
 mod snapshots;
 mod states;

@@ -2,6 +2,7 @@
 ghost use Rattle.std.specs.Prelude.{◌≡◌, ◌≢◌, ◌⊎◌, ◌<◌, ◌≤◌, ◌+◌, ◌^◌, ℕ, List, length, true, Some, None, IfOk, IfErr, IfSome, []};
 ghost use Rattle.std.specs.List.{list_all};
 ghost use Rattle.share_model.specs.ShareStates.{is_writable, start_after};
+ghost use Rattle.offset_runs.specs.Changes.{room_of};
 ghost use Rattle.offset_runs.specs.Complete.{complete_rows};
 ghost use Rattle.state_records.specs.States.{IsKey, IsEpoch, IsStart, AreStoredRuns};
 ghost use Rattle.state_records.specs.declared.record.StateRecord.TheVariants.{Snapshot as snapshot_record, Update as update_record};
@@ -11,7 +12,7 @@ ghost use Rattle.share_coord.specs.Planning.{IsPlanned};
 ghost use Rattle.share_coord.specs.Tables.{shown};
 
 use crate::fault::CoordFault;
-use crate::rows::{complete_after, laid, start_after, written};
+use crate::rows::{complete_after, empty_rows, laid, start_after, written};
 use crate::view::{Kept, StateView};
 use flex_fields::Items;
 use offset_runs::Runs;
@@ -105,6 +106,7 @@ fn update(
       snapshot = kept.now.snapshot;
       updates = kept.now.updates + 1;
     } }
+    ensures room { result.kept.view.room ≡ room_of rows }
 {
     Change {
         written: StateRecord::Update(KeyState {
@@ -158,6 +160,7 @@ pub(crate) fn snapshot(
       snapshot = snapshot;
       updates = 0;
     }) }
+    ensures room { IfOk result (λ c. c.kept.view.room ≡ room_of rows) }
 {
     let copy = rows.list().to_vec(alloc)?;
     Ok(Change {
@@ -177,6 +180,54 @@ pub(crate) fn snapshot(
                 start,
                 complete,
                 runs: rows,
+            },
+            snapshot,
+            updates: 0,
+        },
+    })
+}
+
+// A snapshot of no rows, which have memory for so many runs.
+pub(crate) fn empty_snapshot(
+    alloc: Global,
+    numbers: &Numbers,
+    snapshot: u64,
+    room: u32,
+) -> Result<Change, NoMemory>
+    requires { IsEpoch numbers.now.state_epoch × IsEpoch numbers.now.leader_epoch × IsStart numbers.now.start }
+    ensures written { IfOk result (λ c. c.written ≡ snapshot_record (record {
+      key = numbers.now.key;
+      snapshot = snapshot;
+      state_epoch = numbers.now.state_epoch;
+      leader_epoch = numbers.now.leader_epoch;
+      start = numbers.now.start;
+      complete = Some 0;
+      runs = [];
+    })) }
+    ensures kept { IfOk result (λ c. shown c.kept ≡ record {
+      view = record { state_epoch = numbers.now.state_epoch; leader_epoch = numbers.now.leader_epoch; start = numbers.now.start; runs = [] };
+      snapshot = snapshot;
+      updates = 0;
+    }) }
+    ensures room { IfOk result (λ c. room ≤ c.kept.view.room) }
+{
+    Ok(Change {
+        written: StateRecord::Snapshot(KeyState {
+            key: numbers.key,
+            snapshot,
+            state_epoch: numbers.state_epoch,
+            leader_epoch: numbers.leader_epoch,
+            start: numbers.start,
+            complete: Some(0),
+            runs: Items::new(Vec::new(alloc)),
+        }),
+        kept: Kept {
+            view: StateView {
+                state_epoch: numbers.state_epoch,
+                leader_epoch: numbers.leader_epoch,
+                start: numbers.start,
+                complete: 0,
+                runs: empty_rows(alloc, room)?,
             },
             snapshot,
             updates: 0,
@@ -285,12 +336,14 @@ pub(crate) fn planned(
     kept: &Kept,
     runs: &[Run],
     tries: bool,
+    room: u32,
 ) -> Result<Changes, CoordFault>
     requires ranges { IsEpoch numbers.now.state_epoch × IsEpoch numbers.now.leader_epoch × IsStart numbers.now.start }
     requires runs { list_all is_writable runs.now ≡ true }
     requires snapshot { kept.now.snapshot + 1 < 2 ^ 64 }
     ensures plan { IfOk result (λ p. IsPlanned numbers.now.key (shown kept.now) numbers.now.state_epoch numbers.now.leader_epoch numbers.now.start
         runs.now p.change.written (shown p.change.kept) p.fresh) }
+    ensures room { IfOk result (λ p. room ≤ p.change.kept.view.room) }
     ensures many { IfErr result (λ e. (n : ℕ) → e ≡ CoordFault.TooMany n → (old : Entries) → kept_at old numbers.now.key ≡ Some (shown kept.now) →
         IsTooMany old numbers.now.key numbers.now.start runs.now n) }
     ensures causes { IfErr result (λ e. (e ≡ CoordFault.NoMemory) ⊎ ((n : ℕ) × (e ≡ CoordFault.TooMany n))) }
@@ -301,7 +354,7 @@ pub(crate) fn planned(
     let Ok(over) = written(alloc, runs) else {
         return Err(CoordFault::NoMemory);
     };
-    let Ok(rows) = laid(alloc, &kept.view.runs, &over, start) else {
+    let Ok(rows) = laid(alloc, &kept.view.runs, &over, start, room) else {
         return Err(CoordFault::NoMemory);
     };
     let count = over.list().len().max(rows.list().len());

@@ -1,8 +1,10 @@
 // One record more in the journal.
-ghost use Rattle.std.specs.Prelude.{◌≡◌, ◌+◌, ℕ, List, length, Some, None, IfOk, OnOk};
-ghost use Rattle.gate_journal.specs.Frames.{frame_in};
+ghost use Rattle.std.specs.Prelude.{◌≡◌, ◌+◌, ℕ, List, length, false, Some, None, IfOk, OnOk};
+ghost use Rattle.state_records.specs.declared.record.StateRecord.{StateRecord};
+ghost use Rattle.checkpoint_journal.specs.Generations.{IsPlain, mark_of};
+ghost use Rattle.gate_journal.specs.Frames.{IsFrame, frame_in};
 ghost use Rattle.state_records.specs.Spelling.{IsRecord, record_bytes};
-ghost use Rattle.share_coord.specs.Putting.{FitFrames, Puts, told_as};
+ghost use Rattle.share_coord.specs.Putting.{FitFrames, Puts, stored_as, told_as};
 ghost use Rattle.share_coord.specs.Stored.{snapshot_frames};
 
 use crate::fault::CoordFault;
@@ -38,6 +40,21 @@ fn told(appended: Result<u64, StoreFault>) -> Result<(), CoordFault>
     match appended {
         Ok(_) => Ok(()),
         Err(fault) => Err(CoordFault::Store(fault)),
+    }
+}
+
+// Puts a record whose frame stands in a buffer into the journal, and tries no checkpoint. It takes no memory.
+pub(crate) fn put_framed<D: Disk>(
+    journal: &mut StateJournal<D>,
+    buffer: &mut [u8],
+) -> Result<(), StoreFault>
+    requires { IsFrame (frame_in buffer.old) × IsPlain (mark_of (frame_in buffer.old)) }
+    ensures { (written : StateRecord) → IsRecord written → frame_in buffer.old ≡ record_bytes written → length buffer.old ≡ length (record_bytes written) + 5
+        → (snapshots : List (List ℕ)) → Puts D.seen snapshots written None journal.old journal.new false (stored_as result) }
+{
+    match journal.append(buffer) {
+        Ok(_) => Ok(()),
+        Err(fault) => Err(fault),
     }
 }
 

@@ -41,9 +41,9 @@ fn tells(told: Option<u64>, complete: u64) -> bool
 }
 
 fn take_snapshot(table: &mut Table, state: KeyState) -> Result<bool, NoMemory>
-    ensures taken { result ≡ Ok true → IsSnapshotted table.old state table.new }
-    ensures refused { result ≡ Ok false → (new : Entries) → IsSnapshotted table.old state new → ⊥ }
-    ensures kept { OnErr result (table.new ≡ table.old) }
+    ensures taken { result ≡ Ok true → IsSnapshotted table.old.entries state table.new.entries }
+    ensures refused { result ≡ Ok false → (new : Entries) → IsSnapshotted table.old.entries state new → ⊥ }
+    ensures kept { OnErr result (table.new.entries ≡ table.old.entries) }
 {
     if !is_next(table.get(&state.key), state.snapshot) {
         return Ok(false);
@@ -89,9 +89,9 @@ fn one_more(updates: u16) -> u16
 }
 
 fn take_update(alloc: Global, table: &mut Table, state: KeyState) -> Result<bool, NoMemory>
-    ensures taken { result ≡ Ok true → IsUpdated table.old state table.new }
-    ensures refused { result ≡ Ok false → (new : Entries) → IsUpdated table.old state new → ⊥ }
-    ensures kept { OnErr result (table.new ≡ table.old) }
+    ensures taken { result ≡ Ok true → IsUpdated table.old.entries state table.new.entries }
+    ensures refused { result ≡ Ok false → (new : Entries) → IsUpdated table.old.entries state new → ⊥ }
+    ensures kept { OnErr result (table.new.entries ≡ table.old.entries) }
 {
     let Some(kept) = table.get(&state.key) else {
         return Ok(false);
@@ -110,7 +110,7 @@ fn take_update(alloc: Global, table: &mut Table, state: KeyState) -> Result<bool
     } = state;
     let start = start_after(kept.view.start, given);
     let over = Runs::from_list(runs);
-    let rows = laid(alloc, &kept.view.runs, &over, start)?;
+    let rows = laid(alloc, &kept.view.runs, &over, start, 0)?;
     if rows.list().len() > MAX_RUNS {
         return Ok(false);
     }
@@ -136,9 +136,9 @@ fn take_update(alloc: Global, table: &mut Table, state: KeyState) -> Result<bool
 
 // Does a record. False where it doesn't go on from these states, which are then as before.
 fn take_record(alloc: Global, table: &mut Table, written: StateRecord) -> Result<bool, NoMemory>
-    ensures taken { result ≡ Ok true → Follows table.old written table.new }
-    ensures refused { result ≡ Ok false → (new : Entries) → Follows table.old written new → ⊥ }
-    ensures kept { OnErr result (table.new ≡ table.old) }
+    ensures taken { result ≡ Ok true → Follows table.old.entries written table.new.entries }
+    ensures refused { result ≡ Ok false → (new : Entries) → Follows table.old.entries written new → ⊥ }
+    ensures kept { OnErr result (table.new.entries ≡ table.old.entries) }
 {
     match written {
         StateRecord::Snapshot(state) => take_snapshot(table, state),
@@ -175,9 +175,9 @@ fn take_frame(
     frame: &[u8],
 ) -> Result<Option<Walk>, NoMemory>
     ensures taken { IfOk result (λ next. IfSome next (λ w. (w ≡ walked walk (mark_of frame.now))
-        × AreAccepted table.old (records_from walk (frame.now ∷ [])) table.new)) }
-    ensures refused { result ≡ Ok None → (new : Entries) → AreAccepted table.old (records_from walk (frame.now ∷ [])) new → ⊥ }
-    ensures kept { OnErr result (table.new ≡ table.old) }
+        × AreAccepted table.old.entries (records_from walk (frame.now ∷ [])) table.new.entries)) }
+    ensures refused { result ≡ Ok None → (new : Entries) → AreAccepted table.old.entries (records_from walk (frame.now ∷ [])) new → ⊥ }
+    ensures kept { OnErr result (table.new.entries ≡ table.old.entries) }
 {
     let written = match read_record(alloc, frame) {
         Ok(written) => written,
@@ -214,7 +214,7 @@ impl Model for Replay {
 
     ghost view = { λ r. r.seen.frames };
 
-    ghost invariant = { λ r. Replays r.seen.frames r.table r.walk r.refused };
+    ghost invariant = { λ r. Replays r.seen.frames r.table.entries r.walk r.refused };
 }
 
 impl Replay {
@@ -233,7 +233,7 @@ impl Replay {
 
     /// The states; or the place of the first frame that doesn't go on from those before it.
     pub fn finish(self) -> Result<Table, u64>
-        ensures taken { IfOk result (AreTaken (frames_in self)) }
+        ensures taken { IfOk result (λ table. AreTaken (frames_in self) table.entries) }
         ensures refused { IfErr result (HasRefused self) }
     {
         let Replay { table, refused, .. } = self;

@@ -1,9 +1,10 @@
 // The rows that a write leaves.
-ghost use Rattle.std.specs.Prelude.{◌≡◌, ◌≤◌, ℕ, List, None, length, IfOk, if◌then◌else◌};
+ghost use Rattle.std.specs.Prelude.{◌≡◌, ◌≤◌, ℕ, List, [], None, length, IfOk, IsOk, OnOk, if◌then◌else◌};
 ghost use Rattle.share_model.specs.Runs.{IsCanonical, row_at};
 ghost use Rattle.share_model.specs.ForeignRules.{size_of};
 ghost use Rattle.share_model.specs.ShareStates.{AreWritten, AreLaid, is_below, start_after};
 ghost use Rattle.share_model.specs.declared.run.Run.{Run};
+ghost use Rattle.offset_runs.specs.Changes.{room_of};
 ghost use Rattle.offset_runs.specs.Complete.{complete_rows};
 ghost use Rattle.state_records.specs.States.{AreStoredRuns};
 
@@ -16,7 +17,7 @@ use std::alloc::Global;
 const FEW: usize = 32;
 
 // The list of runs is canonical.
-fn canonical(runs: &Runs)
+pub(crate) fn canonical(runs: &Runs)
     ensures { IsCanonical runs.now.list }
 {
     let _list = runs.list();
@@ -56,24 +57,57 @@ pub(crate) fn start_after(old: i64, given: i64) -> i64
     if given < 0 { old } else { given }
 }
 
+// Sets memory aside, so that there is some for so many runs. After want of memory all is as it was.
+pub(crate) fn set_room(runs: &mut Runs, room: u32) -> Result<(), NoMemory>
+    ensures ok { OnOk result (room ≤ room_of runs.new) }
+    ensures list { runs.new.list ≡ runs.old.list }
+    ensures kept { room_of runs.old ≤ room_of runs.new }
+    ensures spared { room ≤ room_of runs.old → IsOk result }
+{
+    let count = runs.list().len();
+    if room as usize <= count {
+        return Ok(());
+    }
+    runs.reserve((room as usize - count) as u32)
+}
+
+// No rows, with memory for so many runs.
+pub(crate) fn empty_rows(alloc: Global, room: u32) -> Result<Runs, NoMemory>
+    ensures { IfOk result (λ rows. (rows.list ≡ []) × (room ≤ room_of rows)) }
+{
+    let mut rows = Runs::new(alloc);
+    set_room(&mut rows, room)?;
+    Ok(rows)
+}
+
 // Takes the rows below a start away.
 pub(crate) fn cut_at(runs: &mut Runs, start: i64)
-    ensures { (offset : ℕ) → row_at runs.new.list offset ≡ (if is_below offset start then None else row_at runs.old.list offset) }
+    ensures rows { (offset : ℕ) → row_at runs.new.list offset ≡ (if is_below offset start then None else row_at runs.old.list offset) }
+    ensures few { length runs.new.list ≤ length runs.old.list }
+    ensures room { room_of runs.old ≤ room_of runs.new }
 {
     if start > 0 {
         runs.cut_below(start as u64);
     }
 }
 
-// These rows over those, from a start on.
-pub(crate) fn laid(alloc: Global, under: &Runs, over: &Runs, start: i64) -> Result<Runs, NoMemory>
+// These rows over those, from a start on, with memory for so many runs.
+pub(crate) fn laid(
+    alloc: Global,
+    under: &Runs,
+    over: &Runs,
+    start: i64,
+    room: u32,
+) -> Result<Runs, NoMemory>
     requires { length under.now.list ≤ 1000000 }
-    ensures { IfOk result (λ laid. AreLaid start under.now.list over.now.list laid.list) }
+    ensures laid { IfOk result (λ laid. AreLaid start under.now.list over.now.list laid.list) }
+    ensures room { IfOk result (λ laid. room ≤ room_of laid) }
 {
     let copy = under.list().to_vec(alloc)?;
     let mut out = Runs::from_list(Items::new(copy));
     out.merge_from(over)?;
     cut_at(&mut out, start);
+    set_room(&mut out, room)?;
     canonical(&out);
     Ok(out)
 }

@@ -79,8 +79,8 @@ impl<'a> KeySnapshots<'a> {
         without: Option<Key>,
         count: u64,
     ) -> KeySnapshots<'a>
-        requires { count ≡ length (kept_left without table.now) }
-        ensures { result ≡ kept_left without table.now }
+        requires { count ≡ length (kept_left without table.now.entries) }
+        ensures { result ≡ kept_left without table.now.entries }
     {
         KeySnapshots {
             alloc,

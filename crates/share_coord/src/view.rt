@@ -1,6 +1,8 @@
-ghost use Rattle.std.specs.Prelude.{◌≡◌};
+ghost use Rattle.std.specs.Prelude.{◌≡◌, ◌≤◌, OnOk};
 
+use crate::rows::set_room;
 use offset_runs::Runs;
+use share_model::NoMemory;
 use std::marker::Model;
 
 /// The state of a key: KIP-932's epochs and start offset of a share partition, and its stored rows.
@@ -43,6 +45,22 @@ impl StateView {
         ensures { result ≡ complete_rows self.now.state.runs }
     {
         self.complete
+    }
+
+    /// For how many runs its rows have memory.
+    pub fn room(&self) -> u64
+        ensures { result ≡ self.now.room }
+    {
+        self.runs.room()
+    }
+
+    /// Sets memory aside, so that its rows have it for so many runs. After want of memory all is as it was.
+    pub fn reserve(&mut self, room: u32) -> Result<(), NoMemory>
+        ensures ok { OnOk result (room ≤ self.new.room) }
+        ensures state { self.new.state ≡ self.old.state }
+        ensures kept { self.old.room ≤ self.new.room }
+    {
+        set_room(&mut self.runs, room)
     }
 
     /// The numbers are in their ranges, as those of each state that is kept are.

@@ -23,10 +23,10 @@ pub update-requires-clause-over : goal.update-requires-clause-over
 update-requires-clause-over c = written_stored c.args.runs.now c.in-Ok.over.list c.requires.runs c.in-Ok.ensures
 
 pub update-requires-clause-rows : goal.update-requires-clause-rows
-update-requires-clause-rows c = laid_stored _ _ _ _ c.in-Ok-laid.ensures c.kept.invariant.0.runs (written_stored c.args.runs.now c.in-Ok.over.list c.requires.runs c.in-Ok.ensures)
+update-requires-clause-rows c = laid_stored _ _ _ _ c.in-Ok-laid.ensures.laid c.kept.invariant.0.runs (written_stored c.args.runs.now c.in-Ok.over.list c.requires.runs c.in-Ok.ensures)
 
 pub snapshot-requires-clause-rows : goal.snapshot-requires-clause-rows
-snapshot-requires-clause-rows c = laid_stored _ _ _ _ c.in-Ok-laid.ensures c.kept.invariant.0.runs (written_stored c.args.runs.now c.in-Ok.over.list c.requires.runs c.in-Ok.ensures)
+snapshot-requires-clause-rows c = laid_stored _ _ _ _ c.in-Ok-laid.ensures.laid c.kept.invariant.0.runs (written_stored c.args.runs.now c.in-Ok.over.list c.requires.runs c.in-Ok.ensures)
 
 pub returns-then-kept-lt500-clause-plan : goal.returns-then-kept-lt500-clause-plan
 returns-then-kept-lt500-clause-plan c =

@@ -22,10 +22,10 @@ returns-then-list-gt-MAX_RUNS-clause-refused c = λ _ new is.
     } in
     let one = ap (λ (l : List Run). length l) c.list.ensures.same in
     let many : 1000000 < length c.cut_at.new.runs.list = omega (arith, one, c.if-list-gt-MAX_RUNS.true) in
-    too_many_snapshot c.args.table.now seen c.cut_at.new.runs.list
-    (cut_as c.args.table.now seen i.0 i.1 i.2 c.cut_at.new.runs.list c.list.ensures.canonical
-    (λ o. c.cut_at.ensures o ∙ ap (λ (l : List Run). if is_below o (to_z w64 (of_z w64 c.state.inside.start)) then None else row_at l o) c.from_list-rows.ensures))
-    many new (subst (λ (x : StateParts). IsSnapshotted c.args.table.now x new) (sym c.state.view_is) is)
+    too_many_snapshot c.args.table.now.entries seen c.cut_at.new.runs.list
+    (cut_as c.args.table.now.entries seen i.0 i.1 i.2 c.cut_at.new.runs.list c.list.ensures.canonical
+    (λ o. c.cut_at.ensures.rows o ∙ ap (λ (l : List Run). if is_below o (to_z w64 (of_z w64 c.state.inside.start)) then None else row_at l o) c.from_list-rows.ensures))
+    many new (subst (λ (x : StateParts). IsSnapshotted c.args.table.now.entries x new) (sym c.state.view_is) is)
 
 pub invariant_of-kept : goal.invariant_of-kept
 invariant_of-kept c =
@@ -43,8 +43,8 @@ invariant_of-kept c =
     let few : length c.cut_at.new.runs.list ≤ 1000000 = omega (arith, one, c.if-list-gt-MAX_RUNS.false) in (
       kept_state c.state.inside.state_epoch c.state.inside.leader_epoch c.state.inside.start c.cut_at.new.runs.list i.0 i.1 i.2
           (laid_stored c.state.inside.start [] c.state.inside.runs c.cut_at.new.runs.list
-          (cut_as c.args.table.now seen i.0 i.1 i.2 c.cut_at.new.runs.list c.list.ensures.canonical
-          (λ o. c.cut_at.ensures o ∙ ap (λ (l : List Run). if is_below o (to_z w64 (of_z w64 c.state.inside.start)) then None else row_at l o) c.from_list-rows.ensures))
+          (cut_as c.args.table.now.entries seen i.0 i.1 i.2 c.cut_at.new.runs.list c.list.ensures.canonical
+          (λ o. c.cut_at.ensures.rows o ∙ ap (λ (l : List Run). if is_below o (to_z w64 (of_z w64 c.state.inside.start)) then None else row_at l o) c.from_list-rows.ensures))
           (tt, tt) i.3) few,
       c.complete_of-complete.ensures,
     )
@@ -63,11 +63,11 @@ returns-clause-taken c = λ _.
     } in
     let one = ap (λ (l : List Run). length l) c.list.ensures.same in
     let few : length c.cut_at.new.runs.list ≤ 1000000 = omega (arith, one, c.if-list-gt-MAX_RUNS.false) in
-    subst (λ (x : StateParts). IsSnapshotted c.args.table.now x c.insert.new.self) c.state.view_is
-    (snapshot_taken c.args.table.now seen i.0 i.1 i.2 c.cut_at.new.runs.list c.insert.new.self
+    subst (λ (x : StateParts). IsSnapshotted c.args.table.now.entries x c.insert.new.self.entries) c.state.view_is
+    (snapshot_taken c.args.table.now.entries seen i.0 i.1 i.2 c.cut_at.new.runs.list c.insert.new.self.entries
     (c.is_next.ensures.0 c.if-not-is_next.false ∙ ap next_snapshot c.get.ensures)
-    (cut_as c.args.table.now seen i.0 i.1 i.2 c.cut_at.new.runs.list c.list.ensures.canonical
-    (λ o. c.cut_at.ensures o ∙ ap (λ (l : List Run). if is_below o (to_z w64 (of_z w64 c.state.inside.start)) then None else row_at l o) c.from_list-rows.ensures))
+    (cut_as c.args.table.now.entries seen i.0 i.1 i.2 c.cut_at.new.runs.list c.list.ensures.canonical
+    (λ o. c.cut_at.ensures.rows o ∙ ap (λ (l : List Run). if is_below o (to_z w64 (of_z w64 c.state.inside.start)) then None else row_at l o) c.from_list-rows.ensures))
     few (is_told c.tells.result c.state.inside.complete c.cut_at.new.runs.list c.complete_of-complete.result c.tells.ensures c.complete_of-complete.ensures c.if-not-tells.false)
     c.in_ok-insert.ensures.entries)
 
@@ -84,8 +84,8 @@ complete_of-complete-requires c =
       runs = c.state.inside.runs;
     } in
     laid_stored c.state.inside.start [] c.state.inside.runs c.cut_at.new.runs.list
-    (cut_as c.args.table.now seen i.0 i.1 i.2 c.cut_at.new.runs.list c.list.ensures.canonical
-    (λ o. c.cut_at.ensures o ∙ ap (λ (l : List Run). if is_below o (to_z w64 (of_z w64 c.state.inside.start)) then None else row_at l o) c.from_list-rows.ensures))
+    (cut_as c.args.table.now.entries seen i.0 i.1 i.2 c.cut_at.new.runs.list c.list.ensures.canonical
+    (λ o. c.cut_at.ensures.rows o ∙ ap (λ (l : List Run). if is_below o (to_z w64 (of_z w64 c.state.inside.start)) then None else row_at l o) c.from_list-rows.ensures))
     (tt, tt) i.3
 
 pub returns-then-not-tells-clause-refused : goal.returns-then-not-tells-clause-refused
@@ -100,8 +100,8 @@ returns-then-not-tells-clause-refused c = λ _ new is.
       complete = c.state.inside.complete;
       runs = c.state.inside.runs;
     } in
-    untold_snapshot c.args.table.now seen c.cut_at.new.runs.list
-    (cut_as c.args.table.now seen i.0 i.1 i.2 c.cut_at.new.runs.list c.list.ensures.canonical
-    (λ o. c.cut_at.ensures o ∙ ap (λ (l : List Run). if is_below o (to_z w64 (of_z w64 c.state.inside.start)) then None else row_at l o) c.from_list-rows.ensures))
+    untold_snapshot c.args.table.now.entries seen c.cut_at.new.runs.list
+    (cut_as c.args.table.now.entries seen i.0 i.1 i.2 c.cut_at.new.runs.list c.list.ensures.canonical
+    (λ o. c.cut_at.ensures.rows o ∙ ap (λ (l : List Run). if is_below o (to_z w64 (of_z w64 c.state.inside.start)) then None else row_at l o) c.from_list-rows.ensures))
     (not_told c.tells.result c.state.inside.complete c.cut_at.new.runs.list c.complete_of-complete.result c.tells.ensures c.complete_of-complete.ensures c.if-not-tells.true)
-    new (subst (λ (x : StateParts). IsSnapshotted c.args.table.now x new) (sym c.state.view_is) is)
+    new (subst (λ (x : StateParts). IsSnapshotted c.args.table.now.entries x new) (sym c.state.view_is) is)

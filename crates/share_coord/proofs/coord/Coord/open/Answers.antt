@@ -1,4 +1,4 @@
-use Rattle.std.proofs.Common.{◌≡◌, ◌∙◌, inl, sym, ap, subst, List, ℕ, Bool, None, false, true}
+use Rattle.std.proofs.Common.{arith, ◌≡◌, ◌∙◌, inl, sym, ap, subst, List, ℕ, Bool, None, false, true}
 use Rattle.gate_journal.proofs.Once.{not_both}
 use Rattle.checkpoint_journal.specs.Generations.{IsLiveOn}
 use Rattle.coord_checkpoint.specs.Openings.{frames_in}
@@ -19,37 +19,39 @@ returns-in-Err-clause-refused g c = record {
 }
 
 pub invariant_of-result : goal.invariant_of-result
-invariant_of-result g c =
-    (None, replayed g.D.Disk.seen c.in-Ok.opened.0 c.in-Ok.opened.1 c.in-Ok-finish.table c.in-Ok.ensures.kept c.in-Ok-finish.ensures.taken c.in-Ok.ensures.few)
+invariant_of-result g c = (
+  (None, replayed g.D.Disk.seen c.in-Ok-open.opened.0 c.in-Ok-open.opened.1 c.in-Ok-finish.table.entries 0 c.in-Ok-open.ensures.kept c.in-Ok-finish.ensures.taken c.in-Ok-open.ensures.few),
+  record { table = omega arith; written = omega arith; laid = omega arith; buffer = let has = c.in-Ok.ensures.capacity in omega (arith, has) },
+)
 
 pub returns-in-Ok-finish-clause-opened : goal.returns-in-Ok-finish-clause-opened
 returns-in-Ok-finish-clause-opened g c =
-    let items = frames_in c.in-Ok.opened.1 in
-    let es = c.in-Ok-finish.table in
+    let items = frames_in c.in-Ok-open.opened.1 in
+    let es = c.in-Ok-finish.table.entries in
     let taken = c.in-Ok-finish.ensures.taken in
     record {
-      holds = replayed g.D.Disk.seen c.in-Ok.opened.0 c.in-Ok.opened.1 es c.in-Ok.ensures.kept taken c.in-Ok.ensures.few;
-      opens = λ x y on_a on_b. record { frames = items; listed = c.in-Ok.ensures.opens x y on_a on_b; taken = taken };
+      holds = replayed g.D.Disk.seen c.in-Ok-open.opened.0 c.in-Ok-open.opened.1 es 0 c.in-Ok-open.ensures.kept taken c.in-Ok-open.ensures.few;
+      opens = λ x y on_a on_b. record { frames = items; listed = c.in-Ok-open.ensures.opens x y on_a on_b; taken = taken };
       only = λ x y entries on_a on_b stored.
-          let same : items ≡ stored.frames = ap frames_in (c.in-Ok.ensures.recovers x y stored.frames on_a on_b stored.listed) ∙ frames_placed 0 stored.frames in
+          let same : items ≡ stored.frames = ap frames_in (c.in-Ok-open.ensures.recovers x y stored.frames on_a on_b stored.listed) ∙ frames_placed 0 stored.frames in
           taken_once items es entries taken (subst (λ (fs : List (List ℕ)). AreTaken fs entries) (sym same) stored.taken);
     }
 
 pub returns-in-Err-finish-clause-refused : goal.returns-in-Err-finish-clause-refused
 returns-in-Err-finish-clause-refused g c =
-    let items = frames_in c.in-Ok.opened.1 in
+    let items = frames_in c.in-Ok-open.opened.1 in
     let at = c.in-Err-finish.place in
-    let is : IsRefused items at = refused_at c.in-Ok.opened.1 at c.in-Ok.ensures.places c.in-Err-finish.ensures.refused in
+    let is : IsRefused items at = refused_at c.in-Ok-open.opened.1 at c.in-Ok-open.ensures.places c.in-Err-finish.ensures.refused in
     let on_second = c.on_second-second.result in
     record {
       damaged = λ second place e x y on_a on_b.
-          let live = subst (λ (b : Bool). IsLiveOn x y b items) (sym c.on_second-second.ensures) (c.in-Ok.ensures.live x y on_a on_b) in
+          let live = subst (λ (b : Bool). IsLiveOn x y b items) (sym c.on_second-second.ensures) (c.in-Ok-open.ensures.live x y on_a on_b) in
           refused_damaged x y on_second at second place (record { frames = items; live = live; refused = is }) e;
       sound = λ x y entries on_a on_b stored second place e.
-          let same : items ≡ stored.frames = ap frames_in (c.in-Ok.ensures.recovers x y stored.frames on_a on_b stored.listed) ∙ frames_placed 0 stored.frames in
+          let same : items ≡ stored.frames = ap frames_in (c.in-Ok-open.ensures.recovers x y stored.frames on_a on_b stored.listed) ∙ frames_placed 0 stored.frames in
           refused_clash items at entries is (subst (λ (fs : List (List ℕ)). AreTaken fs entries) (sym same) stored.taken);
       device = λ e. absurd (no_device on_second false at e);
       second_device = λ e. absurd (no_device on_second true at e);
       untouched = λ e. absurd (no_device on_second false at e);
-      unread = λ x y place on_a on_b bad e. absurd (not_both x (c.in-Ok.ensures.live x y on_a on_b).ones place (c.in-Ok.ensures.live x y on_a on_b).first_is bad);
+      unread = λ x y place on_a on_b bad e. absurd (not_both x (c.in-Ok-open.ensures.live x y on_a on_b).ones place (c.in-Ok-open.ensures.live x y on_a on_b).first_is bad);
     }

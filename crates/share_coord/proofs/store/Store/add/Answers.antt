@@ -10,11 +10,11 @@ use Rattle.share_coord.proofs.store.Store.add.Goals as goal
 
 pub put-put-requires-clause-keys : goal.put-put-requires-clause-keys
 put-put-requires-clause-keys g c =
-    c.requires.keys ∙ ap (λ (l : Entries). length l) (sym (left_again c.args.self.now.table c.args.key.now (shown c.args.planned.change.kept) c.requires.absent _ c.in_default.ensures.entries))
+    c.requires.keys ∙ ap (λ (l : Entries). length l) (sym (left_again c.args.self.now.table.entries c.args.key.now (shown c.args.planned.change.kept) c.requires.absent _ c.in_default.ensures.entries))
 
 pub returns-in-Err-result-clause-once : goal.returns-in-Err-result-clause-once
 returns-in-Err-result-clause-once g c =
-    let es = c.args.self.now.table in
+    let es = c.args.self.now.table.entries in
     let p = c.args.planned in
     let key = c.args.key.now in
     let b = c.put-put.result.checkpointed in
@@ -22,9 +22,9 @@ returns-in-Err-result-clause-once g c =
     let before = left_again es key (shown p.change.kept) c.requires.absent _ added in
     let puts = subst (λ (l : Entries). Puts g.D.Disk.seen (snapshot_frames l) p.change.written (record_of p.fresh) c.args.self.now.journal c.put-put.new.self.journal b c.put-put.result.result)
     before c.put-put.ensures.puts in
-    refused_at g.D.Disk.seen p.change.written (record_of p.fresh) c.args.self.now.journal c.put-put.new.self.journal es c.requires.sorted
+    refused_at g.D.Disk.seen p.change.written (record_of p.fresh) c.args.self.now.journal c.put-put.new.self.journal es c.args.self.now.room c.requires.sorted
     (left_by es key (shown p.change.kept) p.fresh) c.requires.follows (LeavesPlanned es key p) (λ d one is. (d, one, is, refl)) c.requires.frames.0.0 c.requires.held
-    b c.put-put.result.result puts c.in-Err-result.fault c.remove.new.self
+    b c.put-put.result.result puts c.in-Err-result.fault c.remove.new.self.entries c.put-put.new.self.room c.put-put.ensures.room
     (c.remove.ensures.entries ∙ (ap (λ (l : Entries). without_key l key) c.put-put.ensures.table ∙ taken_again b es key (shown p.change.kept) c.requires.absent _ added))
     c.in-Err-result.is
 
@@ -39,7 +39,7 @@ returns-in-Err-result-clause-causes g c = put_causes c.put-put.result.result c.i
 
 pub returns-clause-once : goal.returns-clause-once
 returns-clause-once g c =
-    let es = c.args.self.now.table in
+    let es = c.args.self.now.table.entries in
     let p = c.args.planned in
     let key = c.args.key.now in
     let b = c.put-put.result.checkpointed in
@@ -47,9 +47,9 @@ returns-clause-once g c =
     let before = left_again es key (shown p.change.kept) c.requires.absent _ added in
     let puts = subst (λ (l : Entries). Puts g.D.Disk.seen (snapshot_frames l) p.change.written (record_of p.fresh) c.args.self.now.journal c.put-put.new.self.journal b c.put-put.result.result)
     before c.put-put.ensures.puts in
-    stored_at g.D.Disk.seen p.change.written (record_of p.fresh) c.args.self.now.journal c.put-put.new.self.journal es c.requires.sorted
+    stored_at g.D.Disk.seen p.change.written (record_of p.fresh) c.args.self.now.journal c.put-put.new.self.journal es c.args.self.now.room c.requires.sorted
     (left_by es key (shown p.change.kept) p.fresh) c.requires.follows (LeavesPlanned es key p) (λ d one is. (d, one, is, refl)) c.requires.frames.0.0 c.requires.held
-    b c.put-put.result.result puts tt c.put-put.new.self.table
+    b c.put-put.result.result puts tt c.put-put.new.self.table.entries c.put-put.new.self.room c.put-put.ensures.room
     (c.put-put.ensures.table ∙ added_is b es key (shown p.change.kept) p.fresh c.requires.first _ added) c.in_default-result.is
 
 pub returns-clause-stored : goal.returns-clause-stored

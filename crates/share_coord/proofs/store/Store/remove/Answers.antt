@@ -13,19 +13,19 @@ put-put-requires-clause-frames g c = removal_both c.args.key.now c.removal_where
 
 pub returns-in-Err-clause-once : goal.returns-in-Err-clause-once
 returns-in-Err-clause-once g c = λ there.
-    let es = c.args.self.now.table in
+    let es = c.args.self.now.table.entries in
     let key = c.args.key.now in
     let fresh = c.removal_where-fresh.result in
-    refused_at g.D.Disk.seen (Removal key) (record_of fresh) c.args.self.now.journal c.put-put.new.self.journal es c.tries-tried.ensures.sorted
+    refused_at g.D.Disk.seen (Removal key) (record_of fresh) c.args.self.now.journal c.put-put.new.self.journal es c.args.self.now.room c.tries-tried.ensures.sorted
     (λ b. without_key (based b es) key) (removals_go es key fresh there c.removal_where-fresh.ensures) (IsForgotten es key) (removals_left es key fresh there)
     (removal_both key fresh c.removal_where-fresh.ensures c.key_fits.ensures).0.0 c.requires.held
-    c.put-put.result.checkpointed c.put-put.result.result c.put-put.ensures.puts c.in-Err.fault c.put-put.new.self.table c.put-put.ensures.table c.in-Err.is
+    c.put-put.result.checkpointed c.put-put.result.result c.put-put.ensures.puts c.in-Err.fault c.put-put.new.self.table.entries c.put-put.new.self.room c.put-put.ensures.room c.put-put.ensures.table c.in-Err.is
 
 pub returns-in-Err-clause-stored : goal.returns-in-Err-clause-stored
 returns-in-Err-clause-stored g c = λ there.
     let key = c.args.key.now in
     let fresh = c.removal_where-fresh.result in
-    stores_err g.D.Disk.seen (snapshot_frames c.args.self.now.table) (Removal key) (record_of fresh) c.args.self.now.journal c.put-put.new.self.journal
+    stores_err g.D.Disk.seen (snapshot_frames c.args.self.now.table.entries) (Removal key) (record_of fresh) c.args.self.now.journal c.put-put.new.self.journal
     c.put-put.result.checkpointed c.put-put.result.result c.put-put.ensures.puts c.requires.held.1.frames c.requires.held.1.sealing c.requires.held.1.unwritten c.requires.held.1.keeps _ (removal_is key fresh c.removal_where-fresh.ensures) c.in-Err.fault c.in-Err.is
 
 pub returns-in-Err-clause-causes : goal.returns-in-Err-clause-causes
@@ -33,18 +33,18 @@ returns-in-Err-clause-causes g c = put_causes c.put-put.result.result c.in-Err.f
 
 pub returns-clause-once : goal.returns-clause-once
 returns-clause-once g c = λ there.
-    let es = c.args.self.now.table in
+    let es = c.args.self.now.table.entries in
     let key = c.args.key.now in
     let fresh = c.removal_where-fresh.result in
-    stored_at g.D.Disk.seen (Removal key) (record_of fresh) c.args.self.now.journal c.put-put.new.self.journal es c.tries-tried.ensures.sorted
+    stored_at g.D.Disk.seen (Removal key) (record_of fresh) c.args.self.now.journal c.put-put.new.self.journal es c.args.self.now.room c.tries-tried.ensures.sorted
     (λ b. without_key (based b es) key) (removals_go es key fresh there c.removal_where-fresh.ensures) (IsForgotten es key) (removals_left es key fresh there)
     (removal_both key fresh c.removal_where-fresh.ensures c.key_fits.ensures).0.0 c.requires.held
-    c.put-put.result.checkpointed c.put-put.result.result c.put-put.ensures.puts true c.remove.new.self
+    c.put-put.result.checkpointed c.put-put.result.result c.put-put.ensures.puts true c.remove.new.self.entries c.put-put.new.self.room c.put-put.ensures.room
     (c.remove.ensures.entries ∙ ap (λ (l : Entries). without_key l key) c.put-put.ensures.table) c.in_default.is
 
 pub returns-clause-stored : goal.returns-clause-stored
 returns-clause-stored g c = λ there.
     let key = c.args.key.now in
     let fresh = c.removal_where-fresh.result in
-    stores_ok g.D.Disk.seen (snapshot_frames c.args.self.now.table) (Removal key) (record_of fresh) c.args.self.now.journal c.put-put.new.self.journal
+    stores_ok g.D.Disk.seen (snapshot_frames c.args.self.now.table.entries) (Removal key) (record_of fresh) c.args.self.now.journal c.put-put.new.self.journal
     c.put-put.result.checkpointed c.put-put.result.result c.put-put.ensures.puts c.requires.held.1.frames c.requires.held.1.sealing c.requires.held.1.unwritten c.requires.held.1.keeps _ (removal_is key fresh c.removal_where-fresh.ensures) true c.in_default.is

@@ -5,7 +5,7 @@ use Rattle.share_coord.specs.Calls.{IsWritten, write_refusal}
 use Rattle.share_coord.specs.Parts.{KeptState}
 use Rattle.share_coord.specs.Tables.{found, shown}
 use Rattle.share_coord.proofs.Keys.{some_none}
-use Rattle.share_coord.proofs.Numeric.{write_apart, unknown_apart, plan_apart, causes_in}
+use Rattle.share_coord.proofs.Numeric.{write_apart, write_caused, unknown_apart, plan_apart, causes_in}
 use Rattle.share_coord.proofs.Once.{untouched, rewritten}
 use Rattle.share_coord.proofs.Reading.{next_held}
 use Rattle.share_coord.proofs.Signed.{epoch_fits, start_fits, in_range, refusal_as, written_as}
@@ -41,7 +41,7 @@ returns-clause-causes g c = causes_in c.replace.result _ _
 
 pub returns-clause-refused : goal.returns-clause-refused
 returns-clause-refused g c =
-    let none : write_refusal (kept_at c.args.self.now.table c.args.key.now) c.args.state_epoch c.args.leader_epoch c.args.start c.args.runs.now ≡ None =
+    let none : write_refusal (kept_at c.args.self.now.table.entries c.args.key.now) c.args.state_epoch c.args.leader_epoch c.args.start c.args.runs.now ≡ None =
     ap (λ (o : Option KeptState). write_refusal o c.args.state_epoch c.args.leader_epoch c.args.start c.args.runs.now) (sym c.get-known.ensures)
     ∙ (refusal_as (found c.get-known.result) c.args.state_epoch c.args.leader_epoch c.args.start c.args.runs.now c.ranges.state_epoch c.ranges.leader_epoch c.ranges.start
     ∙ (sym c.write_refusal.ensures ∙ c.in_default.is)) in
@@ -49,7 +49,7 @@ returns-clause-refused g c =
 
 pub returns-in-Err-clause-refused : goal.returns-in-Err-clause-refused
 returns-in-Err-clause-refused g c =
-    let none : write_refusal (kept_at c.args.self.now.table c.args.key.now) c.args.state_epoch c.args.leader_epoch c.args.start c.args.runs.now ≡ None =
+    let none : write_refusal (kept_at c.args.self.now.table.entries c.args.key.now) c.args.state_epoch c.args.leader_epoch c.args.start c.args.runs.now ≡ None =
     ap (λ (o : Option KeptState). write_refusal o c.args.state_epoch c.args.leader_epoch c.args.start c.args.runs.now) (sym c.get-known.ensures)
     ∙ (refusal_as (found c.get-known.result) c.args.state_epoch c.args.leader_epoch c.args.start c.args.runs.now c.ranges.state_epoch c.ranges.leader_epoch c.ranges.start
     ∙ (sym c.write_refusal.ensures ∙ c.in_default.is)) in
@@ -73,9 +73,9 @@ returns-in-Err-clause-stored g c = unstored g.D.Disk.seen _ _ c.in-Err.fault (pl
 
 pub planned-requires-clause-snapshot : goal.planned-requires-clause-snapshot
 planned-requires-clause-snapshot g c =
-    let known : kept_at c.args.self.now.table c.args.key.now ≡ Some (shown c.in-Some-known.kept.now) = sym c.get-known.ensures ∙ ap found c.in-Some-known.is in
+    let known : kept_at c.args.self.now.table.entries c.args.key.now ≡ Some (shown c.in-Some-known.kept.now) = sym c.get-known.ensures ∙ ap found c.in-Some-known.is in
     subst (λ (o : Option KeptState). next_snapshot o < 2 ^ 64) known
-    (next_held c.requires.held.1.frames c.args.self.now.table c.args.key.now c.requires.held.1.taken c.requires.held.1.few)
+    (next_held c.requires.held.1.frames c.args.self.now.table.entries c.args.key.now c.requires.held.1.taken c.requires.held.1.few)
 
 pub returns-in-Some-clause-runs : goal.returns-in-Some-clause-runs
 returns-in-Some-clause-runs g c = (runs_none g.D.Disk.seen c.args.self.now.journal.first.disk, runs_none g.D.Disk.seen c.args.self.now.journal.second.disk)
@@ -91,12 +91,12 @@ replace-requires-clause-frames g c = c.in-Ok.ensures.plan.frames
 
 pub replace-requires-clause-follows : goal.replace-requires-clause-follows
 replace-requires-clause-follows g c =
-    let known : kept_at c.args.self.now.table c.args.key.now ≡ Some (shown c.in-Some-known.kept.now) = sym c.get-known.ensures ∙ ap found c.in-Some-known.is in
-    c.in-Ok.ensures.plan.follows c.args.self.now.table known
+    let known : kept_at c.args.self.now.table.entries c.args.key.now ≡ Some (shown c.in-Some-known.kept.now) = sym c.get-known.ensures ∙ ap found c.in-Some-known.is in
+    c.in-Ok.ensures.plan.follows c.args.self.now.table.entries known
 
 pub returns-clause-once : goal.returns-clause-once
 returns-clause-once g c =
-    let es = c.args.self.now.table in
+    let es = c.args.self.now.table.entries in
     let key = c.args.key.now in
     let state = to_z w32 (of_z w32 c.args.state_epoch) in
     let leader = to_z w32 (of_z w32 c.args.leader_epoch) in
@@ -110,9 +110,15 @@ returns-clause-once g c =
 
 pub returns-clause-stored : goal.returns-clause-stored
 returns-clause-stored g c =
-    let es = c.args.self.now.table in
+    let es = c.args.self.now.table.entries in
     let key = c.args.key.now in
     let known : kept_at es key ≡ Some (shown c.in-Some-known.kept.now) = sym c.get-known.ensures ∙ ap found c.in-Some-known.is in
     as_this g.D.Disk.seen _ (IsWriteRecord es key c.args.state_epoch c.args.leader_epoch c.args.start c.args.runs.now) _ _
     (λ one h. write_stored es key c.args.state_epoch c.args.leader_epoch c.args.start c.args.runs.now one
     c.ranges.state_epoch c.ranges.leader_epoch c.ranges.start (c.in-Ok.ensures.plan.records es known h.0 one h.1)) c.replace.result c.replace.ensures.stored
+
+pub returns-in-Some-clause-causes : goal.returns-in-Some-clause-causes
+returns-in-Some-clause-causes g c = write_caused (kept_at c.args.self.now.table.entries c.args.key.now) c.args.state_epoch c.args.leader_epoch c.args.start c.args.runs.now _ c.in-Some.fault
+    (ap (λ (o : Option KeptState). write_refusal o c.args.state_epoch c.args.leader_epoch c.args.start c.args.runs.now) (sym c.get-known.ensures)
+    ∙ (refusal_as (found c.get-known.result) c.args.state_epoch c.args.leader_epoch c.args.start c.args.runs.now c.ranges.state_epoch c.ranges.leader_epoch c.ranges.start
+    ∙ (sym c.write_refusal.ensures ∙ c.in-Some.is)))
