@@ -1,5 +1,5 @@
 -- The memory of the rows of a table.
-use Rattle.std.proofs.Common.{◌≡◌, ◌≤◌, refl, sym, ap, ◌∙◌, subst, arith, ℕ, List, [], ◌∷◌, Option, Some, None, Bool, true, false, cond}
+use Rattle.std.proofs.Common.{◌≡◌, ◌≤◌, sym, ap, ◌∙◌, subst, arith, ℕ, List, [], ◌∷◌, Option, Some, None, Bool, true, false, cond}
 use Rattle.std.specs.declared.cmp.Ordering.{Ordering}
 use Rattle.std.specs.declared.cmp.Ordering.TheVariants.{Less, Equal, Greater}
 use Rattle.std.specs.Ordering.{match_ordering}
@@ -8,7 +8,6 @@ use Rattle.std.specs.Map.{lookup, remove_entry}
 use Rattle.std.specs.Map.Calls.{RetainsPairs}
 use Rattle.std.specs.Option.{IfSome}
 use Rattle.share_model.specs.Keys.{KeyParts, key_cmp}
-use Rattle.share_coord.specs.Stored.{Entries}
 use Rattle.share_coord.specs.Tables.{AreRoomy, entries_in, shown}
 use Rattle.share_coord.specs.declared.view.Kept.{Kept}
 use Rattle.share_coord.proofs.Keys.{some_is, some_none}

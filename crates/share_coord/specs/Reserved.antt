@@ -1,6 +1,6 @@
 -- The record and the numbers of a write that takes no memory. This project's own; private clauses cite it.
 -- For example a key with 500 updates is stored as a snapshot, and has none since then.
-use Rattle.std.specs.Prelude.{◌+◌, ℕ, ℤ, List, Bool, true, false, Some, nat_lt, if◌then◌else◌}
+use Rattle.std.specs.Prelude.{◌+◌, ℤ, List, Bool, true, false, Some, nat_lt, if◌then◌else◌}
 use Rattle.share_model.specs.Keys.{KeyParts}
 use Rattle.share_model.specs.declared.run.Run.{Run}
 use Rattle.state_records.specs.States.{StateParts}

@@ -4,7 +4,7 @@
 use Rattle.std.specs.Prelude.{◌≡◌, ◌≤◌, ◌+◌, ◌*◌, ℕ, ℤ, List, length, vec_capacity, Some, None, false}
 use Rattle.share_model.specs.Keys.{KeyParts}
 use Rattle.share_model.specs.declared.run.Run.{Run}
-use Rattle.offset_runs.specs.Changes.{RunsParts, room_of}
+use Rattle.offset_runs.specs.Changes.{room_of}
 use Rattle.share_coord.specs.Calls.{IsWritten, write_refusal}
 use Rattle.share_coord.specs.Parts.{KeptState}
 use Rattle.share_coord.specs.Recorded.{IsWriteRecord}

@@ -1,4 +1,4 @@
-use Rattle.std.proofs.Common.{◌≡◌, ◌≤◌, ◌∙◌, refl, sym, ap, subst, arith, ℤ, List, ℕ, Some, None, false, length, to_z, of_z, w64, ◌<◌, ◌+◌, ◌*◌, ◌^◌, Option, vec_capacity}
+use Rattle.std.proofs.Common.{◌≡◌, ◌≤◌, ◌∙◌, refl, sym, ap, subst, arith, ℤ, List, ℕ, None, false, length, to_z, of_z, w64, ◌<◌, ◌+◌, ◌*◌, ◌^◌, Option, vec_capacity}
 use Rattle.std.proofs.lemmas.Int.{to_z-of_z}
 use Rattle.gate_journal.specs.Frames.{IsFrame, frame_in}
 use Rattle.offset_runs.specs.Changes.{RunsParts, room_of}
@@ -11,7 +11,6 @@ use Rattle.share_coord.specs.Stored.{kept_at, next_snapshot, snapshot_frames, wi
 use Rattle.share_coord.specs.Tables.{shown}
 use Rattle.share_coord.specs.Parts.{KeptState}
 use Rattle.share_coord.specs.Views.{IsKeptState}
-use Rattle.share_coord.proofs.Keys.{some_none}
 use Rattle.share_coord.proofs.Once.{refused_at, rewritten, stored_at}
 use Rattle.share_coord.proofs.Putting.{plain_mark}
 use Rattle.share_coord.proofs.Reading.{next_held}

@@ -1,4 +1,4 @@
-use Rattle.std.proofs.Common.{◌≤◌, ◌∙◌, sym, ap, subst, ℕ, None}
+use Rattle.std.proofs.Common.{◌≤◌, ◌∙◌, sym, ap, subst, None}
 use Rattle.std.specs.Option.{IfSome}
 use Rattle.share_coord.specs.Stored.{Entries, kept_at, with_kept}
 use Rattle.share_coord.specs.Tables.{AreRoomy, TableParts, entries_in, shown}

@@ -1,9 +1,7 @@
-use Rattle.std.proofs.Common.{◌∙◌, ⊎_elim, sym, ap, subst, ℕ, None}
+use Rattle.std.proofs.Common.{◌∙◌, sym, ap, subst, None}
 use Rattle.share_coord.specs.Stored.{Entries, with_kept}
 use Rattle.share_coord.specs.Tables.{AreRoomy, entries_in, shown}
 use Rattle.share_coord.specs.Tables.{TableParts}
-use Rattle.std.specs.BTreeMap.{insert_entry}
-use Rattle.share_model.specs.Keys.{key_cmp}
 use Rattle.share_coord.proofs.Rooms.{less_room, roomy_with}
 use Rattle.share_coord.proofs.Tables.{found_at, with_shown}
 use Rattle.share_coord.proofs.table.Table.insert.Goals as goal
