@@ -1,5 +1,4 @@
 -- A write to the journal that was live, with no checkpoint made before it.
-use Rattle.std.specs.Prelude.{MatchResult}
 use Rattle.std.proofs.Common.{◌≡◌, ◌⊎◌, inl, inr, ⊎_elim, refl, sym, ap, ◌∙◌, subst, arith, ℕ, ◌+◌, ◌*◌, ◌<◌, ◌≤◌, ◌^◌, Bool, true, false, List, [], ◌∷◌, ◌++◌, length, Option, Some, None, Result, Ok, Err, OnOk, OnErr}
 use Rattle.edge_io.specs.Armed.{RunsOn}
 use Rattle.edge_io.specs.Moments.{LeavesOnly}
@@ -15,7 +14,7 @@ use Rattle.checkpoint_journal.specs.Generations.{IsBeaten, IsPlain, IsWhole, mar
 use Rattle.checkpoint_journal.specs.Spares.{HasFrames, IsAside}
 use Rattle.checkpoint_journal.proofs.Marks.{one_more}
 use Rattle.coord_checkpoint.specs.Disks.{HasFailed}
-use Rattle.coord_checkpoint.specs.Stores.{AreSides, IsDue, IsLeftWithin, Keeps, MaySeal, StoreParts}
+use Rattle.coord_checkpoint.specs.Stores.{AreSides, IsLeftWithin, Keeps, MaySeal, StoreParts}
 use Rattle.coord_checkpoint.specs.Steps.{IsPreparing, IsReady, IsSameTurn, IsTried, StaysReady, placed}
 use Rattle.coord_checkpoint.specs.Writes.{Adds, IsQuietBut, MayCheckpoint, Stays, Writes}
 use Rattle.coord_checkpoint.specs.declared.step.Turn.{Turn}

@@ -1,6 +1,6 @@
 -- A write to a store that a device refuses.
 use Rattle.std.specs.Prelude.{if◌then◌else◌}
-use Rattle.std.proofs.Common.{◌≡◌, ◌≢◌, ◌⊎◌, inl, inr, ⊎_elim, sym, subst, ℕ, Bool, true, false, not, List, [], ◌∷◌, ◌++◌, Option, Some}
+use Rattle.std.proofs.Common.{◌≡◌, ◌≢◌, ◌⊎◌, inl, inr, Bool, true, false, not}
 use Rattle.edge_io.specs.Views.{DiskView}
 use Rattle.coord_checkpoint.specs.Disks.{HasFailed}
 use Rattle.coord_checkpoint.specs.Stores.{StoreParts}

@@ -1,7 +1,7 @@
 -- What one write to a store leaves, and when it is refused. This project's own.
 -- For example a write of `61` to a store whose checkpoint is due and is made leaves that checkpoint and `61` behind it; where the
 -- checkpoint fails before its seal, `61` stands behind the frames that there were.
-use Rattle.std.specs.Prelude.{◌≡◌, ◌≢◌, ◌⊎◌, ◌↔◌, ◌+◌, ◌<◌, ◌^◌, ℕ, Bool, true, not, List, [], ◌∷◌, ◌++◌, length, Some, None, Result, Err, OnOk, OnErr, MatchResult, false}
+use Rattle.std.specs.Prelude.{◌≡◌, ◌≢◌, ◌⊎◌, ◌↔◌, ◌+◌, ◌<◌, ◌≤◌, ◌^◌, ℕ, Bool, true, not, List, [], ◌∷◌, ◌++◌, length, Some, None, Result, Err, OnOk, OnErr, false}
 use Rattle.std.specs.Prelude.{if◌then◌else◌}
 use Rattle.std.specs.declared.option.Option.{Option}
 use Rattle.edge_io.specs.Armed.{RunsOn}
@@ -11,7 +11,7 @@ use Rattle.gate_journal.specs.Journals.{IsQuiet}
 use Rattle.share_model.specs.declared.fault.StoreFault.{StoreFault}
 use Rattle.share_model.specs.declared.fault.StoreFault.TheVariants.{Device, Full}
 use Rattle.coord_checkpoint.specs.Disks.{HasFailed}
-use Rattle.coord_checkpoint.specs.Stores.{Finds, IsBase, IsDue, IsLeftWithin, Keeps, StoreParts}
+use Rattle.coord_checkpoint.specs.Stores.{Finds, IsBase, IsDue, IsLeft, IsLeftWithin, Keeps, MaySeal, StoreParts, idle_side, live_side}
 use Rattle.checkpoint_journal.specs.Checkpoints.{IsCheckpoint}
 
 -- A write at Ok: its frame stands behind the frames, or the other one behind a checkpoint of them; no seal may land and nothing is pending.
@@ -77,3 +77,37 @@ pub record Writes {D : Type 0} (seen : D → DiskView) (frame fresh : List ℕ) 
       (Finds (IsLeftWithin frames sealing pending snapshots frame fresh))
   pub runs_first : RunsOn seen old.first.disk new.first.disk
   pub runs_second : RunsOn seen old.second.disk new.second.disk
+
+-- ---- a write with no checkpoint, and a checkpoint with no write
+
+-- A write that tries no checkpoint: the same disk is live. The other one is touched only where a seal may still land on it; and where it is done
+-- no call of the live one failed. For example a write to a store that was just opened touches one disk alone.
+pub record StaysOn {D T E : Type 0} (seen : D → DiskView) (old new : StoreParts D) (result : Result T E) : Type 0 where
+  pub same : new.on_second ≡ old.on_second
+  pub other : old.sealing ≡ false → idle_side new ≡ idle_side old
+  pub quiet : OnOk result (IsQuiet seen (side old.on_second old) (side old.on_second new))
+
+-- found at a moment of a checkpoint: as at entry, or the checkpoint
+abbrev pub IsLeftTrying : List (List ℕ) → Option (List (List ℕ)) → Option (List ℕ) → List (List ℕ) → List (List ℕ) → Type 0
+IsLeftTrying frames sealing pending snapshots found = IsLeft frames sealing pending found ⊎ IsCheckpoint snapshots found
+
+-- nothing was tried; or a checkpoint was due, and the largest frame has room behind the journal, before and afterwards
+abbrev pub IsUntried : {D : Type 0} → List (List ℕ) → StoreParts D → StoreParts D → Bool → Type 0
+IsUntried snapshots old new made = ((new ≡ old) × (made ≡ false))
+    ⊎ (IsDue old snapshots × (old.end + 33554437 ≤ 2 ^ 62) × (new.end + 33554437 ≤ 2 ^ 62))
+
+-- A checkpoint of these snapshots is tried where one is due and the largest frame has room behind the live journal. Once it is made nothing is
+-- pending; where it fails the store keeps its frames, and what was pending. The disk that was live isn't touched. For example none is
+-- tried for a journal of 4095 frames.
+pub record Tries {D : Type 0} (seen : D → DiskView) (snapshots : List (List ℕ)) (old new : StoreParts D) (is_made : Bool) : Type 0 where
+  pub made : is_made ≡ true → (frames : List (List ℕ)) (sealing : Option (List (List ℕ))) (pending : Option (List ℕ)) → Keeps seen old frames sealing pending →
+      (base : List (List ℕ)) × IsCheckpoint snapshots base × Keeps seen new base None None
+  pub kept : is_made ≡ false → (frames : List (List ℕ)) (sealing : Option (List (List ℕ))) (pending : Option (List ℕ)) → Keeps seen old frames sealing pending →
+      (seals : Option (List (List ℕ))) × MaySeal sealing snapshots seals × Keeps seen new frames seals pending
+  pub turned : (is_made ≡ true → (new.on_second ≡ not old.on_second) × (new.sealing ≡ false)) × (is_made ≡ false → new.on_second ≡ old.on_second)
+  pub live : (if old.on_second then new.second else new.first) ≡ live_side old
+  pub due : (frames : List (List ℕ)) (sealing : Option (List (List ℕ))) (pending : Option (List ℕ)) → Keeps seen old frames sealing pending →
+      IsUntried snapshots old new is_made
+  pub any_moment : (frames : List (List ℕ)) (sealing : Option (List (List ℕ))) (pending : Option (List ℕ)) → Keeps seen old frames sealing pending →
+      LeavesPairs seen old.first.disk new.first.disk old.second.disk new.second.disk (Finds (IsLeftTrying frames sealing pending snapshots))
+  pub runs : RunsOn seen old.first.disk new.first.disk × RunsOn seen old.second.disk new.second.disk

@@ -5,9 +5,9 @@ ghost use Rattle.edge_io.specs.Armed.{ArmsAlone};
 ghost use Rattle.gate_journal.specs.Frames.{IsFrame, frame_in};
 ghost use Rattle.checkpoint_journal.specs.Generations.{IsPlain, mark_of};
 ghost use Rattle.coord_checkpoint.specs.Stores.{Keeps, arranged};
-ghost use Rattle.coord_checkpoint.specs.Writes.{MayCheckpoint, Writes};
+ghost use Rattle.coord_checkpoint.specs.Writes.{MayCheckpoint, StaysOn, Tries, Writes};
 
-use crate::step::{Appended, Turn, is_due, may_make, step, step_plain};
+use crate::step::{Appended, Turn, is_due, may_make, step, step_checkpoint, step_plain};
 use checkpoint_journal::Snapshots;
 use edge_io::{Disk, DiskPlace, FaultMode};
 use gate_journal::Journal;
@@ -76,6 +76,7 @@ impl<D: Disk> StateJournal<D> {
         requires frame { IsFrame (frame_in buffer.old) × IsPlain (mark_of (frame_in buffer.old)) }
         ensures writes { (fresh : List ℕ) (snapshots : List (List ℕ)) →
             Writes D.seen (frame_in buffer.old) fresh snapshots (length buffer.old) self.old self.new false result }
+        ensures alone { StaysOn D.seen self.old self.new result }
     {
         if self.turn.on_second {
             step_plain(&mut self.second, &mut self.first, &mut self.turn, buffer)
@@ -119,6 +120,33 @@ impl<D: Disk> StateJournal<D> {
                 &mut self.turn,
                 buffer,
                 fresh,
+                snapshots,
+            )
+        }
+    }
+
+    /// Tries a checkpoint where one is due, and answers whether it was made. Nothing is tried where the journal is so
+    /// long that the largest frame would have no room behind it.
+    ///
+    /// Once it is made nothing is pending. One that fails, for want of memory too, leaves the frames and what was
+    /// pending.
+    pub fn checkpoint<S: Snapshots>(&mut self, alloc: Global, snapshots: &mut S) -> bool
+        ensures tries { Tries D.seen (S.rest snapshots.old) self.old self.new result }
+    {
+        if self.turn.on_second {
+            step_checkpoint(
+                alloc,
+                &self.second,
+                &mut self.first,
+                &mut self.turn,
+                snapshots,
+            )
+        } else {
+            step_checkpoint(
+                alloc,
+                &self.first,
+                &mut self.second,
+                &mut self.turn,
                 snapshots,
             )
         }

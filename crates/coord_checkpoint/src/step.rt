@@ -9,7 +9,7 @@ ghost use Rattle.checkpoint_journal.specs.Spares.{HasFrames, IsIdle};
 ghost use Rattle.checkpoint_journal.specs.Standings.{StandsSo};
 ghost use Rattle.coord_checkpoint.specs.Disks.{HasFailed};
 ghost use Rattle.coord_checkpoint.specs.Steps.{HasCheckpoint, IsNextTurn, IsPreparing, IsReady, IsSameTurn, IsTurn, StaysReady, placed};
-ghost use Rattle.coord_checkpoint.specs.Writes.{Writes};
+ghost use Rattle.coord_checkpoint.specs.Writes.{StaysOn, Tries, Writes};
 
 use checkpoint_journal::{CheckpointFault, Snapshots, Standing, close_idle, write_checkpoint};
 use edge_io::{Disk, Failed};
@@ -18,6 +18,9 @@ use share_model::StoreFault;
 use std::alloc::Global;
 
 const MAX_END: u64 = 1 << 62;
+
+// The buffer of the largest frame.
+const MAX_BUFFER: usize = 33_554_437;
 
 const MAX_GENERATION: u64 = 1 << 62;
 
@@ -227,12 +230,30 @@ pub(crate) fn step_plain<D: Disk>(
     buffer: &mut [u8],
 ) -> Result<u64, StoreFault>
     requires frame { IsFrame (frame_in buffer.old) × IsPlain (mark_of (frame_in buffer.old)) }
-    ensures { (fresh : List ℕ) (snapshots : List (List ℕ)) → Writes D.seen (frame_in buffer.old) fresh snapshots (length buffer.old)
+    ensures writes { (fresh : List ℕ) (snapshots : List (List ℕ)) → Writes D.seen (frame_in buffer.old) fresh snapshots (length buffer.old)
         (placed turn.old.on_second live.old idle.old turn.old) (placed turn.old.on_second live.new idle.new turn.new) false result }
+    ensures alone { StaysOn D.seen (placed turn.old.on_second live.old idle.old turn.old) (placed turn.old.on_second live.new idle.new turn.new) result }
 {
     let writes = has_room(live.last_gate(), buffer.len());
     if let Err(_) = close_before(writes, idle, turn) {
         return Err(StoreFault::Device);
     }
     live.append(buffer)
+}
+
+// Tries a checkpoint where one is due, and where any frame has room behind the live journal. True where it was made.
+pub(crate) fn step_checkpoint<D: Disk, S: Snapshots>(
+    alloc: Global,
+    live: &Journal<D>,
+    idle: &mut Journal<D>,
+    turn: &mut Turn,
+    snapshots: &mut S,
+) -> bool
+    ensures { Tries D.seen (S.rest snapshots.old) (placed turn.old.on_second live.now idle.old turn.old)
+        (placed turn.old.on_second live.now idle.new turn.new) result }
+{
+    if !has_room(live.last_gate(), MAX_BUFFER) {
+        return false;
+    }
+    try_checkpoint(alloc, live.count(), idle, turn, snapshots)
 }

@@ -31,7 +31,7 @@ pub states_based : (c : Bool) (es : Entries) → states_of (based c es) ≡ stat
 states_based false es = refl
 states_based true es = states_renewed es
 
-stands_now : (a b : List ℕ) (entries : Entries) (pending : Option Entries) → AreStates a b (states_of entries) → StandWith a b entries pending
+pub stands_now : (a b : List ℕ) (entries : Entries) (pending : Option Entries) → AreStates a b (states_of entries) → StandWith a b entries pending
 stands_now a b entries None h = h
 stands_now a b entries (Some new) h = inl h
 
@@ -39,11 +39,11 @@ stands_then : (a b : List ℕ) (entries new : Entries) (pending : Option Entries
 stands_then a b entries new pending is h = subst (λ (p : Option Entries). StandWith a b entries p) (sym is) (inr h)
 
 -- frames that stand for entries, found on the disks
-states_by : (a b : List ℕ) (found : List (List ℕ)) (es : Entries) → IsListed a b found → AreTaken found es → AreStates a b (states_of es)
+pub states_by : (a b : List ℕ) (found : List (List ℕ)) (es : Entries) → IsListed a b found → AreTaken found es → AreStates a b (states_of es)
 states_by a b found es listed taken = record { entries = es; stored = record { frames = found; listed = listed; taken = taken }; is = refl }
 
 -- entries as a checkpoint leaves them
-states_as : (a b : List ℕ) (es : Entries) → AreStates a b (states_of (renewed es)) → AreStates a b (states_of es)
+pub states_as : (a b : List ℕ) (es : Entries) → AreStates a b (states_of (renewed es)) → AreStates a b (states_of es)
 states_as a b es h = subst (AreStates a b) (states_renewed es) h
 
 -- what is left stands for the states, with or without what is pending
@@ -83,20 +83,22 @@ holds_by seen journal entries room frames sealing unwritten pending keeps taken 
 pub none_lands : (entries : Entries) (landed : List (List ℕ)) → ◌≡◌ {A = Option (List (List ℕ))} None (Some landed) → AreTaken landed (renewed entries)
 none_lands entries landed is = let never : ⊥ = cc in absurd never
 
+-- ---- a checkpoint of all keys
+
+pub checkpoint_taken : (entries : Entries) → IsStrictlySortedBy key_cmp (keys_of entries) → (frames base : List (List ℕ)) → AreTaken frames entries → IsCheckpoint (snapshot_frames entries) base → AreTaken base (renewed entries)
+checkpoint_taken entries sorted frames base taken is =
+    let fit = fit_all (records_from First frames) [] entries taken (tt, tt) in
+    subst (λ (l : List (List ℕ)). AreTaken l (renewed entries)) (sym is.is)
+    (taken_checkpoint is.generation (snapshot_frames entries) (renewed entries) is.fits (are_snapshots entries fit) (renews entries sorted fit))
+
 -- ---- one record more
 
 module _ {D : Type 0} (seen : D → DiskView) (plain : StateRecord) (fresh : Option StateRecord) (old new : JournalParts D) (entries : Entries) (room : ℕ)
     (sorted : IsStrictlySortedBy key_cmp (keys_of entries)) (next : Bool → Entries)
     (follows : (c : Bool) (one : StateRecord) → IsPut plain fresh c one → Follows (based c entries) one (next c)) where
-  checkpoint_taken : (frames base : List (List ℕ)) → AreTaken frames entries → IsCheckpoint (snapshot_frames entries) base → AreTaken base (renewed entries)
-  checkpoint_taken frames base taken is =
-      let fit = fit_all (records_from First frames) [] entries taken (tt, tt) in
-      subst (λ (l : List (List ℕ)). AreTaken l (renewed entries)) (sym is.is)
-      (taken_checkpoint is.generation (snapshot_frames entries) (renewed entries) is.fits (are_snapshots entries fit) (renews entries sorted fit))
-
   base_taken : (c : Bool) (frames base : List (List ℕ)) → AreTaken frames entries → IsBase frames (snapshot_frames entries) c base → AreTaken base (based c entries)
   base_taken false frames base taken from = subst (λ (l : List (List ℕ)). AreTaken l entries) (sym from) taken
-  base_taken true frames base taken from = checkpoint_taken frames base taken from
+  base_taken true frames base taken from = checkpoint_taken entries sorted frames base taken from
 
   base_few : (c : Bool) (frames base : List (List ℕ)) → length frames < 2 ^ 63 → IsBase frames (snapshot_frames entries) c base → length base < 2 ^ 63
   base_few false frames base few from = subst (λ (l : List (List ℕ)). length l < 2 ^ 63) (sym from) few
@@ -121,7 +123,7 @@ module _ {D : Type 0} (seen : D → DiskView) (plain : StateRecord) (fresh : Opt
     landed_taken : (c : Bool) (frames : List (List ℕ)) (sealing : Option (List (List ℕ))) (landed : List (List ℕ)) → AreTaken frames entries
         → ((l : List (List ℕ)) → sealing ≡ Some l → AreTaken l (renewed entries))
         → (c ≡ false) × ((sealing ≡ Some landed) ⊎ IsCheckpoint (snapshot_frames entries) landed) → AreTaken landed (renewed (based c entries))
-    landed_taken false frames sealing landed taken sealed h = ⊎_elim (λ e. sealed landed e) (λ k. checkpoint_taken frames landed taken k) h.1
+    landed_taken false frames sealing landed taken sealed h = ⊎_elim (λ e. sealed landed e) (λ k. checkpoint_taken entries sorted frames landed taken k) h.1
     landed_taken true frames sealing landed taken sealed h = let never : ⊥ = absurd_bool h.0 in absurd never
       where
         absurd_bool : true ≡ false → ⊥
@@ -163,7 +165,7 @@ module _ {D : Type 0} (seen : D → DiskView) (plain : StateRecord) (fresh : Opt
     within a b pending held found listed (inl left) =
         inl (left_stands a b entries held.frames held.sealing held.unwritten pending held.taken held.leaves held.sealed found listed left)
     within a b pending held found listed (inr (inl k)) =
-        inl (stands_now a b entries pending (states_as a b entries (states_by a b found (renewed entries) listed (checkpoint_taken held.frames found held.taken k))))
+        inl (stands_now a b entries pending (states_as a b entries (states_by a b found (renewed entries) listed (checkpoint_taken entries sorted held.frames found held.taken k))))
     within a b pending held found listed (inr (inr h)) =
         let c = h.0 in
         let base = h.1 in

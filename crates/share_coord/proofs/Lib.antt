@@ -24,3 +24,5 @@ pub mod Tables
 pub mod Rooms
 pub mod Framed
 pub mod Owning
+pub mod Tidied
+pub mod Behind

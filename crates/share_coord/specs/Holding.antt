@@ -1,16 +1,16 @@
 -- What a store in memory and its two disks stand for together, and what a call that writes once leaves. This project's own.
 -- For example a store whose write failed at its last device call holds what it held, with the write pending, and a restart after a
 -- power loss finds it done or not.
-use Rattle.std.specs.Prelude.{◌≡◌, ◌≢◌, ◌⊎◌, ◌<◌, ◌+◌, ◌^◌, ℕ, List, length, Some, None, Result, OnOk, OnErr, IfErr, Err}
+use Rattle.std.specs.Prelude.{◌≡◌, ◌≢◌, ◌⊎◌, ◌<◌, ◌+◌, ◌^◌, ℕ, List, length, Some, None, Bool, Result, OnOk, OnErr, IfErr, Err}
 use Rattle.std.specs.Option.{option_map}
 use Rattle.std.specs.declared.option.Option.{Option}
 use Rattle.edge_io.specs.Moments.{LeavesPairs}
 use Rattle.share_model.specs.declared.fault.StoreFault.TheVariants.{Device, Full}
 use Rattle.coord_checkpoint.specs.Stores.{Keeps}
 use Rattle.gate_journal.specs.Frames.{IsFrame}
-use Rattle.coord_checkpoint.specs.Writes.{IsQuietBut, MayCheckpoint}
+use Rattle.coord_checkpoint.specs.Writes.{IsQuietBut, MayCheckpoint, Tries}
 use Rattle.share_model.specs.Pending.{WithPending}
-use Rattle.share_coord.specs.Stored.{Entries, Accepts, AreTaken, renewed, snapshot_frames}
+use Rattle.share_coord.specs.Stored.{Entries, Accepts, AreTaken, based, renewed, snapshot_frames}
 use Rattle.share_coord.specs.States.{AreStates, states_of}
 use Rattle.share_coord.specs.declared.fault.CoordFault.{CoordFault}
 use Rattle.share_coord.specs.declared.fault.CoordFault.TheVariants.{Store as store_fault}
@@ -76,3 +76,38 @@ pub record WritesOnce {D T : Type 0} (seen : D → DiskView) (Failed : D → D �
   pub any_moment : (pending : Option Entries) → Holds seen old pending →
       LeavesPairs seen old.journal.first.disk new.journal.first.disk old.journal.second.disk new.journal.second.disk
       (IsWithin Written old.entries pending)
+
+-- A checkpoint of all keys is tried with no write behind it, and refuses nothing: the states are those that there were. At each moment since it
+-- began, and behind it, a crash leaves these, with or without the write that is pending. Behind a completed one each key's last
+-- snapshot is its first.
+pub record Tidies {D : Type 0} (seen : D → DiskView) (old new : StoreParts D) : Type 0 where
+  pub checkpointed : Bool
+  pub journal : Tries seen (snapshot_frames old.entries) old.journal new.journal checkpointed
+  pub is : new.entries ≡ based checkpointed old.entries
+  pub room : new.room ≡ old.room
+  pub kept : (pending : Option Entries) → Holds seen old pending → Holds seen new pending
+  pub any_moment : (pending : Option Entries) → Holds seen old pending →
+      LeavesPairs seen old.journal.first.disk new.journal.first.disk old.journal.second.disk new.journal.second.disk
+      (λ a b. StandWith a b old.entries pending)
+
+-- A write behind a checkpoint that was tried by itself: what `WritesOnce` says of a write, by what stood before both. Of the moments on the
+-- way each of the two calls says its own.
+pub record WritesTidied {D T : Type 0} (seen : D → DiskView) (Failed : D → D → Type 0)
+    (Written : Entries → Type 0) (old new : StoreParts D) (result : Result T CoordFault) : Type 0 where
+  -- what stands between them
+  pub mid : StoreParts D
+  pub tidies : Tidies seen old mid
+  pub quiet : OnOk result (IsQuietBut seen (MayCheckpoint old.journal (snapshot_frames old.entries)) old.journal new.journal)
+  pub written : OnOk result (Written new.entries)
+  pub kept : OnOk result ((pending : Option Entries) → Holds seen old pending → Holds seen new None)
+  pub same : OnErr result (states_of new.entries ≡ states_of old.entries)
+  pub unchanged : IfErr result (λ e. e ≢ store_fault Device → new ≡ old)
+  pub failed : OnErr result ((pending : Option Entries) → Holds seen old pending →
+      Holds seen new pending ⊎ ((lost : Entries) × Written lost × Holds seen new (Some lost)))
+  pub device : result ≡ Err (store_fault Device) →
+      (Failed old.journal.first.disk new.journal.first.disk ⊎ Failed old.journal.second.disk new.journal.second.disk) × ((lost : Entries) × Written lost)
+  pub full : (end : ℕ) → result ≡ Err (store_fault (Full end)) → (end ≡ old.journal.end)
+      × ((frame : List ℕ) × (lost : Entries) × Written lost × Accepts old.entries frame lost × IsFrame frame × (2 ^ 62 < end + (length frame + 5)))
+  pub any_moment : (pending : Option Entries) → Holds seen mid pending →
+      LeavesPairs seen mid.journal.first.disk new.journal.first.disk mid.journal.second.disk new.journal.second.disk
+      (IsWithin Written mid.entries pending)

@@ -5,10 +5,11 @@ ghost use Rattle.std.specs.Map.{keys_of};
 ghost use Rattle.std.specs.declared.option.Option.{Option};
 ghost use Rattle.edge_io.specs.Armed.{ArmsAlone, RunsOn};
 ghost use Rattle.coord_checkpoint.specs.Disks.{HasFailed, RunsBoth};
+ghost use Rattle.coord_checkpoint.specs.Writes.{StaysOn};
 ghost use Rattle.share_model.specs.Keys.{key_cmp};
 ghost use Rattle.share_coord.specs.Stored.{Entries, kept_at};
 ghost use Rattle.share_coord.specs.Calls.{Causes, IsInitialised, IsWritten, IsTooMany, IsForgotten, init_refusal, write_refusal};
-ghost use Rattle.share_coord.specs.Holding.{Holds, WritesOnce};
+ghost use Rattle.share_coord.specs.Holding.{Holds, IsHeld, Tidies, WritesOnce};
 ghost use Rattle.share_coord.specs.Opening.{IsOpened, IsNotOpened};
 ghost use Rattle.share_coord.specs.Recorded.{IsInitRecord, IsWriteRecord, StoresOne};
 ghost use Rattle.share_coord.specs.Putting.{stored_as};
@@ -146,9 +147,9 @@ impl<D: Disk> Coord<D> {
             .write(key, state_epoch, leader_epoch, start, runs)
     }
 
-    /// Sets memory aside for [`Coord::write_reserved`], so that the room is at least `room`: 24 bytes for each run in the
-    /// rows of each key, of a key that is initialised later too, and 67 for each run beside them. After want of memory
-    /// the store is as it was.
+    /// Sets memory aside for [`Coord::write_reserved`], so that the room is at least `room`: 24 bytes for each run in
+    /// the rows of each key, of a key that is initialised later too, and 67 for each run beside them. After want of
+    /// memory the store is as it was.
     pub fn reserve(&mut self, room: u32) -> Result<(), NoMemory>
         ensures ok { OnOk result (room ≤ self.new.room) }
         ensures err { OnErr result (self.new ≡ self.old) }
@@ -159,13 +160,24 @@ impl<D: Disk> Coord<D> {
         self.store.reserve(room)
     }
 
-    /// Does what [`Coord::write`] does with the epochs that the key has. It takes no memory, leaves the room, and tries no
-    /// checkpoint.
+    /// Tries a checkpoint of all keys where one is due, as the calls that store a record do before it. It refuses
+    /// nothing, and keeps the states and the room. None is tried where the largest record would have no room behind
+    /// the journal; so a write behind it that is refused as full finds what there was.
+    pub fn tidy(&mut self)
+        ensures tidies { Tidies D.seen self.old self.new }
+        ensures room { self.new.room ≡ self.old.room }
+    {
+        self.store.tidy();
+    }
+
+    /// Does what [`Coord::write`] does with the epochs that the key has. It takes no memory, leaves the room, and tries
+    /// no checkpoint.
     ///
     /// The key is there, the start and the runs are in range, and the number of the key's runs and twice that of the
     /// given ones are at most the room and at most 1000000.
     pub fn write_reserved(&mut self, key: &Key, start: i64, runs: &[Run]) -> Result<(), StoreFault>
         requires { IsGranted self.old.entries key.now start runs.now self.old.room }
+        ensures alone { StaysOn D.seen self.old.journal self.new.journal result }
         ensures once { WritesOnce D.seen (HasFailed D.seen) (IsOwnWritten self.old.entries key.now start runs.now) self.old self.new (stored_as result) }
         ensures stored { StoresOne D.seen (IsOwnRecord self.old.entries key.now start runs.now)
             self.old.journal self.new.journal (stored_as result) }
@@ -188,6 +200,13 @@ impl<D: Disk> Coord<D> {
         ensures room { self.new.room ≡ self.old.room }
     {
         self.store.remove(key)
+    }
+
+    /// The disks stand for what the store has in memory, with or without a write that is pending.
+    pub fn known(&self)
+        ensures { IsHeld D.seen self.now }
+    {
+        let _ = &self.store;
     }
 
     /// The state of a key. `None` where it isn't there.

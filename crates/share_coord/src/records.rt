@@ -2,6 +2,7 @@
 ghost use Rattle.std.specs.Prelude.{◌≡◌, ◌+◌, ℕ, List, length, false, Some, None, IfOk, OnOk};
 ghost use Rattle.state_records.specs.declared.record.StateRecord.{StateRecord};
 ghost use Rattle.checkpoint_journal.specs.Generations.{IsPlain, mark_of};
+ghost use Rattle.coord_checkpoint.specs.Writes.{StaysOn};
 ghost use Rattle.gate_journal.specs.Frames.{IsFrame, frame_in};
 ghost use Rattle.state_records.specs.Spelling.{IsRecord, record_bytes};
 ghost use Rattle.share_coord.specs.Putting.{FitFrames, Puts, stored_as, told_as};
@@ -49,7 +50,8 @@ pub(crate) fn put_framed<D: Disk>(
     buffer: &mut [u8],
 ) -> Result<(), StoreFault>
     requires { IsFrame (frame_in buffer.old) × IsPlain (mark_of (frame_in buffer.old)) }
-    ensures { (written : StateRecord) → IsRecord written → frame_in buffer.old ≡ record_bytes written → length buffer.old ≡ length (record_bytes written) + 5
+    ensures alone { StaysOn D.seen journal.old journal.new result }
+    ensures puts { (written : StateRecord) → IsRecord written → frame_in buffer.old ≡ record_bytes written → length buffer.old ≡ length (record_bytes written) + 5
         → (snapshots : List (List ℕ)) → Puts D.seen snapshots written None journal.old journal.new false (stored_as result) }
 {
     match journal.append(buffer) {

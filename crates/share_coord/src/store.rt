@@ -2,11 +2,12 @@ ghost use Rattle.std.specs.Prelude.{◌≡◌, ◌≢◌, ◌≤◌, ◌<◌, �
 ghost use Rattle.std.specs.declared.option.Option.{Option};
 ghost use Rattle.edge_io.specs.Armed.{RunsOn};
 ghost use Rattle.coord_checkpoint.specs.Disks.{HasFailed};
+ghost use Rattle.coord_checkpoint.specs.Writes.{StaysOn};
 ghost use Rattle.share_coord.specs.Stored.{based, kept_at, kept_left, next_snapshot, snapshot_frames};
 ghost use Rattle.share_coord.specs.Rooms.{HasRoom, IsGranted, IsOwnRecord, IsOwnWritten};
 ghost use Rattle.share_coord.specs.Tables.{found, shown};
 ghost use Rattle.share_coord.specs.Calls.{Causes, IsInitialised, IsWritten, IsTooMany, IsForgotten, init_refusal, write_refusal};
-ghost use Rattle.share_coord.specs.Holding.{IsHeld, WritesOnce, parts_of};
+ghost use Rattle.share_coord.specs.Holding.{IsHeld, Tidies, WritesOnce, parts_of};
 ghost use Rattle.share_coord.specs.Planning.{GoesOn, IsEither, IsFirst, LeavesPlanned, fresh_kept, left_by, record_of};
 ghost use Rattle.share_coord.specs.Putting.{FitFrames, Puts, stored_as};
 ghost use Rattle.share_coord.specs.Recorded.{IsInitRecord, IsWriteRecord, StoresOne};
@@ -387,6 +388,18 @@ impl<D: Disk> Store<D> {
         Ok(true)
     }
 
+    // Tries a checkpoint of all keys where one is due.
+    pub(crate) fn tidy(&mut self)
+        requires { IsHeld D.seen (parts_of self.old) }
+        ensures tidies { Tidies D.seen (parts_of self.old) (parts_of self.new) }
+        ensures roomy { HasRoom self.old → HasRoom self.new }
+    {
+        let keys = self.table.len();
+        let mut snapshots = KeySnapshots::of(self.alloc, &self.table, None, keys);
+        let checkpointed = self.journal.checkpoint(self.alloc, &mut snapshots);
+        renew_where(&mut self.table, checkpointed);
+    }
+
     // Sets memory aside for writes of keys with so many runs.
     pub(crate) fn reserve(&mut self, room: u32) -> Result<(), NoMemory>
         requires { HasRoom self.old }
@@ -419,6 +432,7 @@ impl<D: Disk> Store<D> {
         requires held { IsHeld D.seen (parts_of self.old) }
         requires roomy { HasRoom self.old }
         requires granted { IsGranted self.old.table.entries key.now start runs.now self.old.room }
+        ensures alone { StaysOn D.seen self.old.journal self.new.journal result }
         ensures once { WritesOnce D.seen (HasFailed D.seen)
             (IsOwnWritten self.old.table.entries key.now start runs.now) (parts_of self.old) (parts_of self.new) (stored_as result) }
         ensures stored { StoresOne D.seen (IsOwnRecord self.old.table.entries key.now start runs.now)

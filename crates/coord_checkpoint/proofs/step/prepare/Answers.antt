@@ -1,4 +1,3 @@
-use Rattle.std.proofs.Common.{◌≡◌, true, false, refl, sym, ◌∙◌}
 use Rattle.coord_checkpoint.proofs.Trying.{no_flags, not_ok, preparing_stays, same_turn, stays_as, stays_ready, then_moments, then_ready, then_turn}
 use Rattle.coord_checkpoint.proofs.step.prepare.Goals as goal
 

@@ -1,14 +1,16 @@
-use Rattle.std.proofs.Common.{◌≡◌, ◌∙◌, ◌+◌, ◌<◌, ◌≤◌, ◌^◌, inl, inr, ⊎_elim, ap, arith, length, Bool, true, Ok}
+use Rattle.std.proofs.Common.{◌≡◌, ◌+◌, ◌<◌, ◌≤◌, ◌^◌, inl, inr, arith, length, true, Err}
 use Rattle.std.specs.Result.{IsOk}
 use Rattle.gate_journal.specs.Frames.{frame_in}
 use Rattle.gate_journal.specs.Journals.{calls_to_mend}
+use Rattle.share_model.specs.declared.fault.StoreFault.TheVariants.{Device}
+use Rattle.coord_checkpoint.proofs.Alone.{calls_quiet, stays_on}
 use Rattle.coord_checkpoint.proofs.Beside.{beside_writes, gate_fails}
 use Rattle.coord_checkpoint.proofs.Ends.{buffer_len, shut_by}
 use Rattle.coord_checkpoint.proofs.Trying.{ok_is, preparing_stays, same_turn, stays_ready, then_moments, then_ready, then_turn}
 use Rattle.coord_checkpoint.proofs.step.step_plain.Goals as goal
 
-pub returns-in-Err : goal.returns-in-Err
-returns-in-Err g c = λ fresh snapshots.
+pub returns-in-Err-clause-writes : goal.returns-in-Err-clause-writes
+returns-in-Err-clause-writes g c = λ fresh snapshots.
     let still = same_turn g.D.Disk.seen g.met.D.Disk.only_now c.args.idle.now c.args.turn.now snapshots in
     let f = c.in-Err.ensures.failed in
     let room = c.has_room-writes.ensures.0 f.1 in
@@ -24,8 +26,8 @@ returns-in-Err g c = λ fresh snapshots.
     c.close_before.ensures.runs c.requires.frame.1 (buffer_len c.args.buffer.now c.requires.frame.0)
     (λ (lt : 2 ^ 62 < c.args.live.now.end + length c.args.buffer.now). omega (arith, room, c.last_gate.ensures.end, lt)) c.in-Err.ensures.cause f.0
 
-pub returns : goal.returns
-returns g c = λ fresh snapshots.
+pub returns-clause-writes : goal.returns-clause-writes
+returns-clause-writes g c = λ fresh snapshots.
     let still = same_turn g.D.Disk.seen g.met.D.Disk.only_now c.args.idle.now c.args.turn.now snapshots in
     let gate = c.last_gate.ensures.end in
     beside_writes g.D.Disk.seen g.met.D.Disk.only_now c.args.live.now c.args.idle.now c.close_before.new.idle c.args.turn.now c.close_before.new.turn
@@ -53,3 +55,11 @@ returns g c = λ fresh snapshots.
       | inl is ↦ inl is
       | inr some ↦ inr (inr some.0, (let room = c.has_room-writes.ensures.0 some.1 in omega (arith, room, gate)))
     ])
+
+pub returns-in-Err-clause-alone : goal.returns-in-Err-clause-alone
+returns-in-Err-clause-alone g c = stays_on g.D.Disk.seen c.args.live.now c.args.idle.now c.args.live.now c.close_before.new.idle c.args.turn.now c.close_before.new.turn
+    c.close_before.ensures.turn _ c.close_before.ensures.same (Err Device) tt
+
+pub returns-clause-alone : goal.returns-clause-alone
+returns-clause-alone g c = stays_on g.D.Disk.seen c.args.live.now c.args.idle.now c.append.new.self c.close_before.new.idle c.args.turn.now c.close_before.new.turn
+    c.close_before.ensures.turn _ c.close_before.ensures.same c.append.result (calls_quiet g.D.Disk.seen _ _ _ c.append.result c.append.ensures.disk)

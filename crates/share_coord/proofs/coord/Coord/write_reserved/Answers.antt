@@ -1,5 +1,6 @@
 use Rattle.std.proofs.Common.{sym, subst, ℤ, to_z, of_z, w64}
 use Rattle.std.proofs.lemmas.Int.{to_z-of_z}
+use Rattle.coord_checkpoint.specs.Writes.{StaysOn}
 use Rattle.share_coord.specs.Holding.{parts_of}
 use Rattle.share_coord.specs.Parts.{StoreParts}
 use Rattle.share_coord.specs.Putting.{stored_as}
@@ -22,3 +23,7 @@ returns-clause-once g c = seen_own g.D.Disk.seen _ _ _ _ (stored_as c.write_rese
 
 pub returns-clause-stored : goal.returns-clause-stored
 returns-clause-stored g c = stored_own g.D.Disk.seen _ _ (parts_of c.write_reserved.new.self) (stored_as c.write_reserved.result) _ c.self.view_is c.args.start c.args.runs.now c.ranges.start c.write_reserved.ensures.stored
+
+pub returns-clause-alone : goal.returns-clause-alone
+returns-clause-alone g c =
+    subst (λ (p : StoreParts _). StaysOn g.D.Disk.seen p.journal c.write_reserved.new.self.journal c.write_reserved.result) c.self.view_is c.write_reserved.ensures.alone

@@ -1,6 +1,8 @@
-use Rattle.std.proofs.Common.{◌≡◌, ◌≤◌, ◌∙◌, refl, sym, ap, subst, arith, ℤ, List, ℕ, None, false, length, to_z, of_z, w64, ◌<◌, ◌+◌, ◌*◌, ◌^◌, Option, vec_capacity}
+use Rattle.std.proofs.Common.{◌≡◌, ◌≤◌, ◌∙◌, refl, sym, ap, subst, arith, ℤ, List, ℕ, None, false, length, to_z, of_z, w64, ◌<◌, ◌+◌, ◌*◌, ◌^◌, Option, Result, vec_capacity}
 use Rattle.std.proofs.lemmas.Int.{to_z-of_z}
+use Rattle.coord_checkpoint.specs.Writes.{StaysOn}
 use Rattle.gate_journal.specs.Frames.{IsFrame, frame_in}
+use Rattle.share_model.specs.declared.fault.StoreFault.{StoreFault}
 use Rattle.offset_runs.specs.Changes.{RunsParts, room_of}
 use Rattle.state_records.specs.Spelling.{record_bytes}
 use Rattle.share_coord.specs.Planning.{left_by}
@@ -222,7 +224,7 @@ returns-in-Err-clause-once g c =
     let plain = own_record key own z over rows in
     let is : frame_in c.deref_mut.result.now ≡ record_bytes plain = ap frame_in c.deref_mut.ensures.value ∙ c.own_frame.ensures.frame in
     let long : length c.deref_mut.result.now ≡ length (record_bytes plain) + 5 = ap (λ (l : List ℕ). length l) c.deref_mut.ensures.value ∙ c.own_frame.ensures.len in
-    let puts = c.put_framed.ensures plain c.own_frame.ensures.valid is long (snapshot_frames es) in
+    let puts = c.put_framed.ensures.puts plain c.own_frame.ensures.valid is long (snapshot_frames es) in
     let planned = plan es key z runs room over rows after own f in
     rewritten g.D.Disk.seen _ (IsOwnWritten es key z runs) (IsOwnWritten es key c.args.start runs) _ _ _
     (λ l h. subst (λ (s : ℤ). IsOwnWritten es key s runs l) same h)
@@ -263,7 +265,7 @@ returns-in-Err-clause-stored g c =
     let plain = own_record key own z over rows in
     let is : frame_in c.deref_mut.result.now ≡ record_bytes plain = ap frame_in c.deref_mut.ensures.value ∙ c.own_frame.ensures.frame in
     let long : length c.deref_mut.result.now ≡ length (record_bytes plain) + 5 = ap (λ (l : List ℕ). length l) c.deref_mut.ensures.value ∙ c.own_frame.ensures.len in
-    let puts = c.put_framed.ensures plain c.own_frame.ensures.valid is long (snapshot_frames es) in
+    let puts = c.put_framed.ensures.puts plain c.own_frame.ensures.valid is long (snapshot_frames es) in
     let planned = plan es key z runs room over rows after own f in
     as_this g.D.Disk.seen (IsOwnRecord es key z runs) (IsOwnRecord es key c.args.start runs) _ _ (λ one h. subst (λ (s : ℤ). IsOwnRecord es key s runs one) same h) _
     (stores_err g.D.Disk.seen (snapshot_frames es) plain None c.args.self.now.journal c.put_framed.new.journal false (stored_as c.put_framed.result) puts
@@ -302,7 +304,7 @@ returns-in-Err-clause-runs g c =
     let plain = own_record key own z over rows in
     let is : frame_in c.deref_mut.result.now ≡ record_bytes plain = ap frame_in c.deref_mut.ensures.value ∙ c.own_frame.ensures.frame in
     let long : length c.deref_mut.result.now ≡ length (record_bytes plain) + 5 = ap (λ (l : List ℕ). length l) c.deref_mut.ensures.value ∙ c.own_frame.ensures.len in
-    let puts = c.put_framed.ensures plain c.own_frame.ensures.valid is long (snapshot_frames es) in
+    let puts = c.put_framed.ensures.puts plain c.own_frame.ensures.valid is long (snapshot_frames es) in
     let planned = plan es key z runs room over rows after own f in
     puts.runs
 
@@ -372,7 +374,7 @@ returns-clause-once g c =
     let plain = own_record key own z over rows in
     let is : frame_in c.deref_mut.result.now ≡ record_bytes plain = ap frame_in c.deref_mut.ensures.value ∙ c.own_frame.ensures.frame in
     let long : length c.deref_mut.result.now ≡ length (record_bytes plain) + 5 = ap (λ (l : List ℕ). length l) c.deref_mut.ensures.value ∙ c.own_frame.ensures.len in
-    let puts = c.put_framed.ensures plain c.own_frame.ensures.valid is long (snapshot_frames es) in
+    let puts = c.put_framed.ensures.puts plain c.own_frame.ensures.valid is long (snapshot_frames es) in
     let planned = plan es key z runs room over rows after own f in
     rewritten g.D.Disk.seen _ (IsOwnWritten es key z runs) (IsOwnWritten es key c.args.start runs) _ _ _
     (λ l h. subst (λ (s : ℤ). IsOwnWritten es key s runs l) same h)
@@ -414,7 +416,7 @@ returns-clause-stored g c =
     let plain = own_record key own z over rows in
     let is : frame_in c.deref_mut.result.now ≡ record_bytes plain = ap frame_in c.deref_mut.ensures.value ∙ c.own_frame.ensures.frame in
     let long : length c.deref_mut.result.now ≡ length (record_bytes plain) + 5 = ap (λ (l : List ℕ). length l) c.deref_mut.ensures.value ∙ c.own_frame.ensures.len in
-    let puts = c.put_framed.ensures plain c.own_frame.ensures.valid is long (snapshot_frames es) in
+    let puts = c.put_framed.ensures.puts plain c.own_frame.ensures.valid is long (snapshot_frames es) in
     let planned = plan es key z runs room over rows after own f in
     as_this g.D.Disk.seen (IsOwnRecord es key z runs) (IsOwnRecord es key c.args.start runs) _ _ (λ one h. subst (λ (s : ℤ). IsOwnRecord es key s runs one) same h) _
     (stores_ok g.D.Disk.seen (snapshot_frames es) plain None c.args.self.now.journal c.put_framed.new.journal false (stored_as c.put_framed.result) puts
@@ -453,7 +455,7 @@ returns-clause-runs g c =
     let plain = own_record key own z over rows in
     let is : frame_in c.deref_mut.result.now ≡ record_bytes plain = ap frame_in c.deref_mut.ensures.value ∙ c.own_frame.ensures.frame in
     let long : length c.deref_mut.result.now ≡ length (record_bytes plain) + 5 = ap (λ (l : List ℕ). length l) c.deref_mut.ensures.value ∙ c.own_frame.ensures.len in
-    let puts = c.put_framed.ensures plain c.own_frame.ensures.valid is long (snapshot_frames es) in
+    let puts = c.put_framed.ensures.puts plain c.own_frame.ensures.valid is long (snapshot_frames es) in
     let planned = plan es key z runs room over rows after own f in
     puts.runs
 
@@ -480,3 +482,12 @@ returns-clause-roomy g c =
       laid = omega (arith, in_table, old_has, rows_are);
       buffer = buffer_has;
     }
+
+pub returns-in-Err-clause-alone : goal.returns-in-Err-clause-alone
+returns-in-Err-clause-alone g c =
+    subst (λ (r : Result (Unit {0}) StoreFault). StaysOn g.D.Disk.seen c.args.self.now.journal c.put_framed.new.journal r) c.in-Err.is c.put_framed.ensures.alone
+
+pub returns-clause-alone : goal.returns-clause-alone
+returns-clause-alone g c =
+    subst (λ (r : Result (Unit {0}) StoreFault). StaysOn g.D.Disk.seen c.args.self.now.journal c.put_framed.new.journal r) c.in_default-put_framed.is
+    c.put_framed.ensures.alone
