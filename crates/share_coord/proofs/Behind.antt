@@ -227,7 +227,7 @@ module _ {D : Type 0} (seen : D → DiskView) (old mid new : StoreParts D) (key 
   pub tidied_once : WritesTidied seen (HasFailed seen) Written old new (stored_as told)
   tidied_once = record {
     mid = mid;
-    tidies = tidies;
+    tidies = inr tidies;
     quiet = quiet told refl;
     written = on_ok_weaker (stored_as told) (written_as new.entries) once.written;
     kept = on_ok_weaker (stored_as told) (λ h pending was. h pending (tidies.kept pending was)) once.kept;

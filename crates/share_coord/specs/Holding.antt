@@ -90,13 +90,13 @@ pub record Tidies {D : Type 0} (seen : D → DiskView) (old new : StoreParts D) 
       LeavesPairs seen old.journal.first.disk new.journal.first.disk old.journal.second.disk new.journal.second.disk
       (λ a b. StandWith a b old.entries pending)
 
--- A write behind a checkpoint that was tried by itself: what `WritesOnce` says of a write, by what stood before both. Of the moments on the
--- way each of the two calls says its own.
+-- A write, alone or behind a checkpoint that was tried by itself: what `WritesOnce` says of a write, by what stood before both. Of the
+-- moments on the way each of the two calls says its own.
 pub record WritesTidied {D T : Type 0} (seen : D → DiskView) (Failed : D → D → Type 0)
     (Written : Entries → Type 0) (old new : StoreParts D) (result : Result T CoordFault) : Type 0 where
-  -- what stands between them
+  -- what stands between them; the same, where no checkpoint was to be tried
   pub mid : StoreParts D
-  pub tidies : Tidies seen old mid
+  pub tidies : (mid ≡ old) ⊎ Tidies seen old mid
   pub quiet : OnOk result (IsQuietBut seen (MayCheckpoint old.journal (snapshot_frames old.entries)) old.journal new.journal)
   pub written : OnOk result (Written new.entries)
   pub kept : OnOk result ((pending : Option Entries) → Holds seen old pending → Holds seen new None)

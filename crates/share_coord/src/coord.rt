@@ -256,6 +256,7 @@ impl<D: Disk> Coord<D> {
             × (self.new.journal.first ≡ self.old.journal.first) }
         ensures end { self.new.journal.end ≡ self.old.journal.end }
         ensures states { self.new.entries ≡ self.old.entries }
+        ensures room { self.new.room ≡ self.old.room }
         ensures stays { (pending : Option Entries) → Holds D.seen self.old pending → Holds D.seen self.new pending }
     {
         self.store.journal.arm(disk, after, mode);
