@@ -27,7 +27,7 @@ use Rattle.part_log.proofs.Looking.{carries_on}
 use Rattle.share_part.specs.Hosting.{PartConfParts, AreHosted, key_of}
 use Rattle.share_part.specs.Failures.{RunOnBoth}
 use Rattle.share_part.specs.Following.{IsFetch}
-use Rattle.share_part.specs.Once.{AcksStand, Expired, ExpiresOnce, PartStands, Produced as ProducedSo, ReadsBatches, Visited, VisitsOnce}
+use Rattle.share_part.specs.Once.{Expired, ExpiresOnce, Produced as ProducedSo, ReadsBatches, Visited, VisitsOnce}
 use Rattle.share_part.specs.Shards.{Carries, IsPendingHosted, IsUntouched, PartShardState}
 use Rattle.share_part.specs.Walks.{IsSmallGrant}
 use Rattle.call_fold.specs.Parts.{IsTellableGrant}
@@ -249,24 +249,11 @@ module _ {D : Type 0} (seen : D → DiskView) where
     unmarked = k.unmarked;
   }
 
-  pub visit_refused : (old new : OpenPart D) (now : ℕ) (visit : Visit) → OnStates old new
-      → (IsUntouched seen holding old new ⊎ ((t : PartShardState) → Carries seen holding old t → AcksStand seen holding now visit old new t))
+  pub visit_refused : (old new : OpenPart D) (now : ℕ) (visit : Visit) → OnStates old new → IsUntouched seen holding old new
       → (s : PartShardState) → Carried old.conf old s
       → HaltsPart seen old.conf now (IsVisit visit) (λ begun. begun ≡ BeginsVisit visit) old s new
-  visit_refused old new now visit o (inl same) s k =
+  visit_refused old new now visit o same s k =
       states_none old new now (IsVisit visit) (λ begun. begun ≡ BeginsVisit visit) o s k (untouched old new same s k.carries)
-  visit_refused old new now visit o (inr stands) s k =
-      let a = stands s k.carries in
-      record {
-        after = a.0;
-        conf_is = o.conf;
-        carries = a.1;
-        does = inr (inr (BeginsVisit visit, refl, a.2));
-        ends = states_end old new o;
-        log_told = log_told old new o k.log.told;
-        first_told = o.runs.0.told ∙ k.first.told;
-        second_told = o.runs.1.told ∙ k.second.told;
-      }
 
   pub expire_leads : (old new : OpenPart D) (now : ℕ) (answer : ExpireAnswer) → OnStates old new → new.log ≡ old.log
       → Expired seen holding now old new answer → Fed new → (s : PartShardState) → Carried old.conf old s
@@ -284,24 +271,11 @@ module _ {D : Type 0} (seen : D → DiskView) where
   expire_whole old new now answer Half o log steps =
       states_whole old new now (Expires answer) IsExpiry Half (answer, refl) o (expiry_steps old new now answer log steps)
 
-  pub expire_refused : (old new : OpenPart D) (now : ℕ) → OnStates old new
-      → ((new ≡ old) ⊎ ((t : PartShardState) → Carries seen holding old t → PartStands seen holding now old new t))
+  pub expire_refused : (old new : OpenPart D) (now : ℕ) → OnStates old new → new ≡ old
       → (s : PartShardState) → Carried old.conf old s
       → HaltsPart seen old.conf now IsExpiry (λ begun. begun ≡ BeginsExpiry) old s new
-  expire_refused old new now o (inl same) s k = states_none old new now IsExpiry (λ begun. begun ≡ BeginsExpiry) o s k
+  expire_refused old new now o same s k = states_none old new now IsExpiry (λ begun. begun ≡ BeginsExpiry) o s k
       (subst (λ (p : OpenPart D). Carries seen holding p s) (sym same) k.carries)
-  expire_refused old new now o (inr stands) s k =
-      let a = stands s k.carries in
-      record {
-        after = a.0;
-        conf_is = o.conf;
-        carries = a.1;
-        does = inr (inr (BeginsExpiry, refl, a.2));
-        ends = states_end old new o;
-        log_told = log_told old new o k.log.told;
-        first_told = o.runs.0.told ∙ k.first.told;
-        second_told = o.runs.1.told ∙ k.second.told;
-      }
 
   -- ---- batches
 

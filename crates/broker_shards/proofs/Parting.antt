@@ -23,7 +23,7 @@ use Rattle.share_coord.specs.Holding.{Holds}
 use Rattle.share_coord.specs.States.{states_of}
 use Rattle.share_part.specs.Failures.{RunOnBoth}
 use Rattle.share_part.specs.Hosting.{PartConfParts, AreHosted, key_of}
-use Rattle.share_part.specs.Once.{AcksStand, Expired, PartStands, Produced as ProducedSo, ReadsBatches, Visited}
+use Rattle.share_part.specs.Once.{Expired, Produced as ProducedSo, ReadsBatches, Visited}
 use Rattle.share_part.specs.Shards.{Carries, IsPendingHosted, IsUntouched, PartParts, PartShardState}
 use Rattle.share_part.specs.Walks.{IsSmallGrant}
 use Rattle.call_fold.specs.Parts.{HasTellableBase, IsTellableLook}
@@ -139,17 +139,11 @@ module _ {D W : Type 0} (seen : D → DiskView) (holding : W → Held) (old new 
     unmarked = k.unmarked;
   }
 
-  pub visit_refused : (now : ℕ) (visit : Visit)
-      → (IsUntouched seen holding old new ⊎ ((s : PartShardState) → Carries seen holding old s → AcksStand seen holding now visit old new s))
-      → FindsNoMemory seen holding now (asks.Visit visit) old new
-  visit_refused now visit (inl same) s k = inl (untouched same s k)
-  visit_refused now visit (inr stands) s k = let a = stands s k in inr (BeginsVisit visit, refl, a.0, a.1, a.2)
+  pub visit_refused : (now : ℕ) (visit : Visit) → IsUntouched seen holding old new → FindsNoMemory seen holding now (asks.Visit visit) old new
+  visit_refused now visit same s k = inl (untouched same s k)
 
-  pub expiry_refused : (now : ℕ)
-      → ((new ≡ old) ⊎ ((s : PartShardState) → Carries seen holding old s → PartStands seen holding now old new s))
-      → FindsNoMemory seen holding now asks.Expire old new
-  expiry_refused now (inl same) s k = inl (subst (λ (p : PartParts D W). Carries seen holding p s) (sym same) k)
-  expiry_refused now (inr stands) s k = let a = stands s k in inr (BeginsExpiry, refl, a.0, a.1, a.2)
+  pub expiry_refused : (now : ℕ) → new ≡ old → FindsNoMemory seen holding now asks.Expire old new
+  expiry_refused now same s k = inl (subst (λ (p : PartParts D W). Carries seen holding p s) (sym same) k)
 
   pub batch_refused : (now : ℕ) (batch : List ℕ) → new ≡ old → FindsNoMemory seen holding now (asks.Produce batch) old new
   batch_refused now batch same s k = inl (subst (λ (p : PartParts D W). Carries seen holding p s) (sym same) k)

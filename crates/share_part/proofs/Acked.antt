@@ -1,6 +1,6 @@
 -- The acknowledgements of a visit as a step of the shard, and what follows them.
 use Rattle.std.proofs.Common.{◌≡◌, ◌≢◌, ◌⊎◌, ⊎_elim, ◌∙◌, inl, inr, refl, sym, ap, subst, arith, ℕ, max, ◌≤◌, List, Option, Some, None, Bool, true, false, cond}
-use Rattle.std.specs.Prelude.{Result, Ok, Err, IsErr, IsSome, is_none, is_some}
+use Rattle.std.specs.Prelude.{Result, Ok, Err, IsSome, is_none, is_some}
 use Rattle.std.specs.BTreeMap.{is_at}
 use Rattle.std.specs.Cmp.Lexicographic.{slice_cmp, nat_list_cmp_total}
 use Rattle.std.specs.Ordering.{nat_cmp}
@@ -28,17 +28,17 @@ use Rattle.part_log.specs.Starts.{LogWrite}
 use Rattle.share_coord.specs.Parts.{StoreParts}
 use Rattle.share_coord.specs.Stored.{Entries}
 use Rattle.share_part.specs.Acknowledging.{Acknowledges, AreTheirs, NameNone, NameOne, StoresActs}
-use Rattle.share_part.specs.Following.{Acquires, Does, Fetches, Follows, HasNothingToWrite, IsEmptyAnswer, IsFetch, MakesTable, TakesMemory, releases_of}
+use Rattle.share_part.specs.Following.{Acquires, Does, Fetches, Follows, HasNothingToWrite, IsEmptyAnswer, IsFetch, MakesTable, releases_of}
 use Rattle.share_part.specs.Failures.{AreQuiet, FailuresRose, RunOnBoth, StarveUnarmed, failures_of}
 use Rattle.share_part.specs.Foreseeing.{with_ack}
 use Rattle.share_part.specs.Hosting.{PartConfParts, AreHosted, key_of}
 use Rattle.share_coord.specs.States.{states_of}
-use Rattle.share_part.specs.Once.{AcksStand, FollowsOnce, ReadsBatches, VisitsOnce}
+use Rattle.share_part.specs.Once.{FollowsOnce, VisitsOnce}
 use Rattle.share_part.specs.Settling.{Acts, AreHeldBy, held_after}
 use Rattle.share_part.specs.Shards.{PartShardState, PartParts, Carries, IsStill, IsUntouched, held_in, raised_to, with_held}
 use Rattle.share_part.specs.Storing.{AcksOnce, SettlesGroup, StoresGroup}
 use Rattle.share_part.specs.Visits.{AreToWrite, AreWritten, StepsAcks}
-use Rattle.share_part.specs.Writes.{WritesActs, WritesAcks, WritesPart, WritesUnless, held_behind}
+use Rattle.share_part.specs.Writes.{WritesActs, WritesAcks, WritesUnless, held_behind}
 use Rattle.share_part.specs.declared.limits.Limits.{Limits}
 use Rattle.share_part.proofs.Failing.{later_both, quiet_same, starve_then, then_starve}
 use Rattle.share_part.proofs.Holding.{AreKept}
@@ -77,12 +77,6 @@ module _ (conf : PartConfParts) (told : Bool) (rose : Type 0) (end : ℕ) (old :
   follows_as unread true h = record { asked = h.asked; risen = h.risen; empty = empty_as (then_store Device) h.empty; still = h.still }
   follows_as unread false h = does_as visit.then h
 
-pub ok_same : (a b : AckOutcome) → ◌≡◌ {A = Result AckOutcome want} (Ok a) (Ok b) → a ≡ b
-ok_same a b e = cc
-
-not_ok : (e : want) (b : AckOutcome) → ◌≡◌ {A = Result AckOutcome want} (Err e) (Ok b) → ⊥
-not_ok e b h = let clash : ⊥ = cc in clash
-
 none_some : (o : Option AckKind) → o ≡ None → IsSome {T = AckKind} o → ⊥
 none_some o is some = let clash : IsSome {T = AckKind} None = subst (λ (o : Option AckKind). IsSome {T = AckKind} o) is some in let never : ⊥ = cc in never
 
@@ -111,23 +105,23 @@ module _ {D W : Type 0} (seen : D → DiskView) (holding : W → Held) (visit : 
   abbrev Failed : D → D → Type 0
   Failed = HasFailed seen
 
-  abbrev Settles : Result AckOutcome want → Type 0
-  Settles result = SettlesGroup seen Failed old.conf old.log.batches visit.group visit.member acts was old.states states Same Ends result
+  abbrev Settles : AckOutcome → Type 0
+  Settles ack = SettlesGroup seen Failed old.conf old.log.batches visit.group visit.member acts was old.states states Same Ends ack
 
-  abbrev pub Acked : Result AckOutcome want → Type 0
-  Acked result = AcksOnce visit.acks ((states ≡ old.states) × Same) Settles result
+  abbrev pub Acked : AckOutcome → Type 0
+  Acked ack = AcksOnce visit.acks ((states ≡ old.states) × Same) Settles ack
 
   -- the same by what was held at first
-  abbrev SettlesFrom : (List ℕ → Held) → Result AckOutcome want → Type 0
-  SettlesFrom held result = SettlesGroup seen Failed old.conf old.log.batches visit.group visit.member acts (held visit.group) old.states states
+  abbrev SettlesFrom : (List ℕ → Held) → AckOutcome → Type 0
+  SettlesFrom held ack = SettlesGroup seen Failed old.conf old.log.batches visit.group visit.member acts (held visit.group) old.states states
       ((other : List ℕ) → held_in holding windows other ≡ held other)
-      ((other : List ℕ) → held_in holding windows other ≡ with_held held visit.group (held_after acts (held visit.group)) other) result
+      ((other : List ℕ) → held_in holding windows other ≡ with_held held visit.group (held_after acts (held visit.group)) other) ack
 
-  abbrev pub AckedFrom : (List ℕ → Held) → Result AckOutcome want → Type 0
-  AckedFrom held result = AcksOnce visit.acks ((states ≡ old.states) × ((other : List ℕ) → held_in holding windows other ≡ held other)) (SettlesFrom held) result
+  abbrev pub AckedFrom : (List ℕ → Held) → AckOutcome → Type 0
+  AckedFrom held ack = AcksOnce visit.acks ((states ≡ old.states) × ((other : List ℕ) → held_in holding windows other ≡ held other)) (SettlesFrom held) ack
 
-  pub acked_from : (held : List ℕ → Held) → ((other : List ℕ) → held other ≡ held_in holding old.windows other) → (r : Result AckOutcome want) → AckedFrom held r → Acked r
-  acked_from held same r h = subst (λ (f : List ℕ → Held). AckedFrom f r) (λ i group. same group i) h
+  pub acked_from : (held : List ℕ → Held) → ((other : List ℕ) → held other ≡ held_in holding old.windows other) → (ack : AckOutcome) → AckedFrom held ack → Acked ack
+  acked_from held same ack h = subst (λ (f : List ℕ → Held). AckedFrom f ack) (λ i group. same group i) h
 
   -- ---- what the shard keeps
 
@@ -138,21 +132,20 @@ module _ {D W : Type 0} (seen : D → DiskView) (holding : W → Held) (visit : 
   same_stand is same = stands_same seen holding visit.group acts old states windows old.clock sound few hosted kept
       (ap (λ (s : StoreParts D). states_of s.entries) is) same
 
-  stored_stand : (r : Result (Option StoreFault) want)
-      → StoresGroup seen Failed old.conf old.log.batches visit.group acts was old.states states Same Ends r → Stands
-  stored_stand r h = stands_stored seen holding visit.group acts old states windows old.clock sound few hosted kept r h
+  stored_stand : (fault : Option StoreFault)
+      → StoresGroup seen Failed old.conf old.log.batches visit.group acts was old.states states Same Ends fault → Stands
+  stored_stand fault h = stands_stored seen holding visit.group acts old states windows old.clock sound few hosted kept fault h
 
-  stands_settled : (r : Result AckOutcome want) → Settles r → Stands
-  stands_settled (Ok (NotHeld o)) h = same_stand h.1 h.2
-  stands_settled (Ok (Malformed f)) h = absurd h
-  stands_settled (Ok Done) h = stored_stand (Ok None) h.1
-  stands_settled (Ok (Store fault)) h = stored_stand (Ok (Some fault)) h.1
-  stands_settled (Err e) h = stored_stand (Err e) h
+  stands_settled : (ack : AckOutcome) → Settles ack → Stands
+  stands_settled (NotHeld o) h = same_stand h.1 h.2
+  stands_settled (Malformed f) h = absurd h
+  stands_settled Done h = stored_stand None h.1
+  stands_settled (Store fault) h = stored_stand (Some fault) h.1
 
-  pub stands : (r : Result AckOutcome want) → Acked r → Stands
-  stands r (inl m) = same_stand m.3.0 m.3.1
-  stands r (inr (inl n)) = same_stand n.3.0 n.3.1
-  stands r (inr (inr g)) = stands_settled r g.2
+  pub stands : (ack : AckOutcome) → Acked ack → Stands
+  stands ack (inl m) = same_stand m.3.0 m.3.1
+  stands ack (inr (inl n)) = same_stand n.3.0 n.3.1
+  stands ack (inr (inr g)) = stands_settled ack g.2
 
   -- ---- the step
 
@@ -179,13 +172,13 @@ module _ {D W : Type 0} (seen : D → DiskView) (holding : W → Held) (visit : 
   -- the acts are stored, or aren't
   acts_steps : RunOnBoth seen old.states states → (ack : AckOutcome) (fault : Option StoreFault) → IsWellFormed visit.acks → AreHeldBy visit.member acts was
       → ((s t : PartShardState) → AreTheirs s visit → StoresActs old.conf Rises old.states.journal.end s visit.group acts t fault → DoesAcks ack s t)
-      → StoresGroup seen Failed old.conf old.log.batches visit.group acts was old.states states Same Ends (Ok fault) → AllSteps ack
+      → StoresGroup seen Failed old.conf old.log.batches visit.group acts was old.states states Same Ends fault → AllSteps ack
   acts_steps runs ack fault formed theirs does h s c =
       let st = stored_steps seen holding visit.group acts old states windows old.clock sound few hosted kept runs fault h s c in
       let held : AreHeldBy visit.member acts (s.held visit.group) = subst (AreHeldBy visit.member acts) (sym (c.held visit.group)) theirs in
       (st.then, st.carries, record { log = st.log; clock = st.clock_is ∙ sym (clock_is s c); does = does s st.then (formed, held) st.does })
 
-  settled_steps : RunOnBoth seen old.states states → (ack : AckOutcome) → IsWellFormed visit.acks → Settles (Ok ack) → AllSteps ack
+  settled_steps : RunOnBoth seen old.states states → (ack : AckOutcome) → IsWellFormed visit.acks → Settles ack → AllSteps ack
   settled_steps runs (NotHeld o) formed h = unmoved (NotHeld o) h.1 h.2 (λ batch pending. (formed, h.0, record { states = refl; pending = refl; held = refl }))
   settled_steps runs (Malformed f) formed h = absurd h
   settled_steps runs Done formed h = acts_steps runs Done None formed h.0 (λ s t theirs stores. (theirs, stores)) h.1
@@ -194,30 +187,29 @@ module _ {D W : Type 0} (seen : D → DiskView) (holding : W → Held) (visit : 
   none_stored : (s t : PartShardState) → NameNone acts → IsStill s t → AreTheirs s visit → StoresActs old.conf Rises old.states.journal.end s visit.group acts t None
   none_stored s t none is theirs = inl (none, is)
 
-  pub steps : RunOnBoth seen old.states states → (ack : AckOutcome) → Acked (Ok ack) → AllSteps ack
-  steps runs ack (inl m) = subst AllSteps (sym (ok_same ack (Malformed m.0) m.1))
+  pub steps : RunOnBoth seen old.states states → (ack : AckOutcome) → Acked ack → AllSteps ack
+  steps runs ack (inl m) = subst AllSteps (sym m.1)
       (unmoved (Malformed m.0) m.3.0 m.3.1 (λ batch pending. (m.2, record { states = refl; pending = refl; held = refl })))
-  steps runs ack (inr (inl n)) = subst AllSteps (sym (ok_same ack Done n.2))
+  steps runs ack (inr (inl n)) = subst AllSteps (sym n.2)
       (unmoved Done n.3.0 n.3.1 (λ batch pending.
       ((n.0, λ offset some. absurd (none_some (acts offset) (n.1 offset) some)), inl (n.1, record { states = refl; pending = refl; held = refl }))))
   steps runs ack (inr (inr g)) = settled_steps runs ack g.0 g.2
 
   -- where nothing is to be written, nothing is
-  none_settled : (r : Result AckOutcome want) → IsWellFormed visit.acks → NameOne acts → Settles r → (batch : Option LogWrite) (pending : Option Entries)
+  none_settled : (ack : AckOutcome) → IsWellFormed visit.acks → NameOne acts → Settles ack → (batch : Option LogWrite) (pending : Option Entries)
       → (AreToWrite (shard_of seen holding old batch pending) visit → ⊥) → states ≡ old.states
-  none_settled (Ok (NotHeld o)) formed named h batch pending nothing = h.1
-  none_settled (Ok (Malformed f)) formed named h batch pending nothing = absurd h
-  none_settled (Ok Done) formed named h batch pending nothing = absurd (nothing ((formed, h.0), named))
-  none_settled (Ok (Store fault)) formed named h batch pending nothing = absurd (nothing ((formed, h.0), named))
-  none_settled (Err e) formed named h batch pending nothing = h.0
+  none_settled (NotHeld o) formed named h batch pending nothing = h.1
+  none_settled (Malformed f) formed named h batch pending nothing = absurd h
+  none_settled Done formed named h batch pending nothing = absurd (nothing ((formed, h.0), named))
+  none_settled (Store fault) formed named h batch pending nothing = absurd (nothing ((formed, h.0), named))
 
-  none_written : (r : Result AckOutcome want) → Acked r → (batch : Option LogWrite) (pending : Option Entries)
+  none_written : (r : AckOutcome) → Acked r → (batch : Option LogWrite) (pending : Option Entries)
       → (AreToWrite (shard_of seen holding old batch pending) visit → ⊥) → states ≡ old.states
   none_written r (inl m) batch pending nothing = m.3.0
   none_written r (inr (inl n)) batch pending nothing = n.3.0
   none_written r (inr (inr g)) batch pending nothing = none_settled r g.0 g.1 g.2 batch pending nothing
 
-  pub unwritten : (r : Result AckOutcome want) → Acked r → (s : PartShardState) → Carries seen holding old s → (AreToWrite s visit → ⊥) → states ≡ old.states
+  pub unwritten : (r : AckOutcome) → Acked r → (s : PartShardState) → Carries seen holding old s → (AreToWrite s visit → ⊥) → states ≡ old.states
   unwritten r h = carried seen holding old (λ s. (AreToWrite s visit → ⊥) → states ≡ old.states) (λ batch pending k nothing. none_written r h batch pending nothing)
 
   -- nor does the shard change then
@@ -238,16 +230,16 @@ module _ {D W : Type 0} (seen : D → DiskView) (holding : W → Held) (visit : 
   abbrev Starves : Type 0
   Starves = StarveUnarmed seen old.states states
 
-  device_settled : (ack : AckOutcome) → Settles (Ok ack) → ack ≡ Store Device → Starves
+  device_settled : (ack : AckOutcome) → Settles ack → ack ≡ Store Device → Starves
   device_settled (NotHeld o) h is = absurd (let clash : ⊥ = cc in clash)
   device_settled (Malformed f) h is = absurd h
   device_settled Done h is = absurd (let clash : ⊥ = cc in clash)
   device_settled (Store fault) h is = stored_device seen holding visit.group acts old states windows old.clock sound few hosted kept (Some fault) h.1
       (ap (λ (f : StoreFault). Some f) (let same : fault ≡ Device = cc in same))
 
-  pub device_sound : (ack : AckOutcome) → Acked (Ok ack) → ack ≡ Store Device → Starves
-  device_sound ack (inl m) is = absurd (let e : Malformed m.0 ≡ Store Device = sym (ok_same ack (Malformed m.0) m.1) ∙ is in let clash : ⊥ = cc in clash)
-  device_sound ack (inr (inl n)) is = absurd (let e : Done ≡ Store Device = sym (ok_same ack Done n.2) ∙ is in let clash : ⊥ = cc in clash)
+  pub device_sound : (ack : AckOutcome) → Acked ack → ack ≡ Store Device → Starves
+  device_sound ack (inl m) is = absurd (let e : Malformed m.0 ≡ Store Device = sym m.1 ∙ is in let clash : ⊥ = cc in clash)
+  device_sound ack (inr (inl n)) is = absurd (let e : Done ≡ Store Device = sym n.2 ∙ is in let clash : ⊥ = cc in clash)
   device_sound ack (inr (inr g)) is = device_settled ack g.2 is
 
   -- no device call failed but those of a checkpoint, where none is told
@@ -257,13 +249,13 @@ module _ {D W : Type 0} (seen : D → DiskView) (holding : W → Held) (visit : 
   still_quiet : states ≡ old.states → Quiet
   still_quiet is = quiet_same seen old.states states is
 
-  quiet_settled : (ack : AckOutcome) → Settles (Ok ack) → ((fault : StoreFault) → ack ≢ Store fault) → Quiet
+  quiet_settled : (ack : AckOutcome) → Settles ack → ((fault : StoreFault) → ack ≢ Store fault) → Quiet
   quiet_settled (NotHeld o) h none = still_quiet h.1
   quiet_settled (Malformed f) h none = absurd h
   quiet_settled Done h none = stored_quiet seen holding visit.group acts old states windows old.clock sound few hosted kept h.1
   quiet_settled (Store fault) h none = absurd (none fault refl)
 
-  pub quiet_acked : (ack : AckOutcome) → Acked (Ok ack) → ((fault : StoreFault) → ack ≢ Store fault) → Quiet
+  pub quiet_acked : (ack : AckOutcome) → Acked ack → ((fault : StoreFault) → ack ≢ Store fault) → Quiet
   quiet_acked ack (inl m) none = still_quiet m.3.0
   quiet_acked ack (inr (inl n)) none = still_quiet n.3.0
   quiet_acked ack (inr (inr g)) none = quiet_settled ack g.2 none
@@ -272,19 +264,19 @@ module _ {D W : Type 0} (seen : D → DiskView) (holding : W → Held) (visit : 
   abbrev Writes : AckOutcome → Type 0
   Writes ack = WritesAcks seen old.conf old.log.batches visit was old.states states ack
 
-  writes_stored : (fault : Option StoreFault) → StoresGroup seen Failed old.conf old.log.batches visit.group acts was old.states states Same Ends (Ok fault)
+  writes_stored : (fault : Option StoreFault) → StoresGroup seen Failed old.conf old.log.batches visit.group acts was old.states states Same Ends fault
       → WritesActs seen old.conf old.log.batches visit.group acts was old.states states fault
   writes_stored fault h = stored_writes seen holding visit.group acts old states windows old.clock sound few hosted kept fault h
 
-  writes_settled : (ack : AckOutcome) → Settles (Ok ack) → Writes ack
+  writes_settled : (ack : AckOutcome) → Settles ack → Writes ack
   writes_settled (NotHeld o) h = h.1
   writes_settled (Malformed f) h = absurd h
   writes_settled Done h = writes_stored None h.1
   writes_settled (Store fault) h = writes_stored (Some fault) h.1
 
-  pub writes_acked : (ack : AckOutcome) → Acked (Ok ack) → Writes ack
-  writes_acked ack (inl m) = subst Writes (sym (ok_same ack (Malformed m.0) m.1)) m.3.0
-  writes_acked ack (inr (inl n)) = subst Writes (sym (ok_same ack Done n.2)) (inl (n.1, n.3.0))
+  pub writes_acked : (ack : AckOutcome) → Acked ack → Writes ack
+  writes_acked ack (inl m) = subst Writes (sym m.1) m.3.0
+  writes_acked ack (inr (inl n)) = subst Writes (sym n.2) (inl (n.1, n.3.0))
   writes_acked ack (inr (inr g)) = writes_settled ack g.2
 
   -- what is held behind them
@@ -297,7 +289,7 @@ module _ {D W : Type 0} (seen : D → DiskView) (holding : W → Held) (visit : 
   own_held : (b : Bool) → b ≡ true → (its others : Held) → cond b its others ≡ its
   own_held b is its others = ap (λ (t : Bool). cond t its others) is
 
-  holds_settled : (ack : AckOutcome) → Settles (Ok ack) → Holds ack
+  holds_settled : (ack : AckOutcome) → Settles ack → Holds ack
   holds_settled (NotHeld o) h = h.2 visit.group
   holds_settled (Malformed f) h = absurd h
   holds_settled Done h = ⊎_elim
@@ -306,9 +298,9 @@ module _ {D W : Type 0} (seen : D → DiskView) (holding : W → Held) (visit : 
       h.1
   holds_settled (Store fault) h = h.1.2 visit.group
 
-  pub holds_acked : (ack : AckOutcome) → Acked (Ok ack) → Holds ack
-  holds_acked ack (inl m) = subst Holds (sym (ok_same ack (Malformed m.0) m.1)) (m.3.1 visit.group)
-  holds_acked ack (inr (inl n)) = subst Holds (sym (ok_same ack Done n.2)) (none_end n.1 n.3.1)
+  pub holds_acked : (ack : AckOutcome) → Acked ack → Holds ack
+  holds_acked ack (inl m) = subst Holds (sym m.1) (m.3.1 visit.group)
+  holds_acked ack (inr (inl n)) = subst Holds (sym n.2) (none_end n.1 n.3.1)
   holds_acked ack (inr (inr g)) = holds_settled ack g.2
 
   -- where they came to the device, the group has a table
@@ -318,17 +310,25 @@ module _ {D W : Type 0} (seen : D → DiskView) (holding : W → Held) (visit : 
   pub none_named : NameNone acts → NameOne acts → ⊥
   none_named none one = none_some (acts one.0) (none one.0) one.1
 
-  table_settled : (ack : AckOutcome) → Settles (Ok ack) → AreWritten visit ack → HasTable
+  table_settled : (ack : AckOutcome) → Settles ack → AreWritten visit ack → HasTable
   table_settled (NotHeld o) h written = absurd written
   table_settled (Malformed f) h written = absurd h
   table_settled Done h written = ⊎_elim (λ n. absurd (none_named n.0 written)) (λ g. (g.1.state, g.1.known)) h.1
   table_settled (Store Device) h written = (h.1.1.state, h.1.1.known)
   table_settled (Store (Full at)) h written = absurd written
 
-  pub table_there : (ack : AckOutcome) → Acked (Ok ack) → AreWritten visit ack → HasTable
-  table_there ack (inl m) written = absurd (subst (AreWritten visit) (ok_same ack (Malformed m.0) m.1) written)
-  table_there ack (inr (inl n)) written = absurd (none_named n.1 (subst (AreWritten visit) (ok_same ack Done n.2) written))
+  pub table_there : (ack : AckOutcome) → Acked ack → AreWritten visit ack → HasTable
+  table_there ack (inl m) written = absurd (subst (AreWritten visit) m.1 written)
+  table_there ack (inr (inl n)) written = absurd (none_named n.1 (subst (AreWritten visit) n.2 written))
   table_there ack (inr (inr g)) written = table_settled ack g.2 written
+
+  -- they are not written for a group without a table
+  pub unheld_by : (ack : AckOutcome) → Acked ack → share_state_at (states_of old.states.entries) (key_of old.conf visit.group) ≡ None
+      → AreWritten visit ack → ⊥
+  unheld_by ack h none written =
+      let t = table_there ack h written in
+      let never : ◌≡◌ {A = Option ShareState} None (Some t.0) = sym none ∙ t.1 in
+      let clash : ⊥ = cc in clash
 
   -- ---- nothing has changed
 
@@ -336,7 +336,7 @@ module _ {D W : Type 0} (seen : D → DiskView) (holding : W → Held) (visit : 
   same_all only is same = record { conf = refl; log = only; states = is; clock = refl; held = same }
 
   -- where their write didn't come to the device
-  back_settled : OnlyReads seen old.log old.log → (ack : AckOutcome) → Settles (Ok ack) → (AreWritten visit ack → ⊥)
+  back_settled : OnlyReads seen old.log old.log → (ack : AckOutcome) → Settles ack → (AreWritten visit ack → ⊥)
       → IsUntouched seen holding old mid
   back_settled only (NotHeld o) h none = same_all only h.1 h.2
   back_settled only (Malformed f) h none = absurd h
@@ -344,66 +344,18 @@ module _ {D W : Type 0} (seen : D → DiskView) (holding : W → Held) (visit : 
   back_settled only (Store Device) h none = absurd (none tt)
   back_settled only (Store (Full at)) h none = same_all only (h.1.1.once.unchanged (λ e. let clash : ⊥ = cc in clash)) h.1.2
 
-  pub back : OnlyReads seen old.log old.log → (ack : AckOutcome) → Acked (Ok ack) → (AreWritten visit ack → ⊥)
+  pub back : OnlyReads seen old.log old.log → (ack : AckOutcome) → Acked ack → (AreWritten visit ack → ⊥)
       → IsUntouched seen holding old mid
   back only ack (inl m) none = same_all only m.3.0 m.3.1
   back only ack (inr (inl n)) none = same_all only n.3.0 n.3.1
   back only ack (inr (inr g)) none = back_settled only ack g.2 none
 
-  -- acknowledgements that are done are well formed
-  pub formed_done : (r : Result AckOutcome want) (ack : AckOutcome) → r ≡ Ok ack → Acked r → ack ≡ Done → IsWellFormed visit.acks
-  formed_done r ack is h done = by_case (subst Acked (is ∙ ap (λ (a : AckOutcome). Ok a) done) h)
-    where
-      by_case : Acked (Ok Done) → IsWellFormed visit.acks
-      by_case (inl m) = absurd (let e : Done ≡ Malformed m.0 = ok_same Done (Malformed m.0) m.1 in let clash : ⊥ = cc in clash)
-      by_case (inr (inl n)) = n.0
-      by_case (inr (inr g)) = g.0
-
-  -- no memory was found for them
-  pub unanswered : OnlyReads seen old.log old.log → (e : want) → Acked (Err e) → IsUntouched seen holding old mid
-  unanswered only e (inl m) = absurd (not_ok e (Malformed m.0) m.1)
-  unanswered only e (inr (inl n)) = absurd (not_ok e Done n.2)
-  unanswered only e (inr (inr g)) = same_all only g.2.0 g.2.1
-
-  pub none_acked : (read : ReadsBatches seen (false ≡ true) old.log old.log) (now : ℕ) (r : Result AckOutcome want) (e : want) → r ≡ Err e
-      → Acked r → (result : Result VisitAnswer want) → IsErr result
-      → VisitsOnce seen holding now visit old mid result
-  none_acked read now r e is h (Ok answer) none = absurd (let clash : ⊥ = cc in clash)
-  none_acked read now r e is h (Err f) none = record {
-    unread = false;
-    steps = tt;
-    memory = inl (unanswered read.reads e (subst Acked is h));
-    records = inl (unanswered read.reads e (subst Acked is h)).states;
-    ack_sound = tt;
-    sound = tt;
-    unwritten = λ s c nothing behind. unwritten r h s c nothing;
-    log = read;
-    others = λ away. refl;
-    conf = refl;
-  }
-
   -- ---- what follows
 
-  module _ (now : ℕ) (new : PartParts D W) (r : Result AckOutcome want) (ack : AckOutcome) (r_is : r ≡ Ok ack) (r_acked : Acked r)
+  module _ (now : ℕ) (new : PartParts D W) (ack : AckOutcome) (acked : Acked ack)
       (runs : RunOnBoth seen old.states states) (more : RunOnBoth seen states new.states) where
     abbrev Risen : Type 0
     Risen = FailuresRose seen old.states new.states
-
-    acked : Acked (Ok ack)
-    acked = subst Acked r_is r_acked
-
-    rises_first : Rises → Risen
-    rises_first h = let later = later_both seen states new.states more in omega (arith, h, later)
-
-    acks_as : (s t : PartShardState) (a : AckOutcome) → Acknowledges old.conf Rises old.states.journal.end s visit t a → Acknowledges old.conf Risen old.states.journal.end s visit t a
-    acks_as s t (Malformed f) h = h
-    acks_as s t (NotHeld o) h = h
-    acks_as s t Done h = h
-    acks_as s t (Store Device) h = (h.0, (h.1.0, rises_first h.1.1, h.1.2))
-    acks_as s t (Store (Full at)) h = h
-
-    steps_as : (s t : PartShardState) → StepsAcks old.conf Rises old.states.journal.end s visit ack t → StepsAcks old.conf Risen old.states.journal.end s visit ack t
-    steps_as s t h = record { log = h.log; clock = h.clock; does = acks_as s t ack h.does }
 
     abbrev Unarmed : Type 0
     Unarmed = StarveUnarmed seen old.states new.states
@@ -419,7 +371,7 @@ module _ {D W : Type 0} (seen : D → DiskView) (holding : W → Held) (visit : 
         → (s : PartShardState) → Carries seen holding old s → (AreToWrite s visit → ⊥) → HasNothingToWrite old.conf s visit visit.then → new.states ≡ old.states
     nothing_at_all stays s c nothing behind =
         let first = steps runs ack acked s c in
-        stays first.0 first.1 (nothing_so s first.0 (acks_still ack s first.0 first.2.does nothing) visit.then behind) ∙ unwritten r r_acked s c nothing
+        stays first.0 first.1 (nothing_so s first.0 (acks_still ack s first.0 first.2.does nothing) visit.then behind) ∙ unwritten ack acked s c nothing
 
     pub visited : (inner : VisitAnswer) (done : Result VisitAnswer want) → done ≡ Ok inner → FollowsOnce seen holding now visit mid new done
         → VisitsOnce seen holding now visit old new (Ok (with_ack ack inner))
@@ -438,7 +390,7 @@ module _ {D W : Type 0} (seen : D → DiskView) (holding : W → Held) (visit : 
                   at = states.journal.end;
                   acks = first.2;
                   counts = (later_both seen old.states states runs, later_both seen states new.states more);
-                  unwritten = λ nothing. ap (λ (p : StoreParts D). p.journal.end) (unwritten r r_acked s c nothing);
+                  unwritten = λ nothing. ap (λ (p : StoreParts D). p.journal.end) (unwritten ack acked s c nothing);
                   still = λ nothing. ap (λ (p : StoreParts D). p.journal.end) (o.unwritten first.0 first.1 nothing);
                   does = follows_as old.conf (is_some (seen old.log.journal.disk).content)
                       (FailuresRose seen states new.states) states.journal.end first.0 visit ack inner then.0
@@ -463,110 +415,28 @@ module _ {D W : Type 0} (seen : D → DiskView) (holding : W → Held) (visit : 
           conf = o.conf;
         }
 
-    -- no memory was found behind them
-    stopped : (e : want) (done : Result VisitAnswer want) → done ≡ Err e → FollowsOnce seen holding now visit mid new done → (after : PartParts D W)
-        → after.conf ≡ new.conf → after.log ≡ new.log → after.states ≡ new.states
-        → (IsUntouched seen holding old after ⊎ ((s : PartShardState) → Carries seen holding old s → AcksStand seen holding now visit old after s))
-        → WritesPart seen old.conf old.log.batches visit was old.states after.states → (f : want) → VisitsOnce seen holding now visit old after (Err f)
-    stopped e done is once after conf log same memory records f =
-        let o = subst (FollowsOnce seen holding now visit mid new) is once in
-        record {
-          unread = o.unread;
-          steps = tt;
-          memory = memory;
-          records = records;
-          ack_sound = tt;
-          sound = tt;
-          unwritten = λ s c nothing behind. same ∙ nothing_at_all o.unwritten s c nothing behind;
-          log = subst (λ (l : LogParts D). ReadsBatches seen (o.unread ≡ true) old.log l) (sym log) o.log;
-          others = λ away. log ∙ o.others away;
-          conf = conf ∙ o.conf;
-        }
-
+    -- no memory was found behind them, where they were not written
     pub unfollowed : OnlyReads seen old.log old.log → (e : want) (done : Result VisitAnswer want) → done ≡ Err e
         → FollowsOnce seen holding now visit mid new done → (AreWritten visit ack → ⊥) → (f : want) → VisitsOnce seen holding now visit old new (Err f)
     unfollowed only e done is once none f =
         let o = subst (FollowsOnce seen holding now visit mid new) is once in
         let b = back only ack acked none in
         let u = o.memory in
-        stopped e done is once new refl refl refl (inl (record {
-          conf = u.conf;
-          log = u.log;
-          states = u.states ∙ b.states;
-          clock = u.clock;
-          held = λ group. u.held group ∙ b.held group;
-        })) (inl (u.states ∙ b.states)) f
-
--- ---- they were written, and what follows found no memory
-
-abbrev pub raised : {D W : Type 0} → ℕ → PartParts D W → PartParts D W
-raised now parts = record { conf = parts.conf; log = parts.log; states = parts.states; windows = parts.windows; clock = max parts.clock now }
-
-module _ {D W : Type 0} (seen : D → DiskView) (holding : W → Held) (visit : Visit) (old : PartParts D W) (states : StoreParts D)
-    (windows : List (List ℕ × W)) (sound : IsStoredLog old.log.batches) (few : old.conf.limit ≤ 10)
-    (hosted : AreHosted old.conf (log_in old.log) (states_of old.states.entries))
-    (kept : AreKept old.conf old.log.batches (states_of old.states.entries) (held_in holding old.windows))
-    (now : ℕ) (new : PartParts D W) (r : Result AckOutcome want) (ack : AckOutcome) (r_is : r ≡ Ok ack)
-    (r_acked : Acked seen holding visit old states windows sound few hosted kept r)
-    (runs : RunOnBoth seen old.states states) (more : RunOnBoth seen states new.states) where
-  raised_carries : (parts : PartParts D W) (s : PartShardState) → Carries seen holding parts s → Carries seen holding (raised now parts) (raised_to now s)
-  raised_carries parts s c = record {
-    log = c.log;
-    pending = c.pending;
-    holds = c.holds;
-    states = c.states;
-    pending_is = c.pending_is;
-    held = c.held;
-    clock = ap (λ (n : ℕ). max n now) c.clock;
-    hosted = c.hosted;
-    pending_hosted = c.pending_hosted;
-    unmarked = c.unmarked;
-  }
-
-  abbrev once : PartParts D W
-  once = raised now old
-
-  -- a group without a table has nothing to acknowledge, so a release follows what is written
-  none_there : (o : Option ShareState) → o ≡ None → (state : ShareState) → o ≡ Some state → ⊥
-  none_there o none state some = let never : ◌≡◌ {A = Option ShareState} None (Some state) = sym none ∙ some in let clash : ⊥ = cc in clash
-
-  unheld : AreWritten visit ack → share_state_at (states_of old.states.entries) (key_of old.conf visit.group) ≡ None → ⊥
-  unheld written none =
-      let t = table_there seen holding visit old states windows sound few hosted kept ack (subst (Acked seen holding visit old states windows sound few hosted kept) r_is r_acked) written in
-      none_there (share_state_at (states_of old.states.entries) (key_of old.conf visit.group)) none t.0 t.1
-
-  releases : (t : Then) → AreWritten visit ack → (IsFetch t → share_state_at (states_of old.states.entries) (key_of old.conf visit.group) ≡ None)
-      → TakesMemory visit.member (held_in holding windows visit.group) t → t ≡ Release
-  releases Nothing written no_table takes = absurd takes
-  releases Release written no_table takes = refl
-  releases (Fetch records bytes first) written no_table takes = absurd (unheld written (no_table tt))
-
-  pub unfollowed_behind : (e : want) (done : Result VisitAnswer want) → done ≡ Err e
-      → FollowsOnce seen holding now visit (mid seen holding visit old states windows sound few hosted kept) new done
-      → AreWritten visit ack → (IsFetch visit.then → share_state_at (states_of old.states.entries) (key_of old.conf visit.group) ≡ None)
-      → (f : want) → VisitsOnce seen holding now visit old (raised now new) (Err f)
-  unfollowed_behind e done is follows written no_table f =
-      let o = subst (FollowsOnce seen holding now visit (mid seen holding visit old states windows sound few hosted kept) new) is follows in
-      let u = o.memory in
-      stopped seen holding visit old states windows sound few hosted kept now new r ack r_is r_acked runs more e done is follows (raised now new) refl refl refl
-      (inr (λ s c.
-      let first = steps seen holding visit once states windows sound few hosted kept runs ack (subst (Acked seen holding visit once states windows sound few hosted kept) r_is r_acked)
-      (raised_to now s) (raised_carries old s c) in (
-        first.0,
-        untouched seen holding (mid seen holding visit once states windows sound few hosted kept) (raised now new)
-            (record { conf = u.conf; log = u.log; states = u.states; clock = ap (λ (n : ℕ). max n now) u.clock; held = u.held }) first.0 first.1,
         record {
-          ack = ack;
-          written = written;
-          acks = steps_as seen holding visit once states windows sound few hosted kept now new r ack r_is r_acked runs more (raised_to now s) first.0 first.2;
-          follows = releases visit.then written no_table o.follows;
-          some = subst (λ (h : Held). NameOne (releases_of visit.member h)) (sym (first.1.held visit.group))
-              (subst (TakesMemory visit.member (held_in holding windows visit.group)) (releases visit.then written no_table o.follows) o.follows);
-        },
-      )))
-      (inr (
-        ack,
-        written,
-        subst (λ (s : StoreParts D). WritesAcks seen old.conf old.log.batches visit (held_in holding old.windows visit.group) old.states s ack) (sym u.states)
-            (writes_acked seen holding visit old states windows sound few hosted kept ack (subst (Acked seen holding visit old states windows sound few hosted kept) r_is r_acked)),
-      )) f
+          unread = o.unread;
+          steps = tt;
+          memory = record {
+            conf = u.conf;
+            log = u.log;
+            states = u.states ∙ b.states;
+            clock = u.clock;
+            held = λ group. u.held group ∙ b.held group;
+          };
+          records = tt;
+          ack_sound = tt;
+          sound = tt;
+          unwritten = λ s c nothing behind. nothing_at_all o.unwritten s c nothing behind;
+          log = o.log;
+          others = o.others;
+          conf = o.conf;
+        }

@@ -38,7 +38,7 @@ use Rattle.share_part.specs.declared.acks.Acks.{Acks}
 use Rattle.share_part.specs.declared.acks.Acks.TheVariants.{Malformed as malformed, Empty, NotHeld as not_held, Changes}
 use Rattle.share_part.specs.declared.limits.Limits.{Limits}
 use Rattle.share_part.specs.declared.plan.Plan.{Plan}
-use Rattle.share_part.proofs.Acked.{Acked, holds_acked, none_named, ok_same}
+use Rattle.share_part.proofs.Acked.{Acked, holds_acked, none_named}
 use Rattle.share_part.proofs.Foreseen.{left_settled}
 use Rattle.share_part.proofs.Holding.{AreKept}
 use Rattle.share_part.proofs.Mapping.{keys_exact, keys_total, set_found}
@@ -102,16 +102,16 @@ module _ {D W : Type 0} (seen : D → DiskView) (holding : W → Held) (visit : 
       (subst (λ (s : ShareState). IsPlanOf old.log.batches stays (acquired old.log.batches (table_of s was) limits)) at first)))
 
   abbrev Stored : Type 0
-  Stored = IsActsStored seen (HasFailed seen) old.conf old.log.batches visit.group (kind_at visit.acks) was old.states states (Ok tt)
+  Stored = IsActsStored seen (HasFailed seen) old.conf old.log.batches visit.group (kind_at visit.acks) was old.states states None
 
   -- a change was
   goes_moved : (st : Stored) (change : Change) (plan : Plan) → (found : (state : ShareState) × (share_state_at (states_of old.states.entries) key ≡ Some state)
       × IsChange old.conf.limit (kind_at visit.acks) old.log.batches (table_of state was) change)
       → IsPlanBehind old.conf.limit (kind_at visit.acks) old.log.batches First change limits plan → now ≡ held_after (kind_at visit.acks) was → GoesBy plan
   goes_moved st change plan found behind held =
-      let next = its_next seen holding visit.group (kind_at visit.acks) old states windows old.clock sound few hosted kept (Ok tt) st states.entries st.once.written in
-      let settled = its_settled seen holding visit.group (kind_at visit.acks) old states windows old.clock sound few hosted kept (Ok tt) st states.entries st.once.written in
-      let is = its_states seen holding visit.group (kind_at visit.acks) old states windows old.clock sound few hosted kept (Ok tt) st states.entries st.once.written in
+      let next = its_next seen holding visit.group (kind_at visit.acks) old states windows old.clock sound few hosted kept None st states.entries st.once.written in
+      let settled = its_settled seen holding visit.group (kind_at visit.acks) old states windows old.clock sound few hosted kept None st states.entries st.once.written in
+      let is = its_states seen holding visit.group (kind_at visit.acks) old states windows old.clock sound few hosted kept None st states.entries st.once.written in
       let first : First ≡ table_of st.state was = ap (λ (o : Option ShareState). table_of (unwrap_or o (new_state old.conf (log_in old.log))) was) st.known in
       let other : First ≡ table_of found.0 was = ap (λ (o : Option ShareState). table_of (unwrap_or o (new_state old.conf (log_in old.log))) was) found.1 in
       let change_is = subst (λ (t : Table). IsChange old.conf.limit (kind_at visit.acks) old.log.batches t change) (sym other) found.2 in
@@ -148,7 +148,7 @@ module _ {D W : Type 0} (seen : D → DiskView) (holding : W → Held) (visit : 
     done_moves (Changes moved) (Some its) j is formed theirs one st at held =
         goes_moved st (change_of moved rows) plan j.3 (subst (IsPlanBehind old.conf.limit (kind_at visit.acks) old.log.batches First (change_of moved rows) limits) (sym at) is) held
 
-    module _ (ack : AckOutcome) (acked : Acked seen holding visit old states windows sound few hosted kept (Ok ack))
+    module _ (ack : AckOutcome) (acked : Acked seen holding visit old states windows sound few hosted kept ack)
         (formed : (fault : AckFault) → acks ≡ malformed fault → ack ≡ Malformed fault) (done : ack ≡ Done → plan ≡ unwrap_or moves stays)
         (others : (ack ≡ Done → ⊥) → plan ≡ stays) where
       by_none : ack ≡ Done → NameNone (kind_at visit.acks) → plan ≡ stays
@@ -157,7 +157,7 @@ module _ {D W : Type 0} (seen : D → DiskView) (holding : W → Held) (visit : 
       abbrev Group : AckOutcome → Type 0
       Group a = SettlesGroup seen (HasFailed seen) old.conf old.log.batches visit.group visit.member (kind_at visit.acks) was old.states states
           ((other : List ℕ) → held_in holding windows other ≡ held_in holding old.windows other)
-          ((other : List ℕ) → held_in holding windows other ≡ with_held (held_in holding old.windows) visit.group (held_after (kind_at visit.acks) was) other) (Ok a)
+          ((other : List ℕ) → held_in holding windows other ≡ with_held (held_in holding old.windows) visit.group (held_after (kind_at visit.acks) was) other) a
 
       by_settled : (a : AckOutcome) → ack ≡ a → NameOne (kind_at visit.acks) → Group a → (a ≡ Done → now ≡ held_after (kind_at visit.acks) was) → GoesBy plan
       by_settled (NotHeld o) is one g held = goes_still is_stays plan (others (λ e. let never : NotHeld o ≡ Done = sym is ∙ e in let clash : ⊥ = cc in clash)) (ap (λ (s : StoreParts D). states_of s.entries) g.1) (g.2 visit.group)
@@ -168,10 +168,10 @@ module _ {D W : Type 0} (seen : D → DiskView) (holding : W → Held) (visit : 
           (λ h. done_moves acks moves judged is_moves (λ f e. let never : Done ≡ Malformed f = sym is ∙ formed f e in let clash : ⊥ = cc in clash) g.0 h.0 h.1 (done is) (held refl))
           g.1
 
-      by_acked : Acked seen holding visit old states windows sound few hosted kept (Ok ack) → GoesBy plan
-      by_acked (inl m) = goes_still is_stays plan (others (λ e. let never : Malformed m.0 ≡ Done = sym (ok_same ack (Malformed m.0) m.1) ∙ e in let clash : ⊥ = cc in clash))
+      by_acked : Acked seen holding visit old states windows sound few hosted kept ack → GoesBy plan
+      by_acked (inl m) = goes_still is_stays plan (others (λ e. let never : Malformed m.0 ≡ Done = sym m.1 ∙ e in let clash : ⊥ = cc in clash))
           (ap (λ (s : StoreParts D). states_of s.entries) m.3.0) (m.3.1 visit.group)
-      by_acked (inr (inl n)) = goes_still is_stays plan (by_none (ok_same ack Done n.2) n.1) (ap (λ (s : StoreParts D). states_of s.entries) n.3.0) (n.3.1 visit.group)
+      by_acked (inr (inl n)) = goes_still is_stays plan (by_none n.2 n.1) (ap (λ (s : StoreParts D). states_of s.entries) n.3.0) (n.3.1 visit.group)
       by_acked (inr (inr g)) = by_settled ack refl g.1 g.2 (λ e. holds_acked seen holding visit old states windows sound few hosted kept ack (inr (inr g)) ∙ ap (held_behind visit was) e)
 
       pub goes_by : GoesBy plan
@@ -185,8 +185,8 @@ none_ready seen holding now visit old windows read same (Ok answer) none = absur
 none_ready seen holding now visit old windows read same (Err e) none = record {
   unread = false;
   steps = tt;
-  memory = inl (record { conf = refl; log = read.reads; states = refl; clock = refl; held = same });
-  records = inl refl;
+  memory = record { conf = refl; log = read.reads; states = refl; clock = refl; held = same };
+  records = tt;
   ack_sound = tt;
   sound = tt;
   unwritten = λ s c first behind. refl;

@@ -122,8 +122,8 @@ module _ {D W : Type 0} (seen : D → DiskView) (holding : W → Held) (now : �
     next_is : drop i due ≡ group ∷ drop (i + 1) due
     next_is = let split : drop i due ≡ get_or due i d ∷ drop (i + 1) due = rw (add-one, drop-cons due i d) in split ∙ ap (λ (g : List ℕ). g ∷ drop (i + 1) due) at
 
-    abbrev Once : Result Released want → Type 0
-    Once result = ReleasesOnce seen holding clock group (Due clock) current after result
+    abbrev Once : Released → Type 0
+    Once r = ReleasesOnce seen holding clock group (Due clock) current after r
 
     module _ (s : PartShardState) (f : Far s current i freed) where
       pub next : NextIn IsDue f.rest group (drop (i + 1) due)
@@ -187,8 +187,8 @@ module _ {D W : Type 0} (seen : D → DiskView) (holding : W → Held) (now : �
       held_same t (inr x) g apart = ap (λ (held : List ℕ → Held). held g) x.1.held
           ∙ ap (λ (b : Bool). if b then held_after (releasing (is_chosen (Due clock)) (f.shard.held group)) (f.shard.held group) else f.shard.held g) apart
 
-    pub one_done : (result : Result Released want) (count : ℕ) → result ≡ Ok (released count) → Once result → SoFar after (i + 1) (more_freed freed count)
-    one_done result count is once =
+    pub one_done : (told : Released) (count : ℕ) → told ≡ released count → Once told → SoFar after (i + 1) (more_freed freed count)
+    one_done told count is once =
         let o = subst Once is once in
         record {
           conf = o.conf ∙ h.conf;
@@ -244,9 +244,9 @@ module _ {D W : Type 0} (seen : D → DiskView) (holding : W → Held) (now : �
 
     module _ (by_group : InOrder (keys_of entry.windows)) (due_is : due ≡ due_groups holding (max entry.clock now) entry.windows)
         (rising : AllByRecursion (λ (e : List ℕ × W). IsRising (holding e.1)) entry.windows) where
-      pub one_stays : (result : Result Released want) (fault : StoreFault) → result ≡ Ok (unreleased fault) → Once result
+      pub one_stays : (answer : Released) (fault : StoreFault) → answer ≡ unreleased fault → Once answer
           → ExpiresOnce seen holding now entry after (Ok (Store freed group fault))
-      one_stays result fault is once =
+      one_stays answer fault is once =
           let o = subst Once is once in
           record {
             steps = λ s c.
@@ -271,49 +271,6 @@ module _ {D W : Type 0} (seen : D → DiskView) (holding : W → Held) (now : �
                 (f.done ++ n.passed, n.behind, parts_are s f, current.states, wrote_here s f, wrote_next s f (Some fault) o.records);
             nothing_due = λ nothing. absurd (none_left by_group due_is rising nothing);
             sound = λ m g told. then_starve seen entry.states current.states after.states h.runs (o.sound (ap unreleased (told_device freed m group g fault Device told)));
-            log = o.log ∙ h.log;
-            conf = o.conf ∙ h.conf;
-          }
-
-      -- ---- no memory is found for it
-
-      not_first : {P : Type 0} → (i ≡ 0) ⊎ P → 1 ≤ i → P
-      not_first (inl first) behind = absurd (omega (arith, first, behind))
-      not_first (inr more) behind = more
-
-      pub one_starves : (result : Result Released want) (e : want) → result ≡ Err e → Once result → (answer : Result ExpireAnswer want) → IsErr answer
-          → ExpiresOnce seen holding now entry after answer
-      one_starves result e is once (Ok answer) none = absurd (let clash : ⊥ = cc in clash)
-      one_starves result e is once (Err x) none =
-          let o = subst Once is once in
-          record {
-            steps = tt;
-            memory = ⊎_elim
-                (λ first. inl (o.memory ∙ (h.none (omega (arith, first))).0))
-                (λ behind. inr (λ s c.
-                let f = h.steps s c in
-                let more = not_first f.some behind in (
-                  f.shard,
-                  subst (λ (p : PartParts D W). Carries seen holding p f.shard) (sym o.memory) f.carries,
-                  record {
-                    clock = more.1 ∙ ap (λ (n : ℕ). max n now) (sym c.clock);
-                    log = f.log;
-                    done = f.done;
-                    behind = f.rest;
-                    parted = ap groups_of c.states ∙ f.parted;
-                    freed = freed;
-                    some = more.0;
-                    groups = subst (StepsGroups entry.conf (failed entry) (failed after) (end entry) (end after) f.done 0 (raised_to now s) (Done freed)) (sym (raised_same s f f.shard more.1))
-                        (subst (λ (n : ℕ). StepsGroups entry.conf (failed entry) (failed after) (end entry) n f.done 0 (raised_to now s) (Done freed) (raised_to now f.shard))
-                        (sym (ap (λ (p : PartParts D W). p.states.journal.end) o.memory)) (all_done entry.conf (failed entry) (end entry) f.done 0 (raised_to now s) (failed current) (end current) freed (raised_to now f.shard) f.to (failed after) (later_both seen current.states after.states runs)));
-                  },
-                )))
-                (cases_lt i 1);
-            records = λ s c.
-                let f = h.steps s c in
-                (f.done, f.rest, f.parted, subst (λ (p : PartParts D W). Wrote f.done entry.states p.states) (sym o.memory) f.wrote);
-            nothing_due = λ nothing. absurd (none_left by_group due_is rising nothing);
-            sound = tt;
             log = o.log ∙ h.log;
             conf = o.conf ∙ h.conf;
           }
@@ -382,4 +339,4 @@ module _ {D W : Type 0} (seen : D → DiskView) (holding : W → Held) (now : �
   -- no memory is found for the list of the groups
   pub none_begins : (answer : Result ExpireAnswer want) → IsErr answer → (IsNothingDue holding entry.windows clock → ⊥) → ExpiresOnce seen holding now entry entry answer
   none_begins (Ok answer) none some = absurd (let clash : ⊥ = cc in clash)
-  none_begins (Err e) none some = record { steps = tt; memory = inl refl; records = λ s c. ([], groups, refl, refl); nothing_due = λ nothing. absurd (some nothing); sound = tt; log = refl; conf = refl }
+  none_begins (Err e) none some = record { steps = tt; memory = refl; records = λ s c. refl; nothing_due = λ nothing. absurd (some nothing); sound = tt; log = refl; conf = refl }

@@ -1,7 +1,6 @@
 -- The releases of a group as a step of the shard.
 use Rattle.std.proofs.Common.{◌≡◌, ◌≢◌, ◌∙◌, refl, sym, ap, subst, ℕ, max, ◌≤◌, List, Option, Some, Bool, true, false}
-use Rattle.std.specs.Prelude.{Result, Ok, Err, IsErr, is_some}
-use Rattle.flex_fields.specs.declared.fault.NoMemory.{NoMemory as want}
+use Rattle.std.specs.Prelude.{Ok, is_some}
 use Rattle.part_log.specs.Logs.{IsStoredLog, log_in}
 use Rattle.share_coord.specs.Parts.{StoreParts}
 use Rattle.share_model.specs.Held.{Held}
@@ -15,13 +14,13 @@ use Rattle.share_model.specs.declared.visit.Visit.{Visit}
 use Rattle.share_model.specs.declared.visit.VisitAnswer.{VisitAnswer}
 use Rattle.share_part.specs.Acknowledging.{NameNone, NameOne, StoresActs}
 use Rattle.share_part.specs.Failures.{AreQuiet, FailuresRose, RunOnBoth}
-use Rattle.share_part.specs.Following.{Does, HasNothingToWrite, IsEmptyAnswer, TakesMemory, fault_of, releases_of}
+use Rattle.share_part.specs.Following.{Does, HasNothingToWrite, IsEmptyAnswer, fault_of, releases_of}
 use Rattle.share_part.specs.Hosting.{AreHosted}
 use Rattle.share_coord.specs.States.{states_of}
 use Rattle.share_part.specs.Once.{FollowsOnce, ReadsBatches}
-use Rattle.share_part.specs.Releasing.{Counts, ReleasesOnce, fault_in, told_in}
+use Rattle.share_part.specs.Releasing.{Counts, ReleasesOnce, fault_in}
 use Rattle.share_part.specs.Settling.{Acts, is_chosen, releasing}
-use Rattle.share_part.specs.Shards.{PartParts, PartShardState, Carries, IsUntouched, held_in}
+use Rattle.share_part.specs.Shards.{PartParts, PartShardState, Carries, held_in}
 use Rattle.share_part.specs.Writes.{WritesActs, WritesThen}
 use Rattle.share_part.specs.declared.release.Released.{Released}
 use Rattle.share_part.specs.declared.release.Released.TheVariants.{Done, Store}
@@ -53,25 +52,24 @@ module _ {D W : Type 0} (seen : D → DiskView) (holding : W → Held) (group : 
   abbrev pub then : ℕ → PartParts D W
   then clock = record { conf = old.conf; log = old.log; states = states; windows = windows; clock = clock }
 
-  abbrev pub Told : Result Released want → Type 0
-  Told r = Stores seen holding group acts old states windows old.clock sound few hosted kept (told_in r)
+  abbrev pub Told : Released → Type 0
+  Told r = Stores seen holding group acts old states windows old.clock sound few hosted kept (fault_in r)
 
-  pub released_stand : (r : Result Released want) → Told r
+  pub released_stand : (r : Released) → Told r
       → AreHosted old.conf (log_in old.log) (states_of states.entries) × AreKept old.conf old.log.batches (states_of states.entries) (held_in holding windows)
-  released_stand r h = stands_stored seen holding group acts old states windows old.clock sound few hosted kept (told_in r) h
+  released_stand r h = stands_stored seen holding group acts old states windows old.clock sound few hosted kept (fault_in r) h
 
   module _ (runs : RunOnBoth seen old.states states) where
     abbrev Rises : Type 0
     Rises = FailuresRose seen old.states states
 
-    quiet_by : (r : Released) → Told (Ok r) → ((fault : StoreFault) → r ≢ Store fault) → AreQuiet seen old.states states
+    quiet_by : (r : Released) → Told r → ((fault : StoreFault) → r ≢ Store fault) → AreQuiet seen old.states states
     quiet_by (Done count) h none = stored_quiet seen holding group acts old states windows old.clock sound few hosted kept h
     quiet_by (Store fault) h none = absurd (none fault refl)
 
-    pub released : (clock : ℕ) (result : Result Released want) (r : Released) → result ≡ Ok r → Told result → Counts whose was r
-        → ReleasesOnce seen holding clock group whose old (then clock) (Ok r)
-    released clock result r is told counts =
-        let h = subst Told is told in
+    pub released : (clock : ℕ) (r : Released) → Told r → Counts whose was r
+        → ReleasesOnce seen holding clock group whose old (then clock) r
+    released clock r h counts =
         record {
           steps = λ s c.
               let st = stored_steps seen holding group acts old states windows clock sound few hosted kept runs (fault_in r) h s c in (
@@ -84,29 +82,10 @@ module _ {D W : Type 0} (seen : D → DiskView) (holding : W → Held) (group : 
                   counts = subst (λ (h : Held). Counts whose h r) (sym (c.held group)) counts;
                 },
               );
-          unwritten = stored_none seen holding group acts old states windows clock sound few hosted kept (told_in (Ok r)) h;
-          named = tt;
-          memory = tt;
+          unwritten = stored_none seen holding group acts old states windows clock sound few hosted kept (fault_in r) h;
           records = stored_writes seen holding group acts old states windows old.clock sound few hosted kept (fault_in r) h;
           quiet = quiet_by r h;
           sound = λ fault. stored_device seen holding group acts old states windows clock sound few hosted kept (fault_in r) h (ap fault_in fault);
-          log = refl;
-          conf = refl;
-        }
-
-    pub unreleased : (clock : ℕ) (result : Result Released want) (e : want) → result ≡ Err e → Told result → windows ≡ old.windows → NameOne acts
-        → (answer : Result Released want) → IsErr answer → ReleasesOnce seen holding clock group whose old (then old.clock) answer
-    unreleased clock result e is told same named (Ok r) none = absurd (let clash : ⊥ = cc in clash)
-    unreleased clock result e is told same named (Err f) none =
-        let h = subst Told is told in
-        record {
-          steps = tt;
-          unwritten = λ none. h.0;
-          named = named;
-          memory = λ i. record { conf = old.conf; log = old.log; states = h.0 i; windows = same i; clock = old.clock };
-          records = tt;
-          quiet = tt;
-          sound = tt;
           log = refl;
           conf = refl;
         }
@@ -122,8 +101,8 @@ module _ {D W : Type 0} (seen : D → DiskView) (holding : W → Held)
   abbrev Rising : Type 0
   Rising = FailuresRose seen old.states new.states
 
-  abbrev Once : Result Released want → Type 0
-  Once result = ReleasesOnce seen holding clock visit.group (Member visit.member) old new result
+  abbrev Once : Released → Type 0
+  Once r = ReleasesOnce seen holding clock visit.group (Member visit.member) old new r
 
   abbrev was_held : Held
   was_held = held_in holding old.windows visit.group
@@ -143,11 +122,10 @@ module _ {D W : Type 0} (seen : D → DiskView) (holding : W → Held)
   none_let_go s c stays nothing =
       stays (subst (λ (h : Held). NameNone (releases_of visit.member h)) (c.held visit.group) (subst (HasNothingToWrite old.conf s visit) is nothing))
 
-  pub let_go : (result : Result Released want) (r : Released) → result ≡ Ok r → clock ≡ max old.clock now → Once result → (answer : VisitAnswer) (outcome : ThenOutcome)
+  pub let_go : (r : Released) → clock ≡ max old.clock now → Once r → (answer : VisitAnswer) (outcome : ThenOutcome)
       → answer.ack ≡ acknowledged → IsEmptyAnswer outcome answer → fault_of outcome ≡ fault_in r
       → FollowsOnce seen holding now visit old new (Ok answer)
-  let_go result r done at once answer outcome ack empty same =
-      let o = subst Once done once in
+  let_go r at o answer outcome ack empty same =
       record {
         unread = false;
         steps = λ s c.
@@ -161,7 +139,6 @@ module _ {D W : Type 0} (seen : D → DiskView) (holding : W → Held)
                 does = subst (Does old.conf told_there Rising old.states.journal.end s visit answer st.0) (sym is) (told_as s st.0 answer outcome r empty same st.2.stores);
               },
             );
-        follows = tt;
         memory = tt;
         records = subst (WritesThen seen old.conf (log_in old.log) visit was_held old.states new.states answer.then) (sym is)
             (subst (WritesActs seen old.conf old.log.batches visit.group (releases_of visit.member was_held) was_held old.states new.states)
@@ -173,19 +150,3 @@ module _ {D W : Type 0} (seen : D → DiskView) (holding : W → Held)
         others = λ away. o.log;
         conf = o.conf;
       }
-
-  unchanged : new ≡ old → IsUntouched seen holding old new
-  unchanged same = record {
-    conf = ap (λ (p : PartParts D W). p.conf) same;
-    log = (read (ap (λ (p : PartParts D W). p.log) same)).reads;
-    states = ap (λ (p : PartParts D W). p.states) same;
-    clock = ap (λ (p : PartParts D W). p.clock) same;
-    held = λ group. ap (λ (p : PartParts D W). held_in holding p.windows group) same;
-  }
-
-  pub kept_back : (result : Result Released want) (e : want) → result ≡ Err e → Once result → (answer : Result VisitAnswer want) → IsErr answer
-      → FollowsOnce seen holding now visit old new answer
-  kept_back result e none once (Ok answer) failed = absurd (let clash : ⊥ = cc in clash)
-  kept_back result e none once (Err f) failed =
-      let o = subst Once none once in
-      record { unread = false; steps = tt; follows = subst (TakesMemory visit.member (held_in holding old.windows visit.group)) (sym is) o.named; memory = unchanged o.memory; records = tt; quiet = tt; sound = tt; unwritten = λ s c. none_let_go s c o.unwritten; log = read o.log; others = λ away. o.log; conf = o.conf }

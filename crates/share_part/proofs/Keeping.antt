@@ -1,46 +1,151 @@
 -- Acts that are stored by one write, and what is kept of a key then.
-use Rattle.std.proofs.Common.{◌≡◌, ◌∙◌, refl, sym, subst, ℕ, List, Option, None}
-use Rattle.std.specs.Prelude.{ℤ, pos, Result}
-use Rattle.flex_fields.specs.declared.fault.NoMemory.{NoMemory as want}
+use Rattle.std.proofs.Common.{◌≡◌, ◌⊎◌, ⊎_elim, ◌∙◌, inl, inr, refl, sym, ap, subst, arith, ℕ, List, Option, Some, None}
+use Rattle.std.specs.Prelude.{ℤ, pos, Result, Ok, Err, OnOk, OnErr}
+use Rattle.coord_checkpoint.specs.Disks.{HasFailed}
+use Rattle.coord_checkpoint.specs.Writes.{StaysOn}
 use Rattle.share_model.specs.Keys.{KeyParts}
 use Rattle.share_model.specs.declared.fault.StoreFault.{StoreFault}
 use Rattle.share_model.specs.declared.run.Run.{Run}
-use Rattle.share_coord.specs.Calls.{Causes, IsTooMany, IsWritten, write_refusal}
-use Rattle.share_coord.specs.Holding.{WritesOnce}
-use Rattle.share_coord.specs.Parts.{StoreParts}
+use Rattle.share_coord.specs.Calls.{IsWritten, write_refusal}
+use Rattle.share_coord.specs.Holding.{IsHeld, IsWithin, Tidies, WritesOnce, WritesTidied}
+use Rattle.share_coord.specs.Parts.{KeptState, StoreParts}
+use Rattle.share_coord.specs.Putting.{stored_as}
 use Rattle.share_coord.specs.Recorded.{IsWriteRecord, StoresOne}
-use Rattle.share_coord.specs.Stored.{Entries, kept_at}
+use Rattle.share_coord.specs.Rooms.{IsGranted, IsOwnRecord, IsOwnWritten}
+use Rattle.share_coord.specs.Stored.{Entries, based, kept_at}
 use Rattle.share_coord.specs.declared.fault.CoordFault.{CoordFault}
-use Rattle.share_coord.specs.declared.fault.CoordFault.TheVariants.{Invalid, Unknown, FencedLeader, FencedState, TooMany, Store, NoMemory}
-use Rattle.share_part.specs.Storing.{IsRecordOf, IsStored, StoresOnce, TellsStored, start_number}
+use Rattle.share_coord.proofs.Behind.{granted_based, tidied_once, tidied_stored}
+use Rattle.state_records.specs.declared.record.StateRecord.{StateRecord}
+use Rattle.share_part.specs.Storing.{IsRecordOf, IsReserved, IsStored, StoresOnce, answer_of, start_number}
+use Rattle.share_part.proofs.Writing.{kept_one}
 use Rattle.edge_io.specs.Views.{DiskView}
 
--- a write that is granted fails at the store alone
-pub store_alone : (refusal : Option CoordFault) (Many : ℕ → Type 0) (e : CoordFault) → refusal ≡ None → ((count : ℕ) → Many count → ⊥) → Causes refusal Many e → Causes None (λ count. ⊥) e
-store_alone refusal Many Invalid granted few causes = sym granted ∙ causes
-store_alone refusal Many Unknown granted few causes = sym granted ∙ causes
-store_alone refusal Many (FencedLeader known) granted few causes = sym granted ∙ causes
-store_alone refusal Many (FencedState known) granted few causes = sym granted ∙ causes
-store_alone refusal Many (TooMany runs) granted few causes = absurd (few runs causes.1)
-store_alone refusal Many (Store fault) granted few causes = refl
-store_alone refusal Many NoMemory granted few causes = refl
+-- a write with the key's own epochs, which are 0
+module _ (es : Entries) (key : KeyParts) (start : Option ℕ) (number : ℤ) (runs : List Run) (room : ℕ) (is : number ≡ start_number start)
+    (r : IsReserved es key runs room) where
+  abbrev pub granted_own : write_refusal (kept_at es key) (pos 0) (pos 0) (start_number start) runs ≡ None → IsGranted es key number runs room
+  granted_own granted = record {
+    kept = r.kept;
+    known = r.known;
+    valid = (λ i. write_refusal (kept_at es key) (r.epochs.0 i) (r.epochs.1 i) (is i) runs) ∙ granted;
+    fits = (let fits = r.fits in let enough = r.room_is in omega (arith, fits, enough));
+    few = (let fits = r.fits in omega (arith, fits));
+  }
 
-pub granted_alone : (es : Entries) (key : KeyParts) (start : Option ℕ) (number : ℤ) (runs : List Run) → number ≡ start_number start
-    → write_refusal (kept_at es key) (pos 0) (pos 0) (start_number start) runs ≡ None → ((count : ℕ) → IsTooMany es key (start_number start) runs count → ⊥)
-    → (e : CoordFault) → Causes (write_refusal (kept_at es key) (pos 0) (pos 0) number runs) (IsTooMany es key number runs) e → Causes None (λ count. ⊥) e
-granted_alone es key start number runs is granted few e causes =
-    store_alone (write_refusal (kept_at es key) (pos 0) (pos 0) (start_number start) runs) (IsTooMany es key (start_number start) runs) e granted few
-    (subst (λ (n : ℤ). Causes (write_refusal (kept_at es key) (pos 0) (pos 0) n runs) (IsTooMany es key n runs) e) is causes)
+  epochs_of : (kept : KeptState) → kept_at es key ≡ Some kept → (kept.view.state_epoch ≡ pos 0) × (kept.view.leader_epoch ≡ pos 0)
+  epochs_of kept known =
+      let same : kept ≡ r.kept = kept_one kept r.kept (sym known ∙ r.known) in (
+        ap (λ (k : KeptState). k.view.state_epoch) same ∙ r.epochs.0,
+        ap (λ (k : KeptState). k.view.leader_epoch) same ∙ r.epochs.1,
+      )
 
-pub stored_by : {D : Type 0} (seen : D → DiskView) (Failed : D → D → Type 0)
-    (es : Entries) (key : KeyParts) (start : Option ℕ) (number : ℤ) (runs : List Run) → number ≡ start_number start
-    → (old new : StoreParts D) (result : Result (Option StoreFault) want) (done : Result (Unit {0}) CoordFault) → TellsStored done result
-    → WritesOnce seen Failed (IsWritten es key (pos 0) (pos 0) number runs) old new done
-    → StoresOne seen (IsWriteRecord es key (pos 0) (pos 0) number runs) old.journal new.journal done
-    → StoresOnce seen Failed (IsStored es key start runs) (IsRecordOf es key start runs) old new result
-stored_by {D} seen Failed es key start number runs is old new result done tells once one = record {
-  done = done;
-  tells = tells;
-  once = subst (λ (n : ℤ). WritesOnce seen Failed (IsWritten es key (pos 0) (pos 0) n runs) old new done) is once;
-  one = subst (λ (n : ℤ). StoresOne seen (IsWriteRecord es key (pos 0) (pos 0) n runs) old.journal new.journal done) is one;
-}
+  own_written : (new : Entries) → IsOwnWritten es key number runs new → IsStored es key start runs new
+  own_written new w =
+      let e = epochs_of w.kept w.known in
+      subst (λ (n : ℤ). IsWritten es key (pos 0) (pos 0) n runs new) is
+      (subst (λ (l : ℤ). IsWritten es key (pos 0) l number runs new) e.1
+      (subst (λ (s : ℤ). IsWritten es key s w.kept.view.leader_epoch number runs new) e.0 w.is))
+
+  own_record : (one : StateRecord) → IsOwnRecord es key number runs one → IsRecordOf es key start runs one
+  own_record one w =
+      let e = epochs_of w.kept w.known in
+      subst (λ (n : ℤ). IsWriteRecord es key (pos 0) (pos 0) n runs one) is
+      (subst (λ (l : ℤ). IsWriteRecord es key (pos 0) l number runs one) e.1
+      (subst (λ (s : ℤ). IsWriteRecord es key s w.kept.view.leader_epoch number runs one) e.0 w.is))
+
+  -- ---- with no checkpoint before it
+
+  module _ {D : Type 0} (seen : D → DiskView) (old new : StoreParts D) where
+    on_ok : {P Q : Type 0} (done : Result (Unit {0}) CoordFault) → (P → Q) → OnOk done P → OnOk done Q
+    on_ok (Ok u) f p = f p
+    on_ok (Err e) f p = tt
+
+    on_err : {P Q : Type 0} (done : Result (Unit {0}) CoordFault) → (P → Q) → OnErr done P → OnErr done Q
+    on_err (Ok u) f p = tt
+    on_err (Err e) f p = f p
+
+    within : (pending : Option Entries) (a b : List ℕ) → IsWithin (IsOwnWritten es key number runs) old.entries pending a b
+        → IsWithin (IsStored es key start runs) old.entries pending a b
+    within pending a b (inl stands) = inl stands
+    within pending a b (inr w) = inr (w.0, own_written w.0 w.1, w.2)
+
+    once_as : (done : Result (Unit {0}) CoordFault) → WritesOnce seen (HasFailed seen) (IsOwnWritten es key number runs) old new done
+        → WritesTidied seen (HasFailed seen) (IsStored es key start runs) old new done
+    once_as done w = record {
+      quiet = w.quiet;
+      written = on_ok done (own_written new.entries) w.written;
+      kept = w.kept;
+      same = w.same;
+      unchanged = w.unchanged;
+      failed = on_err done (λ f pending holds. ⊎_elim (λ still. inl still) (λ lost. inr (lost.0, own_written lost.0 lost.1, lost.2)) (f pending holds)) w.failed;
+      device = λ e. let d = w.device e in (d.0, (d.1.0, own_written d.1.0 d.1.1));
+      full = λ end e. let u = w.full end e in (u.0, (u.1.0, u.1.1, own_written u.1.1 u.1.2, u.1.3, u.1.4, u.1.5));
+      mid = old;
+      tidies = inl refl;
+      any_moment = λ pending holds.
+          let m = w.any_moment pending holds in
+          record { later_a = m.later_a; later_b = m.later_b; each = λ a b left right. within pending a b (m.each a b left right) };
+    }
+
+    one_as : (done : Result (Unit {0}) CoordFault) → StoresOne seen (IsOwnRecord es key number runs) old.journal new.journal done
+        → StoresOne seen (IsRecordOf es key start runs) old.journal new.journal done
+    one_as done s = record {
+      stored = on_ok done (λ w. (w.0, own_record w.0 w.1, w.2)) s.stored;
+      pending = λ e. let w = s.pending e in (w.0, own_record w.0 w.1, w.2);
+      full = λ end e. let w = s.full end e in (w.0, (w.1.0, own_record w.1.0 w.1.1, w.1.2));
+      room = on_ok done (λ w. (w.0, own_record w.0 w.1, w.2)) s.room;
+    }
+
+    module _ (told : Result (Unit {0}) StoreFault) (fault : Option StoreFault) (same : stored_as told ≡ answer_of fault) where
+      pub stored_own : WritesOnce seen (HasFailed seen) (IsOwnWritten es key number runs) old new (stored_as told)
+          → StoresOne seen (IsOwnRecord es key number runs) old.journal new.journal (stored_as told)
+          → StoresOnce seen (HasFailed seen) (IsStored es key start runs) (IsRecordOf es key start runs) old new fault
+      stored_own once one = record {
+        once = once_as (answer_of fault) (subst (WritesOnce seen (HasFailed seen) (IsOwnWritten es key number runs) old new) same once);
+        one = one_as (answer_of fault) (subst (StoresOne seen (IsOwnRecord es key number runs) old.journal new.journal) same one);
+      }
+
+-- ---- with one that was tried
+
+module _ {D : Type 0} (seen : D → DiskView) (old mid new : StoreParts D) (key : KeyParts) (start : Option ℕ) (number : ℤ) (runs : List Run)
+    (is : number ≡ start_number start) (r : IsReserved old.entries key runs old.room)
+    (granted : write_refusal (kept_at old.entries key) (pos 0) (pos 0) (start_number start) runs ≡ None)
+    (tidies : Tidies seen old mid) where
+  abbrev its : IsGranted old.entries key number runs old.room
+  its = granted_own old.entries key start number runs old.room is r granted
+
+  pub granted_behind : IsGranted mid.entries key number runs mid.room
+  granted_behind =
+      subst (λ (l : Entries). IsGranted l key number runs mid.room) (sym tidies.is)
+      (subst (λ (n : ℕ). IsGranted (based tidies.checkpointed old.entries) key number runs n) (sym tidies.room)
+      (granted_based old.entries key number runs tidies.checkpointed old.room its))
+
+  module _ (held : IsHeld seen old) (told : Result (Unit {0}) StoreFault) (alone : StaysOn seen mid.journal new.journal told)
+      (once : WritesOnce seen (HasFailed seen) (IsOwnWritten mid.entries key number runs) mid new (stored_as told))
+      (one : StoresOne seen (IsOwnRecord mid.entries key number runs) mid.journal new.journal (stored_as told))
+      (fault : Option StoreFault) (same : stored_as told ≡ answer_of fault) where
+    abbrev Once : ℤ → ℤ → ℤ → Type 0
+    Once s l n = WritesTidied seen (HasFailed seen) (IsWritten old.entries key s l n runs) old new (answer_of fault)
+
+    abbrev One : ℤ → ℤ → ℤ → Type 0
+    One s l n = StoresOne seen (IsWriteRecord old.entries key s l n runs) old.journal new.journal (answer_of fault)
+
+    abbrev state_epoch : ℤ
+    state_epoch = r.kept.view.state_epoch
+
+    abbrev leader_epoch : ℤ
+    leader_epoch = r.kept.view.leader_epoch
+
+    pub stored_behind : StoresOnce seen (HasFailed seen) (IsStored old.entries key start runs) (IsRecordOf old.entries key start runs) old new fault
+    stored_behind = record {
+      once = subst (λ (n : ℤ). Once (pos 0) (pos 0) n) is
+          (subst (λ (l : ℤ). Once (pos 0) l number) r.epochs.1
+          (subst (λ (s : ℤ). Once s leader_epoch number) r.epochs.0
+          (subst (λ (d : Result (Unit {0}) CoordFault). WritesTidied seen (HasFailed seen) (IsWritten old.entries key state_epoch leader_epoch number runs) old new d) same
+          (tidied_once seen old mid new key number runs its held tidies told alone once))));
+      one = subst (λ (n : ℤ). One (pos 0) (pos 0) n) is
+          (subst (λ (l : ℤ). One (pos 0) l number) r.epochs.1
+          (subst (λ (s : ℤ). One s leader_epoch number) r.epochs.0
+          (subst (λ (d : Result (Unit {0}) CoordFault). StoresOne seen (IsWriteRecord old.entries key state_epoch leader_epoch number runs) old.journal new.journal d) same
+          (tidied_stored seen old mid new key number runs its held tidies told alone once one))));
+    }

@@ -33,6 +33,25 @@ left_alone seen only_now d = record {
   before = λ t c le was. inl was;
 }
 
+-- states that were opened, and for which memory was set aside then
+pub with_room : {D : Type 0} (seen : D → DiskView) (a b : D) (store : StoreParts D) (n : ℕ) → states_opened seen a b store
+    → states_opened seen a b (record { journal = store.journal; entries = store.entries; room = n })
+with_room seen a b store n o = record {
+  holds = record {
+    frames = o.holds.frames;
+    unwritten = o.holds.unwritten;
+    sealing = o.holds.sealing;
+    keeps = o.holds.keeps;
+    taken = o.holds.taken;
+    few = o.holds.few;
+    leaves = o.holds.leaves;
+    sealed = o.holds.sealed;
+    images = o.holds.images;
+  };
+  opens = o.opens;
+  only = o.only;
+}
+
 module _ {D W : Type 0} (seen : D → DiskView) (holding : W → Held)
     (conf : PartConfParts) (disk a b : D) where
   -- no memory was found at first

@@ -30,10 +30,6 @@ use Rattle.share_part.specs.Foreseeing.{HasChange}
 use Rattle.share_part.proofs.Slotting.{slot_below}
 use Rattle.share_part.proofs.Writing.{slot_of}
 
-pub on_err : {T : Type 0} (P : Type 0) (r : Result T want) → P → OnErr r P
-on_err P (Ok x) p = tt
-on_err P (Err e) p = p
-
 -- nothing is held of an empty window
 empty_none : (held : Held) (o : ℕ) (hold : Hold) → held ≡ [] → hold_at held o ≡ Some hold → ⊥
 empty_none held o hold none at = let never : ◌≡◌ {A = Option Hold} None (Some hold) = sym (ap (λ (h : Held). hold_at h o) none) ∙ at in let clash : ⊥ = cc in clash

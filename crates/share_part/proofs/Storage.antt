@@ -1,10 +1,8 @@
 -- Acts on the table of a group, by what came of their write, as a step of the shard.
 use Rattle.std.proofs.Common.{◌≡◌, ⊎_elim, inl, inr, refl, sym, ap, subst, ℕ, ◌+◌, ◌^◌, ◌<◌, ◌≤◌, List, length, Option, Some, None}
-use Rattle.std.specs.Prelude.{Result, Ok, Err}
 use Rattle.std.specs.BTreeMap.{insert_entry}
 use Rattle.std.specs.Option.{option_map}
 use Rattle.coord_checkpoint.specs.Disks.{HasFailed}
-use Rattle.flex_fields.specs.declared.fault.NoMemory.{NoMemory as want}
 use Rattle.share_model.specs.ForeignRules.{ShareStates}
 use Rattle.share_model.specs.Held.{Held}
 use Rattle.share_model.specs.Keys.{KeyParts, key_cmp}
@@ -16,8 +14,6 @@ use Rattle.part_log.specs.Starts.{LogWrite}
 use Rattle.share_coord.specs.Holding.{Holds}
 use Rattle.share_coord.specs.Parts.{StoreParts}
 use Rattle.share_coord.specs.Stored.{Entries}
-use Rattle.share_coord.specs.declared.fault.CoordFault.{CoordFault}
-use Rattle.share_coord.specs.declared.fault.CoordFault.TheVariants.{Store as coord_store}
 use Rattle.share_coord.proofs.Once.{held_still}
 use Rattle.share_part.specs.Acknowledging.{AreSettled, NameNone, NameOne, StoresActs}
 use Rattle.share_part.specs.Failures.{AreQuiet, FailuresRose, RunOnBoth, StarveUnarmed}
@@ -62,15 +58,15 @@ module _ {D W : Type 0} (seen : D → DiskView) (holding : W → Held) (group : 
   abbrev Failed : D → D → Type 0
   Failed = HasFailed seen
 
-  abbrev pub Stores : Result (Option StoreFault) want → Type 0
-  Stores result = StoresGroup seen Failed old.conf old.log.batches group acts was old.states states Same Ends result
+  abbrev pub Stores : Option StoreFault → Type 0
+  Stores fault = StoresGroup seen Failed old.conf old.log.batches group acts was old.states states Same Ends fault
 
-  abbrev Stored : Result (Unit {0}) CoordFault → Type 0
-  Stored done = IsActsStored seen Failed old.conf old.log.batches group acts was old.states states done
+  abbrev Stored : Option StoreFault → Type 0
+  Stored fault = IsActsStored seen Failed old.conf old.log.batches group acts was old.states states fault
 
   -- ---- what is stored
 
-  module _ (done : Result (Unit {0}) CoordFault) (st : Stored done) (es : Entries) (w : IsStored old.states.entries key st.change.start st.change.runs es) where
+  module _ (fault : Option StoreFault) (st : Stored fault) (es : Entries) (w : IsStored old.states.entries key st.change.start st.change.runs es) where
     pub its_hosted : IsHosted old.conf (log_in old.log) key st.state
     its_hosted = hosted key st.state st.known
 
@@ -110,15 +106,14 @@ module _ {D W : Type 0} (seen : D → DiskView) (holding : W → Held) (group : 
         (subst (λ (s : ShareStates). AreKept old.conf old.log.batches s (held_in holding old.windows)) (sym is) kept),
   )
 
-  pub stands_stored : (r : Result (Option StoreFault) want) → Stores r → Stands
-  stands_stored (Ok None) (inl n) = stands_same (ap (λ (s : StoreParts D). states_of s.entries) n.1) n.2
-  stands_stored (Ok None) (inr h) = (
-    set_hosted (Ok tt) h.1 states.entries h.1.once.written,
+  pub stands_stored : (fault : Option StoreFault) → Stores fault → Stands
+  stands_stored None (inl n) = stands_same (ap (λ (s : StoreParts D). states_of s.entries) n.1) n.2
+  stands_stored None (inr h) = (
+    set_hosted None h.1 states.entries h.1.once.written,
     same_kept old.conf old.log.batches (states_of states.entries) (with_held (held_in holding old.windows) group (held_after acts was)) (held_in holding windows) h.2
-        (set_well (Ok tt) h.1 states.entries h.1.once.written),
+        (set_well None h.1 states.entries h.1.once.written),
   )
-  stands_stored (Ok (Some fault)) h = stands_same h.1.once.same h.2
-  stands_stored (Err e) h = stands_same (ap (λ (s : StoreParts D). states_of s.entries) h.0) h.1
+  stands_stored (Some fault) h = stands_same h.1.once.same h.2
 
   -- ---- the step
 
@@ -161,7 +156,7 @@ module _ {D W : Type 0} (seen : D → DiskView) (holding : W → Held) (group : 
   abbrev pub DoesActs : Option StoreFault → PartShardState → PartShardState → Type 0
   DoesActs fault s t = StoresActs old.conf Rises old.states.journal.end s group acts t fault
 
-  pub stored_steps : RunOnBoth seen old.states states → (fault : Option StoreFault) → Stores (Ok fault) → AllSteps (DoesActs fault)
+  pub stored_steps : RunOnBoth seen old.states states → (fault : Option StoreFault) → Stores fault → AllSteps (DoesActs fault)
   stored_steps runs None (inl n) = still (DoesActs None) n.1 n.2 (λ batch pending. inl (n.0, record { states = refl; pending = refl; held = refl }))
   stored_steps runs None (inr h) = carried seen holding old (Steps (DoesActs None)) (λ batch pending k. record {
     then = record {
@@ -179,13 +174,13 @@ module _ {D W : Type 0} (seen : D → DiskView) (holding : W → Held) (group : 
       pending_is = refl;
       held = λ group. sym (h.2 group);
       clock = refl;
-      hosted = set_hosted (Ok tt) h.1 states.entries h.1.once.written;
+      hosted = set_hosted None h.1 states.entries h.1.once.written;
       pending_hosted = tt;
       unmarked = k.unmarked;
     };
     log = refl;
     clock_is = refl;
-    does = inr (h.0, record { states = are_settled (Ok tt) h.1 states.entries h.1.once.written batch pending; nothing = refl; held = refl });
+    does = inr (h.0, record { states = are_settled None h.1 states.entries h.1.once.written batch pending; nothing = refl; held = refl });
   })
   stored_steps runs (Some Device) h = carried seen holding old (Steps (DoesActs (Some Device))) (λ batch pending k.
       let rises : Rises = rose_either seen old.states states runs (h.1.once.device refl).0 in
@@ -199,10 +194,10 @@ module _ {D W : Type 0} (seen : D → DiskView) (holding : W → Held) (group : 
       })
       (λ lost. record {
         then = shard_same batch (Some lost.0);
-        carries = same_carried batch pending (Some lost.0) k h.1.once.same lost.2 (set_hosted (Err (coord_store Device)) h.1 lost.0 lost.1) h.2;
+        carries = same_carried batch pending (Some lost.0) k h.1.once.same lost.2 (set_hosted (Some Device) h.1 lost.0 lost.1) h.2;
         log = refl;
         clock_is = refl;
-        does = (h.0, rises, record { states = refl; held = refl; pending = inr (states_of lost.0, refl, are_settled (Err (coord_store Device)) h.1 lost.0 lost.1 batch pending) });
+        does = (h.0, rises, record { states = refl; held = refl; pending = inr (states_of lost.0, refl, are_settled (Some Device) h.1 lost.0 lost.1 batch pending) });
       })
       (h.1.once.failed pending k.holds))
   stored_steps runs (Some (Full at)) h = carried seen holding old (Steps (DoesActs (Some (Full at)))) (λ batch pending k.
@@ -220,7 +215,7 @@ module _ {D W : Type 0} (seen : D → DiskView) (holding : W → Held) (group : 
             after = full.1.1;
             frame = full.1.0;
             is_before = refl;
-            is_after = are_settled (Err (coord_store (Full at))) h.1 full.1.1 full.1.2 batch pending;
+            is_after = are_settled (Some (Full at)) h.1 full.1.1 full.1.2 batch pending;
             accepted = full.1.3;
             fits = full.1.4;
             past = subst (λ (n : ℕ). 2 ^ 62 < n + (length full.1.0 + 5)) full.0 full.1.5;
@@ -229,28 +224,27 @@ module _ {D W : Type 0} (seen : D → DiskView) (holding : W → Held) (group : 
       })
 
   -- where nothing is named, the store is as it was
-  pub stored_none : (r : Result (Option StoreFault) want) → Stores r → NameNone acts → states ≡ old.states
-  stored_none (Ok None) (inl n) nothing = n.1
-  stored_none (Ok None) (inr h) nothing = absurd (clash_named h.0 nothing)
+  pub stored_none : (fault : Option StoreFault) → Stores fault → NameNone acts → states ≡ old.states
+  stored_none None (inl n) nothing = n.1
+  stored_none None (inr h) nothing = absurd (clash_named h.0 nothing)
     where
       clash_named : NameOne acts → NameNone acts → ⊥
       clash_named one none = let e = none one.0 in let some = one.1 in let clash : ⊥ = cc in clash
-  stored_none (Ok (Some fault)) h nothing = absurd (let e = nothing h.0.0 in let some = h.0.1 in let clash : ⊥ = cc in clash)
-  stored_none (Err e) h nothing = h.0
+  stored_none (Some fault) h nothing = absurd (let e = nothing h.0.0 in let some = h.0.1 in let clash : ⊥ = cc in clash)
 
   -- a device fault
-  pub stored_device : (fault : Option StoreFault) → Stores (Ok fault) → fault ≡ Some Device → StarveUnarmed seen old.states states
+  pub stored_device : (fault : Option StoreFault) → Stores fault → fault ≡ Some Device → StarveUnarmed seen old.states states
   stored_device None h is = absurd (let clash : ⊥ = cc in clash)
   stored_device (Some Device) h is = starve_either seen old.states states (h.1.once.device refl).0
   stored_device (Some (Full at)) h is = absurd (let clash : ⊥ = cc in clash)
 
   -- no device call failed but those of a checkpoint, where none is told
-  pub stored_quiet : Stores (Ok None) → AreQuiet seen old.states states
+  pub stored_quiet : Stores None → AreQuiet seen old.states states
   stored_quiet (inl n) = quiet_same seen old.states states n.1
   stored_quiet (inr h) = h.1.once.quiet
 
   -- which record is stored
-  pub stored_writes : (fault : Option StoreFault) → Stores (Ok fault) → WritesActs seen old.conf old.log.batches group acts was old.states states fault
+  pub stored_writes : (fault : Option StoreFault) → Stores fault → WritesActs seen old.conf old.log.batches group acts was old.states states fault
   stored_writes None (inl n) = inl (n.0, n.1)
   stored_writes None (inr h) = inr (h.0, h.1)
   stored_writes (Some fault) h = (h.0, h.1)

@@ -1,6 +1,6 @@
 -- A visit as a step of the shard.
 use Rattle.std.proofs.Common.{◌≡◌, ◌≢◌, ◌⊎◌, ⊎_elim, ◌∙◌, inl, inr, refl, sym, ap, subst, ℕ, pos, ◌+◌, ◌^◌, ◌<◌, ◌≤◌, max, List, [], length}
-use Rattle.std.specs.Prelude.{Option, Some, None, Result, Ok, Err, IsErr, IsSome, is_some, unwrap_or, Bool, true, false}
+use Rattle.std.specs.Prelude.{Option, Some, None, Result, Ok, Err, IsErr, IsOk, IsSome, is_some, unwrap_or, Bool, true, false}
 use Rattle.std.specs.BTreeMap.{insert_entry}
 use Rattle.std.specs.Option.{option_map}
 use Rattle.flex_fields.specs.declared.fault.NoMemory.{NoMemory as want}
@@ -40,7 +40,7 @@ use Rattle.share_part.specs.declared.plan.Plan.{Plan}
 use Rattle.share_part.specs.Collecting.{IsPlanOf}
 use Rattle.share_part.specs.Making.{IsTableRecord, MakesOnce, MakesTableOnce, Tells, numbered_bytes, state_for}
 use Rattle.share_part.specs.Once.{Followed, FollowsOnce, ReadsBatches, reading_of}
-use Rattle.share_part.specs.Following.{Acquires, Does, Fetches, HasNothingToWrite, IsFetch, IsEmptyAnswer, MakesTable, StepsThen, TakesMemory}
+use Rattle.share_part.specs.Following.{Acquires, Does, Fetches, HasNothingToWrite, IsFetch, IsEmptyAnswer, MakesTable, StepsThen}
 use Rattle.share_part.specs.Shards.{PartShardState, PartParts, Carries, IsStill, IsPendingHosted, IsUntouched, held_in, with_held, new_state, first_start}
 use Rattle.share_part.specs.Tables.{table_of, with_holds}
 use Rattle.share_part.specs.Walks.{acquired, AreRunsOf, bytes_in, written_out}
@@ -214,7 +214,6 @@ module _ {D W : Type 0} (seen : D → DiskView) (holding : W → Held) (now : �
   answered answer writes records quiet visited sound others = record {
     unread = false;
     steps = visited;
-    follows = tt;
     memory = tt;
     records = records;
     quiet = λ none. quiet (none refl);
@@ -231,7 +230,6 @@ module _ {D W : Type 0} (seen : D → DiskView) (holding : W → Held) (now : �
   hungry limits fetch e states held clock = record {
     unread = false;
     steps = tt;
-    follows = subst (TakesMemory visit.member (held_in holding old.windows visit.group)) (sym fetch) tt;
     memory = record { conf = conf; log = log.reads; states = states; clock = clock; held = held };
     records = tt;
     quiet = tt;
@@ -712,7 +710,6 @@ unread_so {D} {W} seen holding now visit old new conf log states asked answer ac
       does = record { asked = asked; risen = log.calls.rose refl; empty = empty; still = record { states = refl; pending = refl; held = refl } };
     },
   ));
-  follows = tt;
   memory = tt;
   records = states;
   quiet = λ none. quiet_same seen old.states new.states states;

@@ -1,11 +1,11 @@
 -- The write that stores acts is granted, and leaves a table on which they are done.
-use Rattle.std.proofs.Common.{◌≡◌, ◌⊎◌, ⊎_elim, ◌∙◌, inl, inr, refl, sym, ap, subst, arith, ℕ, zero, suc, ◌+◌, ◌^◌, ◌≤◌, List, [], ◌∷◌, Option, Some, None, Bool, true, false}
+use Rattle.std.proofs.Common.{◌≡◌, ◌⊎◌, ⊎_elim, ◌∙◌, inl, inr, refl, sym, ap, subst, arith, ℕ, zero, suc, ◌+◌, ◌*◌, ◌^◌, ◌≤◌, List, [], ◌∷◌, length, Option, Some, None, Bool, true, false}
 use Rattle.std.proofs.lemmas.Bool.Decides.{nat_tests}
 use Rattle.std.specs.Prelude.{ℤ, pos, negsuc, int_lt, IfSome, nat_le, ◌&&◌, ◌||◌, not, unwrap_or, if◌then◌else◌}
 use Rattle.std.specs.List.{Contains, list_all}
 use Rattle.std.specs.Option.{option_map, option_or}
 use Rattle.share_coord.proofs.Written.{or_none}
-use Rattle.share_coord.specs.Calls.{IsTooMany, fenced_write, write_refusal}
+use Rattle.share_coord.specs.Calls.{fenced_write, write_refusal}
 use Rattle.share_coord.specs.Stored.{Entries, kept_at}
 use Rattle.share_coord.specs.declared.fault.CoordFault.{CoordFault}
 use Rattle.share_coord.specs.declared.fault.CoordFault.TheVariants.{Invalid}
@@ -25,7 +25,7 @@ use Rattle.share_part.specs.Hosting.{PartConfParts, AreHeldWell, IsHosted, key_o
 use Rattle.share_coord.specs.States.{states_of}
 use Rattle.share_part.specs.Settling.{Acts, Change, IsChange, acted, stored_after}
 use Rattle.share_part.specs.Slots.{and_more, next_slot, slots_from}
-use Rattle.share_part.specs.Storing.{start_number}
+use Rattle.share_part.specs.Storing.{IsReserved, start_number}
 use Rattle.share_part.specs.Tables.{table_of}
 use Rattle.share_part.proofs.Producing.{front_or, none_in}
 use Rattle.share_part.proofs.Seeing.{state_seen, view_of}
@@ -125,22 +125,18 @@ module _ {from : ℕ} (conf : PartConfParts) (log : List Batch) (es : Entries) (
       ∙ ap (λ (b : Bool). if not b then Some Invalid else fenced_write (kept_at es key) (pos 0) (pos 0)) writable
       ∙ ap (λ (o : Option KeptState). fenced_write o (pos 0) (pos 0)) kept_there.1 ∙ unfenced kept_there.0 kept_there.2
 
-  -- the rows that are written, or stand after it, are those of slots
-  laid_there : (written laid : List Run) (start : ℤ) (kept : KeptState) → kept.view ≡ state
-      → ((o : ℕ) → row_at written o ≡ last_row change.runs o)
-      → ((o : ℕ) → row_at written o ≡ last_row change.runs o) → (o : ℕ) (row : Row) → option_or (row_at written o) (row_at kept.view.runs o) ≡ Some row
-      → Contains (slots_from 2000 log (size_of state.start)) o
-  laid_there written laid start kept is w w2 o row at =
-      ⊎_elim (λ e. (run_there o row (sym (last_is change.runs ch.settles.canonical o) ∙ sym (w o) ∙ e)).0)
-      (λ e. (was.rows o row (ap (λ (s : ShareState). row_at s.runs o) (sym is) ∙ e)).slot) (either (row_at written o) (row_at kept.view.runs o) row at)
+  -- the rows that are there, and two for each that is written
+  few_rows : IsCanonical state.runs → length state.runs + 2 * length change.runs ≤ 6000
+  few_rows canonical =
+      let stored = few_within log (size_of state.start) state.runs sound.rises canonical (λ o row at. (was.rows o row at).slot) in
+      let changed = few_within log (size_of state.start) change.runs sound.rises ch.settles.canonical (λ o row at. (run_there o row at).0) in
+      omega (arith, stored, changed)
 
-  pub not_many : (count : ℕ) → IsTooMany es key (start_number change.start) change.runs count → ⊥
-  not_many count t =
-      let same : t.kept ≡ kept_there.0 = kept_one t.kept kept_there.0 (sym t.known ∙ kept_there.1) in
-      let is : t.kept.view ≡ state = ap view_of same ∙ kept_there.2 in
-      let w = few_within log (size_of state.start) t.written sound.rises t.are_written.canonical
-      (λ o row at. (run_there o row (sym (last_is change.runs ch.settles.canonical o) ∙ sym (t.are_written.rows o) ∙ at)).0) in
-      let l = few_within log (size_of state.start) t.laid sound.rises t.are_laid.canonical
-      (λ o row at. laid_there t.written t.laid (start_number change.start) t.kept is t.are_written.rows t.are_written.rows o row (unless _ (option_or (row_at t.written o) (row_at t.kept.view.runs o)) row (sym (t.are_laid.rows o) ∙ at))) in
-      let many = t.many in let is_count = t.count_is in
-      omega (arith, w, l, many, is_count)
+  pub reserved : IsCanonical state.runs → (room : ℕ) → 6000 ≤ room → IsReserved es key change.runs room
+  reserved canonical room enough = record {
+    kept = kept_there.0;
+    known = kept_there.1;
+    epochs = (ap (λ (s : ShareState). s.state_epoch) kept_there.2 ∙ was.epochs.0, ap (λ (s : ShareState). s.leader_epoch) kept_there.2 ∙ was.epochs.1);
+    fits = (let few = few_rows canonical in let same = ap (λ (s : ShareState). length s.runs) kept_there.2 in omega (arith, few, same));
+    room_is = enough;
+  }

@@ -138,12 +138,6 @@ HasNothingToWrite conf old visit Nothing = Unit {0}
 HasNothingToWrite conf old visit Release = NameNone (releases_of visit.member (old.held visit.group))
 HasNothingToWrite conf old visit (Fetch records bytes first) = IsSome (share_state_at old.states (key_of conf visit.group))
 
--- It takes memory: a release by a member who holds something, or a fetch.
-abbrev pub TakesMemory : (member : List ℕ) → Held → Then → Type 0
-TakesMemory member held Nothing = ⊥
-TakesMemory member held Release = NameOne (releases_of member held)
-TakesMemory member held (Fetch records bytes first) = Unit {0}
-
 -- What follows the acknowledgements, at the moment `now`. `rose` says that more calls of the two state disks have failed, `end` is
 -- where the live journal of the states ends.
 pub record StepsThen (conf : PartConfParts) (reading : Reading) (rose : Type 0) (end : ℕ) (old : PartShardState) (now : ℕ)

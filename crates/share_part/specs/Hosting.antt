@@ -80,8 +80,9 @@ pub record ArePartText (conf : PartConfParts) (log first second : List ℕ) (is 
   pub hosted : AreHosted conf is states
 
 -- what the parts of a shard in memory keep: the log is sound, the states are ones that the partition may have, each
--- group holds what it may hold, and there is memory for two runs for each of the 2000 records that a group may hold
-pub record IsKeptShard (conf : PartConfParts) (log : Log) (entries : Entries) (held : List ℕ → Held) (clock room : ℕ)
+-- group holds what it may hold, there is memory for two runs for each of the 2000 records that a group may hold, and in the store for 6000 of each table:
+-- its 2000 rows, and two for each of those
+pub record IsKeptShard (conf : PartConfParts) (log : Log) (entries : Entries) (held : List ℕ → Held) (clock changed stored : ℕ)
     : Type 0 where
   pub log_is : IsStoredLog log.batches
   pub within : log.start ≤ end_of log.batches
@@ -89,4 +90,5 @@ pub record IsKeptShard (conf : PartConfParts) (log : Log) (entries : Entries) (h
   pub holds : (group : List ℕ) →
       KeepsHolds log.batches (share_state_at (states_of entries) (key_of conf group)) (held group)
   pub moment : clock ≤ 2 ^ 62
-  pub scratch : 4000 ≤ room
+  pub scratch : 4000 ≤ changed
+  pub room : 6000 ≤ stored

@@ -1,5 +1,5 @@
 -- What a call on the shard of a partition does, as one record. This project's own.
--- For example a visit without acknowledgements that finds no memory leaves the shard and its disks as they were.
+-- For example a visit that finds no memory leaves the shard and its disks as they were.
 use Rattle.std.specs.Prelude.{◌≡◌, ◌≢◌, ◌⊎◌, ◌≤◌, max, ℕ, List, Some, Result, Ok, Err, IfOk, MatchResult, OnErr, Bool, true, false, is_some}
 use Rattle.edge_io.specs.Armed.{StarvesUnarmed}
 use Rattle.edge_io.specs.Causes.{Rose}
@@ -23,12 +23,12 @@ use Rattle.part_log.specs.Shards.{IsLogOf, at_end}
 use Rattle.part_log.specs.Starts.LogWrite.{Adds}
 use Rattle.share_coord.specs.States.{states_of}
 use Rattle.share_part.specs.Acknowledging.{NameNone}
-use Rattle.share_part.specs.Expiring.{ExpiresPart, StepsExpire, ending, groups_of}
+use Rattle.share_part.specs.Expiring.{StepsExpire, ending, groups_of}
 use Rattle.share_part.specs.Failures.{AreQuiet, FailuresRose, StarveUnarmed, failures_of}
-use Rattle.share_part.specs.Following.{HasNothingToWrite, IsFetch, Reading, StepsThen, TakesMemory}
+use Rattle.share_part.specs.Following.{HasNothingToWrite, IsFetch, Reading, StepsThen}
 use Rattle.share_part.specs.Shards.{PartShardState, PartParts, Carries, IsUntouched, StepsProduce, held_in}
-use Rattle.share_part.specs.Visits.{AreToWrite, StepsVisit, VisitsPart}
-use Rattle.share_part.specs.Writes.{WritesExpiry, WritesPart, WritesUnless, WritesVisit}
+use Rattle.share_part.specs.Visits.{AreToWrite, StepsVisit}
+use Rattle.share_part.specs.Writes.{WritesExpiry, WritesUnless, WritesVisit}
 use Rattle.edge_io.specs.Views.{DiskView}
 
 -- ---- what is read
@@ -65,7 +65,6 @@ pub record FollowsOnce {D W : Type 0} (seen : D → DiskView) (holding : W → H
   -- where it answers, a step was made; where it finds no memory, nothing has changed
   pub steps : IfOk result (Followed seen holding now visit before after unread)
   pub memory : OnErr result (IsUntouched seen holding before after)
-  pub follows : OnErr result (TakesMemory visit.member (held_in holding before.windows visit.group) visit.then)
   -- which record is stored
   pub records : IfOk result (λ answer. WritesUnless unread seen before.conf (log_in before.log) visit
       (held_in holding before.windows visit.group) before.states after.states answer.then visit.then)
@@ -90,27 +89,17 @@ Visited seen holding now visit before after unread answer = (old : PartShardStat
     × StepsVisit before.conf (reading_of seen before.log after.log unread) (failures_of seen before.states) (failures_of seen after.states)
     before.states.journal.end after.states.journal.end old now visit answer new
 
--- the acknowledgements were done alone
-abbrev pub AcksStand : {D W : Type 0} → (D → DiskView) → (W → Held) → ℕ → Visit → PartParts D W → PartParts D W → PartShardState → Type 0
-AcksStand seen holding now visit before after old = (new : PartShardState) × Carries seen holding after new
-    × VisitsPart before.conf (FailuresRose seen before.states after.states) before.states.journal.end old now visit new
-
 -- A visit.
 pub record VisitsOnce {D W : Type 0} (seen : D → DiskView) (holding : W → Held) (now : ℕ) (visit : Visit) (before after : PartParts D W) (result : Result VisitAnswer NoMemory)
     : Type 0 where
   -- whether a batch couldn't be read
   pub unread : Bool
-  -- where it answers, a step was made
+  -- where it answers, a step was made; where it finds no memory, nothing has changed
   pub steps : IfOk result (Visited seen holding now visit before after unread)
-  -- where it finds no memory, nothing has changed, or what the acknowledgements left stands, where their write came to the device
-  pub memory : OnErr result (IsUntouched seen holding before after
-      ⊎ ((old : PartShardState) → Carries seen holding before old → AcksStand seen holding now visit before after old))
+  pub memory : OnErr result (IsUntouched seen holding before after)
   -- which records are stored; where the answer tells no store fault of a write, no device call of it failed but those of a checkpoint
-  pub records : MatchResult result
-      (WritesVisit unread seen before.conf (log_in before.log) visit (held_in holding before.windows visit.group)
-      before.states after.states)
-      (λ e. WritesPart seen before.conf before.log.batches visit (held_in holding before.windows visit.group)
-      before.states after.states)
+  pub records : IfOk result (WritesVisit unread seen before.conf (log_in before.log) visit
+      (held_in holding before.windows visit.group) before.states after.states)
   -- with nothing armed, a device fault of a write comes only where a disk finds no memory
   pub ack_sound : IfOk result (λ answer. answer.ack ≡ ack_store Device → StarveUnarmed seen before.states after.states)
   pub sound : IfOk result (λ answer. answer.then ≡ Store Device → unread ≡ false → StarveUnarmed seen before.states after.states)
@@ -129,23 +118,15 @@ Expired seen holding now before after answer = (old : PartShardState) → Carrie
     × StepsExpire before.conf (failures_of seen before.states) (failures_of seen after.states) before.states.journal.end
     after.states.journal.end old now answer new
 
--- some groups were done alone
-abbrev pub PartStands : {D W : Type 0} → (D → DiskView) → (W → Held) → ℕ → PartParts D W → PartParts D W → PartShardState → Type 0
-PartStands seen holding now before after old = (new : PartShardState) × Carries seen holding after new
-    × ExpiresPart before.conf (failures_of seen before.states) (failures_of seen after.states) before.states.journal.end
-    after.states.journal.end old now new
-
 -- nothing that any group holds has ended by a moment
 abbrev pub IsNothingDue : {W : Type 0} → (W → Held) → List (List ℕ × W) → (clock : ℕ) → Type 0
 IsNothingDue holding windows clock = (group : List ℕ) → NameNone (ending clock (held_in holding windows group))
 
 -- An expiry.
 pub record ExpiresOnce {D W : Type 0} (seen : D → DiskView) (holding : W → Held) (now : ℕ) (before after : PartParts D W) (result : Result ExpireAnswer NoMemory) : Type 0 where
-  -- where it answers, a step was made
+  -- where it answers, a step was made; where it finds no memory, nothing has changed
   pub steps : IfOk result (Expired seen holding now before after)
-  -- where it finds no memory, nothing has changed, or what the groups left stands that were done
-  pub memory : OnErr result ((after ≡ before)
-      ⊎ ((old : PartShardState) → Carries seen holding before old → PartStands seen holding now before after old))
+  pub memory : OnErr result (after ≡ before)
   -- which records are stored; in each write that was done no device call failed but those of a checkpoint
   pub records : (old : PartShardState) → Carries seen holding before old →
       WritesExpiry seen before.conf before.log.batches (max before.clock now)

@@ -1,8 +1,7 @@
 -- The releases of what a group holds, whether of a member or by lock end. Private clauses cite this alone.
 -- For example where `a` holds 0 to 2 and `b` holds 3, the releases of `a` are three, and where their write fails none of them is done.
-use Rattle.std.specs.Prelude.{◌≡◌, ◌≢◌, ◌≤◌, ◌<◌, ℕ, List, Bool, true, false, Option, Some, None, Result, Ok, Err, IfOk, OnErr, not, nat_eq, map, filter}
+use Rattle.std.specs.Prelude.{◌≡◌, ◌≢◌, ◌≤◌, ◌<◌, ℕ, List, Bool, true, false, Option, Some, None, not, nat_eq, map, filter}
 use Rattle.std.specs.List.{count_by}
-use Rattle.flex_fields.specs.declared.fault.NoMemory.{NoMemory}
 use Rattle.share_model.specs.Held.{Held, hold_at}
 use Rattle.share_model.specs.Logs.{Batch}
 use Rattle.share_model.specs.ShareStates.{ShareState}
@@ -69,10 +68,6 @@ abbrev pub fault_in : Released → Option StoreFault
 fault_in (Done count) = None
 fault_in (Store fault) = Some fault
 
-abbrev pub told_in : Result Released NoMemory → Result (Option StoreFault) NoMemory
-told_in (Ok released) = Ok (fault_in released)
-told_in (Err e) = Err e
-
 -- ---- on a shard
 
 -- The releases of a group, where the clock is raised to `clock`. `rose` says that more calls of the two state disks have failed, `end` is
@@ -92,19 +87,16 @@ ReleasedSo seen holding clock group whose before after released = (old : PartSha
 
 -- The releases of a group on a shard in memory.
 pub record ReleasesOnce {D W : Type 0} (seen : D → DiskView) (holding : W → Held) (clock : ℕ) (group : List ℕ) (whose : Whose) (before after : PartParts D W)
-    (result : Result Released NoMemory) : Type 0 where
-  pub steps : IfOk result (ReleasedSo seen holding clock group whose before after)
+    (released : Released) : Type 0 where
+  pub steps : ReleasedSo seen holding clock group whose before after released
   pub unwritten : NameNone (releasing (is_chosen whose) (held_in holding before.windows group)) → after.states ≡ before.states
-  -- where it finds no memory, there is something to release, and nothing has changed
-  pub named : OnErr result (NameOne (releasing (is_chosen whose) (held_in holding before.windows group)))
-  pub memory : OnErr result (after ≡ before)
   -- which record is stored
-  pub records : IfOk result (λ released. WritesActs seen before.conf before.log.batches group
+  pub records : WritesActs seen before.conf before.log.batches group
       (releasing (is_chosen whose) (held_in holding before.windows group)) (held_in holding before.windows group)
-      before.states after.states (fault_in released))
+      before.states after.states (fault_in released)
   -- where no store fault is told, no device call failed but those of a checkpoint
-  pub quiet : IfOk result (λ released. ((fault : StoreFault) → released ≢ Store fault) → AreQuiet seen before.states after.states)
-  pub sound : IfOk result (λ released. released ≡ Store Device → StarveUnarmed seen before.states after.states)
+  pub quiet : ((fault : StoreFault) → released ≢ Store fault) → AreQuiet seen before.states after.states
+  pub sound : released ≡ Store Device → StarveUnarmed seen before.states after.states
   pub log : after.log ≡ before.log
   pub conf : after.conf ≡ before.conf
 

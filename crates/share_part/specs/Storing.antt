@@ -1,12 +1,12 @@
 -- What became of the one write that stores acts, and which record it stores. Of these public clauses cite
 -- `IsActsStored`, by `Writes`, and the private ones the others.
 -- For example a write that fails at the device is told by its fault, and leaves the states.
-use Rattle.std.specs.Prelude.{◌≡◌, ◌⊎◌, ℕ, ℤ, pos, negsuc, List, Option, Some, None, Result, Ok, Err, IsErr}
-use Rattle.flex_fields.specs.declared.fault.NoMemory.{NoMemory as want}
+use Rattle.std.specs.Prelude.{◌≡◌, ◌⊎◌, ◌≤◌, ◌+◌, ◌*◌, ℕ, ℤ, pos, negsuc, List, length, Option, Some, None, Result, Ok, Err}
 use Rattle.share_model.specs.ForeignRules.{share_state_at}
 use Rattle.share_model.specs.Held.{Held}
 use Rattle.share_model.specs.Keys.{KeyParts}
 use Rattle.share_model.specs.Logs.{Batch}
+use Rattle.share_model.specs.Runs.{IsCanonical}
 use Rattle.share_model.specs.ShareStates.{ShareState}
 use Rattle.ack_ranges.specs.Batches.{IsWellFormed, kind_at}
 use Rattle.ack_ranges.specs.Faults.{IsFirstFault}
@@ -22,13 +22,13 @@ use Rattle.share_part.specs.Tables.{table_of}
 use Rattle.share_model.specs.declared.fault.StoreFault.{StoreFault}
 use Rattle.share_model.specs.declared.run.Run.{Run}
 use Rattle.share_coord.specs.Calls.{IsWritten}
-use Rattle.share_coord.specs.Holding.{WritesOnce}
-use Rattle.share_coord.specs.Parts.{StoreParts}
+use Rattle.share_coord.specs.Holding.{WritesTidied}
+use Rattle.share_coord.specs.Parts.{KeptState, StoreParts}
 use Rattle.share_coord.specs.Recorded.{IsWriteRecord, StoresOne}
 use Rattle.state_records.specs.declared.record.StateRecord.{StateRecord}
-use Rattle.share_coord.specs.Stored.{Entries}
+use Rattle.share_coord.specs.Stored.{Entries, kept_at}
 use Rattle.share_coord.specs.declared.fault.CoordFault.{CoordFault}
-use Rattle.share_coord.specs.declared.fault.CoordFault.TheVariants.{Invalid, Unknown, FencedLeader, FencedState, TooMany, Store, NoMemory}
+use Rattle.share_coord.specs.declared.fault.CoordFault.TheVariants.{Store}
 use Rattle.edge_io.specs.Views.{DiskView}
 
 -- a start as a write carries it: -1 where it doesn't move
@@ -44,71 +44,70 @@ IsStored old key start runs new = IsWritten old key (pos 0) (pos 0) (start_numbe
 abbrev pub IsRecordOf : Entries → KeyParts → Option ℕ → List Run → StateRecord → Type 0
 IsRecordOf old key start runs one = IsWriteRecord old key (pos 0) (pos 0) (start_number start) runs one
 
--- the fault that is told; want of memory is none
-abbrev pub TellsFault : CoordFault → Result (Option StoreFault) want → Type 0
-TellsFault Invalid result = ⊥
-TellsFault Unknown result = ⊥
-TellsFault (FencedLeader known) result = ⊥
-TellsFault (FencedState known) result = ⊥
-TellsFault (TooMany runs) result = ⊥
-TellsFault (Store fault) result = result ≡ Ok (Some fault)
-TellsFault NoMemory result = IsErr result
+-- what the store answers, by the fault that is told of it
+abbrev pub answer_of : Option StoreFault → Result (Unit {0}) CoordFault
+answer_of None = Ok tt
+answer_of (Some fault) = Err (Store fault)
 
-abbrev pub TellsStored : {T : Type 0} → Result T CoordFault → Result (Option StoreFault) want → Type 0
-TellsStored (Ok done) result = result ≡ Ok None
-TellsStored (Err fault) result = TellsFault fault result
-
--- Acts that are stored, or aren't.
+-- Acts that are stored, or aren't, by the fault that is told.
 pub record StoresOnce {D : Type 0} (seen : D → DiskView) (Failed : D → D → Type 0)
-    (Written : Entries → Type 0) (Is : StateRecord → Type 0) (old new : StoreParts D) (result : Result (Option StoreFault) want) : Type 0 where
-  pub done : Result (Unit {0}) CoordFault
-  pub tells : TellsStored done result
-  pub once : WritesOnce seen Failed Written old new done
-  pub one : StoresOne seen Is old.journal new.journal done
+    (Written : Entries → Type 0) (Is : StateRecord → Type 0) (old new : StoreParts D) (fault : Option StoreFault) : Type 0 where
+  pub once : WritesTidied seen Failed Written old new (answer_of fault)
+  pub one : StoresOne seen Is old.journal new.journal (answer_of fault)
+
+-- the runs of a stored state are canonical
+abbrev pub AreCanonical : Option ShareState → Type 0
+AreCanonical state = (its : ShareState) → state ≡ Some its → IsCanonical its.runs
+
+-- Rows that a write with the key's own epochs, which are 0, stores in memory that is set aside: with room for 6000 runs of each key, the key's
+-- rows and two runs for each of these are no more.
+pub record IsReserved (entries : Entries) (key : KeyParts) (runs : List Run) (room : ℕ) : Type 0 where
+  pub kept : KeptState
+  pub known : kept_at entries key ≡ Some kept
+  pub epochs : (kept.view.state_epoch ≡ pos 0) × (kept.view.leader_epoch ≡ pos 0)
+  pub fits : length kept.view.runs + 2 * length runs ≤ 6000
+  pub room_is : 6000 ≤ room
 
 -- ---- acts on the table of a group
 
 -- the group has a table, and this came of the write of what acts change of it
 pub record IsActsStored {D : Type 0} (seen : D → DiskView) (Failed : D → D → Type 0)
     (conf : PartConfParts) (log : List Batch) (group : List ℕ) (acts : Acts) (held : Held) (old new : StoreParts D)
-    (done : Result (Unit {0}) CoordFault) : Type 0 where
+    (fault : Option StoreFault) : Type 0 where
   pub state : ShareState
   pub change : Change
   pub known : share_state_at (states_of old.entries) (key_of conf group) ≡ Some state
   pub is : IsChange conf.limit acts log (table_of state held) change
-  pub once : WritesOnce seen Failed (IsStored old.entries (key_of conf group) change.start change.runs) old new done
-  pub one : StoresOne seen (IsRecordOf old.entries (key_of conf group) change.start change.runs) old.journal new.journal done
+  pub once : WritesTidied seen Failed (IsStored old.entries (key_of conf group) change.start change.runs) old new (answer_of fault)
+  pub one : StoresOne seen (IsRecordOf old.entries (key_of conf group) change.start change.runs) old.journal new.journal (answer_of fault)
 
 -- Acts on the table of a group, by the fault that is told: `was` is what the group held, `same` says that all groups hold what they did, and
 -- `ends` that the named offsets aren't held any more.
 abbrev pub StoresGroup : {D : Type 0} (seen : D → DiskView) (Failed : D → D → Type 0)
     (conf : PartConfParts) (log : List Batch) (group : List ℕ) (acts : Acts) (was : Held) (old new : StoreParts D) (same ends : Type 0)
-    → Result (Option StoreFault) want → Type 0
-StoresGroup seen Failed conf log group acts was old new same ends (Ok None) =
-    (NameNone acts × (new ≡ old) × same) ⊎ (NameOne acts × IsActsStored seen Failed conf log group acts was old new (Ok tt) × ends)
-StoresGroup seen Failed conf log group acts was old new same ends (Ok (Some fault)) =
-    NameOne acts × IsActsStored seen Failed conf log group acts was old new (Err (Store fault)) × same
-StoresGroup seen Failed conf log group acts was old new same ends (Err e) = (new ≡ old) × same
+    → Option StoreFault → Type 0
+StoresGroup seen Failed conf log group acts was old new same ends None =
+    (NameNone acts × (new ≡ old) × same) ⊎ (NameOne acts × IsActsStored seen Failed conf log group acts was old new None × ends)
+StoresGroup seen Failed conf log group acts was old new same ends (Some fault) =
+    NameOne acts × IsActsStored seen Failed conf log group acts was old new (Some fault) × same
 
 -- ---- the acknowledgements of a group
 
 -- the acknowledgements of a group, by their answer
 abbrev pub SettlesGroup : {D : Type 0} (seen : D → DiskView) (Failed : D → D → Type 0)
     (conf : PartConfParts) (log : List Batch) (group member : List ℕ) (acts : Acts) (was : Held) (old new : StoreParts D) (same ends : Type 0)
-    → Result AckOutcome want → Type 0
-SettlesGroup seen Failed conf log group member acts was old new same ends (Ok (NotHeld offset)) =
+    → AckOutcome → Type 0
+SettlesGroup seen Failed conf log group member acts was old new same ends (NotHeld offset) =
     IsLeastMissing member acts was offset × (new ≡ old) × same
-SettlesGroup seen Failed conf log group member acts was old new same ends (Ok (Malformed fault)) = ⊥
-SettlesGroup seen Failed conf log group member acts was old new same ends (Ok Done) =
-    AreHeldBy member acts was × StoresGroup seen Failed conf log group acts was old new same ends (Ok None)
-SettlesGroup seen Failed conf log group member acts was old new same ends (Ok (refused fault)) =
-    AreHeldBy member acts was × StoresGroup seen Failed conf log group acts was old new same ends (Ok (Some fault))
-SettlesGroup seen Failed conf log group member acts was old new same ends (Err e) =
-    StoresGroup seen Failed conf log group acts was old new same ends (Err e)
+SettlesGroup seen Failed conf log group member acts was old new same ends (Malformed fault) = ⊥
+SettlesGroup seen Failed conf log group member acts was old new same ends Done =
+    AreHeldBy member acts was × StoresGroup seen Failed conf log group acts was old new same ends None
+SettlesGroup seen Failed conf log group member acts was old new same ends (refused fault) =
+    AreHeldBy member acts was × StoresGroup seen Failed conf log group acts was old new same ends (Some fault)
 
 -- The acknowledgements of a visit: they aren't well formed, or name no offset, or are done for the group. `still` says that nothing changed,
 -- and `Settles` what is done for the group.
-abbrev pub AcksOnce : List AckBatch → (still : Type 0) → (Result AckOutcome want → Type 0) → Result AckOutcome want → Type 0
-AcksOnce acks still Settles result = ((fault : AckFault) × (result ≡ Ok (Malformed fault)) × IsFirstFault acks fault × still)
-    ⊎ ((IsWellFormed acks × NameNone (kind_at acks) × (result ≡ Ok Done) × still)
-    ⊎ (IsWellFormed acks × NameOne (kind_at acks) × Settles result))
+abbrev pub AcksOnce : List AckBatch → (still : Type 0) → (AckOutcome → Type 0) → AckOutcome → Type 0
+AcksOnce acks still Settles ack = ((fault : AckFault) × (ack ≡ Malformed fault) × IsFirstFault acks fault × still)
+    ⊎ ((IsWellFormed acks × NameNone (kind_at acks) × (ack ≡ Done) × still)
+    ⊎ (IsWellFormed acks × NameOne (kind_at acks) × Settles ack))

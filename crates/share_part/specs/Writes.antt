@@ -12,7 +12,6 @@ use Rattle.coord_checkpoint.specs.Disks.{HasFailed}
 use Rattle.edge_io.specs.Views.{DiskView}
 use Rattle.flex_fields.specs.declared.fault.NoMemory.{NoMemory}
 use Rattle.share_coord.specs.Parts.{StoreParts}
-use Rattle.share_coord.specs.declared.fault.CoordFault.TheVariants.{Store as store_fault}
 use Rattle.share_model.specs.Held.{Held}
 use Rattle.share_model.specs.Logs.{Batch}
 use Rattle.part_log.specs.Starts.{Log}
@@ -42,9 +41,9 @@ use Rattle.share_part.specs.Visits.{AreWritten}
 abbrev pub WritesActs : {D : Type 0} → (D → DiskView) → PartConfParts → (log : List Batch) → (group : List ℕ) → Acts
     → (was : Held) → (old new : StoreParts D) → Option StoreFault → Type 0
 WritesActs seen conf log group acts was old new None = (NameNone acts × (new ≡ old))
-    ⊎ (NameOne acts × IsActsStored seen (HasFailed seen) conf log group acts was old new (Ok tt))
+    ⊎ (NameOne acts × IsActsStored seen (HasFailed seen) conf log group acts was old new None)
 WritesActs seen conf log group acts was old new (Some fault) =
-    NameOne acts × IsActsStored seen (HasFailed seen) conf log group acts was old new (Err (store_fault fault))
+    NameOne acts × IsActsStored seen (HasFailed seen) conf log group acts was old new (Some fault)
 
 -- ---- a visit
 
@@ -92,12 +91,6 @@ pub record WritesVisit {D : Type 0} (unread : Bool) (seen : D → DiskView) (con
   pub quiet_acks : ((fault : StoreFault) → answer.ack ≢ Store fault) → AreQuiet seen old between
   pub quiet_then : (unread ≡ false → (fault : StoreFault) → answer.then ≢ then_store fault) → AreQuiet seen between new
 
--- a visit that finds no memory: nothing is written, or the acknowledgements are, and nothing behind them
-abbrev pub WritesPart : {D : Type 0} → (D → DiskView) → PartConfParts → (log : List Batch) → Visit → (was : Held)
-    → (old new : StoreParts D) → Type 0
-WritesPart seen conf log visit was old new = (new ≡ old)
-    ⊎ ((ack : AckOutcome) × AreWritten visit ack × WritesAcks seen conf log visit was old new ack)
-
 -- ---- an expiry
 
 -- What has ended by the clock is released of groups one after another, each by a write of its own, in which no call of the state disks
@@ -109,8 +102,7 @@ WritesGroups {D} seen conf log clock held (group ∷ groups) old new = (between 
     × WritesActs seen conf log group (ending clock (held group)) (held group) old between None × AreQuiet seen old between
     × WritesGroups seen conf log clock held groups between new
 
--- An expiry over these groups: all are done, or those up to one whose write fails, or some of them where it finds no
--- memory.
+-- An expiry over these groups: all are done, or those up to one whose write fails, or none where it finds no memory.
 abbrev pub WritesExpiry : {D : Type 0} → (D → DiskView) → PartConfParts → (log : List Batch) → (clock : ℕ)
     → (List ℕ → Held) → List (List ℕ) → (old new : StoreParts D) → Result ExpireAnswer NoMemory → Type 0
 WritesExpiry seen conf log clock held groups old new (Ok (expired freed)) =
@@ -119,5 +111,4 @@ WritesExpiry {D} seen conf log clock held groups old new (Ok (expire_store freed
     (done : List (List ℕ)) × (behind : List (List ℕ)) × (groups ≡ done ++ (group ∷ behind))
     × (between : StoreParts D) × WritesGroups seen conf log clock held done old between
     × WritesActs seen conf log group (ending clock (held group)) (held group) between new (Some fault)
-WritesExpiry seen conf log clock held groups old new (Err e) = (done : List (List ℕ)) × (behind : List (List ℕ))
-    × (groups ≡ done ++ behind) × WritesGroups seen conf log clock held done old new
+WritesExpiry seen conf log clock held groups old new (Err e) = new ≡ old

@@ -1,5 +1,5 @@
 // The acknowledgements of a visit.
-ghost use Rattle.std.specs.Prelude.{◌≡◌, ◌≤◌, ℕ, List, None, Ok, IfSome, IfNone};
+ghost use Rattle.std.specs.Prelude.{◌≡◌, ◌≤◌, ℕ, List, None, IfSome, IfNone};
 ghost use Rattle.coord_checkpoint.specs.Disks.{HasFailed};
 ghost use Rattle.topic_conf.specs.Configs.{IsLimit};
 ghost use Rattle.ack_ranges.specs.Batches.{IsWellFormed, kind_at};
@@ -12,7 +12,8 @@ ghost use Rattle.share_coord.specs.States.{states_of};
 ghost use Rattle.share_part.specs.Settling.{held_after};
 ghost use Rattle.share_part.specs.Shards.{held_in, with_held};
 ghost use Rattle.share_part.specs.Foreseeing.{HasSpare, JudgesAcks};
-ghost use Rattle.share_part.specs.Storing.{AcksOnce, SettlesGroup};
+ghost use Rattle.share_part.specs.Storing.{AcksOnce, AreCanonical, SettlesGroup};
+ghost use Rattle.share_part.specs.declared.settle.Moved.{Moved};
 ghost use Rattle.share_part.specs.Failures.{RunOnBoth};
 
 use crate::conf::PartConf;
@@ -26,7 +27,7 @@ use lock_index::Window;
 use offset_runs::Runs;
 use part_log::PartLog;
 use share_coord::Coord;
-use share_model::{AckBatch, AckFault, AckOutcome, Name, NoMemory, Visit};
+use share_model::{AckBatch, AckFault, AckOutcome, Name, Visit};
 use std::collections::BTreeMap;
 
 /// What the acknowledgements of a visit come to, before anything is stored.
@@ -77,6 +78,8 @@ fn judge_group<D: Disk, W: Window>(
     ensures judged { JudgesGroup conf.now.limit visit.now.member (kind_at visit.now.acks) log.now.batches
         (held_in W.held windows.now.entries visit.now.group)
         (share_state_at (states_of states.now.entries) (key_of conf.now visit.now.group)) rows.new.list result }
+    ensures canonical { (moved : Moved) → result ≡ Judged.Changes moved →
+        AreCanonical (share_state_at (states_of states.now.entries) (key_of conf.now visit.now.group)) }
     ensures room { room_of rows.old ≤ room_of rows.new }
 {
     let Some(window) = windows.get(&visit.group) else {
@@ -84,16 +87,20 @@ fn judge_group<D: Disk, W: Window>(
     };
     window.known();
     match states.look(&conf.key(&visit.group)) {
-        Some(view) => acknowledge(
-            rows,
-            log,
-            start_of(view),
-            &view.runs,
-            window,
-            &visit.member,
-            conf.limit(),
-            visit.acks.as_slice(),
-        ),
+        Some(view) => {
+            // what is stored is canonical
+            let _stored = view.runs.list();
+            acknowledge(
+                rows,
+                log,
+                start_of(view),
+                &view.runs,
+                window,
+                &visit.member,
+                conf.limit(),
+                visit.acks.as_slice(),
+            )
+        }
         None => Judged::NotHeld(first),
     }
 }
@@ -117,6 +124,8 @@ pub fn judge_acks<D: Disk, W: Window>(
     ensures judged { JudgesAcks conf.now.limit visit.now log.now.batches
         (held_in W.held windows.now.entries visit.now.group)
         (share_state_at (states_of states.now.entries) (key_of conf.now visit.now.group)) rows.new.list result }
+    ensures canonical { (moved : Moved) → result ≡ Acks.Changes moved →
+        AreCanonical (share_state_at (states_of states.now.entries) (key_of conf.now visit.now.group)) }
     ensures room { room_of rows.old ≤ room_of rows.new }
 {
     let batches = visit.acks.as_slice();
@@ -135,8 +144,9 @@ pub fn judge_acks<D: Disk, W: Window>(
 /// Does the acknowledgements of a visit, by what they come to, with these rows: all of them by one write, or none. The
 /// holds of the named offsets end once they are stored, and what was set aside for holds stays.
 ///
-/// Nothing changes where they aren't well formed, where the member doesn't hold an offset that they name, or after
-/// want of memory; after a store fault the table is as it was.
+/// It takes no memory. Nothing changes where they aren't well formed, or where the member doesn't hold an offset that
+/// they name; after a store fault the table is as it was. Where it `tidies`, a checkpoint that is due is tried before the
+/// write.
 pub fn settle_acks<D: Disk, W: Window>(
     rows: &Runs,
     conf: &PartConf,
@@ -145,7 +155,8 @@ pub fn settle_acks<D: Disk, W: Window>(
     windows: &mut BTreeMap<Name, W>,
     visit: &Visit,
     acks: &Acks,
-) -> Result<AckOutcome, NoMemory>
+    tidies: bool,
+) -> AckOutcome
     requires sound { IsStoredLog log.now.batches }
     requires limit { IsLimit conf.now.limit }
     requires hosted { AreHosted conf.now (log_in log.now) (states_of states.old.entries) }
@@ -155,6 +166,9 @@ pub fn settle_acks<D: Disk, W: Window>(
     requires judged { JudgesAcks conf.now.limit visit.now log.now.batches
         (held_in W.held windows.old.entries visit.now.group)
         (share_state_at (states_of states.old.entries) (key_of conf.now visit.now.group)) rows.now.list acks.now }
+    requires canonical { (moved : Moved) → acks.now ≡ Acks.Changes moved →
+        AreCanonical (share_state_at (states_of states.old.entries) (key_of conf.now visit.now.group)) }
+    requires room { 6000 ≤ states.old.room }
     ensures once { AcksOnce visit.now.acks
         ((states.new ≡ states.old)
         × ((other : List ℕ) → held_in W.held windows.new.entries other ≡ held_in W.held windows.old.entries other))
@@ -164,23 +178,24 @@ pub fn settle_acks<D: Disk, W: Window>(
         ((other : List ℕ) → held_in W.held windows.new.entries other ≡ with_held (held_in W.held windows.old.entries) visit.now.group
         (held_after (kind_at visit.now.acks) (held_in W.held windows.old.entries visit.now.group)) other)) result }
     ensures malformed { (fault : AckFault) → acks.now ≡ Acks.Malformed fault →
-        result ≡ Ok (AckOutcome.Malformed fault) }
+        result ≡ AckOutcome.Malformed fault }
     ensures spare { (n : ℕ) → HasSpare W.spare windows.old.entries visit.now.group n →
         HasSpare W.spare windows.new.entries visit.now.group n }
+    ensures room { states.new.room ≡ states.old.room }
     ensures runs { RunOnBoth D.seen states.old states.new }
     ensures range { IsLimit conf.now.limit }
 {
     let moved = match acks {
-        Acks::Malformed(fault) => return Ok(AckOutcome::Malformed(*fault)),
-        Acks::Empty => return Ok(AckOutcome::Done),
-        Acks::NotHeld(offset) => return Ok(AckOutcome::NotHeld { offset: *offset }),
+        Acks::Malformed(fault) => return AckOutcome::Malformed(*fault),
+        Acks::Empty => return AckOutcome::Done,
+        Acks::NotHeld(offset) => return AckOutcome::NotHeld { offset: *offset },
         Acks::Changes(moved) => moved,
     };
     let key = conf.key(&visit.group);
-    let fault = store_change(states, &key, moved.start, rows.list())?;
+    let fault = store_change(states, &key, moved.start, rows.list(), tidies);
     if let Some(fault) = fault {
-        return Ok(AckOutcome::Store(fault));
+        return AckOutcome::Store(fault);
     }
     end_acknowledged(windows, &visit.group, visit.acks.as_slice());
-    Ok(AckOutcome::Done)
+    AckOutcome::Done
 }

@@ -162,6 +162,7 @@ fn store_state<D: Disk>(
     ensures absent { kept_at states.old.entries key.now ≡ None → MakesOnce D.seen
         (HasFailed D.seen) (IsInitialised states.old.entries key.now (pos 0) (pos start))
         (IsTableRecord states.old.entries key.now start) states.old states.new result }
+    ensures room { states.new.room ≡ states.old.room }
     ensures runs { RunOnBoth D.seen states.old states.new }
 {
     if states.look(key).is_some() {
@@ -184,6 +185,7 @@ pub fn make_table<D: Disk>(
 ) -> Result<ThenOutcome, NoMemory>
     ensures made { MakesTableOnce D.seen (HasFailed D.seen)
         conf.now group.now (log_in log.now) states.old states.new result }
+    ensures room { states.new.room ≡ states.old.room }
     ensures runs { RunOnBoth D.seen states.old states.new }
 {
     let key = conf.key(group);

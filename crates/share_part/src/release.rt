@@ -1,5 +1,5 @@
 // Releases records that are held: those of a member, and those whose lock has ended.
-ghost use Rattle.std.specs.Prelude.{◌≡◌, ◌≤◌, ◌<◌, ◌^◌, ℕ, List, IsSome, IfSome, IfNone, IfOk, OnErr};
+ghost use Rattle.std.specs.Prelude.{◌≡◌, ◌≤◌, ◌<◌, ◌^◌, ℕ, List, Some, true, IsSome, IfSome, IfNone};
 ghost use Rattle.std.specs.BTreeMap.{is_at};
 ghost use Rattle.std.specs.Cmp.Lexicographic.{slice_cmp};
 ghost use Rattle.std.specs.Map.{lookup};
@@ -9,14 +9,14 @@ ghost use Rattle.topic_conf.specs.Configs.{IsLimit};
 ghost use Rattle.offset_runs.specs.Changes.{room_of};
 ghost use Rattle.part_log.specs.Logs.{IsStoredLog, log_in};
 ghost use Rattle.share_model.specs.ForeignRules.{share_state_at};
-ghost use Rattle.share_part.specs.Acknowledging.{NameOne};
 ghost use Rattle.share_part.specs.Following.{fault_of};
 ghost use Rattle.share_part.specs.Hosting.{AreHosted, HoldsWell, key_of};
 ghost use Rattle.share_coord.specs.States.{states_of};
-ghost use Rattle.share_part.specs.Releasing.{AreChosen, AreLeft, Counts, IsNextChosen, ReleasesGroup, chosen_count, fault_in, told_in};
+ghost use Rattle.share_part.specs.Releasing.{AreChosen, AreLeft, Counts, IsNextChosen, ReleasesGroup, chosen_count, fault_in};
+ghost use Rattle.share_part.specs.declared.settle.Moved.{Moved};
 ghost use Rattle.share_part.specs.Settling.{AreBelow, held_after, is_chosen, releasing};
 ghost use Rattle.share_part.specs.Shards.{held_in, with_held};
-ghost use Rattle.share_part.specs.Storing.{StoresGroup};
+ghost use Rattle.share_part.specs.Storing.{AreCanonical, StoresGroup};
 ghost use Rattle.share_part.specs.Failures.{RunOnBoth};
 ghost use Rattle.lock_index.specs.Windows.{IsRising};
 
@@ -29,7 +29,7 @@ use lock_index::{Steps, Window};
 use offset_runs::Runs;
 use part_log::PartLog;
 use share_coord::Coord;
-use share_model::{Name, NoMemory, StoreFault, ThenOutcome};
+use share_model::{Name, StoreFault, ThenOutcome};
 use std::collections::BTreeMap;
 use std::marker::Brand;
 use std::sync::ledger::{Blank, Ledger};
@@ -151,6 +151,8 @@ fn judge_release<D: Disk, W: Window>(
     ensures judged { ReleasesGroup conf.now.limit (releasing (is_chosen whose.now) (held_in W.held windows.now.entries group.now))
         log.now.batches (held_in W.held windows.now.entries group.now)
         (share_state_at (states_of states.now.entries) (key_of conf.now group.now)) rows.new.list result }
+    ensures canonical { (moved : Moved) → result ≡ Some moved →
+        AreCanonical (share_state_at (states_of states.now.entries) (key_of conf.now group.now)) }
     ensures room { room_of rows.old ≤ room_of rows.new }
     ensures below { AreBelow (held_in W.held windows.now.entries group.now) }
     ensures rising { IsRising (held_in W.held windows.now.entries group.now) }
@@ -160,24 +162,28 @@ fn judge_release<D: Disk, W: Window>(
     };
     window.known();
     match states.look(&conf.key(group)) {
-        Some(view) => release(
-            rows,
-            log,
-            start_of(view),
-            &view.runs,
-            window,
-            whose,
-            conf.limit(),
-        ),
+        Some(view) => {
+            // what is stored is canonical
+            let _stored = view.runs.list();
+            release(
+                rows,
+                log,
+                start_of(view),
+                &view.runs,
+                window,
+                whose,
+                conf.limit(),
+            )
+        }
         None => None,
     }
 }
 
 /// Releases records that a group holds: the releases are stored by one write, and then their holds end. Where there
-/// are none, nothing is written, and no memory is taken. Their rows are put into `rows`, which has memory for those of
-/// all that a group holds.
+/// are none, nothing is written. Their rows are put into `rows`, which has memory for those of all that a group holds.
+/// It takes no memory. A checkpoint that is due is tried before the write.
 ///
-/// Nothing changes after want of memory; after a store fault the table is as it was.
+/// After a store fault the table is as it was.
 pub fn release_held<D: Disk, W: Window>(
     rows: &mut Runs,
     conf: &PartConf,
@@ -186,35 +192,35 @@ pub fn release_held<D: Disk, W: Window>(
     windows: &mut BTreeMap<Name, W>,
     group: &Name,
     whose: &Whose,
-) -> Result<Released, NoMemory>
+) -> Released
     requires sound { IsStoredLog log.now.batches }
     requires limit { IsLimit conf.now.limit }
     requires hosted { AreHosted conf.now (log_in log.now) (states_of states.old.entries) }
     requires well { HoldsWell log.now.batches (share_state_at (states_of states.old.entries) (key_of conf.now group.now))
         (held_in W.held windows.old.entries group.now) }
-    requires room { 4000 ≤ room_of rows.old }
+    requires scratch { 4000 ≤ room_of rows.old }
+    requires room { 6000 ≤ states.old.room }
     ensures once { StoresGroup D.seen (HasFailed D.seen) conf.now log.now.batches
         group.now (releasing (is_chosen whose.now) (held_in W.held windows.old.entries group.now)) (held_in W.held windows.old.entries group.now)
         states.old states.new
         ((other : List ℕ) → held_in W.held windows.new.entries other ≡ held_in W.held windows.old.entries other)
         ((other : List ℕ) → held_in W.held windows.new.entries other ≡ with_held (held_in W.held windows.old.entries) group.now
         (held_after (releasing (is_chosen whose.now) (held_in W.held windows.old.entries group.now)) (held_in W.held windows.old.entries group.now))
-        other) (told_in result) }
-    ensures count { IfOk result (Counts whose.now (held_in W.held windows.old.entries group.now)) }
-    ensures windows { OnErr result (windows.new.entries ≡ windows.old.entries) }
-    ensures named { OnErr result (NameOne (releasing (is_chosen whose.now) (held_in W.held windows.old.entries group.now))) }
-    ensures room { room_of rows.old ≤ room_of rows.new }
+        other) (fault_in result) }
+    ensures count { Counts whose.now (held_in W.held windows.old.entries group.now) result }
+    ensures scratch { room_of rows.old ≤ room_of rows.new }
+    ensures room { states.new.room ≡ states.old.room }
     ensures runs { RunOnBoth D.seen states.old states.new }
     ensures range { IsLimit conf.now.limit }
 {
     let judged = judge_release(rows, conf, log, states, windows, group, whose);
     let Some(moved) = judged else {
-        return Ok(Released::Done(0));
+        return Released::Done(0);
     };
     let key = conf.key(group);
-    let fault = store_change(states, &key, moved.start, rows.list())?;
+    let fault = store_change(states, &key, moved.start, rows.list(), true);
     if let Some(fault) = fault {
-        return Ok(Released::Store(fault));
+        return Released::Store(fault);
     }
-    Ok(Released::Done(end_released(windows, group, whose)))
+    Released::Done(end_released(windows, group, whose))
 }

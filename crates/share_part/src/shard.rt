@@ -1,4 +1,4 @@
-ghost use Rattle.std.specs.Prelude.{◌≡◌, ◌≢◌, ◌↔◌, ◌≤◌, ◌^◌, ℕ, IsSome, None, max, true, false, IfOk, IfErr, IfSome, MatchResult, slice_get, ◌⊎◌};
+ghost use Rattle.std.specs.Prelude.{◌≡◌, ◌≢◌, ◌↔◌, ◌≤◌, ◌^◌, ℕ, Ok, IsErr, IsSome, None, max, true, IfOk, IfErr, IfSome, MatchResult, slice_get, ◌⊎◌};
 ghost use Rattle.std.specs.List.{AllByRecursion};
 ghost use Rattle.std.specs.Map.{keys_of};
 ghost use Rattle.std.specs.Option.{option_copied, option_map};
@@ -10,6 +10,7 @@ ghost use Rattle.coord_checkpoint.specs.Disks.{RunsBoth};
 ghost use Rattle.edge_io.specs.Moments.{LeavesOnly};
 ghost use Rattle.gate_journal.specs.Frames.{StandsAs};
 ghost use Rattle.share_part.specs.Failures.{RunOnBoth};
+ghost use Rattle.share_coord.specs.Opening.{IsOpened as AreOpened, IsNotOpened as AreNotOpened};
 ghost use Rattle.share_part.specs.Opening.{IsOpened, IsNotOpened};
 ghost use Rattle.offset_runs.specs.Changes.{room_of};
 ghost use Rattle.share_part.specs.Foreseeing.{with_ack};
@@ -19,11 +20,9 @@ ghost use Rattle.share_part.specs.Following.{IsEmptyAnswer, IsFetch};
 ghost use Rattle.share_part.specs.Shards.{Carries, PartShardState, held_in};
 ghost use Rattle.share_part.specs.Releasing.{ReleasesOnce};
 ghost use Rattle.share_part.specs.Walks.{IsSmallGrant};
-ghost use Rattle.ack_ranges.specs.Batches.{IsWellFormed};
-ghost use Rattle.share_part.specs.Visits.{AreWritten};
 ghost use Rattle.share_part.specs.Once.{ExpiresOnce, FollowsOnce, VisitsOnce, ProducesOnce};
 
-use crate::acks::{first_named, judge_acks, settle_acks};
+use crate::acks::{judge_acks, settle_acks};
 use crate::conf::PartConf;
 use crate::fetch::{append_batches, has_table, make_table};
 use crate::judge::are_hosted;
@@ -38,7 +37,7 @@ use flex_fields::Items;
 use lock_index::Window;
 use offset_runs::Runs;
 use part_log::PartLog;
-use share_coord::{Coord, StateView, States};
+use share_coord::{Coord, CoordOpen, StateView, States};
 use share_model::{
     AckOutcome, ExpireAnswer, LogFault, Name, NoMemory, Room, StoreFault, Then, ThenOutcome, Visit,
     VisitAnswer,
@@ -72,7 +71,7 @@ impl<D: Disk, W: Window> Model for PartShard<D, W> {
 
     ghost view = { λ s. record { conf = s.conf; log = s.log; states = s.states; windows = s.windows.entries; clock = s.clock } };
 
-    ghost invariant = { λ s. IsKeptShard s.conf (log_in s.log) s.states.entries (held_in W.held s.windows.entries) s.clock (room_of s.changed) };
+    ghost invariant = { λ s. IsKeptShard s.conf (log_in s.log) s.states.entries (held_in W.held s.windows.entries) s.clock (room_of s.changed) s.states.room };
 }
 
 // No rows, and memory for those of all that a group holds: two runs for each of 2000 records.
@@ -84,6 +83,26 @@ fn scratch(alloc: Global) -> Option<Runs>
         Ok(()) => Some(rows),
         Err(NoMemory) => None,
     }
+}
+
+// Opens the states, with room for 6000 runs of each group: 2000 rows, and two for each of those.
+fn open_states<D: Disk>(alloc: Global, a: D, b: D) -> Result<Coord<D>, (D, D, CoordOpen)>
+    ensures opened { IfOk result (AreOpened D.seen a b) }
+    ensures room { IfOk result (λ states. 6000 ≤ states.room) }
+    ensures refused { IfErr result (AreNotOpened D.seen a b) }
+    ensures both { MatchResult result
+        (λ states. RunsBoth D.seen a b states.journal.first.disk states.journal.second.disk)
+        (λ e. RunsBoth D.seen a b e.0 e.1) }
+{
+    let mut states = match Coord::open(alloc, a, b) {
+        Ok(states) => states,
+        Err(refused) => return Err(refused),
+    };
+    if let Err(_) = states.reserve(6000) {
+        let (a, b) = states.into_disks();
+        return Err((a, b, CoordOpen::NoMemory));
+    }
+    Ok(states)
 }
 
 // An answer that no record was acquired. It takes no memory.
@@ -105,21 +124,6 @@ fn unread(alloc: Global) -> VisitAnswer
     ensures answer { IsEmptyAnswer (ThenOutcome.Store StoreFault.Device) result }
 {
     empty(alloc, ThenOutcome::Store(StoreFault::Device))
-}
-
-// Whether a write of acknowledgements came to the device, by what they are answered.
-fn are_written(visit: &Visit, ack: AckOutcome) -> bool
-    requires { ack ≡ AckOutcome.Done → IsWellFormed visit.now.acks }
-    ensures written { result ≡ true → AreWritten visit.now ack }
-    ensures not_written { result ≡ false → AreWritten visit.now ack → ⊥ }
-{
-    match ack {
-        AckOutcome::Done => first_named(visit.acks.as_slice()).is_some(),
-        AckOutcome::Malformed(_) => false,
-        AckOutcome::NotHeld { .. } => false,
-        AckOutcome::Store(StoreFault::Device) => true,
-        AckOutcome::Store(StoreFault::Full { .. }) => false,
-    }
 }
 
 // An answer with another outcome of the acknowledgements.
@@ -190,7 +194,7 @@ impl<D: Disk, W: Window> PartShard<D, W> {
                 return Err(PartOpen { disks, fault });
             }
         };
-        let states = match Coord::open(alloc, a, b) {
+        let states = match open_states(alloc, a, b) {
             Ok(states) => states,
             Err((a, b, fault)) => {
                 let disks = (log.into_disk(), a, b);
@@ -264,9 +268,8 @@ impl<D: Disk, W: Window> PartShard<D, W> {
         Ok(hand_out(&self.conf, &mut self.windows, self.clock, visit, plan, out))
     }
 
-    // Releases what a group holds, and raises the clock to a moment that isn't before it. After want of memory the
-    // clock is as it was.
-    fn release(&mut self, clock: u64, group: &Name, whose: &Whose) -> Result<Released, NoMemory>
+    // Releases what a group holds, and raises the clock to a moment that isn't before it. It takes no memory.
+    fn release(&mut self, clock: u64, group: &Name, whose: &Whose) -> Released
         requires clock { clock ≤ 2 ^ 62 }
         ensures once { ReleasesOnce D.seen W.held clock group.now whose.now self.old self.new result }
         ensures runs { RunOnBoth D.seen self.old.states self.new.states }
@@ -279,34 +282,35 @@ impl<D: Disk, W: Window> PartShard<D, W> {
             &mut self.windows,
             group,
             whose,
-        )?;
+        );
         self.clock = clock;
-        Ok(released)
+        released
     }
 
-    // Releases all that the member of a visit holds.
-    fn let_go(&mut self, now: u64, visit: &Visit) -> Result<VisitAnswer, NoMemory>
+    // Releases all that the member of a visit holds. It takes no memory.
+    fn let_go(&mut self, now: u64, visit: &Visit) -> VisitAnswer
         requires now { now ≤ 2 ^ 62 }
         requires release { visit.now.then ≡ Then.Release }
-        ensures once { FollowsOnce D.seen W.held now visit.now self.old self.new result }
+        ensures once { FollowsOnce D.seen W.held now visit.now self.old self.new (Ok result) }
         ensures runs { RunOnBoth D.seen self.old.states self.new.states }
-        ensures ranges { IfOk result (λ answer. AllByRecursion IsSmallGrant answer.grants) }
+        ensures ranges { AllByRecursion IsSmallGrant result.grants }
     {
         let clock = self.clock.max(now);
-        let released = self.release(clock, &visit.group, &Whose::Member(visit.member))?;
-        Ok(empty(self.alloc, outcome_of(released)))
+        let released = self.release(clock, &visit.group, &Whose::Member(visit.member));
+        empty(self.alloc, outcome_of(released))
     }
 
-    // Does what follows the acknowledgements of a visit.
+    // Does what follows the acknowledgements of a visit. But for a fetch it takes no memory.
     fn follow(&mut self, now: u64, visit: &Visit) -> Result<VisitAnswer, NoMemory>
         requires now { now ≤ 2 ^ 62 }
         ensures once { FollowsOnce D.seen W.held now visit.now self.old self.new result }
+        ensures spared { IsErr result → IsFetch visit.now.then }
         ensures runs { RunOnBoth D.seen self.old.states self.new.states }
         ensures ranges { IfOk result (λ answer. AllByRecursion IsSmallGrant answer.grants) }
     {
         match visit.then {
             Then::Nothing => Ok(self.pass(now)),
-            Then::Release => self.let_go(now, visit),
+            Then::Release => Ok(self.let_go(now, visit)),
             Then::Fetch {
                 records,
                 bytes,
@@ -348,16 +352,11 @@ impl<D: Disk, W: Window> PartShard<D, W> {
             &mut self.windows,
             visit,
             &acks,
-        )?;
+            true,
+        );
         match self.follow(now, visit) {
             Ok(answer) => Ok(with_ack(ack, answer)),
-            Err(fault) => {
-                if !are_written(visit, ack) {
-                    return Err(fault);
-                }
-                self.raise(now);
-                Err(fault)
-            }
+            Err(fault) => Err(fault),
         }
     }
 
@@ -403,7 +402,8 @@ impl<D: Disk, W: Window> PartShard<D, W> {
             &mut self.windows,
             visit,
             &acks,
-        )?;
+            true,
+        );
         self.clock = self.clock.max(now);
         let (plan, mut out) = chosen(ready, ack);
         if let Err(_) = append_batches(&mut self.log, &plan.numbers, &mut out) {
@@ -424,8 +424,7 @@ impl<D: Disk, W: Window> PartShard<D, W> {
     /// the disk of the log, in order, behind the write of the acknowledgements; where one can't be read, the answer is a
     /// device fault, and nothing is acquired. The first fetch of a group makes its table, which is stored when they were
     /// read; where that fails nothing is acquired. A fetch of a group that has a table takes all its memory before the
-    /// acknowledgements are written. After want of memory nothing has changed; but where a write of the acknowledgements
-    /// came to the device before, and a release behind them found none, what they left stands, and the clock is raised.
+    /// acknowledgements are written; they, and a release, take none. After want of memory nothing has changed.
     pub fn visit(&mut self, now: u64, visit: &Visit) -> Result<VisitAnswer, NoMemory>
         requires now { now ≤ 2 ^ 62 }
         ensures once { VisitsOnce D.seen W.held now visit.now self.old self.new result }
@@ -456,9 +455,8 @@ impl<D: Disk, W: Window> PartShard<D, W> {
     ///
     /// It goes over the groups in byte order. All that has ended of a group is released by one write, and counted
     /// once that is stored. The first write that fails ends it, and the groups from that one on are as they were.
-    /// Where nothing is due no memory is taken, nothing is written and no window is walked. Where it finds no memory,
-    /// the groups before are done, with the clock raised, and no other has changed; where there is none before,
-    /// nothing has.
+    /// Where nothing is due no memory is taken, nothing is written and no window is walked. All memory is taken before
+    /// the first write: after want of memory nothing has changed.
     pub fn expire(&mut self, now: u64) -> Result<ExpireAnswer, NoMemory>
         requires { now ≤ 2 ^ 62 }
         ensures once { ExpiresOnce D.seen W.held now self.old self.new result }
@@ -468,7 +466,7 @@ impl<D: Disk, W: Window> PartShard<D, W> {
         let due = due_groups(self.alloc, &self.windows, clock)?;
         let mut freed: u64 = 0;
         for group in &due {
-            match self.release(clock, group, &Whose::Due(clock))? {
+            match self.release(clock, group, &Whose::Due(clock)) {
                 Released::Done(count) => freed = freed.saturating_add(count),
                 Released::Store(fault) => {
                     return Ok(ExpireAnswer::Store {

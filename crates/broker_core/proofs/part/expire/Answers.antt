@@ -1,6 +1,5 @@
-use Rattle.std.proofs.Common.{◌≡◌, ◌⊎◌, false, subst, Ok, Err, IfOk, OnErr, rules}
-use Rattle.share_part.specs.Once.{Expired, PartStands}
-use Rattle.share_part.specs.Shards.{Carries, PartShardState}
+use Rattle.std.proofs.Common.{◌≡◌, false, subst, Ok, Err, IfOk, OnErr, rules}
+use Rattle.share_part.specs.Once.{Expired}
 use Rattle.broker_core.specs.Carried.{holding}
 use Rattle.broker_core.proofs.Stepping.{on_err}
 use Rattle.broker_core.proofs.Parting.{expire_leads, expire_refused, expire_whole, expiry_on}
@@ -10,7 +9,7 @@ use Rattle.broker_core.proofs.part.expire.Goals as goal
 pub returns-in_err-answer-clause-stopped : goal.returns-in_err-answer-clause-stopped
 returns-in_err-answer-clause-stopped g c =
     let is : c.expire.result ≡ Err c.in_err-answer.field-0.0 = search rules in
-    let memory = subst (λ r. OnErr r ((c.expire.new.self ≡ c.args.part.now) ⊎ ((t : PartShardState) → Carries g.D.Disk.seen holding c.args.part.now t → PartStands g.D.Disk.seen holding c.args.now c.args.part.now c.expire.new.self t))) is c.expire.ensures.once.memory in
+    let memory = subst (λ r. OnErr r (c.expire.new.self ≡ c.args.part.now)) is c.expire.ensures.once.memory in
     on_err c.from_residual.result
     (expire_refused g.D.Disk.seen c.args.part.now c.expire.new.self c.args.now
     (expiry_on g.D.Disk.seen c.args.part.now c.expire.new.self c.args.now c.expire.result c.expire.ensures.once c.expire.ensures.runs) memory)

@@ -1,6 +1,6 @@
-use Rattle.std.proofs.Common.{◌≡◌, ◌⊎◌, false, subst, Ok, Err, IfOk, OnErr, rules}
-use Rattle.share_part.specs.Once.{AcksStand, Visited}
-use Rattle.share_part.specs.Shards.{Carries, IsUntouched, PartShardState}
+use Rattle.std.proofs.Common.{◌≡◌, false, subst, Ok, Err, IfOk, OnErr, rules}
+use Rattle.share_part.specs.Once.{Visited}
+use Rattle.share_part.specs.Shards.{IsUntouched}
 use Rattle.broker_core.specs.Carried.{holding}
 use Rattle.broker_core.proofs.Stepping.{on_err}
 use Rattle.broker_core.proofs.Parting.{visit_leads, visit_on, visit_refused, visit_whole}
@@ -10,7 +10,7 @@ use Rattle.broker_core.proofs.part.visit.Goals as goal
 pub returns-in_err-answer-clause-stopped : goal.returns-in_err-answer-clause-stopped
 returns-in_err-answer-clause-stopped g c =
     let is : c.visit.result ≡ Err c.in_err-answer.field-0.0 = search rules in
-    let memory = subst (λ r. OnErr r (IsUntouched g.D.Disk.seen holding c.args.part.now c.visit.new.self ⊎ ((t : PartShardState) → Carries g.D.Disk.seen holding c.args.part.now t → AcksStand g.D.Disk.seen holding c.args.now c.args.visit.now c.args.part.now c.visit.new.self t))) is c.visit.ensures.once.memory in
+    let memory = subst (λ r. OnErr r (IsUntouched g.D.Disk.seen holding c.args.part.now c.visit.new.self)) is c.visit.ensures.once.memory in
     on_err c.from_residual.result
     (visit_refused g.D.Disk.seen c.args.part.now c.visit.new.self c.args.now c.args.visit.now
     (visit_on g.D.Disk.seen c.args.part.now c.visit.new.self c.args.now c.args.visit.now c.visit.result c.visit.ensures.once c.visit.ensures.runs) memory)

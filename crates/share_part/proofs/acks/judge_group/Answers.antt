@@ -3,6 +3,7 @@ use Rattle.std.specs.Option.{option_map}
 use Rattle.ack_ranges.specs.Batches.{kind_at}
 use Rattle.share_model.specs.ForeignRules.{share_state_at}
 use Rattle.share_model.specs.Keys.{KeyParts}
+use Rattle.share_model.specs.Runs.{IsCanonical}
 use Rattle.share_model.specs.ShareStates.{ShareState}
 use Rattle.share_coord.specs.Views.{ViewParts}
 use Rattle.share_coord.specs.Stored.{kept_at}
@@ -51,3 +52,17 @@ acknowledge-requires-clause-above g c =
     let le = starts_above c.args.conf.now (log_in c.args.log.now) (states_of c.args.states.now.entries) (key_of c.args.conf.now c.args.visit.now.group) c.in-Some-look.view.now.state
     c.requires.hosted (state_seen c.args.states.now.entries (key_of c.args.conf.now c.args.visit.now.group) ∙ sym there) in
     omega (arith, le, c.start_of.ensures)
+
+pub returns-in_default-clause-canonical : goal.returns-in_default-clause-canonical
+returns-in_default-clause-canonical g c = λ moved is state at. absurd (let clash : ⊥ = cc in clash)
+
+pub returns-in-None-clause-canonical : goal.returns-in-None-clause-canonical
+returns-in-None-clause-canonical g c = λ moved is state at. absurd (let clash : ⊥ = cc in clash)
+
+pub returns-in-Some-look-clause-canonical : goal.returns-in-Some-look-clause-canonical
+returns-in-Some-look-clause-canonical g c = λ moved is state at.
+    let there = subst (λ (k : KeyParts). Some c.in-Some-look.view.now.state ≡ option_map view_of (kept_at c.args.states.now.entries k)) c.key.ensures c.in-Some-look.ensures in
+    let found : ◌≡◌ {A = Option ShareState} (Some c.in-Some-look.view.now.state) (Some state) =
+    there ∙ sym (state_seen c.args.states.now.entries (key_of c.args.conf.now c.args.visit.now.group)) ∙ at in
+    let same : c.in-Some-look.view.now.state ≡ state = cc in
+    subst IsCanonical (ap (λ (v : ViewParts). v.state.runs) c.view.view_is ∙ ap (λ (s : ShareState). s.runs) same) c.list-stored.ensures.canonical

@@ -7,47 +7,23 @@ use Rattle.share_part.specs.Acknowledging.{NameOne}
 use Rattle.share_part.specs.Settling.{change_of, held_after, is_chosen, releasing}
 use Rattle.share_part.specs.Shards.{held_in, with_held}
 use Rattle.share_part.proofs.Letting.{none_counted}
-use Rattle.share_part.proofs.Releases.{change_of_group, none_of_group, on_err, one_of_group}
-use Rattle.share_part.proofs.Settlement.{all_stored, few_there, granted_there, none_stored, start_within, unreleased, unstored}
+use Rattle.share_part.proofs.Releases.{change_of_group, none_of_group, one_of_group}
+use Rattle.share_part.proofs.Settlement.{all_stored, granted_there, none_stored, reserved_there, start_within}
 use Rattle.share_part.proofs.release.release_held.Goals as goal
-
-pub returns-in_err-fault-clause-once : goal.returns-in_err-fault-clause-once
-returns-in_err-fault-clause-once g c =
-    let held = held_in g.W.Window.held c.args.windows.now.entries in
-    let acts = releasing (is_chosen c.args.whose.now) (held c.args.group.now) in
-    unreleased g.D.Disk.seen (HasFailed g.D.Disk.seen)
-    c.args.states.now c.store_change.new.states c.args.conf.now c.args.log.now.batches c.args.group.now acts (held c.args.group.now)
-    ((other : List ℕ) → held other ≡ held other)
-    ((other : List ℕ) → held other ≡ with_held held c.args.group.now (held_after acts (held c.args.group.now)) other)
-    (unstored g.D.Disk.seen (HasFailed g.D.Disk.seen)
-    c.args.states.now c.store_change.new.states _ _ c.store_change.result _ c.in_err-fault.was c.store_change.ensures.once) (λ other. refl)
-    c.from_residual.result c.from_residual.ensures.0
-
-pub returns-in_err-fault-clause-named : goal.returns-in_err-fault-clause-named
-returns-in_err-fault-clause-named g c = on_err (NameOne (releasing (is_chosen c.args.whose.now) (held_in g.W.Window.held c.args.windows.now.entries c.args.group.now)))
-    c.from_residual.result
-    (one_of_group c.args.conf.now.limit (is_chosen c.args.whose.now) c.args.log.now.batches (held_in g.W.Window.held c.args.windows.now.entries c.args.group.now)
-    (share_state_at (states_of c.args.states.now.entries) (key_of c.args.conf.now c.args.group.now)) c.judge_release-judged.new.rows.list c.judge_release-judged.result c.in-Some.moved c.in-Some.is c.judge_release-judged.ensures.judged)
 
 pub returns-in_default-clause-count : goal.returns-in_default-clause-count
 returns-in_default-clause-count g c = sym (none_counted (is_chosen c.args.whose.now) (held_in g.W.Window.held c.args.windows.now.entries c.args.group.now) c.judge_release-judged.ensures.rising
     (none_of_group c.args.conf.now.limit (is_chosen c.args.whose.now) c.args.log.now.batches (held_in g.W.Window.held c.args.windows.now.entries c.args.group.now)
     (share_state_at (states_of c.args.states.now.entries) (key_of c.args.conf.now c.args.group.now)) c.judge_release-judged.new.rows.list c.judge_release-judged.result c.in_default.is c.judge_release-judged.ensures.judged))
 
-pub store_change-requires-clause-start : goal.store_change-requires-clause-start
-store_change-requires-clause-start g c = start_within c.args.conf.now c.args.log.now.batches c.args.group.now (releasing (is_chosen c.args.whose.now) (held_in g.W.Window.held c.args.windows.now.entries c.args.group.now)) (held_in g.W.Window.held c.args.windows.now.entries c.args.group.now) c.args.states.now
+pub store_change-fault-requires-clause-start : goal.store_change-fault-requires-clause-start
+store_change-fault-requires-clause-start g c = start_within c.args.conf.now c.args.log.now.batches c.args.group.now (releasing (is_chosen c.args.whose.now) (held_in g.W.Window.held c.args.windows.now.entries c.args.group.now)) (held_in g.W.Window.held c.args.windows.now.entries c.args.group.now) c.args.states.now
     c.requires.sound c.requires.limit.few c.requires.hosted c.requires.well (change_of c.in-Some.moved c.judge_release-judged.new.rows.list)
     (change_of_group c.args.conf.now.limit (is_chosen c.args.whose.now) c.args.log.now.batches (held_in g.W.Window.held c.args.windows.now.entries c.args.group.now)
     (share_state_at (states_of c.args.states.now.entries) (key_of c.args.conf.now c.args.group.now)) c.judge_release-judged.new.rows.list c.judge_release-judged.result c.in-Some.moved c.in-Some.is c.judge_release-judged.ensures.judged)
 
-pub store_change-requires-clause-granted : goal.store_change-requires-clause-granted
-store_change-requires-clause-granted g c = granted_there c.args.conf.now c.args.log.now.batches c.args.group.now (releasing (is_chosen c.args.whose.now) (held_in g.W.Window.held c.args.windows.now.entries c.args.group.now)) (held_in g.W.Window.held c.args.windows.now.entries c.args.group.now) c.args.states.now
-    c.requires.sound c.requires.limit.few c.requires.hosted c.requires.well (change_of c.in-Some.moved c.judge_release-judged.new.rows.list)
-    (change_of_group c.args.conf.now.limit (is_chosen c.args.whose.now) c.args.log.now.batches (held_in g.W.Window.held c.args.windows.now.entries c.args.group.now)
-    (share_state_at (states_of c.args.states.now.entries) (key_of c.args.conf.now c.args.group.now)) c.judge_release-judged.new.rows.list c.judge_release-judged.result c.in-Some.moved c.in-Some.is c.judge_release-judged.ensures.judged) c.key-key.result c.list.result.now c.key-key.ensures c.list.ensures.same
-
-pub store_change-requires-clause-few : goal.store_change-requires-clause-few
-store_change-requires-clause-few g c = few_there c.args.conf.now c.args.log.now.batches c.args.group.now (releasing (is_chosen c.args.whose.now) (held_in g.W.Window.held c.args.windows.now.entries c.args.group.now)) (held_in g.W.Window.held c.args.windows.now.entries c.args.group.now) c.args.states.now
+pub store_change-fault-requires-clause-granted : goal.store_change-fault-requires-clause-granted
+store_change-fault-requires-clause-granted g c = granted_there c.args.conf.now c.args.log.now.batches c.args.group.now (releasing (is_chosen c.args.whose.now) (held_in g.W.Window.held c.args.windows.now.entries c.args.group.now)) (held_in g.W.Window.held c.args.windows.now.entries c.args.group.now) c.args.states.now
     c.requires.sound c.requires.limit.few c.requires.hosted c.requires.well (change_of c.in-Some.moved c.judge_release-judged.new.rows.list)
     (change_of_group c.args.conf.now.limit (is_chosen c.args.whose.now) c.args.log.now.batches (held_in g.W.Window.held c.args.windows.now.entries c.args.group.now)
     (share_state_at (states_of c.args.states.now.entries) (key_of c.args.conf.now c.args.group.now)) c.judge_release-judged.new.rows.list c.judge_release-judged.result c.in-Some.moved c.in-Some.is c.judge_release-judged.ensures.judged) c.key-key.result c.list.result.now c.key-key.ensures c.list.ensures.same
@@ -60,7 +36,7 @@ returns-in-Some-fault-clause-once g c = (
       c.requires.sound c.requires.limit.few c.requires.hosted c.requires.well (change_of c.in-Some.moved c.judge_release-judged.new.rows.list)
       (change_of_group c.args.conf.now.limit (is_chosen c.args.whose.now) c.args.log.now.batches (held_in g.W.Window.held c.args.windows.now.entries c.args.group.now)
       (share_state_at (states_of c.args.states.now.entries) (key_of c.args.conf.now c.args.group.now)) c.judge_release-judged.new.rows.list c.judge_release-judged.result c.in-Some.moved c.in-Some.is c.judge_release-judged.ensures.judged) c.key-key.result c.list.result.now c.key-key.ensures c.list.ensures.same
-      g.D.Disk.seen (HasFailed g.D.Disk.seen) c.store_change.new.states c.in_ok-fault.fault c.in-Some-fault.fault c.in-Some-fault.is c.in_ok-fault.ensures.once,
+      g.D.Disk.seen (HasFailed g.D.Disk.seen) c.store_change-fault.new.states c.store_change-fault.result c.in-Some-fault.fault c.in-Some-fault.is c.store_change-fault.ensures.once,
   λ other. refl,
 )
 
@@ -72,6 +48,15 @@ returns-clause-once g c = inr (
       c.requires.sound c.requires.limit.few c.requires.hosted c.requires.well (change_of c.in-Some.moved c.judge_release-judged.new.rows.list)
       (change_of_group c.args.conf.now.limit (is_chosen c.args.whose.now) c.args.log.now.batches (held_in g.W.Window.held c.args.windows.now.entries c.args.group.now)
       (share_state_at (states_of c.args.states.now.entries) (key_of c.args.conf.now c.args.group.now)) c.judge_release-judged.new.rows.list c.judge_release-judged.result c.in-Some.moved c.in-Some.is c.judge_release-judged.ensures.judged) c.key-key.result c.list.result.now c.key-key.ensures c.list.ensures.same
-      g.D.Disk.seen (HasFailed g.D.Disk.seen) c.store_change.new.states c.in_ok-fault.fault c.in_default-fault.is c.in_ok-fault.ensures.once,
+      g.D.Disk.seen (HasFailed g.D.Disk.seen) c.store_change-fault.new.states c.store_change-fault.result c.in_default-fault.is c.store_change-fault.ensures.once,
   c.end_released.ensures.held,
 )
+
+pub store_change-fault-requires-clause-reserved : goal.store_change-fault-requires-clause-reserved
+store_change-fault-requires-clause-reserved g c =
+    let found = change_of_group c.args.conf.now.limit (is_chosen c.args.whose.now) c.args.log.now.batches (held_in g.W.Window.held c.args.windows.now.entries c.args.group.now)
+    (share_state_at (states_of c.args.states.now.entries) (key_of c.args.conf.now c.args.group.now)) c.judge_release-judged.new.rows.list c.judge_release-judged.result c.in-Some.moved c.in-Some.is c.judge_release-judged.ensures.judged in
+    reserved_there c.args.conf.now c.args.log.now.batches c.args.group.now (releasing (is_chosen c.args.whose.now) (held_in g.W.Window.held c.args.windows.now.entries c.args.group.now)) (held_in g.W.Window.held c.args.windows.now.entries c.args.group.now) c.args.states.now
+    c.requires.sound c.requires.limit.few c.requires.hosted c.requires.well (change_of c.in-Some.moved c.judge_release-judged.new.rows.list) found
+    c.key-key.result c.list.result.now c.key-key.ensures c.list.ensures.same
+    (c.judge_release-judged.ensures.canonical c.in-Some.moved c.in-Some.is found.0 found.1) c.args.states.now.room c.requires.room

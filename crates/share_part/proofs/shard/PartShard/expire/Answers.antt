@@ -8,10 +8,10 @@ use Rattle.share_model.specs.declared.visit.ExpireAnswer.TheVariants.{Done}
 use Rattle.share_part.specs.Once.{ExpiresOnce, IsNothingDue}
 use Rattle.share_part.specs.Releasing.{ReleasesOnce, due_groups}
 use Rattle.share_part.specs.Shards.{PartParts}
-use Rattle.share_part.specs.declared.release.Released.{Released}
 use Rattle.share_part.specs.declared.settle.Whose.TheVariants.{Due}
 use Rattle.lock_index.specs.Windows.{IsRising}
-use Rattle.share_part.proofs.Expired.{SoFar, all_ended, begins, none_begins, one_done, one_starves, one_stays}
+use Rattle.share_part.proofs.Failing.{run_then}
+use Rattle.share_part.proofs.Expired.{SoFar, all_ended, begins, none_begins, one_done, one_stays}
 use Rattle.share_part.proofs.shard.PartShard.expire.Goals as goal
 
 pub returns-in_err-due-clause-once : goal.returns-in_err-due-clause-once
@@ -29,20 +29,9 @@ pub loop-group-preserved : goal.loop-group-preserved
 loop-group-preserved g c = subst (SoFar g.D.Disk.seen g.W.Window.held c.args.now c.args.self.now c.deref-group-items.result.now c.release.new.self (c.loop-group.group-index + 1)) (sym c.saturating_add-freed.ensures)
     (one_done g.D.Disk.seen g.W.Window.held c.args.now c.args.self.now c.deref-group-items.result.now
     c.loop-group.self c.release.new.self c.loop-group.group-index c.loop-group.freed c.group-item.result c.loop-group.invariant c.loop-group-test.true c.group-item.result (sym c.group-item.is) c.release.ensures.runs
-    c.release.result c.in-Done.count (c.in_ok-count.was ∙ ap (λ (r : Released). Ok r) c.in-Done.is)
+    c.release.result c.in-Done.count c.in-Done.is
     (subst (λ (n : ℕ). ReleasesOnce g.D.Disk.seen g.W.Window.held n c.group-item.result (Due n) c.loop-group.self c.release.new.self c.release.result)
     (c.max-clock.ensures ∙ ap (λ (p : PartParts g.row.D.Denot g.row.W.Denot). max p.clock c.args.now) c.self.view_is) c.release.ensures.once))
-
-pub returns-in_err-count-clause-once : goal.returns-in_err-count-clause-once
-returns-in_err-count-clause-once g c = one_starves g.D.Disk.seen g.W.Window.held c.args.now c.args.self.now c.deref-group-items.result.now
-    c.loop-group.self c.release.new.self c.loop-group.group-index c.loop-group.freed c.group-item.result c.loop-group.invariant c.loop-group-test.true c.group-item.result (sym c.group-item.is) c.release.ensures.runs
-    (subst (λ (p : PartParts g.row.D.Denot g.row.W.Denot). IsStrictlySortedBy (slice_cmp nat_cmp) (keys_of p.windows)) c.self.view_is c.in_ok-due.ensures.ordered)
-    (subst (λ (p : PartParts g.row.D.Denot g.row.W.Denot). c.deref-group-items.result.now ≡ due_groups g.W.Window.held (max p.clock c.args.now) p.windows) c.self.view_is
-    (c.deref-group-items.ensures.value ∙ (c.in_ok-due.ensures.due ∙ ap (λ (n : ℕ). due_groups g.W.Window.held n c.self.inside.windows.entries) c.max-clock.ensures)))
-    (subst (λ (p : PartParts g.row.D.Denot g.row.W.Denot). AllByRecursion (λ e. IsRising (g.W.Window.held e.1)) p.windows) c.self.view_is c.in_ok-due.ensures.rising)
-    c.release.result _ c.in_err-count.was
-    (subst (λ (n : ℕ). ReleasesOnce g.D.Disk.seen g.W.Window.held n c.group-item.result (Due n) c.loop-group.self c.release.new.self c.release.result)
-    (c.max-clock.ensures ∙ ap (λ (p : PartParts g.row.D.Denot g.row.W.Denot). max p.clock c.args.now) c.self.view_is) c.release.ensures.once) c.from_residual-in_err-count.result c.from_residual-in_err-count.ensures.0
 
 pub returns-in-Store-clause-once : goal.returns-in-Store-clause-once
 returns-in-Store-clause-once g c = one_stays g.D.Disk.seen g.W.Window.held c.args.now c.args.self.now c.deref-group-items.result.now
@@ -51,7 +40,7 @@ returns-in-Store-clause-once g c = one_stays g.D.Disk.seen g.W.Window.held c.arg
     (subst (λ (p : PartParts g.row.D.Denot g.row.W.Denot). c.deref-group-items.result.now ≡ due_groups g.W.Window.held (max p.clock c.args.now) p.windows) c.self.view_is
     (c.deref-group-items.ensures.value ∙ (c.in_ok-due.ensures.due ∙ ap (λ (n : ℕ). due_groups g.W.Window.held n c.self.inside.windows.entries) c.max-clock.ensures)))
     (subst (λ (p : PartParts g.row.D.Denot g.row.W.Denot). AllByRecursion (λ e. IsRising (g.W.Window.held e.1)) p.windows) c.self.view_is c.in_ok-due.ensures.rising)
-    c.release.result c.in-Store.fault (c.in_ok-count.was ∙ ap (λ (r : Released). Ok r) c.in-Store.is)
+    c.release.result c.in-Store.fault c.in-Store.is
     (subst (λ (n : ℕ). ReleasesOnce g.D.Disk.seen g.W.Window.held n c.group-item.result (Due n) c.loop-group.self c.release.new.self c.release.result)
     (c.max-clock.ensures ∙ ap (λ (p : PartParts g.row.D.Denot g.row.W.Denot). max p.clock c.args.now) c.self.view_is) c.release.ensures.once)
 
@@ -68,3 +57,7 @@ returns-clause-once g c =
     (subst (λ (p : PartParts g.row.D.Denot g.row.W.Denot). c.deref-group-items.result.now ≡ due_groups g.W.Window.held (max p.clock c.args.now) p.windows) c.self.view_is
     (c.deref-group-items.ensures.value ∙ (c.in_ok-due.ensures.due ∙ ap (λ (n : ℕ). due_groups g.W.Window.held n c.self.inside.windows.entries) c.max-clock.ensures)))
     (subst (λ (p : PartParts g.row.D.Denot g.row.W.Denot). AllByRecursion (λ e. IsRising (g.W.Window.held e.1)) p.windows) c.self.view_is c.in_ok-due.ensures.rising)))
+
+pub returns-in-Store-clause-runs : goal.returns-in-Store-clause-runs
+returns-in-Store-clause-runs g c = run_then g.D.Disk.seen
+    c.args.self.now.states c.loop-group.self.states c.release.new.self.states c.loop-group.invariant.runs c.release.ensures.runs

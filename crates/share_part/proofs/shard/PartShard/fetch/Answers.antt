@@ -32,6 +32,7 @@ invariant_of-self g c = record {
       (held_in g.W.Window.held c.prepared.new.windows.entries) c.in_err-plan.ensures.held c.self.invariant.holds;
   moment = c.self.invariant.moment;
   scratch = c.self.invariant.scratch;
+  room = c.self.invariant.room;
 }
 
 pub append_batches-requires-clause-numbers : goal.append_batches-requires-clause-numbers
@@ -56,6 +57,7 @@ invariant_of-self-in-Err g c = record {
       (held_in g.W.Window.held c.prepared.new.windows.entries) c.in_ok-plan.ensures.held c.self.invariant.holds);
   moment = omega (arith, c.self.invariant.moment, c.requires.now, c.max-self-inside.ensures);
   scratch = c.self.invariant.scratch;
+  room = c.self.invariant.room;
 }
 
 pub returns-in-Err-clause-once : goal.returns-in-Err-clause-once
@@ -79,6 +81,7 @@ invariant_of-self-in_err-outcome g c = record {
       c.make_table.result _ (sym (same_log g.D.Disk.seen c.self.inside.log c.append_batches.new.log c.append_batches.ensures.log.reads)) c.make_table.ensures.made c.in_ok-plan.ensures.held c.self.invariant.holds);
   moment = c.self.invariant.moment;
   scratch = c.self.invariant.scratch;
+  room = subst (λ (n : ℕ). 6000 ≤ n) (sym c.make_table.ensures.room) c.self.invariant.room;
 }
 
 pub returns-in_err-outcome-clause-once : goal.returns-in_err-outcome-clause-once
@@ -102,6 +105,7 @@ invariant_of-self-in_default-outcome g c = record {
       c.make_table.result _ (sym (same_log g.D.Disk.seen c.self.inside.log c.append_batches.new.log c.append_batches.ensures.log.reads)) c.make_table.ensures.made c.in_ok-plan.ensures.held c.self.invariant.holds);
   moment = omega (arith, c.self.invariant.moment, c.requires.now, c.max-self-inside-2.ensures);
   scratch = c.self.invariant.scratch;
+  room = subst (λ (n : ℕ). 6000 ≤ n) (sym c.make_table.ensures.room) c.self.invariant.room;
 }
 
 pub returns-in_default-outcome-clause-once : goal.returns-in_default-outcome-clause-once
@@ -130,6 +134,7 @@ invariant_of-self-2 g c = record {
       c.make_table.result (c.in_ok-outcome.was ∙ ap (λ (o : ThenOutcome). Ok o) c.in-Done.is) _ (sym (same_log g.D.Disk.seen c.self.inside.log c.append_batches.new.log c.append_batches.ensures.log.reads)) c.make_table.ensures.made c.self.invariant.within c.self.invariant.hosted c.self.invariant.holds);
   moment = omega (arith, c.self.invariant.moment, c.requires.now, c.max-self-inside-2.ensures);
   scratch = c.self.invariant.scratch;
+  room = subst (λ (n : ℕ). 6000 ≤ n) (sym c.make_table.ensures.room) c.self.invariant.room;
 }
 
 pub returns-clause-once : goal.returns-clause-once

@@ -1,4 +1,5 @@
-use Rattle.std.proofs.Common.{ap}
+use Rattle.std.proofs.Common.{ap, subst, sym}
+use Rattle.share_part.specs.Following.{IsFetch}
 use Rattle.share_part.specs.Shards.{PartParts}
 use Rattle.share_part.proofs.Failing.{run_same}
 use Rattle.share_part.proofs.Looked.{same_read}
@@ -14,3 +15,6 @@ returns-in-Nothing-clause-once g c = idly g.D.Disk.seen g.W.Window.held c.args.n
     (ap (λ (p : PartParts g.row.D.Denot g.row.W.Denot). p.log) c.pass.ensures.clock)
     (ap (λ (p : PartParts g.row.D.Denot g.row.W.Denot). p.states) c.pass.ensures.clock) (ap (λ (p : PartParts g.row.D.Denot g.row.W.Denot). p.windows) c.pass.ensures.clock)
     (ap (λ (p : PartParts g.row.D.Denot g.row.W.Denot). p.clock) c.pass.ensures.clock)
+
+pub returns-in-Fetch-clause-spared : goal.returns-in-Fetch-clause-spared
+returns-in-Fetch-clause-spared g c = λ none. subst IsFetch (sym c.in-Fetch.is) tt

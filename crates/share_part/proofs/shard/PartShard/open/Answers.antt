@@ -14,16 +14,16 @@ returns-in-Err-clause-refused g c =
     c.in-Err.disk c.args.disks.1 c.args.disks.2 f) (sym c.fault_of_log-fault.ensures)
     (by_log g.D.Disk.seen g.W.Window.held c.args.conf c.args.disks.0 c.args.disks.1 c.args.disks.2 c.in-Err.disk c.in-Err.fault c.in-Err.ensures.damaged c.in-Err.ensures.recovers c.in-Err.ensures.device)
 
-pub returns-in-Err-open-clause-refused : goal.returns-in-Err-open-clause-refused
-returns-in-Err-open-clause-refused g c =
+pub returns-in-Err-open_states-clause-refused : goal.returns-in-Err-open_states-clause-refused
+returns-in-Err-open_states-clause-refused g c =
     subst (λ (f : PartFault). IsNotOpened g.D.Disk.seen c.args.conf c.args.disks.0 c.args.disks.1 c.args.disks.2
-    c.into_disk.result c.in-Err-open.a c.in-Err-open.b f) (sym c.fault_of_states-fault.ensures)
-    (by_states g.D.Disk.seen g.W.Window.held c.args.conf c.args.disks.0 c.args.disks.1 c.args.disks.2 c.into_disk.result c.in-Err-open.a c.in-Err-open.b c.in-Err-open.fault
-    (log_in c.in-Ok.log) c.in-Ok.ensures.opens c.in-Err-open.ensures.refused)
+    c.into_disk.result c.in-Err-open_states.a c.in-Err-open_states.b f) (sym c.fault_of_states-fault.ensures)
+    (by_states g.D.Disk.seen g.W.Window.held c.args.conf c.args.disks.0 c.args.disks.1 c.args.disks.2 c.into_disk.result c.in-Err-open_states.a c.in-Err-open_states.b c.in-Err-open_states.fault
+    (log_in c.in-Ok.log) c.in-Ok.ensures.opens c.in-Err-open_states.ensures.refused)
 
 pub returns-then-not-are_hosted-clause-refused : goal.returns-then-not-are_hosted-clause-refused
-returns-then-not-are_hosted-clause-refused g c = misplaced g.D.Disk.seen g.W.Window.held c.args.conf c.args.disks.0 c.args.disks.1 c.args.disks.2 _ _ _ c.in-Ok.log c.in-Ok-open.states
-    c.in-Ok.ensures.opens (λ content batches at text. c.in-Ok.ensures.recovers content batches at text) c.in-Ok-open.ensures.opened
+returns-then-not-are_hosted-clause-refused g c = misplaced g.D.Disk.seen g.W.Window.held c.args.conf c.args.disks.0 c.args.disks.1 c.args.disks.2 _ _ _ c.in-Ok.log c.in-Ok-open_states.states
+    c.in-Ok.ensures.opens (λ content batches at text. c.in-Ok.ensures.recovers content batches at text) c.in-Ok-open_states.ensures.opened
     (λ h. let is = c.are_hosted.ensures.1 h in let clash : ⊥ = cc in clash)
 
 pub invariant_of-result : goal.invariant_of-result
@@ -31,14 +31,15 @@ invariant_of-result g c = record {
   log_is = keeps_sound g.D.Disk.seen c.in-Ok.log None c.in-Ok.ensures.kept;
   within = keeps_start g.D.Disk.seen c.in-Ok.log None c.in-Ok.ensures.kept;
   hosted = c.are_hosted.ensures.0 c.if-not-are_hosted.false;
-  holds = empty_kept g.W.Window.held c.args.conf c.in-Ok.log.batches (states_of c.in-Ok-open.states.entries) _ c.new.ensures.empty;
+  holds = empty_kept g.W.Window.held c.args.conf c.in-Ok.log.batches (states_of c.in-Ok-open_states.states.entries) _ c.new.ensures.empty;
   moment = omega arith;
   scratch = c.in-Some.ensures;
+  room = c.in-Ok-open_states.ensures.room;
 }
 
 pub returns-clause-opened : goal.returns-clause-opened
 returns-clause-opened g c = opened g.D.Disk.seen g.W.Window.held c.args.conf c.args.disks.0 c.args.disks.1 c.args.disks.2 _ refl c.new.ensures.empty refl c.in-Ok.ensures.kept
-    c.in-Ok.ensures.opens (λ content batches at text. c.in-Ok.ensures.recovers content batches at text) c.in-Ok-open.ensures.opened
+    c.in-Ok.ensures.opens (λ content batches at text. c.in-Ok.ensures.recovers content batches at text) c.in-Ok-open_states.ensures.opened
     (c.are_hosted.ensures.0 c.if-not-are_hosted.false)
 
 pub returns-in_default-clause-refused : goal.returns-in_default-clause-refused

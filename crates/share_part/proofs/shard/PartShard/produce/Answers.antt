@@ -17,6 +17,7 @@ invariant_of-self-2 g c = record {
       (has_grown g.D.Disk.seen g.W.Window.held c.args.now c.args.batch.now (record { conf = c.self.inside.conf; log = c.self.inside.log; states = c.self.inside.states; windows = c.self.inside.windows.entries; clock = c.self.inside.clock }) c.append-result.new.self c.max-self-inside.result c.append-result.result c.append-result.ensures.once) c.self.invariant.holds;
   moment = omega (arith, c.self.invariant.moment, c.requires, c.max-self-inside.ensures);
   scratch = c.self.invariant.scratch;
+  room = c.self.invariant.room;
 }
 
 pub returns-clause-once : goal.returns-clause-once
