@@ -9,7 +9,8 @@ use Rattle.gate_journal.specs.declared.writer.Writer.{Writer}
 use Rattle.gate_journal.proofs.Once.{once}
 use Rattle.gate_journal.proofs.Shapes.{blocks_push}
 use Rattle.share_part.specs.Shards.{Carries, PartShardState}
-use Rattle.share_part.proofs.Reaching.{end_of_stands, log_long, long}
+use Rattle.part_log.proofs.Ending.{end_of_stands}
+use Rattle.share_part.proofs.Reaching.{log_long, long}
 use Rattle.broker_model.specs.Hosted.{Hosted, IsLogName, first_of, log_of, second_of, state_a}
 use Rattle.broker_model.specs.Shards.{HostedPart, Shards}
 use Rattle.broker_model.proofs.Names.{first_not, second_not, state_a_not}

@@ -1,4 +1,4 @@
-use Rattle.std.proofs.Common.{◌≡◌, ◌∷◌, [], subst, rules}
+use Rattle.std.proofs.Common.{◌≡◌, ◌∷◌, [], ap, arith, length, subst, rules}
 use Rattle.std.proofs.lemmas.List.{nil_from_length}
 use Rattle.broker_core.proofs.Arming.{LooksIn, looks_first, looks_found, looks_none, looks_on}
 use Rattle.broker_core.proofs.arms.place_of.Goals as goal
@@ -23,3 +23,9 @@ returns g c =
     let none : c.loop-slot.rest.now ≡ [] = nil_from_length c.loop-slot.rest.now c.in_default.ensures.cases in
     looks_none c.args.disk.now c.args.parts.now c.loop-slot.number
     (subst (λ l. LooksIn c.args.disk.now c.args.parts.now c.loop-slot.number l) none c.loop-slot.invariant)
+
+pub overflow_add-number : goal.overflow_add-number
+overflow_add-number g c =
+    let parts : c.loop-slot.rest.now ≡ c.in-Some.slot.now ∷ c.in-Some.others.now = search rules in
+    let counted = c.loop-slot.invariant.counted in
+    omega (arith, counted, ap length parts)
