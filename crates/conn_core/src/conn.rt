@@ -13,6 +13,7 @@ ghost use Rattle.conn_core.specs.Turning.{next_release, conn_with_reply, conn_at
 use crate::begun::Begun;
 use crate::hand::Hand;
 use crate::judge::{Verdict, judge};
+use crate::kept::Kept;
 use crate::next::Next;
 use crate::sending::{ReplyFrame, frame_reply};
 use crate::stream::{Front, Stream, front_of};
@@ -63,13 +64,13 @@ fn frame(size: u32, stream: &[u8]) -> &[u8]
 }
 
 // What a request does to the sessions.
-fn apply(sessions: &mut Sessions, change: Option<SessionChange>) -> Result<(), NoMemory>
+fn apply(sessions: &mut Sessions, change: Option<Kept<SessionChange>>) -> Result<(), NoMemory>
     requires fits { Fits change sessions.old }
     ensures done { OnOk result (sessions.new ≡ changed change sessions.old) }
     ensures kept { OnErr result (sessions.new ≡ sessions.old) }
 {
     match change {
-        Some(change) => sessions.apply(change),
+        Some(change) => sessions.apply(change.into_inner()),
         None => Ok(()),
     }
 }
@@ -150,7 +151,7 @@ impl Conn {
     fn finish_first(
         &mut self,
         size: u32,
-        change: Option<SessionChange>,
+        change: Option<Kept<SessionChange>>,
         frame: Blob,
     ) -> Result<Next, NoMemory>
         requires whole { 4 + size ≤ length self.old.unread }
@@ -173,7 +174,7 @@ impl Conn {
     fn send(
         &mut self,
         size: u32,
-        change: Option<SessionChange>,
+        change: Option<Kept<SessionChange>>,
         reply: ReplyFrame,
     ) -> Result<Next, NoMemory>
         requires whole { 4 + size ≤ length self.old.unread }
@@ -200,7 +201,7 @@ impl Conn {
     fn first_part(
         &mut self,
         size: u32,
-        change: Option<SessionChange>,
+        change: Option<Kept<SessionChange>>,
         hand: &Hand,
     ) -> Result<Part, NoMemory>
         requires whole { 4 + size ≤ length self.old.unread }
@@ -232,7 +233,7 @@ impl Conn {
     fn begin(
         &mut self,
         size: u32,
-        change: Option<SessionChange>,
+        change: Option<Kept<SessionChange>>,
         correlation: i32,
         hand: Hand,
     ) -> Result<Next, NoMemory>

@@ -1,10 +1,13 @@
 //! The calls that ask parts, each under its own name: what has to know all of them.
 ghost use Rattle.std.specs.Prelude.{◌≡◌, IfOk};
 ghost use Rattle.call_fold.specs.Parts.{IsAnswerTo};
+ghost use Rattle.call_fold.specs.Calls.{question_part};
+ghost use Rattle.call_fold.specs.Going.{stage_after};
 ghost use Rattle.call_fold.specs.declared.call.Stage.{Stage};
 ghost use Rattle.conn_core.specs.Hands.{hand_part, hand_stage, hand_stage_after};
 
-use call_fold::{Asking, Part, PartAnswer, Stage, part_of, take};
+use crate::kept::Kept;
+use call_fold::{Asking, Call, Part, PartAnswer, Stage, part_of, take};
 use log_calls::{Offer, ProduceHand};
 use msgs_base::ProducePartitionReply;
 use msgs_group::{HeartbeatReply, HeartbeatRequest};
@@ -17,17 +20,17 @@ use state_calls::{
 };
 use std::alloc::Global;
 
-/// A request in hand: a part of it is asked.
+/// A request in hand: a part of it is asked. It stands apart, so that what has it moves a pointer.
 #[derive(Drop)]
 pub enum Hand {
-    Produce(Asking<ProduceHand, Offer, ProducePartitionReply>),
-    Fetch(Asking<FetchHand, Visiting, Option<FetchRow>>),
-    Acknowledge(Asking<AckHand, Visiting, Option<AcknowledgedPartition>>),
-    Heartbeat(Asking<HeartbeatHand, HeartbeatRequest, HeartbeatReply>),
-    Initialize(Asking<StateHand<Initialize>, Question<Beginning>, PartitionResult>),
-    Read(Asking<StateHand<Read>, Question<Reading>, ReadPartitionResult>),
-    Write(Asking<StateHand<Write>, Question<Writing>, PartitionResult>),
-    Delete(Asking<StateHand<Delete>, Question<Deleting>, PartitionResult>),
+    Produce(Kept<Asking<ProduceHand, Offer, ProducePartitionReply>>),
+    Fetch(Kept<Asking<FetchHand, Visiting, Option<FetchRow>>>),
+    Acknowledge(Kept<Asking<AckHand, Visiting, Option<AcknowledgedPartition>>>),
+    Heartbeat(Kept<Asking<HeartbeatHand, HeartbeatRequest, HeartbeatReply>>),
+    Initialize(Kept<Asking<StateHand<Initialize>, Question<Beginning>, PartitionResult>>),
+    Read(Kept<Asking<StateHand<Read>, Question<Reading>, ReadPartitionResult>>),
+    Write(Kept<Asking<StateHand<Write>, Question<Writing>, PartitionResult>>),
+    Delete(Kept<Asking<StateHand<Delete>, Question<Deleting>, PartitionResult>>),
 }
 
 /// A call that asks parts and has a name in hand.
@@ -38,8 +41,8 @@ pub trait Named: Sized + Drop {
     ghost name: { Self → Hand };
 
     /// It, under its name.
-    fn named(self) -> Hand
-        ensures { result ≡ name self };
+    fn named(self, alloc: Global) -> Result<Hand, NoMemory>
+        ensures { IfOk result (λ hand. hand ≡ name self) };
 }
 
 impl Named for Asking<ProduceHand, Offer, ProducePartitionReply> {
@@ -47,8 +50,9 @@ impl Named for Asking<ProduceHand, Offer, ProducePartitionReply> {
 
     ghost name = { λ asking. Produce asking };
 
-    fn named(self) -> Hand {
-        Hand::Produce(self)
+    fn named(self, alloc: Global) -> Result<Hand, NoMemory> {
+        let asking = Kept::new(alloc, self)?;
+        Ok(Hand::Produce(asking))
     }
 }
 
@@ -57,8 +61,9 @@ impl Named for Asking<FetchHand, Visiting, Option<FetchRow>> {
 
     ghost name = { λ asking. Fetch asking };
 
-    fn named(self) -> Hand {
-        Hand::Fetch(self)
+    fn named(self, alloc: Global) -> Result<Hand, NoMemory> {
+        let asking = Kept::new(alloc, self)?;
+        Ok(Hand::Fetch(asking))
     }
 }
 
@@ -67,8 +72,9 @@ impl Named for Asking<AckHand, Visiting, Option<AcknowledgedPartition>> {
 
     ghost name = { λ asking. Acknowledge asking };
 
-    fn named(self) -> Hand {
-        Hand::Acknowledge(self)
+    fn named(self, alloc: Global) -> Result<Hand, NoMemory> {
+        let asking = Kept::new(alloc, self)?;
+        Ok(Hand::Acknowledge(asking))
     }
 }
 
@@ -77,8 +83,9 @@ impl Named for Asking<HeartbeatHand, HeartbeatRequest, HeartbeatReply> {
 
     ghost name = { λ asking. Heartbeat asking };
 
-    fn named(self) -> Hand {
-        Hand::Heartbeat(self)
+    fn named(self, alloc: Global) -> Result<Hand, NoMemory> {
+        let asking = Kept::new(alloc, self)?;
+        Ok(Hand::Heartbeat(asking))
     }
 }
 
@@ -87,8 +94,9 @@ impl Named for Asking<StateHand<Initialize>, Question<Beginning>, PartitionResul
 
     ghost name = { λ asking. Initialize asking };
 
-    fn named(self) -> Hand {
-        Hand::Initialize(self)
+    fn named(self, alloc: Global) -> Result<Hand, NoMemory> {
+        let asking = Kept::new(alloc, self)?;
+        Ok(Hand::Initialize(asking))
     }
 }
 
@@ -97,8 +105,9 @@ impl Named for Asking<StateHand<Read>, Question<Reading>, ReadPartitionResult> {
 
     ghost name = { λ asking. Read asking };
 
-    fn named(self) -> Hand {
-        Hand::Read(self)
+    fn named(self, alloc: Global) -> Result<Hand, NoMemory> {
+        let asking = Kept::new(alloc, self)?;
+        Ok(Hand::Read(asking))
     }
 }
 
@@ -107,8 +116,9 @@ impl Named for Asking<StateHand<Write>, Question<Writing>, PartitionResult> {
 
     ghost name = { λ asking. Write asking };
 
-    fn named(self) -> Hand {
-        Hand::Write(self)
+    fn named(self, alloc: Global) -> Result<Hand, NoMemory> {
+        let asking = Kept::new(alloc, self)?;
+        Ok(Hand::Write(asking))
     }
 }
 
@@ -117,27 +127,47 @@ impl Named for Asking<StateHand<Delete>, Question<Deleting>, PartitionResult> {
 
     ghost name = { λ asking. Delete asking };
 
-    fn named(self) -> Hand {
-        Hand::Delete(self)
+    fn named(self, alloc: Global) -> Result<Hand, NoMemory> {
+        let asking = Kept::new(alloc, self)?;
+        Ok(Hand::Delete(asking))
     }
 }
 
 /// A call's stage, under its name in hand.
-pub fn under_name<A: Named>(stage: Stage<A>) -> Stage<Hand>
-    ensures { result ≡ hand_stage A.name stage }
+pub fn under_name<A: Named>(alloc: Global, stage: Stage<A>) -> Result<Stage<Hand>, NoMemory>
+    ensures { IfOk result (λ told. told ≡ hand_stage A.name stage) }
 {
     match stage {
-        Stage::Asks(asking) => Stage::Asks(asking.named()),
-        Stage::Says(body) => Stage::Says(body),
+        Stage::Asks(asking) => {
+            let hand = asking.named(alloc)?;
+            Ok(Stage::Asks(hand))
+        }
+        Stage::Says(body) => Ok(Stage::Says(body)),
     }
 }
 
+// The part that is asked has this answer.
+fn take_kept<C: Call>(
+    alloc: Global,
+    asking: Kept<Asking<C, C::Question, C::Row>>,
+    answer: PartAnswer,
+) -> Result<Stage<Asking<C, C::Question, C::Row>>, NoMemory>
+    requires fits { IsAnswerTo (question_part C.acts asking) answer }
+    ensures { IfOk result (λ stage. stage ≡ stage_after C.acts asking answer) }
+{
+    take(alloc, asking.into_inner(), answer)
+}
+
 // The stage to which an answer leads, under the call's name in hand.
-fn next_under_name<A: Named>(stage: Result<Stage<A>, NoMemory>) -> Result<Stage<Hand>, NoMemory>
+fn next_under_name<A: Named>(
+    alloc: Global,
+    stage: Result<Stage<A>, NoMemory>,
+) -> Result<Stage<Hand>, NoMemory>
     ensures { (next : Stage A) → IfOk stage (λ told. told ≡ next) → IfOk result (λ told. told ≡ hand_stage A.name next) }
 {
     let stage = stage?;
-    Ok(under_name(stage))
+    let told = under_name(alloc, stage)?;
+    Ok(told)
 }
 
 impl Hand {
@@ -146,14 +176,14 @@ impl Hand {
         ensures { IfOk result (λ part. part ≡ hand_part self.now) }
     {
         match self {
-            Hand::Produce(asking) => part_of(alloc, asking),
-            Hand::Fetch(asking) => part_of(alloc, asking),
-            Hand::Acknowledge(asking) => part_of(alloc, asking),
-            Hand::Heartbeat(asking) => part_of(alloc, asking),
-            Hand::Initialize(asking) => part_of(alloc, asking),
-            Hand::Read(asking) => part_of(alloc, asking),
-            Hand::Write(asking) => part_of(alloc, asking),
-            Hand::Delete(asking) => part_of(alloc, asking),
+            Hand::Produce(asking) => part_of(alloc, asking.get()),
+            Hand::Fetch(asking) => part_of(alloc, asking.get()),
+            Hand::Acknowledge(asking) => part_of(alloc, asking.get()),
+            Hand::Heartbeat(asking) => part_of(alloc, asking.get()),
+            Hand::Initialize(asking) => part_of(alloc, asking.get()),
+            Hand::Read(asking) => part_of(alloc, asking.get()),
+            Hand::Write(asking) => part_of(alloc, asking.get()),
+            Hand::Delete(asking) => part_of(alloc, asking.get()),
         }
     }
 
@@ -163,14 +193,14 @@ impl Hand {
         ensures { IfOk result (λ stage. stage ≡ hand_stage_after self answer) }
     {
         match self {
-            Hand::Produce(asking) => next_under_name(take(alloc, asking, answer)),
-            Hand::Fetch(asking) => next_under_name(take(alloc, asking, answer)),
-            Hand::Acknowledge(asking) => next_under_name(take(alloc, asking, answer)),
-            Hand::Heartbeat(asking) => next_under_name(take(alloc, asking, answer)),
-            Hand::Initialize(asking) => next_under_name(take(alloc, asking, answer)),
-            Hand::Read(asking) => next_under_name(take(alloc, asking, answer)),
-            Hand::Write(asking) => next_under_name(take(alloc, asking, answer)),
-            Hand::Delete(asking) => next_under_name(take(alloc, asking, answer)),
+            Hand::Produce(asking) => next_under_name(alloc, take_kept(alloc, asking, answer)),
+            Hand::Fetch(asking) => next_under_name(alloc, take_kept(alloc, asking, answer)),
+            Hand::Acknowledge(asking) => next_under_name(alloc, take_kept(alloc, asking, answer)),
+            Hand::Heartbeat(asking) => next_under_name(alloc, take_kept(alloc, asking, answer)),
+            Hand::Initialize(asking) => next_under_name(alloc, take_kept(alloc, asking, answer)),
+            Hand::Read(asking) => next_under_name(alloc, take_kept(alloc, asking, answer)),
+            Hand::Write(asking) => next_under_name(alloc, take_kept(alloc, asking, answer)),
+            Hand::Delete(asking) => next_under_name(alloc, take_kept(alloc, asking, answer)),
         }
     }
 }

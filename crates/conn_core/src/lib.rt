@@ -8,6 +8,7 @@ mod conn;
 mod coordinators;
 mod hand;
 mod judge;
+mod kept;
 mod law;
 mod metadata;
 mod next;

@@ -10,6 +10,7 @@ ghost use Rattle.conn_core.specs.Beginning.{heartbeat_begins, initialize_begins,
 use crate::begun::Begun;
 use crate::coordinators::coordinator_body;
 use crate::hand::{Hand, under_name};
+use crate::kept::Kept;
 use crate::metadata::metadata_reply;
 use crate::versions::versions_reply;
 use call_fold::Stage;
@@ -26,7 +27,7 @@ use msgs_state::{
 };
 use share_calls::{ack_call, fetch_call, heartbeat_call};
 use share_model::NoMemory;
-use share_session::Sessions;
+use share_session::{SessionChange, Sessions};
 use state_calls::{Delete, Initialize, Read, Write, state_call};
 use std::alloc::Global;
 use topic_conf::Config;
@@ -42,13 +43,45 @@ pub trait Request: Sized + Drop {
         ensures fits { IfOk result (λ begun. Fits begun.change sessions.now) };
 }
 
+// What is done to the sessions, apart.
+fn kept_change(
+    alloc: Global,
+    change: Option<SessionChange>,
+) -> Result<Option<Kept<SessionChange>>, NoMemory>
+    ensures { IfOk result (λ kept. kept ≡ change) }
+{
+    match change {
+        Some(change) => {
+            let kept = Kept::new(alloc, change)?;
+            Ok(Some(kept))
+        }
+        None => Ok(None),
+    }
+}
+
 // What a call begins with, under its name in hand.
 macro_rules! begun {
-    ($stage:expr, $change:expr) => {
+    ($alloc:expr, $stage:expr) => {{
+        let stage = under_name($alloc, $stage)?;
         Ok(Begun {
-            stage: under_name($stage),
-            change: $change,
+            stage,
+            change: None,
         })
+    }};
+    ($alloc:expr, $stage:expr, $change:expr) => {
+        match kept_change($alloc, $change) {
+            Ok(change) => match under_name($alloc, $stage) {
+                Ok(stage) => Ok(Begun { stage, change }),
+                Err(NoMemory) => {
+                    drop(change);
+                    Err(NoMemory)
+                }
+            },
+            Err(NoMemory) => {
+                drop($stage);
+                Err(NoMemory)
+            }
+        }
     };
 }
 
@@ -98,7 +131,8 @@ impl Request for ProduceRequest {
     ghost begins = { produce_begins };
 
     fn begin(self, alloc: Global, conf: &Config, _: &Sessions) -> Result<Begun, NoMemory> {
-        begun!(produce_call(alloc, conf, self)?, None)
+        let stage = produce_call(alloc, conf, self)?;
+        begun!(alloc, stage)
     }
 }
 
@@ -109,7 +143,7 @@ impl Request for ShareFetchRequest {
         let begun = fetch_call(alloc, conf, sessions, &self);
         drop(self);
         let (stage, change) = begun?;
-        begun!(stage, change)
+        begun!(alloc, stage, change)
     }
 }
 
@@ -120,7 +154,7 @@ impl Request for ShareAckRequest {
         let begun = ack_call(alloc, conf, sessions, &self);
         drop(self);
         let (stage, change) = begun?;
-        begun!(stage, change)
+        begun!(alloc, stage, change)
     }
 }
 
@@ -128,7 +162,8 @@ impl Request for HeartbeatRequest {
     ghost begins = { heartbeat_begins };
 
     fn begin(self, alloc: Global, _: &Config, _: &Sessions) -> Result<Begun, NoMemory> {
-        begun!(heartbeat_call(alloc, self)?, None)
+        let stage = heartbeat_call(alloc, self)?;
+        begun!(alloc, stage)
     }
 }
 
@@ -136,7 +171,8 @@ impl Request for InitializeShareGroupStateRequest {
     ghost begins = { initialize_begins };
 
     fn begin(self, alloc: Global, conf: &Config, _: &Sessions) -> Result<Begun, NoMemory> {
-        begun!(state_call(alloc, conf, Initialize, self)?, None)
+        let stage = state_call(alloc, conf, Initialize, self)?;
+        begun!(alloc, stage)
     }
 }
 
@@ -144,7 +180,8 @@ impl Request for ReadShareGroupStateRequest {
     ghost begins = { read_begins };
 
     fn begin(self, alloc: Global, conf: &Config, _: &Sessions) -> Result<Begun, NoMemory> {
-        begun!(state_call(alloc, conf, Read, self)?, None)
+        let stage = state_call(alloc, conf, Read, self)?;
+        begun!(alloc, stage)
     }
 }
 
@@ -152,7 +189,8 @@ impl Request for WriteShareGroupStateRequest {
     ghost begins = { write_begins };
 
     fn begin(self, alloc: Global, conf: &Config, _: &Sessions) -> Result<Begun, NoMemory> {
-        begun!(state_call(alloc, conf, Write, self)?, None)
+        let stage = state_call(alloc, conf, Write, self)?;
+        begun!(alloc, stage)
     }
 }
 
@@ -160,6 +198,7 @@ impl Request for DeleteShareGroupStateRequest {
     ghost begins = { delete_begins };
 
     fn begin(self, alloc: Global, conf: &Config, _: &Sessions) -> Result<Begun, NoMemory> {
-        begun!(state_call(alloc, conf, Delete, self)?, None)
+        let stage = state_call(alloc, conf, Delete, self)?;
+        begun!(alloc, stage)
     }
 }
