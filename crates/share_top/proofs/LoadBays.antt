@@ -1,6 +1,6 @@
 -- A load on the disk of a bay: what is said of the log and its disk is said of the bay's.
 use Rattle.std.specs.Prelude.{map}
-use Rattle.std.proofs.Common.{◌++◌, ⊥, length, length-append}
+use Rattle.std.proofs.Common.{◌++◌, length, length-append}
 use Rattle.std.proofs.lemmas.List.{map-append}
 use Rattle.std.proofs.Common.{◌≡◌, ◌+◌, ◌-◌, ◌<◌, ◌≤◌, ◌^◌, ◌↔◌, inl, inr, ⊎_elim, ℕ, List, [], ◌∷◌, All, Bool, true, false, ◌||◌, Option, Some, None, IfSome, MatchOption, is_some, min, refl, sym, ap, subst, ◌∙◌, arith}
 use Rattle.std.specs.Option.{IsSome}
