@@ -18,4 +18,4 @@ pub look_in-requires : goal.look_in-requires
 look_in-requires g c =
     let lt : c.args.shard < length c.args.parts.now = search rules in
     let is : c.in-Some.slot.now ≡ get_or c.args.parts.now c.args.shard c.in-Some.slot.now = search rules in
-    all_at (λ (s : PartSlot g.row.D.Denot). IsOpenState s.state) c.args.shard c.args.parts.now c.in-Some.slot.now c.requires.open lt is
+    record { «open» = all_at (λ (s : PartSlot g.row.D.Denot). IsOpenState s.state) c.args.shard c.args.parts.now c.in-Some.slot.now c.requires.open lt is }
