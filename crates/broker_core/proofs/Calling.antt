@@ -1,5 +1,5 @@
 -- Calls on the shard of a hosted partition, seen by all shards.
-use Rattle.std.proofs.Common.{◌≡◌, ◌⊎◌, arith, inl, inr, refl, sym, ap, ◌∙◌, subst, ℕ, zero, suc, List, [], ◌∷◌, Bool, false, Some}
+use Rattle.std.proofs.Common.{◌≡◌, ◌⊎◌, inl, inr, refl, sym, ap, ◌∙◌, subst, ℕ, zero, suc, List, [], ◌∷◌, Bool, false, Some}
 use Rattle.std.specs.List.{AllZip}
 use Rattle.std.specs.declared.option.Option.{Option}
 use Rattle.edge_io.specs.declared.name.DiskPlace.{DiskPlace}
@@ -24,16 +24,15 @@ use Rattle.broker_model.specs.Disks.{Facts, OnCalled}
 use Rattle.broker_model.proofs.Lists.{change_of, changes_so}
 use Rattle.broker_core.specs.declared.slot.PartState.{PartState}
 use Rattle.broker_core.specs.declared.slot.PartSlot.{PartSlot}
-use Rattle.broker_model.specs.Acting.{Begun, EndsGoOn, HalvesOn, StepsOn}
+use Rattle.broker_model.specs.Acting.{EndsGoOn, StepsOn}
 use Rattle.edge_io.specs.Disk.{IsTold}
 use Rattle.broker_core.specs.Carried.{GoesOn, IsPartCarried, OpenPart, PartGoesOn, Uses}
-use Rattle.broker_model.specs.Acting.Begun.{BeginsVisit, BeginsExpiry}
-use Rattle.broker_core.specs.Hosts.{AreApart, AreCarried, AreDistinct, AreOpen, Did, DiskGoesOn, ExpiresShard, GoesOnIf, GoOn, Halts, HaltsSlot, HalvesExpiry, HostsParts, IsHalfDone, IsLeftIn, IsOpenState, IsPartSlot, IsPartState, Leads, LeadsSlot, LogsLater, StaysHosted, among, counts_in, disks_in, ends_in, ends_over, facts_at, facts_in, foreign_disks, foreign_end, foreign_facts, hosted_slot, hosted_slots, open_disk, part_disk, slot_disks, slot_ends}
+use Rattle.broker_core.specs.Hosts.{AreApart, AreCarried, AreDistinct, AreOpen, Did, DiskGoesOn, ExpiresShard, GoesOnIf, GoOn, Halts, HaltsSlot, HostsParts, IsOpenState, IsPartSlot, IsPartState, Leads, LeadsSlot, LogsLater, StaysHosted, among, counts_in, disks_in, ends_in, ends_over, facts_at, facts_in, foreign_disks, foreign_end, foreign_facts, hosted_slot, hosted_slots, open_disk, part_disk, slot_disks, slot_ends}
 use Rattle.broker_core.proofs.Flats.{among_changed, zip_flat}
 use Rattle.broker_core.proofs.Leading.{StillSlot, halts_still, open_still, parts_apart, parts_still, same_both, same_goes, slot_still, still_foreign}
 use Rattle.broker_core.proofs.Reaching.{SlotLater, SlotReaches, names_later, names_reach, open_reaches, same_later, slot_later, slot_reaches, slots_reach}
 use Rattle.broker_core.proofs.Places.{Changed, changed, changes_all, changes_either, changes_not, changes_same, changes_zip, zip_same, zip_weaker}
-use Rattle.broker_core.proofs.Slots.{AreOf, Halves, Turns, are_of, called_same, half_named, slot_end_stays, slot_used, step_named}
+use Rattle.broker_core.proofs.Slots.{AreOf, Turns, are_of, called_same, slot_end_stays, slot_used, step_named}
 use Rattle.edge_io.specs.Views.{DiskView}
 
 module _ {D : Type 0} (seen : D → DiskView) where
@@ -52,8 +51,8 @@ module _ {D : Type 0} (seen : D → DiskView) where
   abbrev LeadsS : ℕ → PartCall → PartSlot D → PartSlot D → Type 0
   LeadsS now did x y = LeadsSlot seen now did x y
 
-  abbrev HaltsS : ℕ → (PartCall → Type 0) → (Begun → Type 0) → PartSlot D → PartSlot D → Type 0
-  HaltsS now Whole Half x y = HaltsSlot seen now Whole Half x y
+  abbrev HaltsS : ℕ → (PartCall → Type 0) → PartSlot D → PartSlot D → Type 0
+  HaltsS now Whole x y = HaltsSlot seen now Whole x y
 
   -- the same partition, with other parts of one hosts
   abbrev pub with_parts : HostsParts D → List (PartSlot D) → HostsParts D
@@ -76,8 +75,8 @@ module _ {D : Type 0} (seen : D → DiskView) where
     goes = p.goes;
   }
 
-  pub turned_halts : (now : ℕ) (Whole : PartCall → Type 0) (Half : Begun → Type 0) (x y : PartSlot D) → HaltsS now Whole Half x y → Turned x y
-  turned_halts now Whole Half x y p = record {
+  pub turned_halts : (now : ℕ) (Whole : PartCall → Type 0) (x y : PartSlot D) → HaltsS now Whole x y → Turned x y
+  turned_halts now Whole x y p = record {
     was = p.was;
     is = p.is;
     turns = record { old_is = p.old_is; new_is = p.new_is; hosted = λ i. record { topic = p.topic i; conf = p.conf i } };
@@ -259,15 +258,14 @@ module _ {D : Type 0} (seen : D → DiskView) where
 
   -- ---- a call in which no memory was found
 
-  record HaltedPart (now : ℕ) (Whole : PartCall → Type 0) (Half : Begun → Type 0) (x y : PartSlot D) (e f : HostedPart) : Type 0 where
+  record HaltedPart (now : ℕ) (Whole : PartCall → Type 0) (x y : PartSlot D) (e f : HostedPart) : Type 0 where
     was : OpenPart D
     is : OpenPart D
     turns : T x y was is
     e_is : e.hosted ≡ hosted_slot x
     f_is : f.hosted ≡ hosted_slot x
     told : IsTold (seen was.log.journal.disk).content
-    does : (f.shard ≡ e.shard) ⊎ (((did : PartCall) × Whole did × StepsOn seen x.conf was is now e.shard did f.shard)
-        ⊎ ((begun : Begun) × Half begun × HalvesOn seen x.conf was is now e.shard begun f.shard))
+    does : (f.shard ≡ e.shard) ⊎ ((did : PartCall) × Whole did × StepsOn seen x.conf was is now e.shard did f.shard)
     ends : EndsGoOn was is
 
   -- its disks stand for the shard, and that of its log reaches to where its journal ends
@@ -278,11 +276,10 @@ module _ {D : Type 0} (seen : D → DiskView) where
   keep_halted : (x : PartSlot D) (e : HostedPart) → IsPartSlot seen x e → HaltedSlot x e
   keep_halted x e k = record { still = slot_still seen x e k; reaches = slot_reaches seen x e k }
 
-  slot_halts : (now : ℕ) (Whole : PartCall → Type 0) (Half : Begun → Type 0) (x y : PartSlot D) (e : HostedPart) → HaltsS now Whole Half x y
-      → IsPartSlot seen x e
-      → (f : HostedPart) × HaltedSlot y f × HaltedPart now Whole Half x y e f
+  slot_halts : (now : ℕ) (Whole : PartCall → Type 0) (x y : PartSlot D) (e : HostedPart) → HaltsS now Whole x y
+      → IsPartSlot seen x e → (f : HostedPart) × HaltedSlot y f × HaltedPart now Whole x y e f
   unfolding turned_halts
-  slot_halts now Whole Half x y e p k =
+  slot_halts now Whole x y e p k =
       let its : IsPartCarried seen x.conf p.was e.shard = subst (λ (s : PartState D). IsPartState seen x.conf s e.shard) p.old_is k.state in
       let h = p.halts e.shard its in (
         record { hosted = hosted_slot x; shard = h.after },
@@ -294,7 +291,7 @@ module _ {D : Type 0} (seen : D → DiskView) where
         record {
           was = p.was;
           is = p.is;
-          turns = (turned_halts now Whole Half x y p).turns;
+          turns = (turned_halts now Whole x y p).turns;
           e_is = k.hosted;
           f_is = refl;
           told = its.log.told;
@@ -303,99 +300,63 @@ module _ {D : Type 0} (seen : D → DiskView) where
         },
       )
 
-  -- the slot was left in the midst of a call
-  abbrev LeftAt : Counts → (ends : Ends) → ℕ → Begun → HostedPart → HostedPart → Type 0
-  LeftAt counts ends now begun e f =
-      (f.hosted ≡ e.hosted) × Halves seen counts ends now begun e.hosted e.shard f.shard
-
-  module _ (old : HostsParts D) (ys : List (PartSlot D)) (n now : ℕ) (Whole : PartCall → Type 0) (Half : Begun → Type 0)
-      (changes : ChangesAt n (HaltsS now Whole Half) old.parts ys) (apart : AreApart old) (s : Shards) (k : K old s) where
-    abbrev c : Changed (IsPartSlot seen) HaltedSlot keep_halted (HaltsS now Whole Half) (HaltedPart now Whole Half)
-        (slot_halts now Whole Half) n old.parts ys s.parts
-    c = changed (IsPartSlot seen) HaltedSlot keep_halted (HaltsS now Whole Half) (HaltedPart now Whole Half)
-        (slot_halts now Whole Half) n old.parts ys s.parts changes k.parts
+  module _ (old : HostsParts D) (ys : List (PartSlot D)) (n now : ℕ) (Whole : PartCall → Type 0)
+      (changes : ChangesAt n (HaltsS now Whole) old.parts ys) (apart : AreApart old) (s : Shards) (k : K old s) where
+    abbrev c : Changed (IsPartSlot seen) HaltedSlot keep_halted (HaltsS now Whole) (HaltedPart now Whole)
+        (slot_halts now Whole) n old.parts ys s.parts
+    c = changed (IsPartSlot seen) HaltedSlot keep_halted (HaltsS now Whole) (HaltedPart now Whole)
+        (slot_halts now Whole) n old.parts ys s.parts changes k.parts
 
     abbrev new : HostsParts D
     new = with_parts old ys
 
-    -- it was done whole, or left half done
-    abbrev Does : PartCall ⊎ Begun → HostedPart → HostedPart → Type 0
-    Does (inl did) e f = Whole did × StepsHosted (N old new) (ends_over old new) now (hosted_slot c.x) did e f
-    Does (inr begun) e f = Half begun × LeftAt (N old new) (ends_over old new) now begun e f
+    -- it was done whole
+    abbrev Does : PartCall → HostedPart → HostedPart → Type 0
+    Does did e f = Whole did × StepsHosted (N old new) (ends_over old new) now (hosted_slot c.x) did e f
 
     hosted_is : hosted_slot c.y ≡ hosted_slot c.x
-    hosted_is = (turned_halts now Whole Half c.x c.y c.change).turns.hosted
+    hosted_is = (turned_halts now Whole c.x c.y c.change).turns.hosted
 
-    halted : (e f : HostedPart) → HaltedPart now Whole Half c.x c.y e f → (f ≡ e) ⊎ ((d : PartCall ⊎ Begun) × Does d e f)
+    halted : (e f : HostedPart) → HaltedPart now Whole c.x c.y e f → (f ≡ e) ⊎ ((did : PartCall) × Does did e f)
     halted e f g = go g.does where
-      go : (f.shard ≡ e.shard) ⊎ (((did : PartCall) × Whole did × StepsOn seen c.x.conf g.was g.is now e.shard did f.shard)
-          ⊎ ((begun : Begun) × Half begun × HalvesOn seen c.x.conf g.was g.is now e.shard begun f.shard))
-          → (f ≡ e) ⊎ ((d : PartCall ⊎ Begun) × Does d e f)
+      go : (f.shard ≡ e.shard) ⊎ ((did : PartCall) × Whole did × StepsOn seen c.x.conf g.was g.is now e.shard did f.shard)
+          → (f ≡ e) ⊎ ((did : PartCall) × Does did e f)
       go (inl same) = inl (λ i. record { hosted = (g.f_is ∙ sym g.e_is) i; shard = same i })
-      go (inr (inl d)) = inr (
-        inl d.0,
+      go (inr d) = inr (
+        d.0,
         (
           d.1,
           named_step old ys n c.x c.y c.there c.here c.exact hosted_is apart now d.0 e f g.was g.is g.turns g.e_is g.f_is g.told d.2,
-        ),
-      )
-      go (inr (inr b)) = inr (
-        inr b.0,
-        (
-          b.1,
-          (
-            g.f_is ∙ sym g.e_is,
-            subst (λ (h : Hosted). Halves seen (N old new) (ends_over old new) now b.0 h e.shard f.shard) (sym g.e_is)
-                (half_named seen (hosted_slot c.x) g.was g.is (N old new) (ends_over old new)
-                (of_slot old ys n c.x c.y c.there c.here c.exact hosted_is apart g.was g.is g.turns) now e.shard b.0 f.shard b.2),
-          ),
         ),
       )
 
     abbrev DoesAll : Shards → Option ShardCall → Shards → Type 0
     DoesAll a call b = (did : PartCall) × Whole did × DidPart (N old new) (ends_over old new) now n did a call b
 
-    abbrev LeavesAll : Shards → Shards → Type 0
-    LeavesAll a b = (begun : Begun) × Half begun
-        × IsLeftIn n (Halves seen (N old new) (ends_over old new) now begun) a b
-
     abbrev after : Shards
     after = record { parts = c.after; members = s.members; foreign = s.foreign }
 
-    whole_or_half : (d : PartCall ⊎ Begun) → ChangesAt n (Does d) s.parts c.after
-        → (after ≡ s) ⊎ (((call : Option ShardCall) × DoesAll s call after) ⊎ LeavesAll s after)
-    whole_or_half (inl did) g = inr (inl (
-      Some (CallPart n (hosted_slot c.x) did),
+    what_was_done : ChangesAt n (λ e f. f ≡ e) s.parts c.after ⊎ ((did : PartCall) × ChangesAt n (Does did) s.parts c.after)
+        → (after ≡ s) ⊎ ((call : Option ShardCall) × DoesAll s call after)
+    what_was_done (inl none) = inl (λ i. record { parts = changes_not n s.parts c.after none i; members = s.members; foreign = s.foreign })
+    what_was_done (inr d) = inr (
+      Some (CallPart n (hosted_slot c.x) d.0),
       (
-        did,
-        change_of n (Does (inl did)) (λ e f q. q.0) s.parts c.after g,
+        d.0,
+        change_of n (Does d.0) (λ e f q. q.0) s.parts c.after d.1,
         (
           hosted_slot c.x,
           refl,
           (
-            changes_so n (Does (inl did)) (StepsHosted (N old new) (ends_over old new) now (hosted_slot c.x) did) (λ e f q. q.1) s.parts c.after g,
+            changes_so n (Does d.0) (StepsHosted (N old new) (ends_over old new) now (hosted_slot c.x) d.0) (λ e f q. q.1) s.parts c.after d.1,
             refl,
             refl,
           ),
         ),
       ),
-    ))
-    whole_or_half (inr begun) g = inr (inr (
-      begun,
-      change_of n (Does (inr begun)) (λ e f q. q.0) s.parts c.after g,
-      record {
-        parts = changes_so n (Does (inr begun)) (LeftAt (N old new) (ends_over old new) now begun) (λ e f q. q.1) s.parts c.after g;
-        members = refl;
-        foreign = refl;
-      },
-    ))
+    )
 
-    what_was_done : ChangesAt n (λ e f. f ≡ e) s.parts c.after ⊎ ((d : PartCall ⊎ Begun) × ChangesAt n (Does d) s.parts c.after)
-        → (after ≡ s) ⊎ (((call : Option ShardCall) × DoesAll s call after) ⊎ LeavesAll s after)
-    what_was_done (inl none) = inl (λ i. record { parts = changes_not n s.parts c.after none i; members = s.members; foreign = s.foreign })
-    what_was_done (inr d) = whole_or_half d.0 d.1
-
-    pub halted_at : Halts seen old s new DoesAll LeavesAll
+    pub halted_at : Halts seen old s new DoesAll
     halted_at = record {
       after = after;
       still = record {
@@ -403,38 +364,34 @@ module _ {D : Type 0} (seen : D → DiskView) where
             (zip_weaker HaltedSlot (StillSlot seen) (λ y f h. h.still) ys c.after c.zip);
         foreign = still_foreign seen old.foreign s.foreign k.foreign;
       };
-      ends_later = change_of n (HaltedPart now Whole Half c.x c.y)
+      ends_later = change_of n (HaltedPart now Whole c.x c.y)
           (λ e f g. on_later old ys n c.x c.y c.there c.here c.exact hosted_is apart g.was g.is g.turns g.ends) s.parts c.after c.goes;
       reach = names_reach seen (λ n. n) refl new new (slots_reach seen HaltedSlot (λ y f h. h.reaches) ys c.after c.zip);
       does = what_was_done (changes_either (λ e f. f ≡ e) Does n s.parts c.after
-          (changes_so n (HaltedPart now Whole Half c.x c.y) (λ e f. (f ≡ e) ⊎ ((d : PartCall ⊎ Begun) × Does d e f)) halted s.parts c.after c.goes));
+          (changes_so n (HaltedPart now Whole c.x c.y) (λ e f. (f ≡ e) ⊎ ((did : PartCall) × Does did e f)) halted s.parts c.after c.goes));
     }
 
   -- a part whose shard isn't there is left as it was
-  abbrev pub MayHalt : ℕ → ℕ → (PartCall → Type 0) → (Begun → Type 0) → List (PartSlot D) → List (PartSlot D) → Type 0
-  MayHalt n now Whole Half xs ys = (ys ≡ xs) ⊎ ChangesAt n (HaltsS now Whole Half) xs ys
+  abbrev pub MayHalt : ℕ → ℕ → (PartCall → Type 0) → List (PartSlot D) → List (PartSlot D) → Type 0
+  MayHalt n now Whole xs ys = (ys ≡ xs) ⊎ ChangesAt n (HaltsS now Whole) xs ys
 
-  pub part_halts : (old : HostsParts D) (ys : List (PartSlot D)) (n now : ℕ) (Whole : PartCall → Type 0) (Half : Begun → Type 0)
-      → MayHalt n now Whole Half old.parts ys → AreApart old → (s : Shards) → K old s
+  pub part_halts : (old : HostsParts D) (ys : List (PartSlot D)) (n now : ℕ) (Whole : PartCall → Type 0)
+      → MayHalt n now Whole old.parts ys → AreApart old → (s : Shards) → K old s
       → Halts seen old s (with_parts old ys)
       (λ a call b. (did : PartCall) × Whole did × DidPart (N old (with_parts old ys)) (ends_over old (with_parts old ys)) now n did a call b)
-      (λ a b. (begun : Begun) × Half begun
-      × IsLeftIn n (Halves seen (N old (with_parts old ys)) (ends_over old (with_parts old ys)) now begun) a b)
-  part_halts old ys n now Whole Half (inl same) apart s k =
+  part_halts old ys n now Whole (inl same) apart s k =
       subst (λ (zs : List (PartSlot D)). Halts seen old s (with_parts old zs)
-      (λ a call b. (did : PartCall) × Whole did × DidPart (N old (with_parts old zs)) (ends_over old (with_parts old zs)) now n did a call b)
-      (λ a b. (begun : Begun) × Half begun
-      × IsLeftIn n (Halves seen (N old (with_parts old zs)) (ends_over old (with_parts old zs)) now begun) a b)) (sym same)
-      (halts_still seen old s _ _ k)
-  part_halts old ys n now Whole Half (inr changes) apart s k = halted_at old ys n now Whole Half changes apart s k
+      (λ a call b. (did : PartCall) × Whole did × DidPart (N old (with_parts old zs)) (ends_over old (with_parts old zs)) now n did a call b)) (sym same)
+      (halts_still seen old s _ k)
+  part_halts old ys n now Whole (inr changes) apart s k = halted_at old ys n now Whole changes apart s k
 
   -- what holds of the disks either way
-  pub may_on : (old : HostsParts D) (ys : List (PartSlot D)) (n now : ℕ) (Whole : PartCall → Type 0) (Half : Begun → Type 0)
-      → MayHalt n now Whole Half old.parts ys → (Q : HostsParts D → Type 0) → Q old → (ChangesAt n Turned old.parts ys → Q (with_parts old ys))
+  pub may_on : (old : HostsParts D) (ys : List (PartSlot D)) (n now : ℕ) (Whole : PartCall → Type 0)
+      → MayHalt n now Whole old.parts ys → (Q : HostsParts D → Type 0) → Q old → (ChangesAt n Turned old.parts ys → Q (with_parts old ys))
       → Q (with_parts old ys)
-  may_on old ys n now Whole Half (inl same) Q q f = subst (λ (zs : List (PartSlot D)). Q (with_parts old zs)) (sym same) q
-  may_on old ys n now Whole Half (inr changes) Q q f =
-      f (changes_so n (HaltsS now Whole Half) Turned (turned_halts now Whole Half) old.parts ys changes)
+  may_on old ys n now Whole (inl same) Q q f = subst (λ (zs : List (PartSlot D)). Q (with_parts old zs)) (sym same) q
+  may_on old ys n now Whole (inr changes) Q q f =
+      f (changes_so n (HaltsS now Whole) Turned (turned_halts now Whole) old.parts ys changes)
 
   pub led_turned : (n now : ℕ) (did : PartCall) (xs ys : List (PartSlot D)) → ChangesAt n (LeadsS now did) xs ys → ChangesAt n Turned xs ys
   led_turned n now did xs ys c = changes_so n (LeadsS now did) Turned (turned_leads now did) xs ys c
@@ -446,20 +403,7 @@ module _ {D : Type 0} (seen : D → DiskView) where
   looked_at zero P (x ∷ xs) h = (h, refl)
   looked_at (suc n) P (x ∷ xs) h = (refl, looked_at n P xs h)
 
-  -- ---- a visit that was left half done
-
-  pub half_of_visit : (counts : Counts) (ends : Ends) (now : ℕ) (asked : Part) (shard : ℕ) (visit : Visit) → asked ≡ PartVisit shard visit
-      → (begun : Begun) → begun ≡ BeginsVisit visit → (a b : Shards)
-      → IsLeftIn shard (Halves seen counts ends now begun) a b → IsHalfDone counts ends now asked a b
-  half_of_visit counts ends now asked shard visit is begun begins a b left =
-      subst (λ (p : Part). IsHalfDone counts ends now p a b) (sym is)
-      (subst (λ (g : Begun). IsLeftIn shard (Halves seen counts ends now g) a b) begins left)
-
-  -- an expiry that was left half done
-  pub half_of_expiry : (counts : Counts) (ends : Ends) (now shard : ℕ) (begun : Begun) → begun ≡ BeginsExpiry → (a b : Shards)
-      → IsLeftIn shard (Halves seen counts ends now begun) a b → HalvesExpiry counts ends now shard a b
-  half_of_expiry counts ends now shard begun begins a b left =
-      subst (λ (g : Begun). IsLeftIn shard (Halves seen counts ends now g) a b) begins left
+  -- ---- a call that was done before memory ran out
 
   pub expiry_halts : (counts : Counts) (ends : Ends) (now shard : ℕ) (did : PartCall) (answer : ExpireAnswer) → did ≡ Expires answer → (a : Shards)
       (call : Option ShardCall) (b : Shards) → DidPart counts ends now shard did a call b

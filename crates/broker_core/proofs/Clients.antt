@@ -17,7 +17,7 @@ use Rattle.broker_model.specs.Shards.{Counts, Ends, Shards, ShardCall}
 use Rattle.broker_model.specs.Shards.ShardCall.{CallPart}
 use Rattle.broker_model.specs.Shards.PartCall.{Expires}
 use Rattle.broker_model.specs.Steps.{Does, DoesTurn, ExpiresAt, replies_to}
-use Rattle.broker_core.specs.Hosts.{Did, ExpiresShard, HalvesNext, IsThere, faults_in}
+use Rattle.broker_core.specs.Hosts.{Did, ExpiresShard, IsThere, faults_in}
 use Rattle.broker_core.proofs.Flats.{all_append}
 use Rattle.broker_core.proofs.Telling.{all_told, faults_are, part_told}
 
@@ -49,14 +49,6 @@ pub asks_next : (counts : Counts) (ends : Ends) (id now : ℕ) (part : Part) (tu
     → Does counts ends id now turn conn a b call outcomes after
 asks_next counts ends id now part turn conn after outcomes is a call b does =
     subst (λ (n : Next). Does counts ends id now n conn a b call outcomes after) (sym is) does
-
-pub halves_asked : (counts : Counts) (ends : Ends) (now : ℕ) (part : Part) (next : Next) → next ≡ Ask part → (a b : Shards)
-    → HalvesNext counts ends now (Ask part) a b → HalvesNext counts ends now next a b
-halves_asked counts ends now part next is a b h = subst (λ (n : Next). HalvesNext counts ends now n a b) (sym is) h
-
-pub halves_turn : (counts : Counts) (ends : Ends) (now : ℕ) (t : Turn) (next : Next) (conn : ConnParts) → Tells t next conn → (a b : Shards)
-    → HalvesNext counts ends now next a b → HalvesNext counts ends now t.next a b
-halves_turn counts ends now t next conn told a b h = subst (λ (n : Next). HalvesNext counts ends now n a b) told.0 h
 
 -- ---- what is told
 

@@ -15,10 +15,6 @@ use Rattle.topic_conf.specs.Topics.{partitions, shard_named}
 use Rattle.topic_conf.proofs.Lists.{partitions_cons}
 use Rattle.session_script.specs.Output.{IsTold}
 use Rattle.conn_core.specs.Conns.{ConnParts, conn_after_bytes}
-use Rattle.conn_core.specs.Turning.{turn}
-use Rattle.conn_core.specs.declared.next.Next.TheVariants.{Ask}
-use Rattle.call_fold.specs.declared.part.Part.{Part}
-use Rattle.call_fold.specs.declared.part.Part.TheVariants.{Foreign, Produce, Visit as PartVisit, Look, Heartbeat}
 use Rattle.share_members.specs.Groups.{Memberships}
 use Rattle.broker_model.specs.Hosted.{Hosted, IsOneOf, IsTaken, hosted_from, hosted_in, hosted_of, part_disks, same_name, state_a, state_b}
 use Rattle.broker_model.specs.Shards.{Counts, HostedPart, Shards, ShardCall, StepsShards, calls, hosted_by}
@@ -26,7 +22,7 @@ use Rattle.broker_model.specs.Shards.ShardCall.{CallMembers}
 use Rattle.broker_model.specs.Shards.MembersCall.{Ticks}
 use Rattle.broker_model.specs.Machine.{Machine, LandsPart, no_members, conn_at, opened, at_connection, ended_in}
 use Rattle.broker_model.specs.Disks.{Facts, OnCalled}
-use Rattle.broker_model.specs.Steps.{StepsTo, Serves, DoesNothing, ExpiresAt, IsLeftInVisit}
+use Rattle.broker_model.specs.Steps.{StepsTo, Serves, DoesNothing, ExpiresAt}
 use Rattle.broker_model.specs.States.{State}
 use Rattle.broker_core.specs.declared.fault.CoreFault.{CoreFault}
 use Rattle.broker_core.specs.declared.fault.CoreFault.TheVariants.{NoMemory}
@@ -35,7 +31,7 @@ use Rattle.broker_core.specs.declared.slot.ForeignSlot.TheVariants as foreign
 use Rattle.broker_core.specs.declared.slot.PartState.{PartState}
 use Rattle.broker_core.specs.declared.slot.PartState.TheVariants as part
 use Rattle.broker_core.specs.declared.slot.PartSlot.{PartSlot}
-use Rattle.broker_core.specs.Hosts.{AreCarried, AreDistinct, AreHeld, AreHeldParts, AreNamed, AreOpen, AreOpenParts, BothGoOn, DiskGoesOn, GoesOnIf, GoOn, Halts, HalvesExpiry, HalvesServe, HostsParts, IsHalfDone, IsHeld, IsHeldState, IsOpen, IsOpenState, IsPartSlot, Leads, LeftDisks, LogsReach, StandStill, StaysHosted, all_names, counts_in, disks_in, ends_in, ends_over, facts_at, facts_in, foreign_facts, hosted_slots}
+use Rattle.broker_core.specs.Hosts.{AreCarried, AreDistinct, AreHeld, AreHeldParts, AreNamed, AreOpen, AreOpenParts, BothGoOn, DiskGoesOn, GoesOnIf, GoOn, Halts, HostsParts, IsHeld, IsHeldState, IsOpen, IsOpenState, IsPartSlot, Leads, LeftDisks, LogsReach, StandStill, StaysHosted, all_names, counts_in, disks_in, ends_in, ends_over, facts_at, facts_in, foreign_facts, hosted_slots}
 use Rattle.broker_core.specs.Cores.{AreReopened, CoreParts, HasMoment, IsArmed, IsCore, IsWhole, StopsIn, Advances, state_of}
 use Rattle.broker_core.proofs.Places.{among_zip, zip_weaker, one_in_front, one_in_rest}
 use Rattle.broker_core.proofs.Leading.{still_all}
@@ -407,41 +403,14 @@ module _ {D : Type 0} (seen : D → DiskView) where
         (reach_less seen (disks_in old.hosts) (ends_in old.hosts) (reach_all seen old.hosts before.shards k.shards));
   }
 
-  -- a connection that is there is left in its visit
-  left_in : (old : CoreParts D) (new : HostsParts D) (before : Machine) (id now : ℕ) (asked : Part) (conn : ConnParts) (b : Shards)
-      → conn_at id before.connections ≡ Some conn → (turn old.conf conn).next ≡ Ask asked
-      → IsHalfDone (N old.hosts new) (ends_over old.hosts new) now asked before.shards b
-      → IsLeftInVisit old.conf (N old.hosts new) (ends_over old.hosts new) id now before (record { connections = before.connections; shards = b })
-  left_in old new before id now (Foreign op) conn b there asks half = absurd half
-  left_in old new before id now (Produce shard batch) conn b there asks half = absurd half
-  left_in old new before id now (PartVisit shard visit) conn b there asks half = record {
-    conn = conn;
-    shard = shard;
-    visit = visit;
-    there = there;
-    asks = asks;
-    half = record { connections = refl; parts = half.parts; members = half.members; foreign = half.foreign };
-  }
-  left_in old new before id now (Look shard group) conn b there asks half = absurd half
-  left_in old new before id now (Heartbeat request) conn b there asks half = absurd half
-
-  halved : (old : CoreParts D) (new : HostsParts D) (before : Machine) (id now : ℕ) (at : Option ConnParts) (b : Shards)
-      → conn_at id before.connections ≡ at → HalvesServe old.conf (N old.hosts new) (ends_over old.hosts new) now at before.shards b
-      → IsLeftInVisit old.conf (N old.hosts new) (ends_over old.hosts new) id now before (record { connections = before.connections; shards = b })
-  halved old new before id now None b there half = absurd half
-  halved old new before id now (Some conn) b there half = left_in old new before id now half.0 conn b there half.1 half.2
-
   pub stops_step : (old new : CoreParts D) (before : Machine) (id now : ℕ) → C old before
       → Halts seen old.hosts before.shards new.hosts
       (λ a call b. (outcomes : List Outcome) × (m : Machine) × (m.shards ≡ b) × ServesIn old id now call outcomes new.hosts a m)
-      (HalvesServe old.conf (N old.hosts new.hosts) (ends_over old.hosts new.hosts) now (conn_at id old.connections))
       → S old before (Step id now) new
   stops_step old new before id now k h = go h.does
     where
-      go : (h.after ≡ before.shards) ⊎ (((call : Option ShardCall) × ((outcomes : List Outcome) × (m : Machine) × (m.shards ≡ h.after)
-          × ServesIn old id now call outcomes new.hosts before.shards m))
-          ⊎ HalvesServe old.conf (N old.hosts new.hosts) (ends_over old.hosts new.hosts) now (conn_at id old.connections) before.shards h.after)
-          → S old before (Step id now) new
+      go : (h.after ≡ before.shards) ⊎ ((call : Option ShardCall) × ((outcomes : List Outcome) × (m : Machine) × (m.shards ≡ h.after)
+          × ServesIn old id now call outcomes new.hosts before.shards m)) → S old before (Step id now) new
       go (inl same) = record {
         after = before;
         ends = ends_in new.hosts;
@@ -450,36 +419,23 @@ module _ {D : Type 0} (seen : D → DiskView) where
         reach = reach_less seen (disks_in new.hosts) (ends_in new.hosts) h.reach;
         still = subst (λ (s : Shards). StandStill seen s (disks_in new.hosts)) same h.still;
       }
-      go (inr (inl d)) = record {
+      go (inr d) = record {
         after = d.1.1;
         ends = ends_in new.hosts;
         ends_later = h.ends_later;
         reach = reach_less seen (disks_in new.hosts) (ends_in new.hosts) h.reach;
-        reaches = inr (inl (d.0, d.1.0, steps_from old before d.1.1 id now d.0 d.1.0 new.hosts k d.1.3));
+        reaches = inr (d.0, d.1.0, steps_from old before d.1.1 id now d.0 d.1.0 new.hosts k d.1.3);
         still = subst (λ (s : Shards). StandStill seen s (disks_in new.hosts)) (sym d.1.2) h.still;
-      }
-      go (inr (inr half)) = record {
-        after = record { connections = before.connections; shards = h.after };
-        ends = ends_in new.hosts;
-        ends_later = h.ends_later;
-        reach = reach_less seen (disks_in new.hosts) (ends_in new.hosts) h.reach;
-        reaches = inr (inr (halved old new.hosts before id now (conn_at id old.connections) h.after
-            (ap (λ (cs : List (ℕ × ConnParts)). conn_at id cs) k.connections) half));
-        still = h.still;
       }
 
   pub stops_expire : (old new : CoreParts D) (before : Machine) (topic : List ℕ) (part now : ℕ) → C old before
       → Halts seen old.hosts before.shards new.hosts
       (λ a call b. (outcomes : List Outcome) × ExpiresIn old topic part now new.hosts a call outcomes b)
-      (λ a b. (shard : ℕ) × (shard_named topic part old.conf.topics ≡ Some shard) × HalvesExpiry (N old.hosts new.hosts) (ends_over old.hosts new.hosts) now shard a b)
       → S old before (Expire topic part now) new
   stops_expire old new before topic part now k h = go h.does
     where
-      go : (h.after ≡ before.shards) ⊎ (((call : Option ShardCall) × ((outcomes : List Outcome)
-          × ExpiresIn old topic part now new.hosts before.shards call outcomes h.after))
-          ⊎ ((shard : ℕ) × (shard_named topic part old.conf.topics ≡ Some shard)
-          × HalvesExpiry (N old.hosts new.hosts) (ends_over old.hosts new.hosts) now shard before.shards h.after))
-          → S old before (Expire topic part now) new
+      go : (h.after ≡ before.shards) ⊎ ((call : Option ShardCall) × ((outcomes : List Outcome)
+          × ExpiresIn old topic part now new.hosts before.shards call outcomes h.after)) → S old before (Expire topic part now) new
       go (inl same) = record {
         after = before;
         ends = ends_in new.hosts;
@@ -488,24 +444,12 @@ module _ {D : Type 0} (seen : D → DiskView) where
         reach = reach_less seen (disks_in new.hosts) (ends_in new.hosts) h.reach;
         still = subst (λ (s : Shards). StandStill seen s (disks_in new.hosts)) same h.still;
       }
-      go (inr (inl d)) = record {
+      go (inr d) = record {
         after = record { connections = before.connections; shards = h.after };
         ends = ends_in new.hosts;
         ends_later = h.ends_later;
         reach = reach_less seen (disks_in new.hosts) (ends_in new.hosts) h.reach;
-        reaches = inr (inl (d.0, d.1.0, d.1.1 before.connections));
-        still = h.still;
-      }
-      go (inr (inr half)) = record {
-        after = record { connections = before.connections; shards = h.after };
-        ends = ends_in new.hosts;
-        ends_later = h.ends_later;
-        reach = reach_less seen (disks_in new.hosts) (ends_in new.hosts) h.reach;
-        reaches = inr (inr (record {
-          shard = half.0;
-          found = half.1;
-          half = record { connections = refl; parts = half.2.parts; members = half.2.members; foreign = half.2.foreign };
-        }));
+        reaches = inr (d.0, d.1.0, d.1.1 before.connections);
         still = h.still;
       }
 

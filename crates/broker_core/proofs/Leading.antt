@@ -147,8 +147,8 @@ module _ {D : Type 0} (seen : D → DiskView) where
   abbrev L : HostsParts D → Shards → HostsParts D → (Shards → Option ShardCall → Shards → Type 0) → Type 0
   L old s new Q = Leads seen old s new Q
 
-  abbrev H : HostsParts D → Shards → HostsParts D → (Shards → Option ShardCall → Shards → Type 0) → (Shards → Shards → Type 0) → Type 0
-  H old s new Q W = Halts seen old s new Q W
+  abbrev H : HostsParts D → Shards → HostsParts D → (Shards → Option ShardCall → Shards → Type 0) → Type 0
+  H old s new Q = Halts seen old s new Q
 
   abbrev K : HostsParts D → Shards → Type 0
   K hosts s = AreCarried seen hosts s
@@ -218,10 +218,9 @@ module _ {D : Type 0} (seen : D → DiskView) where
     ends_later = l.ends_later;
   }
 
-  pub halts_so : {old : HostsParts D} (new : HostsParts D) (s : Shards) (P Q : Shards → Option ShardCall → Shards → Type 0) (V W : Shards → Shards → Type 0)
-      → ((a : Shards) (call : Option ShardCall) (b : Shards) → P a call b → Q a call b) → ((a b : Shards) → V a b → W a b) → H old s new P V
-      → H old s new Q W
-  halts_so new s P Q V W f g h = record {
+  pub halts_so : {old : HostsParts D} (new : HostsParts D) (s : Shards) (P Q : Shards → Option ShardCall → Shards → Type 0)
+      → ((a : Shards) (call : Option ShardCall) (b : Shards) → P a call b → Q a call b) → H old s new P → H old s new Q
+  halts_so new s P Q f h = record {
     after = h.after;
     still = h.still;
     ends_later = h.ends_later;
@@ -229,21 +228,19 @@ module _ {D : Type 0} (seen : D → DiskView) where
     does = go h.does;
   }
     where
-      go : ((h.after ≡ s) ⊎ (((call : Option ShardCall) × P s call h.after) ⊎ V s h.after))
-          → (h.after ≡ s) ⊎ (((call : Option ShardCall) × Q s call h.after) ⊎ W s h.after)
+      go : ((h.after ≡ s) ⊎ ((call : Option ShardCall) × P s call h.after)) → (h.after ≡ s) ⊎ ((call : Option ShardCall) × Q s call h.after)
       go (inl same) = inl same
-      go (inr (inl r)) = inr (inl (r.0, f s r.0 h.after r.1))
-      go (inr (inr v)) = inr (inr (g s h.after v))
+      go (inr r) = inr (r.0, f s r.0 h.after r.1)
 
   -- shards that led to this are found with it where memory ran out afterwards
-  pub leads_halts : (old new : HostsParts D) (s : Shards) (P Q : Shards → Option ShardCall → Shards → Type 0) (W : Shards → Shards → Type 0)
-      → ((a : Shards) (call : Option ShardCall) (b : Shards) → P a call b → Q a call b) → L old s new P → H old s new Q W
-  leads_halts old new s P Q W f l = record {
+  pub leads_halts : (old new : HostsParts D) (s : Shards) (P Q : Shards → Option ShardCall → Shards → Type 0)
+      → ((a : Shards) (call : Option ShardCall) (b : Shards) → P a call b → Q a call b) → L old s new P → H old s new Q
+  leads_halts old new s P Q f l = record {
     after = l.after;
     still = still_all new l.after l.carried;
     ends_later = l.ends_later;
     reach = reach_all seen new l.after l.carried;
-    does = inr (inl (l.call, f s l.call l.after l.does));
+    does = inr (l.call, f s l.call l.after l.does);
   }
 
   least : (n : ℕ) → n ≤ n
@@ -261,9 +258,8 @@ module _ {D : Type 0} (seen : D → DiskView) where
     ends_later = λ name is. least (ends_in hosts name);
   }
 
-  pub halts_still : (hosts : HostsParts D) (s : Shards) (P : Shards → Option ShardCall → Shards → Type 0) (W : Shards → Shards → Type 0) → K hosts s
-      → H hosts s hosts P W
-  halts_still hosts s P W k = record {
+  pub halts_still : (hosts : HostsParts D) (s : Shards) (P : Shards → Option ShardCall → Shards → Type 0) → K hosts s → H hosts s hosts P
+  halts_still hosts s P k = record {
     after = s;
     still = still_all hosts s k;
     ends_later = λ name is. least (ends_in hosts name);
@@ -429,10 +425,9 @@ module _ {D : Type 0} (seen : D → DiskView) where
           ends_later = foreign_later;
         }
 
-    pub foreign_halts : (now : ℕ) (op : ForeignOp) (W : Shards → Shards → Type 0)
-        → ((t : ForeignShardState) → C was t → HaltsForeign seen was t is op)
-        → (s : Shards) → K old s → H old s next (λ a call b. (answer : PartAnswer) × Did (N old next) (ends_over old next) now (Foreign op) answer a call b) W
-    foreign_halts now op W halts s k =
+    pub foreign_halts : (now : ℕ) (op : ForeignOp) → ((t : ForeignShardState) → C was t → HaltsForeign seen was t is op)
+        → (s : Shards) → K old s → H old s next (λ a call b. (answer : PartAnswer) × Did (N old next) (ends_over old next) now (Foreign op) answer a call b)
+    foreign_halts now op halts s k =
         let h = halts s.foreign (foreign_carried s k) in
         record {
           after = record { parts = s.parts; members = s.members; foreign = h.after };
@@ -451,14 +446,13 @@ module _ {D : Type 0} (seen : D → DiskView) where
       where
         go : (t : ForeignShardState) → (t ≡ s.foreign) ⊎ ((answer : ForeignAnswer) × (fault : Option StoreFault)
             × StepsForeign (HasRisen seen was is) was.journal.end s.foreign op answer fault t)
-            → (record { parts = s.parts; members = s.members; foreign = t } ≡ s) ⊎ (((call : Option ShardCall) × ((answer : PartAnswer)
+            → (record { parts = s.parts; members = s.members; foreign = t } ≡ s) ⊎ ((call : Option ShardCall) × ((answer : PartAnswer)
             × Did (N old next) (ends_over old next) now (Foreign op) answer s call (record { parts = s.parts; members = s.members; foreign = t })))
-            ⊎ W s (record { parts = s.parts; members = s.members; foreign = t }))
         go t (inl same) = inl (λ i. record { parts = s.parts; members = s.members; foreign = same i })
-        go t (inr d) = inr (inl (
+        go t (inr d) = inr (
           Some (CallForeign op d.0 d.1),
           (AnswerForeign d.0, (CallForeign op d.0 d.1, refl, refl, (foreign_steps s.foreign t op d.0 d.1 d.2, refl, refl))),
-        ))
+        )
 
   -- ---- any disks
 
@@ -503,7 +497,7 @@ module _ {D : Type 0} (seen : D → DiskView) where
     ends_later = λ name is. least (ends_in old name);
   }
 
-  pub members_halt : (hosts : HostsParts D) (members : Memberships) (s : Shards) (P : Shards → Option ShardCall → Shards → Type 0) (W : Shards → Shards → Type 0)
-      → members ≡ hosts.members → K hosts s → H hosts s (record { parts = hosts.parts; members = members; foreign = hosts.foreign }) P W
-  members_halt hosts members s P W same k =
-      subst (λ (m : Memberships). H hosts s (record { parts = hosts.parts; members = m; foreign = hosts.foreign }) P W) (sym same) (halts_still hosts s P W k)
+  pub members_halt : (hosts : HostsParts D) (members : Memberships) (s : Shards) (P : Shards → Option ShardCall → Shards → Type 0)
+      → members ≡ hosts.members → K hosts s → H hosts s (record { parts = hosts.parts; members = members; foreign = hosts.foreign }) P
+  members_halt hosts members s P same k =
+      subst (λ (m : Memberships). H hosts s (record { parts = hosts.parts; members = m; foreign = hosts.foreign }) P) (sym same) (halts_still hosts s P k)

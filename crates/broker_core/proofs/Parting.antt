@@ -1,5 +1,5 @@
 -- Calls on the shard of a hosted partition.
-use Rattle.std.proofs.Common.{◌≡◌, ◌≢◌, ◌≤◌, ◌⊎◌, arith, inl, inr, refl, sym, ap, ◌∙◌, subst, ℕ, List, [], ◌∷◌, Bool, true, false, is_some, Result, Ok, Err}
+use Rattle.std.proofs.Common.{◌≡◌, ◌≢◌, ◌≤◌, arith, inl, inr, refl, sym, ap, ◌∙◌, subst, ℕ, List, [], ◌∷◌, Bool, true, false, is_some, Result, Ok, Err}
 use Rattle.std.specs.List.{AllByRecursion}
 use Rattle.std.specs.Prelude.{All}
 use Rattle.std.proofs.lemmas.List.Elements.{All-from_recursion}
@@ -19,11 +19,10 @@ use Rattle.share_model.specs.declared.visit.Then.TheVariants.{Nothing, Release, 
 use Rattle.share_model.specs.declared.visit.Visit.{Visit}
 use Rattle.share_model.specs.declared.visit.VisitAnswer.{VisitAnswer}
 use Rattle.part_log.specs.Logs.{LogParts}
-use Rattle.part_log.specs.Shards.{log_at}
+use Rattle.part_log.specs.Shards.{CarriesLog, log_at}
 use Rattle.share_coord.specs.Parts.{StoreParts}
 use Rattle.share_coord.specs.Holding.{Holds}
 use Rattle.share_coord.specs.States.{states_of}
-use Rattle.part_log.proofs.Looking.{carries_on}
 use Rattle.share_part.specs.Hosting.{PartConfParts, AreHosted, key_of}
 use Rattle.share_part.specs.Failures.{RunOnBoth}
 use Rattle.share_part.specs.Following.{IsFetch}
@@ -36,11 +35,10 @@ use Rattle.call_fold.specs.declared.part.Produced.{Produced}
 use Rattle.call_fold.specs.declared.part.Produced.TheVariants.{Base, Batch, Store}
 use Rattle.broker_model.specs.Shards.{PartCall, look_at, reads_log, result_of}
 use Rattle.broker_model.specs.Shards.PartCall.{Visits, Produces, Looks, Expires}
-use Rattle.broker_model.specs.Acting.{Begun, EndsGoOn, StepsOn}
+use Rattle.broker_model.specs.Acting.{EndsGoOn, StepsOn}
 use Rattle.broker_model.specs.Disks.{IsUsed, facts_of}
 use Rattle.broker_model.proofs.Quiets.{steps_batch, steps_still, steps_visit}
 use Rattle.broker_core.specs.Carried.{GoesOn, HaltsPart, IsPartCarried, LeadsPart, OpenPart, PartGoesOn, Uses, holding}
-use Rattle.broker_model.specs.Acting.Begun.{BeginsVisit, BeginsExpiry}
 use Rattle.edge_io.specs.Views.{DiskView}
 
 -- ---- what is told
@@ -166,25 +164,25 @@ module _ {D : Type 0} (seen : D → DiskView) where
         });
       }
 
-  states_whole : (old new : OpenPart D) (now : ℕ) (did : PartCall) (Whole : PartCall → Type 0) (Half : Begun → Type 0) → Whole did → OnStates old new
+  states_whole : (old new : OpenPart D) (now : ℕ) (did : PartCall) (Whole : PartCall → Type 0) → Whole did → OnStates old new
       → Steps old new now did → (s : PartShardState) → Carried old.conf old s
-      → HaltsPart seen old.conf now Whole Half old s new
-  states_whole old new now did Whole Half is o steps s k =
+      → HaltsPart seen old.conf now Whole old s new
+  states_whole old new now did Whole is o steps s k =
       let r = steps s k.carries in
       record {
         after = r.0;
         conf_is = o.conf;
         carries = r.1;
-        does = inr (inl (did, is, r.2));
+        does = inr (did, is, r.2);
         ends = states_end old new o;
         log_told = log_told old new o k.log.told;
         first_told = o.runs.0.told ∙ k.first.told;
         second_told = o.runs.1.told ∙ k.second.told;
       }
 
-  states_none : (old new : OpenPart D) (now : ℕ) (Whole : PartCall → Type 0) (Half : Begun → Type 0) → OnStates old new → (s : PartShardState)
-      → Carried old.conf old s → Carries seen holding new s → HaltsPart seen old.conf now Whole Half old s new
-  states_none old new now Whole Half o s k carries = record {
+  states_none : (old new : OpenPart D) (now : ℕ) (Whole : PartCall → Type 0) → OnStates old new → (s : PartShardState)
+      → Carried old.conf old s → Carries seen holding new s → HaltsPart seen old.conf now Whole old s new
+  states_none old new now Whole o s k carries = record {
     after = s;
     conf_is = o.conf;
     carries = carries;
@@ -226,18 +224,18 @@ module _ {D : Type 0} (seen : D → DiskView) where
   abbrev pub IsVisit : Visit → PartCall → Type 0
   IsVisit visit did = (answer : VisitAnswer) × (unread : Bool) × (did ≡ Visits visit answer unread)
 
-  pub visit_whole : (old new : OpenPart D) (now : ℕ) (visit : Visit) (answer : VisitAnswer) (unread : Bool) (Half : Begun → Type 0) → OnStates old new
+  pub visit_whole : (old new : OpenPart D) (now : ℕ) (visit : Visit) (answer : VisitAnswer) (unread : Bool) → OnStates old new
       → ReadsBatches seen (unread ≡ true) old.log new.log → Visited seen holding now visit old new unread answer
       → (s : PartShardState) → Carried old.conf old s
-      → HaltsPart seen old.conf now (IsVisit visit) Half old s new
-  visit_whole old new now visit answer unread Half o reads steps =
-      states_whole old new now (Visits visit answer unread) (IsVisit visit) Half (answer, unread, refl) o
+      → HaltsPart seen old.conf now (IsVisit visit) old s new
+  visit_whole old new now visit answer unread o reads steps =
+      states_whole old new now (Visits visit answer unread) (IsVisit visit) (answer, unread, refl) o
       (visit_steps old new now visit answer unread reads steps)
 
   -- where nothing of it has changed, it stands for what it stood for
-  untouched : (old new : OpenPart D) → IsUntouched seen holding old new → (s : PartShardState) → Carries seen holding old s → Carries seen holding new s
+  untouched : (old new : OpenPart D) → IsUntouched holding old new → (s : PartShardState) → Carries seen holding old s → Carries seen holding new s
   untouched old new same s k = record {
-    log = carries_on seen old.log new.log same.log s.log k.log;
+    log = subst (λ (l : LogParts D). CarriesLog seen l s.log) (sym same.log) k.log;
     pending = k.pending;
     holds = subst (λ (t : StoreParts D). Holds seen t k.pending) (sym same.states) k.holds;
     states = k.states ∙ ap (λ (t : StoreParts D). states_of t.entries) (sym same.states);
@@ -249,11 +247,11 @@ module _ {D : Type 0} (seen : D → DiskView) where
     unmarked = k.unmarked;
   }
 
-  pub visit_refused : (old new : OpenPart D) (now : ℕ) (visit : Visit) → OnStates old new → IsUntouched seen holding old new
+  pub visit_refused : (old new : OpenPart D) (now : ℕ) (visit : Visit) → OnStates old new → IsUntouched holding old new
       → (s : PartShardState) → Carried old.conf old s
-      → HaltsPart seen old.conf now (IsVisit visit) (λ begun. begun ≡ BeginsVisit visit) old s new
+      → HaltsPart seen old.conf now (IsVisit visit) old s new
   visit_refused old new now visit o same s k =
-      states_none old new now (IsVisit visit) (λ begun. begun ≡ BeginsVisit visit) o s k (untouched old new same s k.carries)
+      states_none old new now (IsVisit visit) o s k (untouched old new same s k.carries)
 
   pub expire_leads : (old new : OpenPart D) (now : ℕ) (answer : ExpireAnswer) → OnStates old new → new.log ≡ old.log
       → Expired seen holding now old new answer → Fed new → (s : PartShardState) → Carried old.conf old s
@@ -265,16 +263,16 @@ module _ {D : Type 0} (seen : D → DiskView) where
   abbrev pub IsExpiry : PartCall → Type 0
   IsExpiry did = (answer : ExpireAnswer) × (did ≡ Expires answer)
 
-  pub expire_whole : (old new : OpenPart D) (now : ℕ) (answer : ExpireAnswer) (Half : Begun → Type 0) → OnStates old new → new.log ≡ old.log
+  pub expire_whole : (old new : OpenPart D) (now : ℕ) (answer : ExpireAnswer) → OnStates old new → new.log ≡ old.log
       → Expired seen holding now old new answer → (s : PartShardState) → Carried old.conf old s
-      → HaltsPart seen old.conf now IsExpiry Half old s new
-  expire_whole old new now answer Half o log steps =
-      states_whole old new now (Expires answer) IsExpiry Half (answer, refl) o (expiry_steps old new now answer log steps)
+      → HaltsPart seen old.conf now IsExpiry old s new
+  expire_whole old new now answer o log steps =
+      states_whole old new now (Expires answer) IsExpiry (answer, refl) o (expiry_steps old new now answer log steps)
 
   pub expire_refused : (old new : OpenPart D) (now : ℕ) → OnStates old new → new ≡ old
       → (s : PartShardState) → Carried old.conf old s
-      → HaltsPart seen old.conf now IsExpiry (λ begun. begun ≡ BeginsExpiry) old s new
-  expire_refused old new now o same s k = states_none old new now IsExpiry (λ begun. begun ≡ BeginsExpiry) o s k
+      → HaltsPart seen old.conf now IsExpiry old s new
+  expire_refused old new now o same s k = states_none old new now IsExpiry o s k
       (subst (λ (p : OpenPart D). Carries seen holding p s) (sym same) k.carries)
 
   -- ---- batches
@@ -341,7 +339,7 @@ module _ {D : Type 0} (seen : D → DiskView) where
       }
 
   abbrev HaltsBatch : OpenPart D → OpenPart D → (now : ℕ) → List ℕ → PartShardState → Type 0
-  HaltsBatch old new now batch s = HaltsPart seen old.conf now (IsBatch batch) (λ begun. ⊥) old s new
+  HaltsBatch old new now batch s = HaltsPart seen old.conf now (IsBatch batch) old s new
 
   produced_whole : (old new : OpenPart D) (now : ℕ) (batch : List ℕ) (produced : Produced) → OnLog old new → Quiet old new (result_of produced)
       → ProducedSo seen holding now batch old new (result_of produced) → (s : PartShardState) → Carried old.conf old s → HaltsBatch old new now batch s
@@ -351,7 +349,7 @@ module _ {D : Type 0} (seen : D → DiskView) where
         after = r.0;
         conf_is = o.conf;
         carries = r.1;
-        does = inr (inl (Produces batch produced, (produced, refl), r.2));
+        does = inr (Produces batch produced, (produced, refl), r.2);
         ends = log_end old new o s k.carries;
         log_told = o.runs.told ∙ k.log.told;
         first_told = first_told old new o k.first.told;

@@ -10,20 +10,19 @@ use Rattle.edge_io.specs.Disk.{IsTold}
 use Rattle.share_model.specs.declared.visit.Then.{Then}
 use Rattle.part_log.specs.Logs.{LogParts}
 use Rattle.share_coord.specs.Parts.{StoreParts}
-use Rattle.share_part.specs.Expiring.{ExpiresPart, StepsExpire}
-use Rattle.share_part.specs.Failures.{FailuresRose, failures_of}
+use Rattle.share_part.specs.Expiring.{StepsExpire}
+use Rattle.share_part.specs.Failures.{failures_of}
 use Rattle.share_part.specs.Shards.{PartShardState, StepsProduce}
-use Rattle.share_part.specs.Visits.{StepsVisit, VisitsPart}
+use Rattle.share_part.specs.Visits.{StepsVisit}
 use Rattle.broker_model.specs.Hosted.{Hosted, HoldsAt, first_of, has_disk, log_of, log_store, part_disks, same_name, second_of, state_store}
-use Rattle.broker_model.specs.Shards.{Counts, Ends, PartCall, StepsPart, faults_before, faults_behind, part_calls, reads_log, result_of, rose_at, rose_on}
+use Rattle.broker_model.specs.Shards.{Counts, Ends, PartCall, StepsPart, faults_before, faults_behind, part_calls, reads_log, result_of, rose_at}
 use Rattle.broker_model.specs.Shards.PartCall.{Visits, Produces, Looks, Expires}
 use Rattle.broker_model.specs.Disks.{Facts, IsUsed, OnCalled, facts_of}
 use Rattle.broker_core.specs.declared.slot.PartSlot.{PartSlot}
 use Rattle.broker_core.specs.declared.slot.PartState.{PartState}
 use Rattle.broker_core.specs.declared.slot.PartState.TheVariants as part
-use Rattle.broker_model.specs.Acting.{Begun, HalvesOn, TakesStep}
+use Rattle.broker_model.specs.Acting.{TakesStep}
 use Rattle.broker_core.specs.Carried.{OpenPart, Uses, UsesLog, UsesStates, UsesVisit}
-use Rattle.broker_model.specs.Acting.Begun.{BeginsVisit, BeginsExpiry}
 use Rattle.broker_core.specs.Hosts.{AreDistinct, HostsParts, among, counts_in, disks_in, ends_in, ends_over, facts_at, facts_in, foreign_disks, foreign_end, foreign_facts, hosted_slot, hosted_slots, open_disk, open_end, part_disk, part_end, slot_disks, slot_ends, slots_disks}
 use Rattle.broker_core.proofs.Flats.{pieces_at}
 use Rattle.broker_core.proofs.Places.{each_found}
@@ -298,23 +297,6 @@ module _ {D : Type 0} (seen : D → DiskView) where
       subst (λ (n : ℕ). StepsExpire h.conf n (faults_behind counts (state_store h)) (ends (first_of h)).0 (ends (first_of h)).1 old now answer new) (sym a.before)
       (subst (λ (n : ℕ). StepsExpire h.conf (failures_of seen was.states) n (ends (first_of h)).0 (ends (first_of h)).1 old now answer new) (sym a.behind)
       (subst (λ (e : ℕ × ℕ). StepsExpire h.conf (failures_of seen was.states) (failures_of seen is.states) e.0 e.1 old now answer new) (sym a.first_end) step))
-
-  -- a call that was left half done, by name
-  abbrev pub Halves : Counts → Ends → (now : ℕ) → Begun → Hosted → PartShardState → PartShardState → Type 0
-  Halves counts ends now (BeginsVisit visit) h old new = VisitsPart h.conf (rose_on counts (state_store h)) (ends (first_of h)).0 old now visit new
-  Halves counts ends now BeginsExpiry h old new = ExpiresPart h.conf (faults_before counts (state_store h)) (faults_behind counts (state_store h))
-      (ends (first_of h)).0 (ends (first_of h)).1 old now new
-
-  pub half_named : (h : Hosted) (was is : OpenPart D) (counts : Counts) (ends : Ends) → AreOf h was is counts ends → (now : ℕ) (old : PartShardState)
-      (begun : Begun) (new : PartShardState) → HalvesOn seen h.conf was is now old begun new → Halves counts ends now begun h old new
-  half_named h was is counts ends a now old (BeginsVisit visit) new half =
-      subst (λ (n : ℕ). VisitsPart h.conf (Rose n (faults_behind counts (state_store h))) (ends (first_of h)).0 old now visit new) (sym a.before)
-      (subst (λ (n : ℕ). VisitsPart h.conf (Rose (failures_of seen was.states) n) (ends (first_of h)).0 old now visit new) (sym a.behind)
-      (subst (λ (e : ℕ × ℕ). VisitsPart h.conf (FailuresRose seen was.states is.states) e.0 old now visit new) (sym a.first_end) half))
-  half_named h was is counts ends a now old BeginsExpiry new half =
-      subst (λ (n : ℕ). ExpiresPart h.conf n (faults_behind counts (state_store h)) (ends (first_of h)).0 (ends (first_of h)).1 old now new) (sym a.before)
-      (subst (λ (n : ℕ). ExpiresPart h.conf (failures_of seen was.states) n (ends (first_of h)).0 (ends (first_of h)).1 old now new) (sym a.behind)
-      (subst (λ (e : ℕ × ℕ). ExpiresPart h.conf (failures_of seen was.states) (failures_of seen is.states) e.0 e.1 old now new) (sym a.first_end) half))
 
   -- the counts and ends of two hosts of which one slot changed
   pub are_of : (old new : HostsParts D) (n : ℕ) (x y : PartSlot D) (was is : OpenPart D) → HoldsAt n (λ z. z ≡ x) old.parts → HoldsAt n (λ z. z ≡ y) new.parts

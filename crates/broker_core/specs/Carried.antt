@@ -17,7 +17,7 @@ use Rattle.lock_index.specs.Windows.{WindowParts}
 use Rattle.share_part.specs.Hosting.{PartConfParts}
 use Rattle.part_log.specs.Logs.{log_in}
 use Rattle.share_part.specs.Shards.{PartParts, PartShardState, Carries, shard_with}
-use Rattle.broker_model.specs.Acting.{Begun, EndsGoOn, HalvesOn, StepsOn}
+use Rattle.broker_model.specs.Acting.{EndsGoOn, StepsOn}
 use Rattle.broker_model.specs.Hosted.{state_a, same_name}
 use Rattle.broker_model.specs.Shards.{PartCall, reads_log}
 use Rattle.broker_model.specs.Shards.PartCall.{Visits, Produces, Looks, Expires}
@@ -142,15 +142,14 @@ pub record LeadsPart {D : Type 0} (seen : D → DiskView) (conf : PartConfParts)
   pub ends : EndsGoOn old new
   pub used : Uses seen old new did
 
--- No memory was found: nothing was done in the shard, or such a call was done whole, or left half done. The disks tell their contents
+-- No memory was found: nothing was done in the shard, or such a call was done whole. The disks tell their contents
 -- still.
 pub record HaltsPart {D : Type 0} (seen : D → DiskView) (conf : PartConfParts) (now : ℕ)
-    (Whole : PartCall → Type 0) (Half : Begun → Type 0) (old : OpenPart D) (shard : PartShardState) (new : OpenPart D) : Type 0 where
+    (Whole : PartCall → Type 0) (old : OpenPart D) (shard : PartShardState) (new : OpenPart D) : Type 0 where
   pub after : PartShardState
   pub conf_is : new.conf ≡ conf
   pub carries : Carries seen holding new after
-  pub does : (after ≡ shard) ⊎ (((did : PartCall) × Whole did × StepsOn seen conf old new now shard did after)
-      ⊎ ((begun : Begun) × Half begun × HalvesOn seen conf old new now shard begun after))
+  pub does : (after ≡ shard) ⊎ ((did : PartCall) × Whole did × StepsOn seen conf old new now shard did after)
   pub ends : EndsGoOn old new
   pub log_told : IsTold (seen new.log.journal.disk).content
   pub first_told : IsTold (seen new.states.journal.first.disk).content

@@ -13,7 +13,7 @@ use Rattle.broker_model.specs.Hosted.{IsLogName, IsOneOf, hosted_of, same_name, 
 use Rattle.broker_model.specs.Shards.{Counts, Ends, Shards, ShardCall}
 use Rattle.broker_model.specs.Machine.{Machine, OpensPart, StandForStates, LandAll}
 use Rattle.broker_model.specs.Disks.{IsRestarted, with_arm}
-use Rattle.broker_model.specs.Steps.{StepsTo, StopsWithin}
+use Rattle.broker_model.specs.Steps.{StepsTo}
 use Rattle.broker_model.specs.States.{State, IsStep}
 use Rattle.broker_core.specs.Hosts.{HostsParts, AreCarried, AreHeld, AreApart, AreNamed, LogsLater, LogsReach, StandStill, all_names, counts_in, disks_in, ends_in, facts_in, hosted_slots}
 use Rattle.edge_io.specs.Views.{DiskView}
@@ -91,14 +91,14 @@ Advances seen old event outcomes new = (before : Machine) → IsCore seen old be
 
 -- ---- where no memory was found
 
--- the machine is as before, or one step of the event on, or in the midst of that step
+-- the machine is as before, or one step of the event on
 abbrev pub Reaches : ConfigParts → Counts → Ends → Machine → Event → Machine → Type 0
 Reaches conf counts ends old event new =
-    (new ≡ old) ⊎ (((call : Option ShardCall) × (outcomes : List Outcome) × StepsTo conf counts ends old event call outcomes new)
-    ⊎ StopsWithin conf counts ends old event new)
+    (new ≡ old) ⊎ ((call : Option ShardCall) × (outcomes : List Outcome)
+    × StepsTo conf counts ends old event call outcomes new)
 
--- The event was done in the shards, or not at all, or in part, and the disks stand for what that left. The journals end there now, and what a
--- crash may leave of each log's disk reaches to the last gate of its journal, the byte before the end.
+-- The event was done in the shards whole, or not at all, and the disks stand for what that left. The journals end there
+-- now, and what a crash may leave of each log's disk reaches to the last gate of its journal, the byte before the end.
 pub record StopsIn {D : Type 0} (seen : D → DiskView) (old : CoreParts D) (before : Machine) (event : Event) (new : CoreParts D) : Type 0 where
   pub after : Machine
   pub ends : List ℕ → ℕ

@@ -17,25 +17,18 @@ use Rattle.call_fold.specs.declared.part.Part.{Part}
 use Rattle.call_fold.specs.declared.part.Part.TheVariants.{Foreign, Produce, Visit as PartVisit, Look, Heartbeat}
 use Rattle.call_fold.specs.declared.part.PartAnswer.{PartAnswer}
 use Rattle.call_fold.specs.declared.part.PartAnswer.TheVariants.{Foreign as AnswerForeign, Produce as AnswerProduce, Visit as AnswerVisit, Look as AnswerLook, Heartbeat as AnswerHeartbeat}
-use Rattle.conn_core.specs.Conns.{ConnParts}
-use Rattle.conn_core.specs.Turning.{turn}
-use Rattle.conn_core.specs.declared.next.Next.{Next}
-use Rattle.conn_core.specs.declared.next.Next.TheVariants.{Ask}
 use Rattle.session_script.specs.declared.event.Outcome.{Outcome}
-use Rattle.topic_conf.specs.Configs.{ConfigParts}
 use Rattle.foreign_coord.specs.Shards.{ForeignShardState}
 use Rattle.share_members.specs.Groups.{Memberships}
 use Rattle.share_model.specs.declared.visit.ExpireAnswer.{ExpireAnswer}
 use Rattle.share_model.specs.declared.visit.Then.{Then}
 use Rattle.share_coord.specs.States.{states_of}
 use Rattle.share_model.specs.ForeignRules.{ShareStates}
-use Rattle.share_part.specs.Expiring.{ExpiresPart}
 use Rattle.share_part.specs.Hosting.{PartConfParts}
 use Rattle.share_part.specs.Leaving.{IsLeftOf}
 use Rattle.share_part.specs.Shards.{PartShardState, Carries}
-use Rattle.share_part.specs.Visits.{VisitsPart}
-use Rattle.broker_model.specs.Hosted.{ChangesAt, Hosted, IsLogName, IsOneOf, first_of, log_of, part_disks, second_of, state_a, state_b, state_store, same_name}
-use Rattle.broker_model.specs.Shards.{Counts, Ends, HostedPart, PartCall, Shards, ShardCall, StepsShards, answered_by, calls, fault_of_expiry, fault_of_release, faults_before, faults_behind, rose_on}
+use Rattle.broker_model.specs.Hosted.{Hosted, IsLogName, IsOneOf, first_of, log_of, part_disks, second_of, state_a, state_b, same_name}
+use Rattle.broker_model.specs.Shards.{Counts, Ends, HostedPart, PartCall, Shards, ShardCall, StepsShards, answered_by, calls, fault_of_expiry, fault_of_release}
 use Rattle.broker_model.specs.Shards.ShardCall.{CallPart}
 use Rattle.broker_model.specs.Shards.PartCall.{Expires}
 use Rattle.broker_model.specs.Machine.{StandWith}
@@ -46,7 +39,6 @@ use Rattle.broker_core.specs.declared.slot.PartState.{PartState}
 use Rattle.broker_core.specs.declared.slot.PartState.TheVariants as part
 use Rattle.broker_core.specs.declared.slot.PartSlot.{PartSlot}
 use Rattle.broker_core.specs.declared.hosts.Hosts.{Hosts}
-use Rattle.broker_model.specs.Acting.{Begun}
 use Rattle.broker_core.specs.Carried.{GoesOn, HaltsPart, IsCarried, IsFresh, IsPartCarried, LeadsPart, OpenPart, PartGoesOn, facts_by, by_name, holding}
 use Rattle.edge_io.specs.Views.{DiskView}
 
@@ -363,52 +355,21 @@ abbrev pub LeadsBy : {D : Type 0} → (D → DiskView) → (old new : HostsParts
 LeadsBy seen old new Does = (s : Shards) → AreCarried seen old s →
     Leads seen old s new (Does (counts_in seen (disks_in old) (disks_in new)) (ends_over old new))
 
--- the shard of this number is left in the midst of a call, and each other one stays
-pub record IsLeftIn (shard : ℕ) (Half : Hosted → PartShardState → PartShardState → Type 0) (old new : Shards) : Type 0 where
-  pub parts : ChangesAt shard (λ (p q : HostedPart). (q.hosted ≡ p.hosted) × Half p.hosted p.shard q.shard) old.parts new.parts
-  pub members : new.members ≡ old.members
-  pub foreign : new.foreign ≡ old.foreign
-
--- a part in whose midst memory may run out: a visit behind its acknowledgements
-abbrev pub IsHalfDone : Counts → Ends → (now : ℕ) → Part → Shards → Shards → Type 0
-IsHalfDone counts ends now (Foreign op) old new = ⊥
-IsHalfDone counts ends now (Produce shard batch) old new = ⊥
-IsHalfDone counts ends now (PartVisit shard visit) old new = IsLeftIn shard
-    (λ h a b. VisitsPart h.conf (rose_on counts (state_store h)) (ends (first_of h)).0 a now visit b) old new
-IsHalfDone counts ends now (Look shard group) old new = ⊥
-IsHalfDone counts ends now (Heartbeat request) old new = ⊥
-
--- so is the part that is told to be asked
-abbrev pub HalvesNext : Counts → Ends → (now : ℕ) → Next → Shards → Shards → Type 0
-HalvesNext counts ends now next old new = (asked : Part) × (next ≡ Ask asked) × IsHalfDone counts ends now asked old new
-
--- so is that which this connection asks, if it is there
-abbrev pub HalvesServe : ConfigParts → Counts → Ends → (now : ℕ) → Option ConnParts → Shards → Shards → Type 0
-HalvesServe conf counts ends now None old new = ⊥
-HalvesServe conf counts ends now (Some conn) old new = HalvesNext counts ends now (turn conf conn).next old new
-
--- an expiry at this moment was left behind some of the groups
-abbrev pub HalvesExpiry : Counts → Ends → (now shard : ℕ) → Shards → Shards → Type 0
-HalvesExpiry counts ends now shard old new =
-    IsLeftIn shard (λ h a b. ExpiresPart h.conf (faults_before counts (state_store h)) (faults_behind counts (state_store h))
-    (ends (first_of h)).0 (ends (first_of h)).1 a now b) old new
-
--- No memory was found: nothing was done in the shards, or it was done whole, or left in its midst. The disks stand for what that left, and
+-- No memory was found: nothing was done in the shards, or it was done whole. The disks stand for what that left, and
 -- those of logs reach to where the journals end.
 pub record Halts {D : Type 0} (seen : D → DiskView) (old : HostsParts D) (shards : Shards) (new : HostsParts D)
-    (Does : Shards → Option ShardCall → Shards → Type 0) (Within : Shards → Shards → Type 0) : Type 0 where
+    (Does : Shards → Option ShardCall → Shards → Type 0) : Type 0 where
   pub after : Shards
   pub still : StandStill seen after (disks_in new)
   pub ends_later : LogsLater (ends_in old) (ends_in new)
   pub reach : LogsReach seen (disks_in new) (ends_in new)
-  pub does : (after ≡ shards) ⊎ (((call : Option ShardCall) × Does shards call after) ⊎ Within shards after)
+  pub does : (after ≡ shards) ⊎ ((call : Option ShardCall) × Does shards call after)
 
 -- the same from each state of the shards that they stood for
 abbrev pub HaltsBy : {D : Type 0} → (D → DiskView) → (old new : HostsParts D) → (Counts → Ends → Shards → Option ShardCall → Shards → Type 0)
-    → (Counts → Ends → Shards → Shards → Type 0) → Type 0
-HaltsBy seen old new Does Within = (s : Shards) → AreCarried seen old s →
+    → Type 0
+HaltsBy seen old new Does = (s : Shards) → AreCarried seen old s →
     Halts seen old s new (Does (counts_in seen (disks_in old) (disks_in new)) (ends_over old new))
-    (Within (counts_in seen (disks_in old) (disks_in new)) (ends_over old new))
 
 -- a visit is of a shard with a number below this
 abbrev pub IsThere : ℕ → Part → Type 0
@@ -500,7 +461,7 @@ pub record LeadsSlot {D : Type 0} (seen : D → DiskView) (now : ℕ) (did : Par
 
 -- no memory was found in such a call
 pub record HaltsSlot {D : Type 0} (seen : D → DiskView)
-    (now : ℕ) (Whole : PartCall → Type 0) (Half : Begun → Type 0) (old new : PartSlot D) : Type 0 where
+    (now : ℕ) (Whole : PartCall → Type 0) (old new : PartSlot D) : Type 0 where
   pub was : OpenPart D
   pub is : OpenPart D
   pub old_is : old.state ≡ part.Open was
@@ -509,7 +470,7 @@ pub record HaltsSlot {D : Type 0} (seen : D → DiskView)
   pub conf : new.conf ≡ old.conf
   pub goes : PartGoesOn seen was is
   pub halts : (s : PartShardState) → IsPartCarried seen old.conf was s
-      → HaltsPart seen old.conf now Whole Half was s is
+      → HaltsPart seen old.conf now Whole was s is
 
 -- one of a partition's three disks was armed, and the others stay
 abbrev pub ArmsPlace : {D : Type 0} → (D → DiskView) → (passes : ℕ) → FaultMode → OpenPart D → OpenPart D → DiskPlace → Type 0

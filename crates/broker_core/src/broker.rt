@@ -288,8 +288,8 @@ impl<D: Disk + Drop> Core<D> {
     /// Does one event, and gives what comes of it, in order.
     ///
     /// An event on a connection, a partition or a disk that isn't there, and an open of a connection that is, change
-    /// nothing and give nothing. At an `Err` the part in hand was done whole, or not at all, or up to one of its
-    /// writes; no event may follow, and `finish` puts the disks back.
+    /// nothing and give nothing. At an `Err` the part in hand was done whole, or not at all; no event may follow, and
+    /// `finish` puts the disks back.
     pub fn event(&mut self, event: &Event) -> Result<Vec<Outcome>, CoreFault>
         requires open { AreOpen self.old.hosts }
         requires moment { HasMoment event.now }
@@ -300,7 +300,7 @@ impl<D: Disk + Drop> Core<D> {
         ensures open { OnOk result (AreOpen self.new.hosts) }
 
         // On such disks it fails for want of memory alone, and the disks stand for the machine before the event, or
-        // behind it, or behind some of its writes.
+        // behind it.
         ensures stopped { IfErr result (λ e. (m : Machine) → IsCore D.seen self.old m →
             StopsIn D.seen self.old m event.now self.new × (e ≡ CoreFault.NoMemory)) }
 

@@ -6,7 +6,6 @@ ghost use Rattle.share_model.specs.declared.visit.ExpireAnswer.{ExpireAnswer};
 ghost use Rattle.share_model.specs.declared.visit.VisitAnswer.{VisitAnswer};
 ghost use Rattle.broker_model.specs.Hosted.{ChangesAt, HoldsAt};
 ghost use Rattle.broker_model.specs.Shards.PartCall.{Visits, Produces, Looks, Expires};
-ghost use Rattle.broker_model.specs.Acting.Begun.{BeginsVisit, BeginsExpiry};
 ghost use Rattle.broker_core.specs.Hosts.{AreOpenParts, HaltsSlot, IsOpenState, LeadsSlot};
 
 use crate::part::{expire, look, produce, visit};
@@ -24,7 +23,7 @@ fn produce_in<D: Disk>(now: u64, batch: &[u8], slot: &mut PartSlot<D>) -> Result
     ensures ok { IfOk result (λ produced.
         LeadsSlot D.seen now (Produces batch.now produced) slot.old slot.new) }
     ensures stopped { OnErr result (HaltsSlot D.seen now
-        (λ did. (produced : Produced) × (did ≡ Produces batch.now produced)) (λ begun. ⊥) slot.old slot.new) }
+        (λ did. (produced : Produced) × (did ≡ Produces batch.now produced)) slot.old slot.new) }
     ensures fair { IfOk result HasTellableBase }
 {
     match &mut slot.state {
@@ -45,7 +44,7 @@ pub fn produce_at<D: Disk>(
     ensures ok { IfOk result (λ produced. ChangesAt shard
         (LeadsSlot D.seen now (Produces batch.now produced)) parts.old.items parts.new.items) }
     ensures stopped { OnErr result ((parts.new.items ≡ parts.old.items) ⊎ ChangesAt shard (HaltsSlot D.seen now
-        (λ did. (produced : Produced) × (did ≡ Produces batch.now produced)) (λ begun. ⊥)) parts.old.items parts.new.items) }
+        (λ did. (produced : Produced) × (did ≡ Produces batch.now produced))) parts.old.items parts.new.items) }
     ensures fair { IfOk result HasTellableBase }
 {
     // Each shard that is asked is there.
@@ -67,7 +66,7 @@ fn visit_in<D: Disk>(
     ensures ok { IfOk result (λ answer. (unread : Bool) ×
         LeadsSlot D.seen now (Visits asked.now answer unread) slot.old slot.new) }
     ensures stopped { OnErr result (HaltsSlot D.seen now
-        (λ did. (answer : VisitAnswer) × (unread : Bool) × (did ≡ Visits asked.now answer unread)) (λ begun. begun ≡ BeginsVisit asked.now) slot.old slot.new) }
+        (λ did. (answer : VisitAnswer) × (unread : Bool) × (did ≡ Visits asked.now answer unread)) slot.old slot.new) }
     ensures fair { IfOk result IsTellableVisit }
 {
     match &mut slot.state {
@@ -88,7 +87,7 @@ pub fn visit_at<D: Disk>(
     ensures ok { IfOk result (λ answer. (unread : Bool) × ChangesAt shard
         (LeadsSlot D.seen now (Visits asked.now answer unread)) parts.old.items parts.new.items) }
     ensures stopped { OnErr result ((parts.new.items ≡ parts.old.items) ⊎ ChangesAt shard (HaltsSlot D.seen now
-        (λ did. (answer : VisitAnswer) × (unread : Bool) × (did ≡ Visits asked.now answer unread)) (λ begun. begun ≡ BeginsVisit asked.now)) parts.old.items parts.new.items) }
+        (λ did. (answer : VisitAnswer) × (unread : Bool) × (did ≡ Visits asked.now answer unread))) parts.old.items parts.new.items) }
     ensures fair { IfOk result IsTellableVisit }
 {
     let Some(slot) = parts.get_mut(shard as usize) else {
@@ -136,8 +135,8 @@ fn expire_in<D: Disk>(now: u64, slot: &mut PartSlot<D>) -> Result<ExpireAnswer, 
     requires open { IsOpenState slot.old.state }
     ensures ok { IfOk result (λ answer.
         LeadsSlot D.seen now (Expires answer) slot.old slot.new) }
-    ensures stopped { OnErr result (HaltsSlot D.seen now (λ did. (answer : ExpireAnswer) × (did ≡ Expires answer))
-        (λ begun. begun ≡ BeginsExpiry) slot.old slot.new) }
+    ensures stopped { OnErr result (HaltsSlot D.seen now
+        (λ did. (answer : ExpireAnswer) × (did ≡ Expires answer)) slot.old slot.new) }
 {
     match &mut slot.state {
         PartState::Open(part) => expire(now, part),
@@ -156,7 +155,7 @@ pub fn expire_at<D: Disk>(
     ensures ok { IfOk result (λ answer. ChangesAt shard
         (LeadsSlot D.seen now (Expires answer)) parts.old.items parts.new.items) }
     ensures stopped { OnErr result ((parts.new.items ≡ parts.old.items) ⊎ ChangesAt shard (HaltsSlot D.seen now
-        (λ did. (answer : ExpireAnswer) × (did ≡ Expires answer)) (λ begun. begun ≡ BeginsExpiry)) parts.old.items parts.new.items) }
+        (λ did. (answer : ExpireAnswer) × (did ≡ Expires answer))) parts.old.items parts.new.items) }
 {
     let Some(slot) = parts.get_mut(shard as usize) else {
         return Err(NoMemory);

@@ -8,7 +8,7 @@ ghost use Rattle.conn_core.specs.Conns.{ConnParts, conn_after_bytes, without_rep
 ghost use Rattle.conn_core.specs.Turning.{Awaits, turn};
 ghost use Rattle.broker_model.specs.Machine.{Machine, named, opened, at_connection, conn_at, ended_in};
 ghost use Rattle.broker_model.specs.Steps.{Does, DoesTurn, Serves, replies_to};
-ghost use Rattle.broker_core.specs.Hosts.{AreApart, AreOpen, GoOn, HaltsBy, HalvesNext, HalvesServe, LeadsBy, StaysHosted, disks_in, parts_of};
+ghost use Rattle.broker_core.specs.Hosts.{AreApart, AreOpen, GoOn, HaltsBy, LeadsBy, StaysHosted, disks_in, parts_of};
 
 use crate::hosts::{Hosts, act};
 use crate::told::{fault_in, told};
@@ -59,8 +59,7 @@ fn ask<D: Disk>(
         (λ counts ends a call b. Does counts ends id now (Next.Ask part.now) conn.old a b call outcomes.items conn.new)) }
     ensures stopped { OnErr result (HaltsBy D.seen (parts_of hosts.old) (parts_of hosts.new)
         (λ counts ends a call b. (outcomes : List Outcome) × (after : ConnParts)
-        × Does counts ends id now (Next.Ask part.now) conn.old a b call outcomes after)
-        (λ counts ends. HalvesNext counts ends now (Next.Ask part.now))) }
+        × Does counts ends id now (Next.Ask part.now) conn.old a b call outcomes after)) }
     ensures told { IfOk result (λ outcomes. All (IsTold conf.now.topics) outcomes.items) }
     ensures disks { GoOn D.seen (disks_in (parts_of hosts.old)) (disks_in (parts_of hosts.new)) }
     ensures open { AreOpen (parts_of hosts.new) }
@@ -92,8 +91,7 @@ fn done<D: Disk>(
         (λ counts ends a call b. Does counts ends id now next conn.old a b call outcomes.items conn.new)) }
     ensures stopped { OnErr result (HaltsBy D.seen (parts_of hosts.old) (parts_of hosts.new)
         (λ counts ends a call b. (outcomes : List Outcome) × (after : ConnParts)
-        × Does counts ends id now next conn.old a b call outcomes after)
-        (λ counts ends. HalvesNext counts ends now next)) }
+        × Does counts ends id now next conn.old a b call outcomes after)) }
     ensures told { IfOk result (λ outcomes. All (IsTold conf.now.topics) outcomes.items) }
     ensures disks { GoOn D.seen (disks_in (parts_of hosts.old)) (disks_in (parts_of hosts.new)) }
     ensures open { AreOpen (parts_of hosts.new) }
@@ -129,8 +127,7 @@ fn step<D: Disk>(
         (λ counts ends a call b. DoesTurn counts ends id now (turn conf.now conn.old) a b call did.0.items conn.new)) }
     ensures stopped { OnErr result (HaltsBy D.seen (parts_of hosts.old) (parts_of hosts.new)
         (λ counts ends a call b. (outcomes : List Outcome) × (after : ConnParts)
-        × DoesTurn counts ends id now (turn conf.now conn.old) a b call outcomes after)
-        (λ counts ends. HalvesNext counts ends now (turn conf.now conn.old).next)) }
+        × DoesTurn counts ends id now (turn conf.now conn.old) a b call outcomes after)) }
     ensures told { IfOk result (λ did. All (IsTold conf.now.topics) did.0.items) }
     ensures gone { IfOk result (λ did. did.1 ≡ is_gone conn.new) }
     ensures disks { GoOn D.seen (disks_in (parts_of hosts.old)) (disks_in (parts_of hosts.new)) }
@@ -170,8 +167,7 @@ pub fn serve<D: Disk>(
     ensures stopped { OnErr result (HaltsBy D.seen (parts_of hosts.old) (parts_of hosts.new)
         (λ counts ends a call b. (outcomes : List Outcome) × (after : Machine) × (after.shards ≡ b)
         × Serves conf.now counts ends (record { connections = clients.old.entries; shards = a }) id now
-        (conn_at id clients.old.entries) call outcomes after)
-        (λ counts ends. HalvesServe conf.now counts ends now (conn_at id clients.old.entries))) }
+        (conn_at id clients.old.entries) call outcomes after)) }
     ensures told { IfOk result (λ outcomes. All (IsTold conf.now.topics) outcomes.items) }
     ensures disks { GoOn D.seen (disks_in (parts_of hosts.old)) (disks_in (parts_of hosts.new)) }
     ensures open { AreOpen (parts_of hosts.new) }

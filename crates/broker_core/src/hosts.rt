@@ -2,7 +2,7 @@
 ghost use Rattle.std.specs.Prelude.{◌≤◌, ◌^◌, IfOk, OnErr, OnOk, length};
 ghost use Rattle.call_fold.specs.Parts.{IsAnswerTo};
 ghost use Rattle.call_fold.specs.declared.part.PartAnswer.{PartAnswer};
-ghost use Rattle.broker_core.specs.Hosts.{AreApart, AreOpen, Did, GoOn, HaltsBy, IsHalfDone, IsThere, LeadsBy, StaysHosted, disks_in, parts_of};
+ghost use Rattle.broker_core.specs.Hosts.{AreApart, AreOpen, Did, GoOn, HaltsBy, IsThere, LeadsBy, StaysHosted, disks_in, parts_of};
 
 use crate::calls::{look_at, produce_at, visit_at};
 use crate::shard::act as act_on_foreign;
@@ -36,8 +36,7 @@ pub fn act<D: Disk>(
         (λ counts ends. Did counts ends now part.now answer)) }
     ensures stopped { OnErr result (HaltsBy D.seen (parts_of hosts.old) (parts_of hosts.new)
         (λ counts ends a call b. (answer : PartAnswer)
-        × Did counts ends now part.now answer a call b)
-        (λ counts ends. IsHalfDone counts ends now part.now)) }
+        × Did counts ends now part.now answer a call b)) }
     ensures fair { IfOk result (IsAnswerTo part.now) }
     ensures there { OnOk result (IsThere (length hosts.old.parts.items) part.now) }
     ensures disks { GoOn D.seen (disks_in (parts_of hosts.old)) (disks_in (parts_of hosts.new)) }

@@ -18,7 +18,6 @@ ghost use Rattle.broker_model.specs.Shards.{look_at, result_of};
 ghost use Rattle.broker_model.specs.Shards.PartCall.{Visits, Produces, Expires};
 ghost use Rattle.broker_core.specs.Bays.{AreFed, IsOfDevice};
 ghost use Rattle.broker_core.specs.Carried.{GoesOn, HaltsPart, IsFresh, IsPartCarried, LeadsPart, PartGoesOn};
-ghost use Rattle.broker_model.specs.Acting.Begun.{BeginsVisit, BeginsExpiry};
 ghost use Rattle.broker_core.specs.Hosts.{PartStandsAlone};
 ghost use Rattle.broker_core.specs.Restarts.{IsOpenedPart, IsDamagedPart, IsRestartedPart, PartImagesStandAs, PartRunsOn};
 
@@ -61,7 +60,7 @@ pub fn produce<D: Disk>(
     ensures ok { IfOk result (λ produced. (s : PartShardState) → IsPartCarried D.seen part.old.conf part.old s →
         LeadsPart D.seen part.old.conf now (Produces batch.now produced) part.old s part.new) }
     ensures stopped { OnErr result ((s : PartShardState) → IsPartCarried D.seen part.old.conf part.old s →
-        HaltsPart D.seen part.old.conf now (λ did. (produced : Produced) × (did ≡ Produces batch.now produced)) (λ begun. ⊥)
+        HaltsPart D.seen part.old.conf now (λ did. (produced : Produced) × (did ≡ Produces batch.now produced))
         part.old s part.new) }
     ensures fair { IfOk result HasTellableBase }
     ensures disks { PartGoesOn D.seen part.old part.new }
@@ -85,7 +84,7 @@ pub fn visit<D: Disk>(
         LeadsPart D.seen part.old.conf now (Visits visit.now answer unread) part.old s part.new)) }
     ensures stopped { OnErr result ((s : PartShardState) → IsPartCarried D.seen part.old.conf part.old s →
         HaltsPart D.seen part.old.conf now (λ did. (answer : VisitAnswer) × (unread : Bool) × (did ≡ Visits visit.now answer unread))
-        (λ begun. begun ≡ BeginsVisit visit.now) part.old s part.new) }
+        part.old s part.new) }
     ensures fair { IfOk result IsTellableVisit }
     ensures disks { PartGoesOn D.seen part.old part.new }
     ensures conf { part.new.conf ≡ part.old.conf }
@@ -107,7 +106,7 @@ pub fn expire<D: Disk>(
         LeadsPart D.seen part.old.conf now (Expires answer) part.old s part.new) }
     ensures stopped { OnErr result ((s : PartShardState) → IsPartCarried D.seen part.old.conf part.old s →
         HaltsPart D.seen part.old.conf now (λ did. (answer : ExpireAnswer) × (did ≡ Expires answer))
-        (λ begun. begun ≡ BeginsExpiry) part.old s part.new) }
+        part.old s part.new) }
     ensures disks { PartGoesOn D.seen part.old part.new }
     ensures conf { part.new.conf ≡ part.old.conf }
 {

@@ -9,7 +9,7 @@ ghost use Rattle.broker_model.specs.Shards.{StepsShards};
 ghost use Rattle.broker_model.specs.Shards.ShardCall.{CallMembers};
 ghost use Rattle.broker_model.specs.Shards.MembersCall.{Ticks};
 ghost use Rattle.broker_model.specs.Steps.{ExpiresAt};
-ghost use Rattle.broker_core.specs.Hosts.{AreApart, AreOpen, ExpiresShard, GoOn, HaltsBy, HalvesExpiry, LeadsBy, StaysHosted, disks_in, parts_of};
+ghost use Rattle.broker_core.specs.Hosts.{AreApart, AreOpen, ExpiresShard, GoOn, HaltsBy, LeadsBy, StaysHosted, disks_in, parts_of};
 
 use crate::calls::expire_at;
 use crate::hosts::Hosts;
@@ -34,8 +34,7 @@ fn expire_shard<D: Disk>(
         (λ counts ends. ExpiresShard counts ends now shard outcomes.items)) }
     ensures stopped { OnErr result (HaltsBy D.seen (parts_of hosts.old) (parts_of hosts.new)
         (λ counts ends a call b. (outcomes : List Outcome)
-        × ExpiresShard counts ends now shard outcomes a call b)
-        (λ counts ends. HalvesExpiry counts ends now shard)) }
+        × ExpiresShard counts ends now shard outcomes a call b)) }
     ensures told { IfOk result (λ outcomes. (topics : List Topic) → length hosts.old.parts.items ≡ partitions topics →
         All (IsTold topics) outcomes.items) }
     ensures disks { GoOn D.seen (disks_in (parts_of hosts.old)) (disks_in (parts_of hosts.new)) }
@@ -68,9 +67,7 @@ pub fn expire<D: Disk>(
         (λ counts ends a call b. (outcomes : List Outcome) × ((connections : List (ℕ × ConnParts))
         → ExpiresAt counts ends now
         (record { connections = connections; shards = a }) (shard_named topic.now part conf.now.topics) call outcomes
-        (record { connections = connections; shards = b })))
-        (λ counts ends a b. (shard : ℕ) × (shard_named topic.now part conf.now.topics ≡ Some shard)
-        × HalvesExpiry counts ends now shard a b)) }
+        (record { connections = connections; shards = b })))) }
     ensures told { IfOk result (λ outcomes. All (IsTold conf.now.topics) outcomes.items) }
     ensures disks { GoOn D.seen (disks_in (parts_of hosts.old)) (disks_in (parts_of hosts.new)) }
     ensures open { AreOpen (parts_of hosts.new) }

@@ -37,7 +37,7 @@ use Rattle.part_log.specs.Shards.{LogShardState, log_at}
 use Rattle.part_log.proofs.Rising.{end_more}
 use Rattle.share_part.specs.Acknowledging.{Acknowledges, AreSettled, IsActedOn, StoresActs}
 use Rattle.share_part.specs.Expiring.{StepsGroups, ending}
-use Rattle.share_part.specs.Following.{Acquires, Does as DoesThen, Follows, Fetches, MakesTable, fault_of, releases_of}
+use Rattle.share_part.specs.Following.{Acquires, Does as DoesThen, Follows, Fetches, HasItsTable, MakesTable, fault_of, releases_of}
 use Rattle.share_part.specs.Hosting.{PartConfParts, key_of}
 use Rattle.share_part.specs.Settling.{Acts, IsHeldBy, IsSettled, act_row, held_after, is_closed_state, settled, stored_after}
 use Rattle.share_part.specs.Shards.{PartShardState, new_state, raised_to}
@@ -283,8 +283,18 @@ module _ (o : ℕ) (row : Row) (closed : is_closed_state row.state ≡ true) whe
       does_keep (Fetch records bytes first) p k =
           fetches_keep (record { records = records; bytes = bytes; first = first }) (table_at conf a.states visit.group) refl p k
 
+      -- the group has its table
+      table_keeps : (t : Option ShareState) → table_at conf a.states visit.group ≡ t → HasItsTable conf a visit b t → b.held ≡ a.held
+          → IsStill a → IsStill b
+      table_keeps None none p held k = record {
+        free = ap (λ (h : List ℕ → Held). hold_at (h group) o) held ∙ k.free;
+        now = new_keeps b.states none k p.0;
+        lost = none_lost b p.1;
+      }
+      table_keeps (Some state) known p held k = still a b p.0 p.1 held k
+
       follows_keep : (unread : Type 0) (failed : Bool) → Follows conf told unread rose end a visit answer b failed → IsStill a → IsStill b
-      follows_keep unread true p k = still a b p.still.states p.still.pending p.still.held k
+      follows_keep unread true p k = table_keeps (table_at conf a.states visit.group) refl p.table p.held k
       follows_keep unread false p k = does_keep visit.then p k
 
       acks_keep : (ack : AckOutcome) → Acknowledges conf rose end a visit b ack → IsStill a → IsStill b

@@ -35,8 +35,8 @@ use Rattle.share_part.specs.declared.settle.Whose.TheVariants.{Member, Due}
 use Rattle.broker_model.specs.Hosted.{Hosted}
 use Rattle.broker_model.specs.Shards.PartCall.{Visits, Produces, Looks, Expires}
 use Rattle.broker_model.specs.PartHistory.{IsPartHistory, PartAct, PartStep, StepsAlone}
-use Rattle.broker_model.specs.PartHistory.PartAct.{Called, AcksAlone, GroupsAlone, NothingDone}
-use Rattle.broker_model.specs.Locks.{Grants, IsActedOnBy, IsExpiredIn, IsGranted, IsReleasedBy, KeepsLocksExclusive, LetsGo, acks_in, frees_due}
+use Rattle.broker_model.specs.PartHistory.PartAct.{Called, NothingDone}
+use Rattle.broker_model.specs.Locks.{Grants, IsActedOnBy, IsExpiredIn, IsGranted, IsReleasedBy, KeepsLocksExclusive, LetsGo}
 use Rattle.broker_model.proofs.Holding.{EndsHold, IsMine, granted_taken, group_is, hold_in, holds_other, its_held, mine_taken, one_of_two, stores_hold, taken_unheld}
 use Rattle.broker_model.proofs.Lists.{IsOf, contains_front, contains_rest, none_not, of_all, of_contains}
 
@@ -151,10 +151,6 @@ pub record IsLocked (group : List ℕ) (o : ℕ) (member : List ℕ) (until : �
   pub whose : hold.member ≡ member
   pub ends : hold.end ≡ until
 
--- the acknowledgements that were done alone
-ack_told : (act : PartAct) (visit : Visit) (a b : AckOutcome) → acks_in act ≡ Some (visit, a) → b ≡ a → acks_in act ≡ Some (visit, b)
-ack_told act visit a b told same = subst (λ (x : AckOutcome). acks_in act ≡ Some (visit, x)) (sym same) told
-
 module _ (group : List ℕ) (o : ℕ) (member : List ℕ) (until : ℕ) where
   abbrev pub Locked : PartShardState → Type 0
   Locked p = IsLocked group o member until p
@@ -168,9 +164,10 @@ module _ (group : List ℕ) (o : ℕ) (member : List ℕ) (until : ℕ) where
   -- ---- acknowledgements
 
   -- they leave it, or end it
-  acks_lock : (s : PartStep) (visit : Visit) (conf : PartConfParts) (rose : Type 0) (end : ℕ) (a b : PartShardState) (ack : AckOutcome)
-      → acks_in s.act ≡ Some (visit, ack) → Acknowledges conf rose end a visit b ack → Locked a → Locked b ⊎ IsActedOnBy group o member s
-  acks_lock s visit conf rose end a b acknowledged told p l = ⊎_elim
+  acks_lock : (s : PartStep) (visit : Visit) (answer : VisitAnswer) (unread : Bool) (conf : PartConfParts) (rose : Type 0)
+      (end : ℕ) (a b : PartShardState) (ack : AckOutcome) → s.act ≡ Called (Visits visit answer unread) → answer.ack ≡ ack
+      → Acknowledges conf rose end a visit b ack → Locked a → Locked b ⊎ IsActedOnBy group o member s
+  acks_lock s visit answer unread conf rose end a b acknowledged is told p l = ⊎_elim
       (λ same. inl (locked_so a b same l))
       (λ e. inr (acted e))
       (stores_hold conf rose end a visit.group (kind_at visit.acks) b None p.1 group o)
@@ -181,14 +178,19 @@ module _ (group : List ℕ) (o : ℕ) (member : List ℕ) (until : ℕ) where
           let at : hold_at (a.held visit.group) o ≡ Some l.hold = ap (λ (g : List ℕ). hold_in a g o) e.group_is ∙ l.at in
           record {
             visit = visit;
+            answer = answer;
+            unread = unread;
+            act = is;
             stored = told;
             of_group = e.group_is;
             by_member = sym (subst (IsHeldBy visit.member) at theirs) ∙ l.whose;
             named = subst IsSome (sym e.named) refl;
           }
-  acks_lock s visit conf rose end a b (Malformed fault) told p l = inl (locked_so a b (ap (λ (h : List ℕ → Held). hold_at (h group) o) p.1.held) l)
-  acks_lock s visit conf rose end a b (NotHeld offset) told p l = inl (locked_so a b (ap (λ (h : List ℕ → Held). hold_at (h group) o) p.2.held) l)
-  acks_lock s visit conf rose end a b (ack_store fault) told p l = ⊎_elim
+  acks_lock s visit answer unread conf rose end a b (Malformed fault) is told p l =
+      inl (locked_so a b (ap (λ (h : List ℕ → Held). hold_at (h group) o) p.1.held) l)
+  acks_lock s visit answer unread conf rose end a b (NotHeld offset) is told p l =
+      inl (locked_so a b (ap (λ (h : List ℕ → Held). hold_at (h group) o) p.2.held) l)
+  acks_lock s visit answer unread conf rose end a b (ack_store fault) is told p l = ⊎_elim
       (λ same. inl (locked_so a b same l))
       (λ e. absurd (none_not fault (sym e.stored)))
       (stores_hold conf rose end a visit.group (kind_at visit.acks) b (Some fault) p.1 group o)
@@ -234,7 +236,7 @@ module _ (group : List ℕ) (o : ℕ) (member : List ℕ) (until : ℕ) where
 
     follows_lock : (told : Bool) (unread rose : Type 0) (end : ℕ) (a b : PartShardState) (failed : Bool)
         → Follows conf told unread rose end a visit answer b failed → Locked a → Locked b ⊎ FreesIt b
-    follows_lock told unread rose end a b true p l = inl (locked_so a b (ap (λ (h : List ℕ → Held). hold_at (h group) o) p.still.held) l)
+    follows_lock told unread rose end a b true p l = inl (locked_so a b (ap (λ (h : List ℕ → Held). hold_at (h group) o) p.held) l)
     follows_lock told unread rose end a b false p l = then_lock told rose end a b visit.then refl p l
 
   -- ---- an expiry
@@ -304,17 +306,18 @@ module _ (group : List ℕ) (o : ℕ) (member : List ℕ) (until : ℕ) where
       free = f.free;
     }
 
-    expiry_lock : (now a later end last : ℕ) (groups : List (List ℕ)) (answer : ExpireAnswer) → frees_due s.act ≡ true
+    expiry_lock : (now a later end last : ℕ) (groups : List (List ℕ)) (answer : ExpireAnswer) → s.act ≡ Called (Expires answer)
         → s.after.clock ≡ max s.before.clock now → StepsGroups h.conf a later end last groups 0 (raised_to now s.before) answer s.after
         → Locked s.before → Locked s.after ⊎ Goes s
-    expiry_lock now a later end last groups answer frees clock p l = ⊎_elim
+    expiry_lock now a later end last groups answer is clock p l = ⊎_elim
         (λ l. inl l)
         (λ f. inr (inr (inr (freed_in f))))
         (groups_lock h.conf a later end last groups 0 (raised_to now s.before) s.after answer p (raised now l))
       where
         freed_in : IsFreed (max s.before.clock now) s.after → IsExpiredIn group o until s
         freed_in f = record {
-          expiry = frees;
+          answer = answer;
+          act = is;
           held = subst IsSome (sym l.at) refl;
           free = f.free;
           late = subst (λ (c : ℕ). until ≤ c) (sym clock) f.late;
@@ -325,17 +328,11 @@ module _ (group : List ℕ) (o : ℕ) (member : List ℕ) (until : ℕ) where
         (λ locked. ⊎_elim (λ locked. inl locked) (λ f. inr (inr (inl (released_in visit answer unread is l f))))
         (follows_lock h.conf visit answer p.0 _ _ p.4.at p.4.between s.after unread p.4.does locked))
         (λ e. inr (inl e))
-        (acks_lock s visit h.conf _ _ s.before p.4.between answer.ack (ap acks_in is) p.4.acks.does l)
+        (acks_lock s visit answer unread h.conf _ _ s.before p.4.between answer.ack is refl p.4.acks.does l)
     act_lock (Called (Produces batch produced)) is p l =
         inl (locked_so s.before s.after (ap (λ (k : List ℕ → Held). hold_at (k group) o) p.4.still.held) l)
     act_lock (Called (Looks other looked)) is p l = inl (locked_so s.before s.after (ap (λ (z : PartShardState). hold_in z group o) p.4.1) l)
-    act_lock (Called (Expires answer)) is p l = expiry_lock p.3 _ _ _ _ _ answer (ap frees_due is) p.4.clock p.4.groups l
-    act_lock (AcksAlone visit ack) is p l = ⊎_elim
-        (λ locked. inl locked)
-        (λ e. inr (inl e))
-        (acks_lock s visit h.conf _ _ (raised_to p.2 s.before) s.after p.3.ack (ack_told s.act visit ack p.3.ack (ap acks_in is) p.4)
-        p.3.acks.does (raised p.2 l))
-    act_lock GroupsAlone is p l = expiry_lock p.2 _ _ _ _ p.3.done _ (ap frees_due is) p.3.clock p.3.groups l
+    act_lock (Called (Expires answer)) is p l = expiry_lock p.3 _ _ _ _ _ answer is p.4.clock p.4.groups l
     act_lock NothingDone is p l = inl (locked_so s.before s.after (ap (λ (z : PartShardState). hold_in z group o) p) l)
 
     module _ (step : StepsAlone h s.before s.act s.after) where
@@ -369,7 +366,7 @@ module _ (group : List ℕ) (o : ℕ) (member : List ℕ) (until : ℕ) where
           let n = (follows_grant h.conf v.0 _ p.at p.between g.visit g.answer s.after _ g.unread p.does o g.granted).1 in
           absurd (none_not locked.hold (sym n.was ∙ ap (λ (k : List ℕ). hold_in p.between k o) g.of_group ∙ locked.at)))
           (λ e. inl e)
-          (acks_lock s g.visit h.conf _ _ s.before p.between g.answer.ack (ap acks_in g.act) p.acks.does l)
+          (acks_lock s g.visit g.answer g.unread h.conf _ _ s.before p.between g.answer.ack g.act refl p.acks.does l)
 
   -- ---- a history
 

@@ -40,11 +40,11 @@ use Rattle.part_log.proofs.Frames.{bounds}
 use Rattle.part_log.proofs.Rising.{end_from, end_more, rises_more}
 use Rattle.share_part.specs.Acknowledging.{Acknowledges, AreSettled, StoresActs}
 use Rattle.share_part.specs.Expiring.{StepsGroups, ending}
-use Rattle.share_part.specs.Following.{Does as DoesThen, Follows, Fetches, MakesTable, fault_of, releases_of}
+use Rattle.share_part.specs.Following.{Does as DoesThen, Follows, Fetches, HasItsTable, MakesTable, fault_of, releases_of}
 use Rattle.share_part.specs.Hosting.{PartConfParts, key_of}
 use Rattle.share_part.specs.Leaving.{IsDoneOr}
 use Rattle.share_part.specs.Settling.{Acts, AreHeldBy, IsHeldBy, IsSettled, act_row, is_chosen, is_closed, is_closed_state, release_of, releases_if, settled, stored_after}
-use Rattle.share_part.specs.Shards.{PartShardState, new_state, raised_to}
+use Rattle.share_part.specs.Shards.{PartShardState, new_state, raised_to, with_new}
 use Rattle.share_part.specs.Tables.{Table, table_of}
 use Rattle.share_part.specs.declared.limits.Limits.{Limits}
 use Rattle.share_part.specs.declared.settle.Whose.TheVariants.{Member, Due}
@@ -307,21 +307,26 @@ module _ (o : ℕ) where
     no_row : (conf_of : PartConfParts) (log : Log) → IsClosedRow o (Some (new_state conf_of log)) → ⊥
     no_row conf_of log closed = true≢false (sym closed)
 
-    made_so : (told : Bool) (rose : Type 0) (end : ℕ) (a : PartShardState) (visit : Visit) (limits : Limits) (answer : VisitAnswer) (b : PartShardState) (t : ThenOutcome)
-        → table_at conf a.states visit.group ≡ None → (table_at conf a.states group ≡ None → IsBelow o (table_at conf b.states group) → Reason)
-        → MakesTable conf told rose end a visit limits answer b t → Reasoned a → Reasoned b
-    made_so told rose end a visit limits answer b followed none cause p r = record {
+    table_stored : (a : PartShardState) (visit : Visit) (b : PartShardState) → table_at conf a.states visit.group ≡ None
+        → (table_at conf a.states group ≡ None → IsBelow o (table_at conf b.states group) → Reason)
+        → b.states ≡ with_new conf a visit.group → b.pending ≡ None → Reasoned a → Reasoned b
+    table_stored a visit b none cause states nothing r = record {
       now = λ passed. ⊎_elim
           (λ one.
-          let fresh : table_at conf b.states group ≡ Some (new_state conf (log_at a.log)) = ap (λ (x : ShareStates). table_at conf x group) p.states ∙ one.1 in
+          let fresh : table_at conf b.states group ≡ Some (new_state conf (log_at a.log)) = ap (λ (x : ShareStates). table_at conf x group) states ∙ one.1 in
           ⊎_elim
           (λ below. cause (ap (λ (g : List ℕ). table_at conf a.states g) (sym one.0) ∙ none) below)
           (λ closed. absurd (no_row conf (log_at a.log) (subst (IsClosedRow o) fresh closed)))
           passed)
-          (λ other. r.now (subst Passed (ap (λ (x : ShareStates). table_at conf x group) p.states ∙ other) passed))
+          (λ other. r.now (subst Passed (ap (λ (x : ShareStates). table_at conf x group) states ∙ other) passed))
           (table_set conf a.states visit.group group (new_state conf (log_at a.log)));
-      lost = nothing_lost b p.nothing;
+      lost = nothing_lost b nothing;
     }
+
+    made_so : (told : Bool) (rose : Type 0) (end : ℕ) (a : PartShardState) (visit : Visit) (limits : Limits) (answer : VisitAnswer) (b : PartShardState) (t : ThenOutcome)
+        → table_at conf a.states visit.group ≡ None → (table_at conf a.states group ≡ None → IsBelow o (table_at conf b.states group) → Reason)
+        → MakesTable conf told rose end a visit limits answer b t → Reasoned a → Reasoned b
+    made_so told rose end a visit limits answer b followed none cause p r = table_stored a visit b none cause p.states p.nothing r
     made_so told rose end a visit limits answer b (then_store (Full at)) none cause p r = still a b p.2.states p.2.pending r
     made_so told rose end a visit limits answer b (then_store Device) none cause p r = ⊎_elim
         (λ same. still a b p.2.states same r)
@@ -351,6 +356,13 @@ module _ (o : ℕ) where
         → Fetches conf told rose end a visit limits answer b t → Reasoned a → Reasoned b
     fetched_so told rose end a visit limits answer b None there cause p r = made_so told rose end a visit limits answer b answer.then there cause p r
     fetched_so told rose end a visit limits answer b (Some state) there cause p r = still a b p.states p.pending r
+
+    -- a batch couldn't be read
+    unread_so : (a : PartShardState) (visit : Visit) (b : PartShardState) (t : Option ShareState) → table_at conf a.states visit.group ≡ t
+        → (table_at conf a.states group ≡ None → IsBelow o (table_at conf b.states group) → Reason)
+        → HasItsTable conf a visit b t → Reasoned a → Reasoned b
+    unread_so a visit b None none cause p r = table_stored a visit b none cause p.0 p.1 r
+    unread_so a visit b (Some state) there cause p r = still a b p.0 p.1 r
 
 -- ---- what stands before acknowledgements
 
@@ -486,7 +498,8 @@ module _ (r : Record) (s : Step) (Reason : Type 0) (cause : Closes r s ⊎ IsMad
             → (table_at hosted.conf a.states r.group ≡ None → table_at hosted.conf x.shard.states r.group ≡ None)
             → (failed : Bool) → Follows hosted.conf true lost rose end a visit answer y.shard failed → Kept a → Kept y.shard
         follows_keeps lost rose end a log_of slot_of holds tables true p k =
-            still r.offset Reason hosted.conf r.group a y.shard p.still.states p.still.pending k
+            unread_so r.offset Reason hosted.conf r.group a visit y.shard (table_at hosted.conf a.states visit.group) refl
+            (λ none below. made_there (tables none) below) p.table k
         follows_keeps lost rose end a log_of slot_of holds tables false p k =
             then_keeps rose end a log_of slot_of holds tables visit.then refl p k
 

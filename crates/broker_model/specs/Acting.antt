@@ -1,5 +1,5 @@
 -- The shard of a hosted partition in memory takes the machine's step, by the counts of faults of its own disks and the ends of its own
--- journals; or it is left between two writes of a call. This project's own.
+-- journals. This project's own.
 -- For example a batch is answered with a fault of its device exactly where a call of the log's disk failed,
 -- acknowledgements only where one of both state disks' calls did, and a call that only looks leaves all as it was.
 use Rattle.std.specs.Prelude.{◌≡◌, ◌≤◌, ℕ}
@@ -7,13 +7,12 @@ use Rattle.edge_io.specs.Causes.{Rose}
 use Rattle.edge_io.specs.Disk.{IsTold}
 use Rattle.edge_io.specs.Views.{DiskView}
 use Rattle.share_model.specs.ForeignRules.{share_state_at}
-use Rattle.share_model.specs.declared.visit.Visit.{Visit}
-use Rattle.share_part.specs.Expiring.{ExpiresPart, StepsExpire}
-use Rattle.share_part.specs.Failures.{FailuresRose, failures_of}
+use Rattle.share_part.specs.Expiring.{StepsExpire}
+use Rattle.share_part.specs.Failures.{failures_of}
 use Rattle.share_part.specs.Hosting.{PartConfParts, key_of}
 use Rattle.share_part.specs.Once.{reading_of}
 use Rattle.share_part.specs.Shards.{PartParts, PartShardState, StepsProduce}
-use Rattle.share_part.specs.Visits.{StepsVisit, VisitsPart}
+use Rattle.share_part.specs.Visits.{StepsVisit}
 use Rattle.broker_model.specs.Shards.{PartCall, log_faults_met, look_at, result_of}
 use Rattle.broker_model.specs.Shards.PartCall.{Visits, Produces, Looks, Expires}
 
@@ -41,16 +40,3 @@ pub record StepsOn {D W : Type 0} (seen : D → DiskView) (conf : PartConfParts)
   pub step : TakesStep seen conf old new now shard did after
   pub quiet : log_faults_met did ≡ 0 → IsTold (seen old.log.journal.disk).content
       → (seen new.log.journal.disk).faults ≡ (seen old.log.journal.disk).faults
-
--- a call that makes several writes, between two of which memory may run out
-pub data Begun : Type 0 where
-  BeginsVisit : (visit : Visit) → Begun
-  BeginsExpiry : Begun
-
--- It was left between two writes: a visit behind its acknowledgements, an expiry behind some of the groups.
-abbrev pub HalvesOn : {D W : Type 0} → (D → DiskView) → PartConfParts → PartParts D W → PartParts D W → (now : ℕ) → PartShardState → Begun → PartShardState
-    → Type 0
-HalvesOn seen conf old new now shard (BeginsVisit visit) after =
-    VisitsPart conf (FailuresRose seen old.states new.states) old.states.journal.end shard now visit after
-HalvesOn seen conf old new now shard BeginsExpiry after =
-    ExpiresPart conf (failures_of seen old.states) (failures_of seen new.states) old.states.journal.end new.states.journal.end shard now after

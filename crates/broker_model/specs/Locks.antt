@@ -2,14 +2,14 @@
 -- until it is acknowledged, released, or its lock has ended). Between two grants of one record of one group stands a stored act of the first
 -- holder on it, a stored release of all that the holder held, an expiry behind the end of the lock, or, in a run, a power loss.
 -- Worked example: `a` is granted the offset 0 at 1000, its lock ends at 31000. `b` is granted 0 only behind an accept, a release or a
--- reject of `a` that was answered with code 0, behind the close of `a`'s session, behind an expiry at 31000 or later, or behind `power`. An
--- accept counts that was stored although memory ran out behind it, and so does an expiry in which it ran out behind the write that freed 0.
-use Rattle.std.specs.Prelude.{◌≡◌, ◌⊎◌, ◌+◌, ◌≤◌, ℕ, List, [], ◌∷◌, ◌++◌, Bool, true, false, Option, Some, None, IsSome, Contains}
+-- reject of `a` that was answered with code 0, behind the close of `a`'s session, behind an expiry at 31000 or later, or behind `power`.
+-- A call that found no memory counts for none of these.
+use Rattle.std.specs.Prelude.{◌≡◌, ◌⊎◌, ◌+◌, ◌≤◌, ℕ, List, [], ◌∷◌, ◌++◌, Bool, Some, None, IsSome, Contains}
 use Rattle.ack_ranges.specs.Batches.{kind_at}
 use Rattle.share_model.specs.Held.{hold_at}
 use Rattle.share_model.specs.declared.hold.Grant.{Grant}
-use Rattle.share_model.specs.declared.visit.AckOutcome.{AckOutcome}
 use Rattle.share_model.specs.declared.visit.AckOutcome.TheVariants.{Done as acknowledged}
+use Rattle.share_model.specs.declared.visit.ExpireAnswer.{ExpireAnswer}
 use Rattle.share_model.specs.declared.visit.Then.TheVariants.{Release}
 use Rattle.share_model.specs.declared.visit.ThenOutcome.TheVariants.{Done as followed}
 use Rattle.share_model.specs.declared.visit.Visit.{Visit}
@@ -20,9 +20,9 @@ use Rattle.session_script.specs.declared.event.Event.TheVariants.{Power}
 use Rattle.broker_model.specs.Hosted.{Hosted, HoldsAt}
 use Rattle.broker_model.specs.Shards.{HostedPart, PartCall}
 use Rattle.broker_model.specs.Shards.ShardCall.{CallPart}
-use Rattle.broker_model.specs.Shards.PartCall.{Visits, Produces, Looks, Expires}
-use Rattle.broker_model.specs.PartHistory.{PartAct, PartStep}
-use Rattle.broker_model.specs.PartHistory.PartAct.{Called, AcksAlone, GroupsAlone, NothingDone}
+use Rattle.broker_model.specs.Shards.PartCall.{Visits, Expires}
+use Rattle.broker_model.specs.PartHistory.{PartStep}
+use Rattle.broker_model.specs.PartHistory.PartAct.{Called}
 use Rattle.broker_model.specs.Runs.{Step}
 
 -- ---- grants, and what ends a lock
@@ -45,20 +45,13 @@ pub record Grants (conf : PartConfParts) (group : List ℕ) (offset : ℕ) (memb
   pub granted : IsGranted offset answer.grants
   pub until : end ≡ s.after.clock + conf.lock_ms
 
--- the visit whose acknowledgements were done, and what became of them
-abbrev pub acks_in : PartAct → Option (Visit × AckOutcome)
-acks_in (Called (Visits visit answer unread)) = Some (visit, answer.ack)
-acks_in (Called (Produces batch produced)) = None
-acks_in (Called (Looks group looked)) = None
-acks_in (Called (Expires answer)) = None
-acks_in (AcksAlone visit ack) = Some (visit, ack)
-acks_in GroupsAlone = None
-acks_in NothingDone = None
-
 -- an acknowledgement of the member on the record was stored
 pub record IsActedOnBy (group : List ℕ) (offset : ℕ) (member : List ℕ) (s : PartStep) : Type 0 where
   pub visit : Visit
-  pub stored : acks_in s.act ≡ Some (visit, acknowledged)
+  pub answer : VisitAnswer
+  pub unread : Bool
+  pub act : s.act ≡ Called (Visits visit answer unread)
+  pub stored : answer.ack ≡ acknowledged
   pub of_group : visit.group ≡ group
   pub by_member : visit.member ≡ member
   pub named : IsSome (kind_at visit.acks offset)
@@ -76,19 +69,10 @@ pub record IsReleasedBy (group : List ℕ) (offset : ℕ) (member : List ℕ) (s
   pub held : IsHeldBy member (hold_at (s.before.held group) offset)
   pub free : hold_at (s.after.held group) offset ≡ None
 
--- groups of an expiry were freed
-abbrev pub frees_due : PartAct → Bool
-frees_due (Called (Visits visit answer unread)) = false
-frees_due (Called (Produces batch produced)) = false
-frees_due (Called (Looks group looked)) = false
-frees_due (Called (Expires answer)) = true
-frees_due (AcksAlone visit ack) = false
-frees_due GroupsAlone = true
-frees_due NothingDone = false
-
 -- an expiry freed the record, at a clock that isn't below the end of the lock
 pub record IsExpiredIn (group : List ℕ) (offset : ℕ) (end : ℕ) (s : PartStep) : Type 0 where
-  pub expiry : frees_due s.act ≡ true
+  pub answer : ExpireAnswer
+  pub act : s.act ≡ Called (Expires answer)
   pub held : IsSome (hold_at (s.before.held group) offset)
   pub free : hold_at (s.after.held group) offset ≡ None
   pub late : end ≤ s.after.clock

@@ -1,5 +1,5 @@
 -- A history of a partition behind a lock is one of the machine's steps on it, so its locks are exclusive.
-use Rattle.std.proofs.Common.{◌≡◌, ◌⊎◌, ◌+◌, inl, inr, refl, sym, ap, ◌∙◌, subst, arith, ℕ, List, [], ◌∷◌, ◌++◌, length, Bool, cond, Ok, Err}
+use Rattle.std.proofs.Common.{◌≡◌, ◌+◌, refl, sym, ap, ◌∙◌, subst, arith, ℕ, List, [], ◌∷◌, ◌++◌, length, Bool, cond, Ok, Err}
 use Rattle.std.proofs.lemmas.List.{append_cancel_left}
 use Rattle.std.specs.Prelude.{is_some, codes, slice_index_or}
 use Rattle.edge_io.specs.Causes.{Rose}
@@ -7,17 +7,16 @@ use Rattle.edge_io.specs.Names.{disk_word, hosted_name, number_word}
 use Rattle.edge_io.specs.declared.name.DiskPlace.{DiskPlace}
 use Rattle.edge_io.specs.declared.name.DiskPlace.TheVariants.{Log, StateA, StateB}
 use Rattle.edge_io.specs.Views.{DiskView}
-use Rattle.share_part.specs.Expiring.{ExpiresPart, StepsExpire}
+use Rattle.share_part.specs.Expiring.{StepsExpire}
 use Rattle.share_part.specs.Failures.{failures_of}
 use Rattle.share_part.specs.Hosting.{PartConfParts}
 use Rattle.share_model.specs.declared.visit.Visit.{Visit}
 use Rattle.share_model.specs.declared.visit.VisitAnswer.{VisitAnswer}
 use Rattle.share_part.specs.Shards.{PartShardState}
-use Rattle.share_part.specs.Visits.{StepsVisit, VisitsPart}
+use Rattle.share_part.specs.Visits.{StepsVisit}
 use Rattle.shard_lock.specs.History.{Leads}
 use Rattle.shard_lock.specs.declared.shard.Entry.{Entry}
-use Rattle.broker_model.specs.Acting.{Begun, HalvesOn, TakesStep}
-use Rattle.broker_model.specs.Acting.Begun.{BeginsVisit, BeginsExpiry}
+use Rattle.broker_model.specs.Acting.{TakesStep}
 use Rattle.broker_core.proofs.Places.{differs, same_self}
 use Rattle.broker_model.specs.Hosted.{Hosted, first_of, log_of, same_name, second_of, state_store}
 use Rattle.broker_model.specs.PartHistory.{IsPartHistory, StepsAlone}
@@ -27,7 +26,7 @@ use Rattle.broker_model.specs.Shards.PartCall.{Visits, Produces, Looks, Expires}
 use Rattle.broker_model.proofs.PartLocks.{exclusive_alone}
 use Rattle.broker_shards.specs.Hosts.{Host}
 use Rattle.broker_shards.specs.declared.part.PartEvent.{PartEvent}
-use Rattle.broker_run.specs.Histories.{IsHistory, MovesPart, StepsPart, act_of, half_of, steps_of}
+use Rattle.broker_run.specs.Histories.{IsHistory, MovesPart, StepsPart, act_of, steps_of}
 use Rattle.broker_run.specs.Shared.{PartAnswer}
 
 -- the three disks of a partition have three names
@@ -128,23 +127,10 @@ module _ {D : Type 0} (seen : D → DiskView) where
       subst (λ (n : ℕ × ℕ). StepsExpire old.part.conf n.0 n.1 (ends []).0 (ends []).1 s now answer t) (λ i. (sym before i, sym behind i)) p,
     )
 
-    half_alone : (now : ℕ) (s t : PartShardState) (begun : Begun) (p : HalvesOn seen old.part.conf old.part new.part now s begun t)
-        → StepsAlone (of_host topic old) s (half_of seen old new now s t begun p) t
-    half_alone now s t (BeginsVisit visit) p =
-        let q = subst (λ (n : ℕ × ℕ). (part : VisitsPart old.part.conf (Rose n.0 n.1) (ends []).0 s now visit t) × (part.ack ≡ p.ack))
-        (λ i. (sym before i, sym behind i)) (p, refl) in (counts, ends, now, q.0, q.1)
-    half_alone now s t BeginsExpiry p = (
-      counts,
-      ends,
-      now,
-      subst (λ (n : ℕ × ℕ). ExpiresPart old.part.conf n.0 n.1 (ends []).0 (ends []).1 s now t) (λ i. (sym before i, sym behind i)) p,
-    )
-
     act_alone : (event : PartEvent) (answer : PartAnswer) (s t : PartShardState) (p : MovesPart seen old new event answer s t)
         → StepsAlone (of_host topic old) s (act_of seen old new event answer s t p) t
     act_alone event (Ok told) s t p = call_alone event.now s p.0 t p.3.step
-    act_alone event (Err fault) s t (inl same) = same
-    act_alone event (Err fault) s t (inr half) = half_alone event.now s t half.0 half.2
+    act_alone event (Err fault) s t same = same
 
   module _ (topic : List ℕ) (conf : PartConfParts) where
     abbrev its : Hosted

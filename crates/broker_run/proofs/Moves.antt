@@ -1,22 +1,21 @@
 -- Histories of shards in memory, and of the states for which they stand.
-use Rattle.std.proofs.Common.{◌≡◌, ◌⊎◌, inl, inr, refl, sym, ap, ◌∙◌, subst, List, [], ◌∷◌, Bool, is_some, Some, Ok, Err}
+use Rattle.std.proofs.Common.{◌≡◌, refl, sym, ap, ◌∙◌, subst, List, [], ◌∷◌, Bool, is_some, Ok, Err}
 use Rattle.edge_io.specs.Views.{DiskView}
 use Rattle.foreign_coord.specs.Shards.{ForeignShardState, Carries as CarriesForeign}
 use Rattle.share_part.specs.Shards.{PartShardState, Carries}
 use Rattle.shard_lock.specs.History.{Leads}
 use Rattle.shard_lock.specs.Passes.{LockParts}
 use Rattle.shard_lock.specs.declared.shard.Entry.{Entry}
-use Rattle.broker_model.specs.Acting.{Begun, HalvesOn}
 use Rattle.broker_core.specs.Hosts.{hosted_slot}
 use Rattle.broker_core.proofs.Opening.{carried_stands}
 use Rattle.broker_core.proofs.Reopens.{images_left}
-use Rattle.broker_shards.specs.Acts.{ActsForeign, ActsPart, begun_by}
+use Rattle.broker_shards.specs.Acts.{ActsForeign, ActsPart}
 use Rattle.broker_shards.specs.Hosts.{Host, holding}
 use Rattle.broker_shards.specs.declared.foreign.ForeignEvent.{ForeignEvent}
 use Rattle.broker_shards.specs.declared.foreign.ForeignHost.{ForeignHost}
 use Rattle.broker_shards.specs.declared.part.PartEvent.{PartEvent}
 use Rattle.broker_run.specs.Closing.{LeavesForeign, LeavesPart}
-use Rattle.broker_run.specs.Histories.{FindsPart, FindsStates, IsHistory, MovesForeign, MovesPart, StepsPart, StepsStates}
+use Rattle.broker_run.specs.Histories.{FindsPart, FindsStates, MovesForeign, MovesPart, StepsPart, StepsStates}
 use Rattle.broker_run.proofs.Exclusives.{is_history}
 use Rattle.broker_run.specs.Opening.{slot_of}
 use Rattle.broker_run.specs.Rows.{Ends}
@@ -32,13 +31,7 @@ module _ {D : Type 0} (seen : D → DiskView) where
       → (t : PartShardState) × MovesPart seen old new event answer s t × Carried new t
   part_moves old new event (Ok told) s a k =
       let n = a.acts.steps s k in (n.0, (a.acts.did, a.acts.asks, a.acts.tells, n.2), n.1)
-  part_moves old new event (Err fault) s a k = go (a.acts s k) where
-    go : Carried new s
-        ⊎ ((begun : Begun) × (begun_by event.ask ≡ Some begun) × (after : PartShardState) × Carried new after
-        × HalvesOn seen old.part.conf old.part new.part event.now s begun after)
-        → (t : PartShardState) × MovesPart seen old new event (Err fault) s t × Carried new t
-    go (inl same) = (s, inl refl, same)
-    go (inr (begun, is, after, carries, halves)) = (after, inr (begun, is, halves), carries)
+  part_moves old new event (Err fault) s a k = (s, refl, a.acts s k)
 
   part_found : (h : Host D) (s : PartShardState) → Carried h s → FindsPart seen h s
   part_found h s k = images_left seen h.part.conf h.part s refl k

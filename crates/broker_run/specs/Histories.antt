@@ -1,9 +1,8 @@
--- Histories of shards behind locks, state by state: each entry is a step of the machine's shard, or, where no memory was found, nothing or a
--- part of one. This project's own.
+-- Histories of shards behind locks, state by state: each entry is a step of the machine's shard, or, where no memory was
+-- found, nothing. This project's own.
 -- For example the history of a partition in which `a` fetches 0, an expiry turn frees it, and `b` fetches it: three entries, each a step of the
 -- partition. The lock of `a` ended by the second one. A history without the turn among its entries would grant 0 to two members.
-use Rattle.std.proofs.Common.{inl, inr}
-use Rattle.std.specs.Prelude.{◌≡◌, ◌⊎◌, ℕ, List, [], ◌∷◌, Some, Ok, Err}
+use Rattle.std.specs.Prelude.{◌≡◌, ℕ, List, [], ◌∷◌, Ok, Err}
 use Rattle.std.specs.declared.option.Option.{Option}
 use Rattle.edge_io.specs.Views.{DiskView}
 use Rattle.foreign_coord.specs.Once.{HasRisen}
@@ -13,14 +12,13 @@ use Rattle.share_part.specs.Leaving.{IsLeftOf}
 use Rattle.share_part.specs.Shards.{PartShardState}
 use Rattle.shard_lock.specs.History.{Leads}
 use Rattle.shard_lock.specs.declared.shard.Entry.{Entry}
-use Rattle.broker_model.specs.Acting.{Begun, HalvesOn, StepsOn}
-use Rattle.broker_model.specs.Acting.Begun.{BeginsVisit, BeginsExpiry}
+use Rattle.broker_model.specs.Acting.{StepsOn}
 use Rattle.broker_model.specs.Locks.{KeepsLocksExclusive}
 use Rattle.broker_model.specs.Machine.{StandWith}
 use Rattle.broker_model.specs.PartHistory.{PartAct, PartStep}
-use Rattle.broker_model.specs.PartHistory.PartAct.{Called, AcksAlone, GroupsAlone, NothingDone}
+use Rattle.broker_model.specs.PartHistory.PartAct.{Called, NothingDone}
 use Rattle.broker_model.specs.Shards.{PartCall}
-use Rattle.broker_shards.specs.Acts.{ActsForeign, ActsPart, asked_by, begun_by, told_by}
+use Rattle.broker_shards.specs.Acts.{ActsForeign, ActsPart, asked_by, told_by}
 use Rattle.broker_shards.specs.Hosts.{Host}
 use Rattle.broker_shards.specs.declared.foreign.ForeignEvent.{ForeignEvent}
 use Rattle.broker_shards.specs.declared.foreign.ForeignHost.{ForeignHost}
@@ -29,13 +27,12 @@ use Rattle.broker_run.specs.Shared.{PartAnswer, StateAnswer}
 
 -- ---- histories of states
 
--- A call of the machine leads from the one state of a partition to the other; where no memory was found, nothing was done, or a visit's
--- acknowledgements or the first groups of an expiry were.
+-- A call of the machine leads from the one state of a partition to the other; where no memory was found, nothing was
+-- done.
 abbrev pub MovesPart : {D : Type 0} → (D → DiskView) → (old new : Host D) → PartEvent → PartAnswer → PartShardState → PartShardState → Type 0
 MovesPart seen old new event (Ok told) s t = (did : PartCall) × (event.ask ≡ asked_by did) × (told ≡ told_by did)
     × StepsOn seen old.part.conf old.part new.part event.now s did t
-MovesPart seen old new event (Err fault) s t = (t ≡ s)
-    ⊎ ((begun : Begun) × (begun_by event.ask ≡ Some begun) × HalvesOn seen old.part.conf old.part new.part event.now s begun t)
+MovesPart seen old new event (Err fault) s t = t ≡ s
 
 -- a crash now finds the log and the tables of this state, each with or without its pending write
 abbrev pub FindsPart : {D : Type 0} → (D → DiskView) → Host D → PartShardState → Type 0
@@ -70,17 +67,11 @@ pub record StepsStates {D : Type 0} (seen : D → DiskView) (old : ForeignHost D
 
 -- ---- exclusive locks of a history
 
--- what was done of a call in which memory ran out
-abbrev pub half_of : {D : Type 0} (seen : D → DiskView) (old new : Host D) (now : ℕ) (s t : PartShardState) (begun : Begun)
-    → HalvesOn seen old.part.conf old.part new.part now s begun t → PartAct
-half_of seen old new now s t (BeginsVisit visit) half = AcksAlone visit half.ack
-half_of seen old new now s t BeginsExpiry half = GroupsAlone
-
+-- the call that was made, or none where no memory was found
 abbrev pub act_of : {D : Type 0} (seen : D → DiskView) (old new : Host D) (event : PartEvent) (answer : PartAnswer) (s t : PartShardState)
     → MovesPart seen old new event answer s t → PartAct
 act_of seen old new event (Ok told) s t moves = Called moves.0
-act_of seen old new event (Err fault) s t (inl same) = NothingDone
-act_of seen old new event (Err fault) s t (inr half) = half_of seen old new event.now s t half.0 half.2
+act_of seen old new event (Err fault) s t same = NothingDone
 
 -- the entries of a history as steps of its partition alone
 abbrev pub steps_of : {D : Type 0} (seen : D → DiskView) (old new : Host D × PartShardState) (entries : List (Entry PartEvent PartAnswer))

@@ -1,5 +1,5 @@
 -- Calls on a partition as acts.
-use Rattle.std.proofs.Common.{◌≡◌, ◌≢◌, ◌≤◌, ◌⊎◌, arith, inl, inr, refl, sym, ap, ◌∙◌, subst, ℕ, List, Bool, true, Result, Err}
+use Rattle.std.proofs.Common.{◌≡◌, ◌≢◌, ◌≤◌, arith, refl, sym, ap, ◌∙◌, subst, ℕ, List, Bool, true, Result, Err}
 use Rattle.std.specs.List.{AllByRecursion}
 use Rattle.edge_io.specs.Armed.{RunsOn}
 use Rattle.edge_io.specs.Disk.{IsTold}
@@ -16,8 +16,7 @@ use Rattle.share_model.specs.declared.visit.Visit.{Visit}
 use Rattle.share_model.specs.declared.visit.VisitAnswer.{VisitAnswer}
 use Rattle.gate_journal.specs.declared.writer.Writer.{Writer}
 use Rattle.part_log.specs.Logs.{LogParts, OnlyReads}
-use Rattle.part_log.specs.Shards.{log_at}
-use Rattle.part_log.proofs.Looking.{carries_on}
+use Rattle.part_log.specs.Shards.{CarriesLog, log_at}
 use Rattle.share_coord.specs.Parts.{StoreParts}
 use Rattle.share_coord.specs.Holding.{Holds}
 use Rattle.share_coord.specs.States.{states_of}
@@ -29,7 +28,6 @@ use Rattle.share_part.specs.Walks.{IsSmallGrant}
 use Rattle.call_fold.specs.Parts.{HasTellableBase, IsTellableLook}
 use Rattle.call_fold.specs.declared.part.Looked.{Looked}
 use Rattle.call_fold.specs.declared.part.Produced.{Produced}
-use Rattle.broker_model.specs.Acting.Begun.{BeginsVisit, BeginsExpiry}
 use Rattle.broker_model.specs.Shards.{look_at, result_of}
 use Rattle.broker_model.specs.Shards.PartCall.{Visits, Produces, Looks, Expires}
 use Rattle.broker_model.proofs.Quiets.{steps_batch, steps_still, steps_visit}
@@ -125,9 +123,9 @@ module _ {D W : Type 0} (seen : D → DiskView) (holding : W → Held) (old new 
   -- ---- want of memory
 
   -- where nothing of it has changed, it carries what it carried
-  untouched : IsUntouched seen holding old new → (s : PartShardState) → Carries seen holding old s → Carries seen holding new s
-  untouched same s k = record {
-    log = carries_on seen old.log new.log same.log s.log k.log;
+  pub visit_refused : IsUntouched holding old new → FindsNoMemory seen holding old new
+  visit_refused same s k = record {
+    log = subst (λ (l : LogParts D). CarriesLog seen l s.log) (sym same.log) k.log;
     pending = k.pending;
     holds = subst (λ (t : StoreParts D). Holds seen t k.pending) (sym same.states) k.holds;
     states = k.states ∙ ap (λ (t : StoreParts D). states_of t.entries) (sym same.states);
@@ -139,14 +137,8 @@ module _ {D W : Type 0} (seen : D → DiskView) (holding : W → Held) (old new 
     unmarked = k.unmarked;
   }
 
-  pub visit_refused : (now : ℕ) (visit : Visit) → IsUntouched seen holding old new → FindsNoMemory seen holding now (asks.Visit visit) old new
-  visit_refused now visit same s k = inl (untouched same s k)
-
-  pub expiry_refused : (now : ℕ) → new ≡ old → FindsNoMemory seen holding now asks.Expire old new
-  expiry_refused now same s k = inl (subst (λ (p : PartParts D W). Carries seen holding p s) (sym same) k)
-
-  pub batch_refused : (now : ℕ) (batch : List ℕ) → new ≡ old → FindsNoMemory seen holding now (asks.Produce batch) old new
-  batch_refused now batch same s k = inl (subst (λ (p : PartParts D W). Carries seen holding p s) (sym same) k)
+  pub call_refused : new ≡ old → FindsNoMemory seen holding old new
+  call_refused same s k = subst (λ (p : PartParts D W). Carries seen holding p s) (sym same) k
 
 -- ---- looks
 
@@ -165,9 +157,6 @@ module _ {D W : Type 0} (seen : D → DiskView) (holding : W → Held) (part : P
           (told ∙ ap (λ states. look_at (share_state_at states (key_of part.conf group))) (sym k.states), refl),
     );
   }
-
-  pub look_refused : (group : List ℕ) (now : ℕ) → FindsNoMemory seen holding now (asks.Look group) part part
-  look_refused group now s k = inl k
 
   pub look_goes : GoesOnPart seen holding part part
   look_goes = record {

@@ -2,7 +2,7 @@
 -- act answers, they carry one then to which the machine's own step leads, and where it finds no memory, the one from before. This
 -- project's own; the steps are those of a recorded session.
 -- For example a look tells what is stored of its group and leaves the shard as it was; a tick at 50000 that removes two members tells 2.
-use Rattle.std.specs.Prelude.{◌≡◌, ◌⊎◌, ◌-◌, ◌^◌, ℕ, min, All, Option, Some, None, Result, Ok, Err}
+use Rattle.std.specs.Prelude.{◌≡◌, ◌-◌, ◌^◌, ℕ, min, All, Option, Result, Ok, Err}
 use Rattle.edge_io.specs.Armed.{RunsOn}
 use Rattle.edge_io.specs.Views.{DiskView}
 use Rattle.flex_fields.specs.declared.fault.NoMemory.{NoMemory}
@@ -18,8 +18,7 @@ use Rattle.foreign_coord.specs.Shards.{ForeignShardState, IsFound, StepsForeign,
 use Rattle.share_members.specs.Groups.{Memberships}
 use Rattle.share_members.specs.Expiry.{removed}
 use Rattle.share_part.specs.Shards.{PartParts, PartShardState, Carries}
-use Rattle.broker_model.specs.Acting.{Begun, EndsGoOn, HalvesOn, StepsOn}
-use Rattle.broker_model.specs.Acting.Begun.{BeginsVisit, BeginsExpiry}
+use Rattle.broker_model.specs.Acting.{EndsGoOn, StepsOn}
 use Rattle.broker_model.specs.Shards.{PartCall, StepsMembers}
 use Rattle.broker_model.specs.Shards.PartCall.{Visits, Produces, Looks, Expires}
 use Rattle.broker_model.specs.Shards.MembersCall.{Beats, Ticks}
@@ -73,22 +72,13 @@ pub record Answers {D W : Type 0} (seen : D → DiskView) (holding : W → Held)
   pub steps : (s : PartShardState) → Carries seen holding old s → (after : PartShardState) × Carries seen holding new after
       × StepsOn seen old.conf old new now s did after
 
--- what may be left half done for want of memory
-abbrev pub begun_by : PartAsk → Option Begun
-begun_by (asks.Visit visit) = Some (BeginsVisit visit)
-begun_by (asks.Produce batch) = None
-begun_by (asks.Look group) = None
-begun_by asks.Expire = Some BeginsExpiry
-
--- No memory was found. What was carried is carried still; or a visit's acknowledgements, or the first groups of an expiry, were done.
-abbrev pub FindsNoMemory : {D W : Type 0} → (D → DiskView) → (W → Held) → (now : ℕ) → PartAsk → PartParts D W → PartParts D W → Type 0
-FindsNoMemory seen holding now asked old new = (s : PartShardState) → Carries seen holding old s → Carries seen holding new s
-    ⊎ ((begun : Begun) × (begun_by asked ≡ Some begun) × (after : PartShardState) × Carries seen holding new after
-    × HalvesOn seen old.conf old new now s begun after)
+-- no memory was found: what was carried is carried still
+abbrev pub FindsNoMemory : {D W : Type 0} → (D → DiskView) → (W → Held) → PartParts D W → PartParts D W → Type 0
+FindsNoMemory seen holding old new = (s : PartShardState) → Carries seen holding old s → Carries seen holding new s
 
 abbrev pub ActsOnPart : {D W : Type 0} → (D → DiskView) → (W → Held) → (now : ℕ) → PartAsk → PartParts D W → Result PartTold NoMemory → PartParts D W → Type 0
 ActsOnPart seen holding now asked old (Ok told) new = Answers seen holding now asked told old new
-ActsOnPart seen holding now asked old (Err fault) new = FindsNoMemory seen holding now asked old new
+ActsOnPart seen holding now asked old (Err fault) new = FindsNoMemory seen holding old new
 
 -- What each act leaves: its configuration stays. No power is lost, no fault is armed, and no count of faults falls on its disks. The journal of
 -- the log never ends before where it did.

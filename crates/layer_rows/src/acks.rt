@@ -33,7 +33,7 @@ fn push_batch(alloc: Global, batches: &mut Vec<AckBatch>, text: &str) -> io::Res
 }
 
 /// The batches of words.
-fn batches_of(alloc: Global, words: &str) -> io::Result<Vec<AckBatch>> {
+pub fn batches_of(alloc: Global, words: &str) -> io::Result<Vec<AckBatch>> {
     let mut batches = Vec::new(alloc);
     for word in words.split(' ') {
         push_batch(alloc, &mut batches, word)?;
@@ -42,7 +42,7 @@ fn batches_of(alloc: Global, words: &str) -> io::Result<Vec<AckBatch>> {
 }
 
 /// How many types batches have. `None` where they are too many.
-fn type_count(batches: &[AckBatch]) -> Option<u32>
+pub fn type_count(batches: &[AckBatch]) -> Option<u32>
     ensures { IfSome result (λ count. count ≡ types_in batches.now) }
 {
     let Some((batch, others)) = batches.split_first() else {

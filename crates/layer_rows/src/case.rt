@@ -2,6 +2,7 @@
 use crate::adapters::Adapters;
 use crate::formats::Formats;
 use crate::links::Links;
+use crate::parts::Parts;
 use crate::runs::StoredRuns;
 use crate::stores::Stores;
 use crate::texts::Texts;
@@ -18,6 +19,7 @@ enum Layer {
     Links,
     Windows,
     Runs,
+    Parts,
     Texts,
 }
 
@@ -30,6 +32,7 @@ pub struct Case {
     links: Links,
     windows: Windows,
     runs: StoredRuns,
+    parts: Parts,
     texts: Texts,
 }
 
@@ -41,6 +44,7 @@ fn layer_of(name: &str) -> Option<Layer> {
         "links" => Some(Layer::Links),
         "windows" => Some(Layer::Windows),
         "runs" => Some(Layer::Runs),
+        "parts" => Some(Layer::Parts),
         "texts" => Some(Layer::Texts),
         _ => None,
     }
@@ -64,6 +68,7 @@ impl Case {
             links: Links::new(alloc)?,
             windows: Windows::new(alloc),
             runs: StoredRuns::new(alloc),
+            parts: Parts::None,
             texts: Texts::new(alloc),
         })
     }
@@ -89,6 +94,7 @@ impl Case {
             Layer::Links => self.links.told(alloc, kind, words),
             Layer::Windows => self.windows.told(alloc, kind, words),
             Layer::Runs => self.runs.told(alloc, kind, words),
+            Layer::Parts => self.parts.told(alloc, kind, words),
             Layer::Texts => self.texts.told(alloc, kind, words),
         }
     }
@@ -101,6 +107,7 @@ impl Rows for Case {
         self.links.set(Links::new(alloc)?);
         self.windows.set(Windows::new(alloc));
         self.runs.set(StoredRuns::new(alloc));
+        self.parts.set(Parts::None);
         self.texts.set(Texts::new(alloc));
         self.formats.begin(alloc)
     }

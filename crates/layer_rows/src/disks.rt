@@ -46,7 +46,7 @@ pub fn bytes_text(alloc: Global, bytes: &[u8]) -> io::Result<String> {
 }
 
 /// The mode of a fault that is armed.
-fn mode_of(name: &str) -> FaultMode {
+pub fn mode_of(name: &str) -> FaultMode {
     match name {
         "torn" => FaultMode::Torn,
         "dead" => FaultMode::Dead,
@@ -231,7 +231,7 @@ fn append_each(
 }
 
 /// A new disk with a content.
-fn new_disk(alloc: Global, content: Vec<u8>) -> io::Result<MemDisk> {
+pub fn new_disk(alloc: Global, content: Vec<u8>) -> io::Result<MemDisk> {
     match MemDisk::new(alloc, content) {
         Ok(disk) => Ok(disk),
         Err(_) => Err(io::Error::from(io::ErrorKind::OutOfMemory)),

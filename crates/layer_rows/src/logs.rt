@@ -20,7 +20,8 @@ use share_model::{LogFault, Room, StoreFault};
 use std::alloc::Global;
 use std::io;
 
-fn answer_text(alloc: Global, answer: Result<u64, LogFault>) -> io::Result<String> {
+/// A base, or why a batch is refused.
+pub fn answer_text(alloc: Global, answer: Result<u64, LogFault>) -> io::Result<String> {
     match answer {
         Ok(base) => number_text(alloc, base),
         Err(LogFault::Batch(fault)) => Ok(format!(in alloc; "{fault:?}")?),

@@ -2,7 +2,7 @@
 //! and clocks in memory, windows, runs, and texts.
 //!
 //! A line `layer NAME` before the cases of a file says which they are about: `formats`, `stores`, `adapters`,
-//! `links`, `windows`, `runs` or `texts`. The head of the file with that name in `src/` says which lines there are.
+//! `links`, `windows`, `runs`, `parts` or `texts`. The head of the file with that name in `src/` says which lines there are.
 #![tactic(auto)]
 
 mod acks;
@@ -18,6 +18,7 @@ mod kinds;
 mod links;
 mod logs;
 mod messages;
+mod parts;
 mod plain;
 mod records;
 mod runs;

@@ -94,7 +94,8 @@ fn every_line(
     Some(put_every(runs, step, number, row))
 }
 
-fn done_text(alloc: Global, done: Option<Result<(), NoMemory>>) -> io::Result<String> {
+/// `ok`, or why nothing is done.
+pub fn done_text(alloc: Global, done: Option<Result<(), NoMemory>>) -> io::Result<String> {
     match done {
         Some(Ok(())) => word(alloc, "ok"),
         Some(Err(NoMemory)) => word(alloc, "no memory"),
@@ -109,7 +110,8 @@ fn row_text(alloc: Global, row: Option<Row>) -> io::Result<String> {
     }
 }
 
-fn list_text(alloc: Global, runs: &[Run]) -> io::Result<String> {
+/// Runs: `FIRST..LAST STATE xCOUNT, ..`, or `none`.
+pub fn list_text(alloc: Global, runs: &[Run]) -> io::Result<String> {
     let mut text = String::new(alloc);
     for run in runs {
         let (first, last, state, count) = (run.first, run.last, run.state.number(), run.count);

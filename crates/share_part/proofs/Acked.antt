@@ -1,5 +1,5 @@
 -- The acknowledgements of a visit as a step of the shard, and what follows them.
-use Rattle.std.proofs.Common.{◌≡◌, ◌≢◌, ◌⊎◌, ⊎_elim, ◌∙◌, inl, inr, refl, sym, ap, subst, arith, ℕ, max, ◌≤◌, List, Option, Some, None, Bool, true, false, cond}
+use Rattle.std.proofs.Common.{◌≡◌, ◌≢◌, ◌⊎◌, ⊎_elim, ◌∙◌, inl, inr, refl, sym, ap, subst, ℕ, max, ◌≤◌, List, Option, Some, None, Bool, true, false, cond}
 use Rattle.std.specs.Prelude.{Result, Ok, Err, IsSome, is_none, is_some}
 use Rattle.std.specs.BTreeMap.{is_at}
 use Rattle.std.specs.Cmp.Lexicographic.{slice_cmp, nat_list_cmp_total}
@@ -8,6 +8,7 @@ use Rattle.std.proofs.lemmas.Map.Lookups.{exact_bytes}
 use Rattle.ack_ranges.specs.Batches.{IsWellFormed, kind_at}
 use Rattle.coord_checkpoint.specs.Disks.{HasFailed}
 use Rattle.edge_io.specs.Causes.{Rose}
+use Rattle.edge_io.specs.Moments.{LeavesPairs}
 use Rattle.flex_fields.specs.declared.fault.NoMemory.{NoMemory as want}
 use Rattle.share_model.specs.ForeignRules.{ShareStates, share_state_at}
 use Rattle.share_model.specs.Held.{Held}
@@ -23,30 +24,40 @@ use Rattle.share_model.specs.declared.visit.ThenOutcome.{ThenOutcome}
 use Rattle.share_model.specs.declared.visit.ThenOutcome.TheVariants.{Done as then_done, Store as then_store}
 use Rattle.share_model.specs.declared.visit.Visit.{Visit}
 use Rattle.share_model.specs.declared.visit.VisitAnswer.{VisitAnswer}
-use Rattle.part_log.specs.Logs.{IsStoredLog, LogParts, OnlyReads, log_in}
+use Rattle.part_log.specs.Logs.{IsStoredLog, log_in}
 use Rattle.part_log.specs.Starts.{LogWrite}
+use Rattle.share_coord.specs.Holding.{IsWithin}
 use Rattle.share_coord.specs.Parts.{StoreParts}
 use Rattle.share_coord.specs.Stored.{Entries}
-use Rattle.share_part.specs.Acknowledging.{Acknowledges, AreTheirs, NameNone, NameOne, StoresActs}
-use Rattle.share_part.specs.Following.{Acquires, Does, Fetches, Follows, HasNothingToWrite, IsEmptyAnswer, IsFetch, MakesTable, releases_of}
+use Rattle.share_part.specs.Acknowledging.{Acknowledges, AreSettled, AreTheirs, AreWithinAcks, NameNone, NameOne, StoresActs}
+use Rattle.share_part.specs.Following.{Acquires, Does, Fetches, Follows, HasNothingToWrite, IsEmptyAnswer, MakesTable, releases_of}
 use Rattle.share_part.specs.Failures.{AreQuiet, FailuresRose, RunOnBoth, StarveUnarmed, failures_of}
 use Rattle.share_part.specs.Foreseeing.{with_ack}
-use Rattle.share_part.specs.Hosting.{PartConfParts, AreHosted, key_of}
+use Rattle.share_part.specs.Hosting.{PartConfParts, AreHosted, IsHosted, key_of}
 use Rattle.share_coord.specs.States.{states_of}
 use Rattle.share_part.specs.Once.{FollowsOnce, VisitsOnce}
 use Rattle.share_part.specs.Settling.{Acts, AreHeldBy, held_after}
-use Rattle.share_part.specs.Shards.{PartShardState, PartParts, Carries, IsStill, IsUntouched, held_in, raised_to, with_held}
-use Rattle.share_part.specs.Storing.{AcksOnce, SettlesGroup, StoresGroup}
-use Rattle.share_part.specs.Visits.{AreToWrite, AreWritten, StepsAcks}
-use Rattle.share_part.specs.Writes.{WritesActs, WritesAcks, WritesUnless, held_behind}
+use Rattle.share_part.specs.Shards.{PartShardState, PartParts, Carries, IsStill, IsUntouched, held_in, with_held}
+use Rattle.share_part.specs.Storing.{AcksOnce, IsAcksWritten, SettlesGroup, StoresGroup, WritesWithin}
+use Rattle.share_part.specs.Visits.{AreToWrite, StepsAcks}
+use Rattle.share_part.specs.Writes.{WritesActs, WritesAcks, WritesThen, held_behind, write_outcome}
 use Rattle.share_part.specs.declared.limits.Limits.{Limits}
 use Rattle.share_part.proofs.Failing.{later_both, quiet_same, starve_then, then_starve}
 use Rattle.share_part.proofs.Holding.{AreKept}
 use Rattle.share_part.proofs.Mapping.{at_self}
 use Rattle.share_part.proofs.Parting.{all_pass}
 use Rattle.share_part.proofs.Storage.{behind, stands_same, stands_stored, still, stored_device, stored_quiet, stored_steps, stored_writes}
-use Rattle.share_part.proofs.Visiting.{carried, shard_of, untouched}
+use Rattle.share_part.proofs.Stepping.{next, now_settled, now_states}
+use Rattle.share_part.proofs.Visiting.{carried, shard_of}
 use Rattle.edge_io.specs.Views.{DiskView}
+
+-- acknowledgements whose write came to the device: they are stored, or it failed
+abbrev pub AreWritten : Visit → AckOutcome → Type 0
+AreWritten visit Done = NameOne (kind_at visit.acks)
+AreWritten visit (Malformed fault) = ⊥
+AreWritten visit (NotHeld offset) = ⊥
+AreWritten visit (Store Device) = Unit {0}
+AreWritten visit (Store (Full end)) = ⊥
 
 -- ---- an answer with another outcome of the acknowledgements
 
@@ -74,7 +85,7 @@ module _ (conf : PartConfParts) (told : Bool) (rose : Type 0) (end : ℕ) (old :
 
   pub follows_as : (unread : Type 0) (failed : Bool) → Follows conf told unread rose end old visit a new failed
       → Follows conf told unread rose end old visit (with_ack ack a) new failed
-  follows_as unread true h = record { asked = h.asked; risen = h.risen; empty = empty_as (then_store Device) h.empty; still = h.still }
+  follows_as unread true h = record { asked = h.asked; risen = h.risen; empty = empty_as (then_store Device) h.empty; table = h.table; held = h.held }
   follows_as unread false h = does_as visit.then h
 
 none_some : (o : Option AckKind) → o ≡ None → IsSome {T = AckKind} o → ⊥
@@ -332,23 +343,54 @@ module _ {D W : Type 0} (seen : D → DiskView) (holding : W → Held) (visit : 
 
   -- ---- nothing has changed
 
-  same_all : OnlyReads seen old.log old.log → states ≡ old.states → Same → IsUntouched seen holding old mid
-  same_all only is same = record { conf = refl; log = only; states = is; clock = refl; held = same }
+  same_all : states ≡ old.states → Same → IsUntouched holding old mid
+  same_all is same = record { conf = refl; log = refl; states = is; clock = refl; held = same }
 
   -- where their write didn't come to the device
-  back_settled : OnlyReads seen old.log old.log → (ack : AckOutcome) → Settles ack → (AreWritten visit ack → ⊥)
-      → IsUntouched seen holding old mid
-  back_settled only (NotHeld o) h none = same_all only h.1 h.2
-  back_settled only (Malformed f) h none = absurd h
-  back_settled only Done h none = ⊎_elim (λ n. same_all only n.1 n.2) (λ g. absurd (none g.0)) h.1
-  back_settled only (Store Device) h none = absurd (none tt)
-  back_settled only (Store (Full at)) h none = same_all only (h.1.1.once.unchanged (λ e. let clash : ⊥ = cc in clash)) h.1.2
+  back_settled : (ack : AckOutcome) → Settles ack → (AreWritten visit ack → ⊥) → IsUntouched holding old mid
+  back_settled (NotHeld o) h none = same_all h.1 h.2
+  back_settled (Malformed f) h none = absurd h
+  back_settled Done h none = ⊎_elim (λ n. same_all n.1 n.2) (λ g. absurd (none g.0)) h.1
+  back_settled (Store Device) h none = absurd (none tt)
+  back_settled (Store (Full at)) h none = same_all (h.1.1.once.unchanged (λ e. let clash : ⊥ = cc in clash)) h.1.2
 
-  pub back : OnlyReads seen old.log old.log → (ack : AckOutcome) → Acked ack → (AreWritten visit ack → ⊥)
-      → IsUntouched seen holding old mid
-  back only ack (inl m) none = same_all only m.3.0 m.3.1
-  back only ack (inr (inl n)) none = same_all only n.3.0 n.3.1
-  back only ack (inr (inr g)) none = back_settled only ack g.2 none
+  pub back : (ack : AckOutcome) → Acked ack → (AreWritten visit ack → ⊥) → IsUntouched holding old mid
+  back ack (inl m) none = same_all m.3.0 m.3.1
+  back ack (inr (inl n)) none = same_all n.3.0 n.3.1
+  back ack (inr (inr g)) none = back_settled ack g.2 none
+
+  -- ---- the moments of their write, where no checkpoint is tried before it
+
+  abbrev Written : Entries → Type 0
+  Written es = IsAcksWritten old.conf old.log.batches visit.group visit.member visit.acks was old.states.entries es
+
+  written_settled : (batch : Option LogWrite) (pending : Option Entries) (es : Entries) → Written es
+      → AreSettled old.conf (shard_of seen holding old batch pending) visit.group acts (states_of es)
+  written_settled batch pending es w =
+      let its : IsHosted old.conf (log_in old.log) (key_of old.conf visit.group) w.state = hosted (key_of old.conf visit.group) w.state w.known in record {
+        state = w.state;
+        next = next old.conf old.log.batches old.states.entries es visit.group w.state was acts w.change its w.known w.is w.stored;
+        known = w.known;
+        settled = now_settled old.conf old.log.batches old.states.entries es visit.group w.state was acts w.change its w.known w.is w.stored;
+        is = now_states old.conf old.log.batches old.states.entries es visit.group w.state was acts w.change its w.known w.is w.stored;
+      }
+
+  found_within : (batch : Option LogWrite) (pending : Option Entries) (a b : List ℕ) → IsWithin Written old.states.entries pending a b
+      → AreWithinAcks old.conf (shard_of seen holding old batch pending) visit a b
+  found_within batch pending a b (inl stands) = inl stands
+  found_within batch pending a b (inr w) = inr (states_of w.0, (w.1.formed, w.1.theirs), written_settled batch pending w.0 w.1, w.2)
+
+  abbrev Moments : PartShardState → Type 0
+  Moments s = LeavesPairs seen old.states.journal.first.disk states.journal.first.disk old.states.journal.second.disk states.journal.second.disk
+      (AreWithinAcks old.conf s visit)
+
+  pub moments : WritesWithin seen Written old.states states → (s : PartShardState) → Carries seen holding old s → Moments s
+  moments within = carried seen holding old Moments (λ batch pending k.
+      let m = within pending k.holds in record {
+        later_a = m.later_a;
+        later_b = m.later_b;
+        each = λ a b left right. found_within batch pending a b (m.each a b left right);
+      })
 
   -- ---- what follows
 
@@ -403,24 +445,25 @@ module _ {D W : Type 0} (seen : D → DiskView) (holding : W → Held) (visit : 
           records = record {
             between = states;
             acks = writes_acked ack acked;
-            follows = subst (λ (h : Held). WritesUnless o.unread seen old.conf (log_in old.log) visit h states new.states inner.then visit.then) (holds_acked ack acked) o.records;
+            follows = subst (λ (h : Held). WritesThen seen old.conf (log_in old.log) visit h states new.states (write_outcome o.unread inner.then) visit.then) (holds_acked ack acked) o.records;
             quiet_acks = quiet_acked ack acked;
             quiet_then = o.quiet;
           };
           ack_sound = λ fault. starve_then seen old.states states new.states (device_sound ack acked fault) runs more;
-          sound = λ fault wrote. then_starve seen old.states states new.states runs (o.sound fault wrote);
+          sound = λ fault. then_starve seen old.states states new.states runs (o.sound fault);
           unwritten = λ s c nothing behind. nothing_at_all o.unwritten s c nothing behind;
           log = o.log;
+          unstored = o.unstored;
           others = o.others;
           conf = o.conf;
         }
 
     -- no memory was found behind them, where they were not written
-    pub unfollowed : OnlyReads seen old.log old.log → (e : want) (done : Result VisitAnswer want) → done ≡ Err e
+    pub unfollowed : (e : want) (done : Result VisitAnswer want) → done ≡ Err e
         → FollowsOnce seen holding now visit mid new done → (AreWritten visit ack → ⊥) → (f : want) → VisitsOnce seen holding now visit old new (Err f)
-    unfollowed only e done is once none f =
+    unfollowed e done is once none f =
         let o = subst (FollowsOnce seen holding now visit mid new) is once in
-        let b = back only ack acked none in
+        let b = back ack acked none in
         let u = o.memory in
         record {
           unread = o.unread;
@@ -437,6 +480,7 @@ module _ {D W : Type 0} (seen : D → DiskView) (holding : W → Held) (visit : 
           sound = tt;
           unwritten = λ s c nothing behind. nothing_at_all o.unwritten s c nothing behind;
           log = o.log;
+          unstored = tt;
           others = o.others;
           conf = o.conf;
         }

@@ -185,12 +185,13 @@ none_ready seen holding now visit old windows read same (Ok answer) none = absur
 none_ready seen holding now visit old windows read same (Err e) none = record {
   unread = false;
   steps = tt;
-  memory = record { conf = refl; log = read.reads; states = refl; clock = refl; held = same };
+  memory = record { conf = refl; log = refl; states = refl; clock = refl; held = same };
   records = tt;
   ack_sound = tt;
   sound = tt;
   unwritten = λ s c first behind. refl;
   log = read;
+  unstored = tt;
   others = λ away. refl;
   conf = refl;
 }

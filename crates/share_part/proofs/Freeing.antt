@@ -143,10 +143,11 @@ module _ {D W : Type 0} (seen : D → DiskView) (holding : W → Held)
         records = subst (WritesThen seen old.conf (log_in old.log) visit was_held old.states new.states answer.then) (sym is)
             (subst (WritesActs seen old.conf old.log.batches visit.group (releases_of visit.member was_held) was_held old.states new.states)
             (sym (ap fault_of empty.outcome_is ∙ same)) o.records);
-        quiet = λ none. o.quiet (λ fault is. none refl fault (empty.outcome_is ∙ is_told outcome fault (same ∙ ap fault_in is)));
-        sound = λ fault wrote. o.sound (is_store r Device (sym same ∙ (ap fault_of (sym empty.outcome_is) ∙ ap fault_of fault)));
+        quiet = λ none. o.quiet (λ fault is. none fault (empty.outcome_is ∙ is_told outcome fault (same ∙ ap fault_in is)));
+        sound = λ fault. o.sound (is_store r Device (sym same ∙ (ap fault_of (sym empty.outcome_is) ∙ ap fault_of fault)));
         unwritten = λ s c. none_let_go s c o.unwritten;
         log = read o.log;
+        unstored = λ fault is. o.log;
         others = λ away. o.log;
         conf = o.conf;
       }

@@ -7,7 +7,7 @@ use Rattle.share_model.specs.Keys.{KeyParts}
 use Rattle.share_model.specs.declared.fault.StoreFault.{StoreFault}
 use Rattle.share_model.specs.declared.run.Run.{Run}
 use Rattle.share_coord.specs.Calls.{IsWritten, write_refusal}
-use Rattle.share_coord.specs.Holding.{IsHeld, IsWithin, Tidies, WritesOnce, WritesTidied}
+use Rattle.share_coord.specs.Holding.{IsHeld, Tidies, WritesOnce, WritesTidied}
 use Rattle.share_coord.specs.Parts.{KeptState, StoreParts}
 use Rattle.share_coord.specs.Putting.{stored_as}
 use Rattle.share_coord.specs.Recorded.{IsWriteRecord, StoresOne}
@@ -16,7 +16,8 @@ use Rattle.share_coord.specs.Stored.{Entries, based, kept_at}
 use Rattle.share_coord.specs.declared.fault.CoordFault.{CoordFault}
 use Rattle.share_coord.proofs.Behind.{granted_based, tidied_once, tidied_stored}
 use Rattle.state_records.specs.declared.record.StateRecord.{StateRecord}
-use Rattle.share_part.specs.Storing.{IsRecordOf, IsReserved, IsStored, StoresOnce, answer_of, start_number}
+use Rattle.share_part.specs.Storing.{IsRecordOf, IsReserved, IsStored, StoresOnce, WritesWithin, answer_of, start_number}
+use Rattle.share_part.proofs.Within.{within_as}
 use Rattle.share_part.proofs.Writing.{kept_one}
 use Rattle.edge_io.specs.Views.{DiskView}
 
@@ -64,10 +65,9 @@ module _ (es : Entries) (key : KeyParts) (start : Option ℕ) (number : ℤ) (ru
     on_err (Ok u) f p = tt
     on_err (Err e) f p = f p
 
-    within : (pending : Option Entries) (a b : List ℕ) → IsWithin (IsOwnWritten es key number runs) old.entries pending a b
-        → IsWithin (IsStored es key start runs) old.entries pending a b
-    within pending a b (inl stands) = inl stands
-    within pending a b (inr w) = inr (w.0, own_written w.0 w.1, w.2)
+    pub moments_own : (told : Result (Unit {0}) StoreFault) → WritesOnce seen (HasFailed seen) (IsOwnWritten es key number runs) old new (stored_as told)
+        → WritesWithin seen (IsStored es key start runs) old new
+    moments_own told w = within_as seen (IsOwnWritten es key number runs) (IsStored es key start runs) old new own_written w.any_moment
 
     once_as : (done : Result (Unit {0}) CoordFault) → WritesOnce seen (HasFailed seen) (IsOwnWritten es key number runs) old new done
         → WritesTidied seen (HasFailed seen) (IsStored es key start runs) old new done
@@ -82,9 +82,7 @@ module _ (es : Entries) (key : KeyParts) (start : Option ℕ) (number : ℤ) (ru
       full = λ end e. let u = w.full end e in (u.0, (u.1.0, u.1.1, own_written u.1.1 u.1.2, u.1.3, u.1.4, u.1.5));
       mid = old;
       tidies = inl refl;
-      any_moment = λ pending holds.
-          let m = w.any_moment pending holds in
-          record { later_a = m.later_a; later_b = m.later_b; each = λ a b left right. within pending a b (m.each a b left right) };
+      any_moment = within_as seen (IsOwnWritten es key number runs) (IsStored es key start runs) old new own_written w.any_moment;
     }
 
     one_as : (done : Result (Unit {0}) CoordFault) → StoresOne seen (IsOwnRecord es key number runs) old.journal new.journal done

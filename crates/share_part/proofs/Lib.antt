@@ -1,6 +1,8 @@
--- Slotting: the slots of a log. Granting: the grants of what is taken. Gathering: what a walk takes, slot by slot. Seeing: the states of a store.
--- Looked: batches that were read. Failing: calls of both state disks. Visiting: what follows acknowledgements as a step of the shard. Storage: acts that are stored. Acked: acknowledgements. Freeing: releases. Ordered,
--- Expiries, Expired: expiries.
+-- Slotting: the slots of a log. Granting: the grants of what is taken. Gathering: what a walk takes, slot by slot.
+-- Seeing: the states of a store. Looked: batches that were read. Failing: calls of both state disks. Visiting: what
+-- follows acknowledgements as a step of the shard. Unreads: a fetch whose batches couldn't be read. Storage: acts that
+-- are stored. Acked: acknowledgements. Within: moments of a write. Freeing: releases. Ordered, Expiries, Expired:
+-- expiries.
 pub mod Slotting
 pub mod Granting
 pub mod Gathering
@@ -22,11 +24,14 @@ pub mod Holding
 pub mod Looked
 pub mod Failing
 pub mod Visiting
+pub mod Unreads
 pub mod Advancing
 pub mod Fewer
 pub mod Doing
 pub mod Parting
 pub mod Letting
+pub mod Spares
+pub mod Within
 pub mod Keeping
 pub mod Sequel
 pub mod Verdicts

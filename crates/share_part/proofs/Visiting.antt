@@ -41,10 +41,10 @@ use Rattle.share_part.specs.Collecting.{IsPlanOf}
 use Rattle.share_part.specs.Making.{IsTableRecord, MakesOnce, MakesTableOnce, Tells, numbered_bytes, state_for}
 use Rattle.share_part.specs.Once.{Followed, FollowsOnce, ReadsBatches, reading_of}
 use Rattle.share_part.specs.Following.{Acquires, Does, Fetches, HasNothingToWrite, IsFetch, IsEmptyAnswer, MakesTable, StepsThen}
-use Rattle.share_part.specs.Shards.{PartShardState, PartParts, Carries, IsStill, IsPendingHosted, IsUntouched, held_in, with_held, new_state, first_start}
+use Rattle.share_part.specs.Shards.{PartShardState, PartParts, Carries, IsStill, IsPendingHosted, held_in, with_held, new_state, first_start}
 use Rattle.share_part.specs.Tables.{table_of, with_holds}
 use Rattle.share_part.specs.Walks.{acquired, AreRunsOf, bytes_in, written_out}
-use Rattle.share_part.specs.Writes.{WritesThen, WritesUnless}
+use Rattle.share_part.specs.Writes.{WritesThen}
 use Rattle.share_part.proofs.Appending.{numbered_is}
 use Rattle.share_part.proofs.Failing.{quiet_same, rose_either, starve_either}
 use Rattle.share_part.proofs.Holding.{AreKept, kept_taken, none_kept, one_kept, same_kept, table_kept}
@@ -149,20 +149,6 @@ module _ {D W : Type 0} (seen : D → DiskView) (holding : W → Held) where
     unmarked = c.unmarked;
   }
 
-  -- where nothing has changed, what was carried is carried
-  pub untouched : (old new : PartParts D W) → IsUntouched seen holding old new → (shard : PartShardState) → Carries seen holding old shard
-      → Carries seen holding new shard
-  untouched old new h = carried old (λ s. Carries seen holding new s) (λ batch pending k.
-      subst (λ (c : ℕ). Carries seen holding new (record {
-        log = record { batches = old.log.batches; start = old.log.start; pending = batch };
-        states = states_of old.states.entries;
-        pending = option_map states_of pending;
-        held = held_in holding old.windows;
-        clock = c;
-      })) h.clock
-      (carries_with old new batch pending pending (held_in holding old.windows) k h.conf (carries_on seen old.log new.log h.log) (ap (λ (s : StoreParts D). states_of s.entries) h.states)
-      (held_still seen old.states new.states h.states pending k.holds) k.pending_hosted (λ group. sym (h.held group))))
-
 -- ---- a fetch
 
 pub err_is : {T E : Type 0} (r : Result T E) (e : E) → r ≡ Err e → IsErr r
@@ -206,44 +192,47 @@ module _ {D W : Type 0} (seen : D → DiskView) (holding : W → Held) (now : �
   quiet_still same = quiet_same seen old.states new.states same
 
   abbrev Records : VisitAnswer → Type 0
-  Records answer = WritesUnless false seen old.conf (log_in old.log) visit (held_in holding old.windows visit.group) old.states new.states answer.then visit.then
+  Records answer = WritesThen seen old.conf (log_in old.log) visit (held_in holding old.windows visit.group) old.states new.states answer.then visit.then
 
   answered : (answer : VisitAnswer) → Writes → Records answer → (((fault : StoreFault) → answer.then ≢ store_outcome fault) → Quiet)
       → Followed seen holding now visit old new false answer → (answer.then ≡ store_outcome Device → Starves)
+      → ((fault : StoreFault) → answer.then ≡ store_outcome fault → new.log ≡ old.log)
       → ((IsFetch visit.then → ⊥) → new.log ≡ old.log) → Once (Ok answer)
-  answered answer writes records quiet visited sound others = record {
+  answered answer writes records quiet visited sound unstored others = record {
     unread = false;
     steps = visited;
     memory = tt;
     records = records;
-    quiet = λ none. quiet (none refl);
-    sound = λ is wrote. sound is;
+    quiet = quiet;
+    sound = sound;
     unwritten = writes;
     log = log;
+    unstored = unstored;
     others = others;
     conf = conf;
   }
 
   -- no memory was found
-  pub hungry : (limits : Limits) → visit.then ≡ Fetch limits.records limits.bytes limits.first → (e : want) → new.states ≡ old.states
+  pub hungry : (e : want) → new.log ≡ old.log → new.states ≡ old.states
       → ((group : List ℕ) → held_in holding new.windows group ≡ held_in holding old.windows group) → new.clock ≡ old.clock → Once (Err e)
-  hungry limits fetch e states held clock = record {
+  hungry e same_log states held clock = record {
     unread = false;
     steps = tt;
-    memory = record { conf = conf; log = log.reads; states = states; clock = clock; held = held };
+    memory = record { conf = conf; log = same_log; states = states; clock = clock; held = held };
     records = tt;
     quiet = tt;
     sound = tt;
     unwritten = λ s c nothing. states;
     log = log;
-    others = λ away. absurd (away (subst IsFetch (sym fetch) tt));
+    unstored = tt;
+    others = λ away. same_log;
     conf = conf;
   }
 
-  pub starved_so : (limits : Limits) → visit.then ≡ Fetch limits.records limits.bytes limits.first → (result : Result VisitAnswer want) → IsErr result → new.states ≡ old.states
+  pub starved_so : (result : Result VisitAnswer want) → IsErr result → new.log ≡ old.log → new.states ≡ old.states
       → ((group : List ℕ) → held_in holding new.windows group ≡ held_in holding old.windows group) → new.clock ≡ old.clock → Once result
-  starved_so limits fetch (Ok answer) is states held clock = absurd (let clash : ⊥ = cc in clash)
-  starved_so limits fetch (Err e) is states held clock = hungry limits fetch e states held clock
+  starved_so (Ok answer) is same_log states held clock = absurd (let clash : ⊥ = cc in clash)
+  starved_so (Err e) is same_log states held clock = hungry e same_log states held clock
 
   -- nothing is fetched
   pub idly : (answer : VisitAnswer) → answer.ack ≡ acknowledged → IsEmptyAnswer Done answer → visit.then ≡ Nothing → new.log ≡ old.log
@@ -265,7 +254,8 @@ module _ {D W : Type 0} (seen : D → DiskView) (holding : W → Held) (now : �
             (λ group. ap (λ (w : List (List ℕ × W)). held_in holding w group) (sym windows)),
         record { clock = clock; log = refl; ack = ack; does = by_kind (shard_of seen holding old batch pending) t (record { states = refl; pending = refl; held = refl }) },
       )))
-      (λ is. absurd (let never : Done ≡ store_outcome Device = sym empty.outcome_is ∙ is in let clash : ⊥ = cc in clash)) (λ away. still_log)
+      (λ is. absurd (let never : Done ≡ store_outcome Device = sym empty.outcome_is ∙ is in let clash : ⊥ = cc in clash)) (λ fault is. still_log)
+      (λ away. still_log)
     where
       by_kind : (s t : PartShardState) → IsStill s t → Does old.conf told_there Rises old.states.journal.end s visit answer t visit.then
       by_kind s t still = subst (Does old.conf told_there Rises old.states.journal.end s visit answer t) (sym what) (empty, still)
@@ -298,8 +288,15 @@ module _ {D W : Type 0} (seen : D → DiskView) (holding : W → Held) (now : �
       pub held : (group : List ℕ) → held_in holding new.windows group ≡ held_then state group
       pub clock : new.clock ≡ max old.clock now
 
-    not_fault : (answer : VisitAnswer) (state : ShareState) → Took answer state → answer.then ≡ store_outcome Device → Starves
-    not_fault answer state took is = absurd (let never : Done ≡ store_outcome Device = sym took.outcome_is ∙ is in let clash : ⊥ = cc in clash)
+    not_fault : (answer : VisitAnswer) (state : ShareState) → Took answer state → (fault : StoreFault) → answer.then ≡ store_outcome fault → ⊥
+    not_fault answer state took fault is = let never : Done ≡ store_outcome fault = sym took.outcome_is ∙ is in let clash : ⊥ = cc in clash
+
+    not_starved : (answer : VisitAnswer) (state : ShareState) → Took answer state → answer.then ≡ store_outcome Device → Starves
+    not_starved answer state took is = absurd (not_fault answer state took Device is)
+
+    not_unstored : (answer : VisitAnswer) (state : ShareState) → Took answer state → (fault : StoreFault) → answer.then ≡ store_outcome fault
+        → new.log ≡ old.log
+    not_unstored answer state took fault is = absurd (not_fault answer state took fault is)
 
     abbrev shard_then : Option LogWrite → ShareStates → Option ShareStates → ShareState → PartShardState
     shard_then batch states pending state = record {
@@ -339,7 +336,7 @@ module _ {D W : Type 0} (seen : D → DiskView) (holding : W → Held) (now : �
             does = does_fetch (shard_of seen holding old batch pending) _ answer (Some kept.view) (state_seen old.states.entries key ∙ ap (option_map view_of) is)
                 (record { acquires = acquires batch pending _ _ answer kept.view took; states = refl; pending = refl });
           },
-        ))) (not_fault answer kept.view took) others_fetch
+        ))) (not_starved answer kept.view took) (not_unstored answer kept.view took) others_fetch
 
     abbrev made : ShareState
     made = new_state old.conf (log_in old.log)
@@ -395,7 +392,7 @@ module _ {D W : Type 0} (seen : D → DiskView) (holding : W → Held) (now : �
                 (subst (MakesTable old.conf told_there Rises old.states.journal.end (shard_of seen holding old batch pending) visit limits answer (shard_then batch (states_of new.states.entries) None made)) (sym took.outcome_is)
                 (record { acquires = acquires batch pending _ _ answer made took; states = made_states new.states.entries once.written; nothing = refl }));
           },
-        ))) (not_fault answer made took) others_fetch
+        ))) (not_starved answer made took) (not_unstored answer made took) others_fetch
 
     -- ---- the table couldn't be stored
 
@@ -434,9 +431,9 @@ module _ {D W : Type 0} (seen : D → DiskView) (holding : W → Held) (now : �
       },
     )
 
-    pub unstored : (answer : VisitAnswer) (fault : StoreFault) → kept_at old.states.entries key ≡ None → Wrote (Err (Store fault)) → Kept_by (store_outcome fault)
-        → Refused answer fault → Once (Ok answer)
-    unstored answer Device none once by refused =
+    pub unstored : (answer : VisitAnswer) (fault : StoreFault) → new.log ≡ old.log → kept_at old.states.entries key ≡ None → Wrote (Err (Store fault))
+        → Kept_by (store_outcome fault) → Refused answer fault → Once (Ok answer)
+    unstored answer Device same_log none once by refused =
         let failed = (once.device refl).0 in
         let rose : Rises = rose_either seen old.states new.states runs failed in
         answered answer (writes_one none (Err (Store Device)) once) (records_of answer (store_outcome Device) refused.empty.outcome_is by) (λ told. absurd (told Device refused.empty.outcome_is))
@@ -447,8 +444,8 @@ module _ {D W : Type 0} (seen : D → DiskView) (holding : W → Held) (now : �
         (λ lost. unmade answer Device batch pending (Some lost.0) k refused once.same lost.2 (made_hosted lost.0 lost.1 (keeps_start seen old.log batch k.log.keeps) k.hosted) none
         (rose, refused.empty, record { states = refl; pending = inr (states_of lost.0, refl, made_states lost.0 lost.1); held = refl }))
         (once.failed pending k.holds)))
-        (λ is. starve_either seen old.states new.states failed) others_fetch
-    unstored answer (Full at) none once by refused =
+        (λ is. starve_either seen old.states new.states failed) (λ fault is. same_log) others_fetch
+    unstored answer (Full at) same_log none once by refused =
         let full = once.full at refl in
         answered answer (writes_one none (Err (Store (Full at))) once) (records_of answer (store_outcome (Full at)) refused.empty.outcome_is by) (λ told. absurd (told (Full at) refused.empty.outcome_is))
         (carried seen holding old (Leads answer) (λ batch pending k.
@@ -468,7 +465,7 @@ module _ {D W : Type 0} (seen : D → DiskView) (holding : W → Held) (now : �
           },
         )))
         (λ is. absurd (let never : store_outcome (Full at) ≡ store_outcome Device = sym refused.empty.outcome_is ∙ is in let clash : ⊥ = cc in clash))
-        others_fetch
+        (λ fault is. same_log) others_fetch
 
     -- ---- by what became of the table
 
@@ -522,10 +519,11 @@ module _ {D W : Type 0} (seen : D → DiskView) (holding : W → Held) (now : �
     stays_told result is None told = stays_done told.done result is told.tells told.once
     stays_told result is (Some kept) told = absurd (let e = told.1 in let clash : ⊥ = cc in clash)
 
-    pub unanswered : (answer : Result VisitAnswer want) → IsErr answer → (result : Result ThenOutcome want) → IsErr result → (end : Log) → end ≡ log_in old.log → Made end result
+    pub unanswered : (answer : Result VisitAnswer want) → IsErr answer → new.log ≡ old.log → (result : Result ThenOutcome want) → IsErr result
+        → (end : Log) → end ≡ log_in old.log → Made end result
         → ((group : List ℕ) → held_in holding new.windows group ≡ held_in holding old.windows group) → new.clock ≡ old.clock → Once answer
-    unanswered answer none result is end at made held clock =
-        starved_so limits is_fetch answer none (stays_told result is (kept_at old.states.entries key) (told result end at made (kept_at old.states.entries key) refl)) held clock
+    unanswered answer none same_log result is end at made held clock =
+        starved_so answer none same_log (stays_told result is (kept_at old.states.entries key) (told result end at made (kept_at old.states.entries key) refl)) held clock
 
     -- it couldn't be stored
     store_done : (done : Result (Unit {0}) CoordFault) (fault : StoreFault) → Tells done (Ok (store_outcome fault)) → Wrote done → Wrote (Err (Store fault))
@@ -538,23 +536,24 @@ module _ {D W : Type 0} (seen : D → DiskView) (holding : W → Held) (now : �
     store_done (Err (Store its)) fault tells once = let same : its ≡ fault = cc in subst (λ (f : StoreFault). Wrote (Err (Store f))) same once
     store_done (Err NoMemory) fault tells once = absurd (let clash : ⊥ = cc in clash)
 
-    refused_told : (answer : VisitAnswer) (fault : StoreFault) (o : Option KeptState) → kept_at old.states.entries key ≡ o → Told o (Ok (store_outcome fault))
-        → Kept_by (store_outcome fault) → Refused answer fault → Once (Ok answer)
-    refused_told answer fault None is told by refused = unstored answer fault is (store_done told.done fault told.tells told.once) by refused
-    refused_told answer fault (Some kept) is told by refused = absurd (let e = told.1 in let clash : ⊥ = cc in clash)
+    refused_told : (answer : VisitAnswer) (fault : StoreFault) (o : Option KeptState) → new.log ≡ old.log → kept_at old.states.entries key ≡ o
+        → Told o (Ok (store_outcome fault)) → Kept_by (store_outcome fault) → Refused answer fault → Once (Ok answer)
+    refused_told answer fault None same_log is told by refused =
+        unstored answer fault same_log is (store_done told.done fault told.tells told.once) by refused
+    refused_told answer fault (Some kept) same_log is told by refused = absurd (let e = told.1 in let clash : ⊥ = cc in clash)
 
-    refused_by : (answer : VisitAnswer) (outcome : ThenOutcome) → outcome ≢ Done → answer.ack ≡ acknowledged → IsEmptyAnswer outcome answer
-        → ((group : List ℕ) → held_in holding new.windows group ≡ held_in holding old.windows group) → new.clock ≡ max old.clock now
+    refused_by : (answer : VisitAnswer) (outcome : ThenOutcome) → outcome ≢ Done → new.log ≡ old.log → answer.ack ≡ acknowledged
+        → IsEmptyAnswer outcome answer → ((group : List ℕ) → held_in holding new.windows group ≡ held_in holding old.windows group) → new.clock ≡ max old.clock now
         → Told (kept_at old.states.entries key) (Ok outcome) → Kept_by outcome → Once (Ok answer)
-    refused_by answer Done not ack empty held clock t by = absurd (not refl)
-    refused_by answer (store_outcome fault) not ack empty held clock t by =
-        refused_told answer fault (kept_at old.states.entries key) refl t by (record { ack = ack; empty = empty; held = held; clock = clock })
+    refused_by answer Done not same_log ack empty held clock t by = absurd (not refl)
+    refused_by answer (store_outcome fault) not same_log ack empty held clock t by =
+        refused_told answer fault (kept_at old.states.entries key) same_log refl t by (record { ack = ack; empty = empty; held = held; clock = clock })
 
-    pub refused : (answer : VisitAnswer) (outcome : ThenOutcome) → outcome ≢ Done → answer.ack ≡ acknowledged → IsEmptyAnswer outcome answer
-        → ((group : List ℕ) → held_in holding new.windows group ≡ held_in holding old.windows group) → new.clock ≡ max old.clock now
+    pub refused : (answer : VisitAnswer) (outcome : ThenOutcome) → outcome ≢ Done → new.log ≡ old.log → answer.ack ≡ acknowledged
+        → IsEmptyAnswer outcome answer → ((group : List ℕ) → held_in holding new.windows group ≡ held_in holding old.windows group) → new.clock ≡ max old.clock now
         → (result : Result ThenOutcome want) → result ≡ Ok outcome → (end : Log) → end ≡ log_in old.log → Made end result → Once (Ok answer)
-    refused answer outcome not ack empty held clock result is end at made =
-        refused_by answer outcome not ack empty held clock
+    refused answer outcome not same_log ack empty held clock result is end at made =
+        refused_by answer outcome not same_log ack empty held clock
         (subst (Told (kept_at old.states.entries key)) is (told result end at made (kept_at old.states.entries key) refl)) (kept_by result outcome is end at made)
 
     -- it is there, or was made
@@ -688,48 +687,3 @@ module _ {D W : Type 0} (seen : D → DiskView) (holding : W → Held) (now : �
         (with_holds visit.member (new.clock + old.conf.lock_ms) (acquired old.log.batches (table_of its_state table_held) limits).taken table_held) first
         (subst (λ (o : Option ShareState). KeepsHolds old.log.batches o
         (with_holds visit.member (new.clock + old.conf.lock_ms) (acquired old.log.batches (table_of its_state table_held) limits).taken table_held)) (sym there) more))
-
--- ---- a batch couldn't be read
-
-pub unread_so : {D W : Type 0} (seen : D → DiskView) (holding : W → Held) (now : ℕ) (visit : Visit) (old new : PartParts D W)
-    → new.conf ≡ old.conf → ReadsBatches seen (true ≡ true) old.log new.log → new.states ≡ old.states
-    → IsFetch visit.then → (answer : VisitAnswer) → answer.ack ≡ acknowledged → IsEmptyAnswer (store_outcome Device) answer
-    → ((group : List ℕ) → held_in holding new.windows group ≡ held_in holding old.windows group) → new.clock ≡ max old.clock now
-    → FollowsOnce seen holding now visit old new (Ok answer)
-unread_so {D} {W} seen holding now visit old new conf log states asked answer ack empty held clock = record {
-  unread = true;
-  steps = carried seen holding old Leads (λ batch pending k. (
-    shard_same batch pending,
-    carries_with seen holding old new batch pending pending (held_in holding old.windows) k conf (carries_on seen old.log new.log log.reads)
-        (ap (λ (s : StoreParts D). states_of s.entries) states) (subst (λ (s : StoreParts D). Holds seen s pending) (sym states) k.holds) k.pending_hosted
-        (λ group. sym (held group)),
-    record {
-      clock = clock;
-      log = refl;
-      ack = ack;
-      does = record { asked = asked; risen = log.calls.rose refl; empty = empty; still = record { states = refl; pending = refl; held = refl } };
-    },
-  ));
-  memory = tt;
-  records = states;
-  quiet = λ none. quiet_same seen old.states new.states states;
-  sound = λ is wrote. absurd (let clash : ⊥ = cc in clash);
-  unwritten = λ s c nothing. states;
-  log = log;
-  others = λ away. absurd (away asked);
-  conf = conf;
-}
-  where
-    Leads : PartShardState → Type 0
-    Leads s = (t : PartShardState) × Carries seen holding new t
-        × StepsThen old.conf (reading_of seen old.log new.log true) (FailuresRose seen old.states new.states) old.states.journal.end s now visit
-        answer t
-
-    shard_same : Option LogWrite → Option Entries → PartShardState
-    shard_same batch pending = record {
-      log = record { batches = old.log.batches; start = old.log.start; pending = batch };
-      states = states_of old.states.entries;
-      pending = option_map states_of pending;
-      held = held_in holding old.windows;
-      clock = new.clock;
-    }

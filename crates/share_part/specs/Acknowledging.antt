@@ -3,7 +3,7 @@
 -- are none, so that no offset is named; the write fails; they are done.
 -- Worked example: a log has one batch from 0 to 2, and `a` holds 0 to 2 with count 1. An accept from 0 to 2^63 - 1 is told that 3 isn't held,
 -- and leaves all. An accept from 0 to 2 stores the start 3 with no rows, and nothing is held any more; where the device fails, all three
--- are held as before, and the write is pending.
+-- are held as before, and the write is pending. Where the power is lost meanwhile, the start is 0 or 3.
 use Rattle.std.specs.Prelude.{◌≡◌, ◌⊎◌, ◌+◌, ◌<◌, ◌^◌, ℕ, List, length, Option, Some, None, IsSome}
 use Rattle.std.specs.BTreeMap.{insert_entry}
 use Rattle.ack_ranges.specs.Batches.{IsWellFormed, kind_at}
@@ -11,6 +11,7 @@ use Rattle.ack_ranges.specs.Faults.{IsFirstFault}
 use Rattle.gate_journal.specs.Frames.{IsFrame}
 use Rattle.share_model.specs.ForeignRules.{ShareStates, share_state_at}
 use Rattle.share_model.specs.Keys.{key_cmp}
+use Rattle.share_model.specs.Pending.{WithPending}
 use Rattle.share_model.specs.ShareStates.{ShareState}
 use Rattle.share_model.specs.declared.fault.StoreFault.{StoreFault}
 use Rattle.share_model.specs.declared.fault.StoreFault.TheVariants.{Device, Full}
@@ -19,7 +20,7 @@ use Rattle.share_model.specs.declared.visit.AckOutcome.TheVariants.{Done, Malfor
 use Rattle.share_model.specs.declared.visit.Visit.{Visit}
 use Rattle.share_coord.specs.Stored.{Entries, Accepts}
 use Rattle.share_part.specs.Hosting.{PartConfParts, key_of}
-use Rattle.share_coord.specs.States.{states_of}
+use Rattle.share_coord.specs.States.{AreStates, states_of}
 use Rattle.share_part.specs.Settling.{Acts, AreHeldBy, IsLeastMissing, IsSettled, held_after}
 use Rattle.share_part.specs.Shards.{IsStill, PartShardState, with_held}
 use Rattle.share_part.specs.Tables.{table_of}
@@ -86,3 +87,9 @@ Acknowledges conf rose end old visit new (NotHeld offset) =
 Acknowledges conf rose end old visit new Done = AreTheirs old visit × StoresActs conf rose end old visit.group (kind_at visit.acks) new None
 Acknowledges conf rose end old visit new (Store fault) =
     AreTheirs old visit × StoresActs conf rose end old visit.group (kind_at visit.acks) new (Some fault)
+
+-- Contents of the two state disks, found at a moment of a call that stores the acknowledgements of a visit and tries no checkpoint: they
+-- stand for the states at entry, with or without the write that was pending then, or for those with the acknowledgements.
+abbrev pub AreWithinAcks : PartConfParts → PartShardState → Visit → (first second : List ℕ) → Type 0
+AreWithinAcks conf old visit first second = WithPending (AreStates first second) old.states old.pending
+    ⊎ ((states : ShareStates) × AreTheirs old visit × AreSettled conf old visit.group (kind_at visit.acks) states × AreStates first second states)

@@ -6,7 +6,7 @@
 -- Worked example: `g` and `h` hold 0 to 2 until 31000 each. An expiry at 30999 is answered Done { freed: 0 }, and writes nothing. At one at
 -- 31000 the write of `g` passes and that of `h` fails: it is answered Store { freed: 3, group: h, fault: Device }, `g` holds nothing, and `h`
 -- holds 0 to 2 as before.
-use Rattle.std.specs.Prelude.{◌≡◌, ◌⊎◌, ◌≤◌, ◌<◌, ◌+◌, ◌-◌, ◌^◌, max, min, ℕ, List, [], ◌∷◌, ◌++◌, Option, Some, None, map, nat_le}
+use Rattle.std.specs.Prelude.{◌≡◌, ◌⊎◌, ◌≤◌, ◌+◌, ◌-◌, ◌^◌, max, min, ℕ, List, [], ◌∷◌, Option, Some, None, map, nat_le}
 use Rattle.std.specs.List.{count_by}
 use Rattle.edge_io.specs.Causes.{Rose}
 use Rattle.share_model.specs.ForeignRules.{ShareStates}
@@ -63,14 +63,3 @@ pub record StepsExpire (conf : PartConfParts) (count later end last : ℕ) (old 
   pub clock : new.clock ≡ max old.clock now
   pub log : new.log ≡ old.log
   pub groups : StepsGroups conf count later end last (groups_of old.states) 0 (raised_to now old) answer new
-
--- Memory ran out behind the writes of some groups, which freed a record at least: they are done, and those behind them are as they were.
-pub record ExpiresPart (conf : PartConfParts) (count later end last : ℕ) (old : PartShardState) (now : ℕ) (new : PartShardState) : Type 0 where
-  pub clock : new.clock ≡ max old.clock now
-  pub log : new.log ≡ old.log
-  pub done : List (List ℕ)
-  pub behind : List (List ℕ)
-  pub parted : groups_of old.states ≡ done ++ behind
-  pub freed : ℕ
-  pub some : 0 < freed
-  pub groups : StepsGroups conf count later end last done 0 (raised_to now old) (Done freed) new

@@ -3,13 +3,13 @@
 -- A group's table is made at its first fetch, with the log's end or the log's start as its start, and is stored before
 -- anything is acquired. A lock ends at the shard's clock plus the lock duration. A release is stored by one write, and
 -- there is none where the member holds nothing.
--- The batches of a fetch are read from the log's disk, before a table is made. Where one can't be read, nothing is
--- acquired, and nothing written.
+-- The batches of a fetch are read from the log's disk, once the group has its table. Where one can't be read, nothing
+-- is acquired, and a table that was made stands.
 -- Worked example: a log has one batch of three records from 0 to 2, `g` has no table, a new group begins at 0, locks last 30000. A fetch
 -- of 2 records by `a` at 5000 stores a table with start 0 and no rows, and acquires 0 and 1 with count 1 until 35000. A fetch by `b` at
 -- 1000 acquires 2, until 35000 as well. Each is answered with the whole batch. A release of `a` then stores 0 and 1 as available with
 -- count 1, and `b` still holds 2. Had the log's disk failed in the fetch of `b`, that would be answered with a device
--- fault and no batch, and 2 would still be available.
+-- fault and no batch, and 2 would still be available; in that of `a`, the table would be stored all the same.
 use Rattle.std.specs.Prelude.{◌≡◌, ◌≤◌, ◌+◌, max, ℕ, List, [], length, Option, Some, None, IsSome, Bool, true, false}
 use Rattle.share_model.specs.ForeignRules.{ShareStates, share_state_at}
 use Rattle.share_model.specs.Held.{Held}
@@ -119,17 +119,24 @@ Does conf told rose end old visit answer new (Fetch records bytes first) =
     Fetches conf told rose end old visit (record { records = records; bytes = bytes; first = first }) answer new
     (share_state_at old.states (key_of conf visit.group))
 
--- a fetch of which a batch couldn't be read: nothing is acquired, and nothing is written
-pub record IsUnread (rose : Type 0) (old : PartShardState) (visit : Visit) (answer : VisitAnswer) (new : PartShardState) : Type 0 where
+-- the group has the table that it had, or a new one, which is stored
+abbrev pub HasItsTable : PartConfParts → (old : PartShardState) → Visit → (new : PartShardState) → Option ShareState → Type 0
+HasItsTable conf old visit new (Some state) = (new.states ≡ old.states) × (new.pending ≡ old.pending)
+HasItsTable conf old visit new None = IsMade conf old visit new.states × (new.pending ≡ None)
+
+-- a fetch of which a batch couldn't be read: nothing is acquired
+pub record IsUnread (conf : PartConfParts) (rose : Type 0) (old : PartShardState) (visit : Visit) (answer : VisitAnswer)
+    (new : PartShardState) : Type 0 where
   pub asked : IsFetch visit.then
   pub risen : rose
   pub empty : IsEmptyAnswer (Store Device) answer
-  pub still : IsStill old new
+  pub table : HasItsTable conf old visit new (share_state_at old.states (key_of conf visit.group))
+  pub held : new.held ≡ old.held
 
 -- what follows the acknowledgements, by whether a batch couldn't be read
 abbrev pub Follows : PartConfParts → (told : Bool) → (unread rose : Type 0) → (end : ℕ) → PartShardState → Visit
     → VisitAnswer → PartShardState → (failed : Bool) → Type 0
-Follows conf told unread rose end old visit answer new true = IsUnread unread old visit answer new
+Follows conf told unread rose end old visit answer new true = IsUnread conf unread old visit answer new
 Follows conf told unread rose end old visit answer new false = Does conf told rose end old visit answer new visit.then
 
 -- There is nothing to write: nothing is asked for, or a release by a member who holds nothing, or a fetch of a group that has a table.

@@ -14,6 +14,7 @@ use Rattle.share_model.specs.Logs.{Batch}
 use Rattle.share_model.specs.Rooms.{Filled}
 use Rattle.share_model.specs.Runs.{row_at}
 use Rattle.share_model.specs.ShareStates.{ShareState}
+use Rattle.share_model.specs.declared.ack.AckBatch.{AckBatch}
 use Rattle.share_model.specs.declared.run.Run.{Run}
 use Rattle.share_model.specs.declared.visit.AckOutcome.{AckOutcome}
 use Rattle.share_model.specs.declared.visit.Visit.{Visit}
@@ -49,16 +50,20 @@ abbrev pub HasChange : ℕ → Acts → List Batch → Held → Option ShareStat
 HasChange limit acts log held o change =
     (state : ShareState) × (o ≡ Some state) × IsChange limit acts log (table_of state held) change
 
--- what the acknowledgements of a visit come to for a group that holds this, and has this state, if it has one; `rows`
--- are those that are to be stored
+-- what acknowledgements of a member come to for a group that holds this, and has this state, if it has one; `rows` are
+-- those that are to be stored
+abbrev pub JudgesGiven : ℕ → (member : List ℕ) → List AckBatch → List Batch → Held → Option ShareState → (rows : List Run) → Acks → Type 0
+JudgesGiven limit member acks log held state rows (Malformed fault) = IsFirstFault acks fault
+JudgesGiven limit member acks log held state rows Empty = IsWellFormed acks × NameNone (kind_at acks)
+JudgesGiven limit member acks log held state rows (NotHeld least) = IsWellFormed acks × NameOne (kind_at acks)
+    × IsLeastMissing member (kind_at acks) held least
+JudgesGiven limit member acks log held state rows (Changes moved) = IsWellFormed acks × NameOne (kind_at acks)
+    × AreHeldBy member (kind_at acks) held
+    × HasChange limit (kind_at acks) log held state (change_of moved rows)
+
+-- the same of those of a visit
 abbrev pub JudgesAcks : ℕ → Visit → List Batch → Held → Option ShareState → (rows : List Run) → Acks → Type 0
-JudgesAcks limit visit log held state rows (Malformed fault) = IsFirstFault visit.acks fault
-JudgesAcks limit visit log held state rows Empty = IsWellFormed visit.acks × NameNone (kind_at visit.acks)
-JudgesAcks limit visit log held state rows (NotHeld least) = IsWellFormed visit.acks × NameOne (kind_at visit.acks)
-    × IsLeastMissing visit.member (kind_at visit.acks) held least
-JudgesAcks limit visit log held state rows (Changes moved) = IsWellFormed visit.acks × NameOne (kind_at visit.acks)
-    × AreHeldBy visit.member (kind_at visit.acks) held
-    × HasChange limit (kind_at visit.acks) log held state (change_of moved rows)
+JudgesAcks limit visit log held state rows acks = JudgesGiven limit visit.member visit.acks log held state rows acks
 
 -- a group's window is there, and has memory set aside for so many more holds
 abbrev pub HasSpare : {W : Type 0} → (W → ℕ) → List (List ℕ × W) → List ℕ → ℕ → Type 0

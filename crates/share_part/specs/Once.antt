@@ -1,6 +1,6 @@
 -- What a call on the shard of a partition does, as one record. This project's own.
 -- For example a visit that finds no memory leaves the shard and its disks as they were.
-use Rattle.std.specs.Prelude.{◌≡◌, ◌≢◌, ◌⊎◌, ◌≤◌, max, ℕ, List, Some, Result, Ok, Err, IfOk, MatchResult, OnErr, Bool, true, false, is_some}
+use Rattle.std.specs.Prelude.{◌≡◌, ◌≢◌, ◌⊎◌, ◌≤◌, max, ℕ, List, Some, Result, Ok, Err, IfOk, MatchResult, OnErr, Bool, true, is_some}
 use Rattle.edge_io.specs.Armed.{StarvesUnarmed}
 use Rattle.edge_io.specs.Causes.{Rose}
 use Rattle.edge_io.specs.Moments.{LeavesOnly}
@@ -28,7 +28,7 @@ use Rattle.share_part.specs.Failures.{AreQuiet, FailuresRose, StarveUnarmed, fai
 use Rattle.share_part.specs.Following.{HasNothingToWrite, IsFetch, Reading, StepsThen}
 use Rattle.share_part.specs.Shards.{PartShardState, PartParts, Carries, IsUntouched, StepsProduce, held_in}
 use Rattle.share_part.specs.Visits.{AreToWrite, StepsVisit}
-use Rattle.share_part.specs.Writes.{WritesExpiry, WritesUnless, WritesVisit}
+use Rattle.share_part.specs.Writes.{WritesExpiry, WritesThen, WritesVisit, write_outcome}
 use Rattle.edge_io.specs.Views.{DiskView}
 
 -- ---- what is read
@@ -64,20 +64,23 @@ pub record FollowsOnce {D W : Type 0} (seen : D → DiskView) (holding : W → H
   pub unread : Bool
   -- where it answers, a step was made; where it finds no memory, nothing has changed
   pub steps : IfOk result (Followed seen holding now visit before after unread)
-  pub memory : OnErr result (IsUntouched seen holding before after)
+  pub memory : OnErr result (IsUntouched holding before after)
   -- which record is stored
-  pub records : IfOk result (λ answer. WritesUnless unread seen before.conf (log_in before.log) visit
-      (held_in holding before.windows visit.group) before.states after.states answer.then visit.then)
+  pub records : IfOk result (λ answer. WritesThen seen before.conf (log_in before.log) visit
+      (held_in holding before.windows visit.group) before.states after.states (write_outcome unread answer.then) visit.then)
   -- where the answer tells no store fault, or the fault of a reading, no device call of the states failed but those of a checkpoint
-  pub quiet : IfOk result (λ answer. (unread ≡ false → (fault : StoreFault) → answer.then ≢ Store fault) →
+  pub quiet : IfOk result (λ answer. ((fault : StoreFault) → write_outcome unread answer.then ≢ Store fault) →
       AreQuiet seen before.states after.states)
   -- with nothing armed, a device fault of a write comes only where a disk finds no memory
-  pub sound : IfOk result (λ answer. answer.then ≡ Store Device → unread ≡ false → StarveUnarmed seen before.states after.states)
+  pub sound : IfOk result (λ answer. write_outcome unread answer.then ≡ Store Device →
+      StarveUnarmed seen before.states after.states)
   -- where there is nothing to write, the states and their disks stay
   pub unwritten : (old : PartShardState) → Carries seen holding before old → HasNothingToWrite before.conf old visit visit.then →
       after.states ≡ before.states
-  -- the log is read alone, and but for a fetch it stays
+  -- the log is read alone, by a fetch whose group has its table
   pub log : ReadsBatches seen (unread ≡ true) before.log after.log
+  pub unstored : IfOk result (λ answer. (fault : StoreFault) → write_outcome unread answer.then ≡ Store fault →
+      after.log ≡ before.log)
   pub others : (IsFetch visit.then → ⊥) → after.log ≡ before.log
   pub conf : after.conf ≡ before.conf
 
@@ -96,18 +99,21 @@ pub record VisitsOnce {D W : Type 0} (seen : D → DiskView) (holding : W → He
   pub unread : Bool
   -- where it answers, a step was made; where it finds no memory, nothing has changed
   pub steps : IfOk result (Visited seen holding now visit before after unread)
-  pub memory : OnErr result (IsUntouched seen holding before after)
+  pub memory : OnErr result (IsUntouched holding before after)
   -- which records are stored; where the answer tells no store fault of a write, no device call of it failed but those of a checkpoint
   pub records : IfOk result (WritesVisit unread seen before.conf (log_in before.log) visit
       (held_in holding before.windows visit.group) before.states after.states)
   -- with nothing armed, a device fault of a write comes only where a disk finds no memory
   pub ack_sound : IfOk result (λ answer. answer.ack ≡ ack_store Device → StarveUnarmed seen before.states after.states)
-  pub sound : IfOk result (λ answer. answer.then ≡ Store Device → unread ≡ false → StarveUnarmed seen before.states after.states)
+  pub sound : IfOk result (λ answer. write_outcome unread answer.then ≡ Store Device →
+      StarveUnarmed seen before.states after.states)
   -- where there is nothing to write, of acknowledgements or behind them, the states and their disks stay
   pub unwritten : (old : PartShardState) → Carries seen holding before old → (AreToWrite old visit → ⊥) →
       HasNothingToWrite before.conf old visit visit.then → after.states ≡ before.states
-  -- the log is read alone, and but for a fetch it stays
+  -- the log is read alone, by a fetch whose group has its table
   pub log : ReadsBatches seen (unread ≡ true) before.log after.log
+  pub unstored : IfOk result (λ answer. (fault : StoreFault) → write_outcome unread answer.then ≡ Store fault →
+      after.log ≡ before.log)
   pub others : (IsFetch visit.then → ⊥) → after.log ≡ before.log
   pub conf : after.conf ≡ before.conf
 

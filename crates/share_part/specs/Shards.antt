@@ -3,7 +3,7 @@
 -- the shard was handed.
 -- Worked example: a log has one batch from 0 to 2, `g` has no table, and a new group begins at 0. Then the new table of `g` has start 0 and no
 -- rows. A batch that is produced at 5000 raises the clock from 0 to 5000, and one at 1000 leaves it there.
-use Rattle.std.specs.Prelude.{◌≡◌, ◌≢◌, max, ℕ, pos, List, [], Option, Some, None, Result, if◌then◌else◌}
+use Rattle.std.specs.Prelude.{◌≡◌, ◌≢◌, ◌-◌, ◌^◌, max, ℕ, pos, List, [], Option, Some, None, Result, nat_le, if◌then◌else◌}
 use Rattle.std.specs.Option.{option_map}
 use Rattle.std.specs.BTreeMap.{insert_entry, is_at}
 use Rattle.std.specs.Cmp.Lexicographic.{slice_cmp}
@@ -17,7 +17,7 @@ use Rattle.share_model.specs.ShareStates.{ShareState}
 use Rattle.share_model.specs.declared.fault.LogFault.{LogFault}
 use Rattle.share_model.specs.declared.reset.Reset.{Reset}
 use Rattle.share_model.specs.declared.reset.Reset.TheVariants.{Latest, Earliest}
-use Rattle.part_log.specs.Logs.{LogParts, OnlyReads}
+use Rattle.part_log.specs.Logs.{LogParts}
 use Rattle.part_log.specs.Shards.{LogShardState, CarriesLog, StepsLog, log_at}
 use Rattle.part_log.specs.Starts.{Log}
 use Rattle.part_log.specs.Starts.LogWrite.{Marks}
@@ -101,6 +101,15 @@ pub record PartParts (D W : Type 0) : Type 0 where
   pub windows : List (List ℕ × W)
   pub clock : ℕ
 
+-- The spare number of a store with room for so many runs of each table: how many pieces acknowledgements may have that take no memory. A table
+-- has at most 2000 rows, and a group holds at most 2000 records, of which each that is acknowledged puts two runs at most. So with room for
+-- 6000 runs it is the greatest number that can be asked for; else it is 0.
+abbrev pub spare_in : (room : ℕ) → ℕ
+spare_in room = if nat_le 6000 room then 2 ^ 32 - 1 else 0
+
+abbrev pub spare_of : {D W : Type 0} → PartParts D W → ℕ
+spare_of parts = spare_in parts.states.room
+
 abbrev pub held_of : {W : Type 0} → (W → Held) → Option W → Held
 held_of held None = []
 held_of held (Some window) = held window
@@ -113,12 +122,11 @@ abbrev pub IsPendingHosted : PartConfParts → Log → Option ShareStates → Ty
 IsPendingHosted conf log None = Unit {0}
 IsPendingHosted conf log (Some states) = AreHosted conf log states
 
--- Nothing of a shard has changed: neither its log, its states, the disk of these and its clock, nor what any group holds.
--- The log may have been read. A window may have been made, which holds nothing, or memory set aside in one.
-pub record IsUntouched {D W : Type 0} (seen : D → DiskView) (holding : W → Held) (before after : PartParts D W)
-    : Type 0 where
+-- Nothing of a shard has changed: its log, its states, the disks of both, its clock and what each group holds are as they
+-- were. A window may have been made, which holds nothing, or memory set aside in one.
+pub record IsUntouched {D W : Type 0} (holding : W → Held) (before after : PartParts D W) : Type 0 where
   pub conf : after.conf ≡ before.conf
-  pub log : OnlyReads seen before.log after.log
+  pub log : after.log ≡ before.log
   pub states : after.states ≡ before.states
   pub clock : after.clock ≡ before.clock
   pub held : (group : List ℕ) → held_in holding after.windows group ≡ held_in holding before.windows group

@@ -22,7 +22,8 @@ use Rattle.share_part.specs.Tables.{table_of}
 use Rattle.share_model.specs.declared.fault.StoreFault.{StoreFault}
 use Rattle.share_model.specs.declared.run.Run.{Run}
 use Rattle.share_coord.specs.Calls.{IsWritten}
-use Rattle.share_coord.specs.Holding.{WritesTidied}
+use Rattle.edge_io.specs.Moments.{LeavesPairs}
+use Rattle.share_coord.specs.Holding.{Holds, IsWithin, WritesTidied}
 use Rattle.share_coord.specs.Parts.{KeptState, StoreParts}
 use Rattle.share_coord.specs.Recorded.{IsWriteRecord, StoresOne}
 use Rattle.state_records.specs.declared.record.StateRecord.{StateRecord}
@@ -54,6 +55,12 @@ pub record StoresOnce {D : Type 0} (seen : D → DiskView) (Failed : D → D →
     (Written : Entries → Type 0) (Is : StateRecord → Type 0) (old new : StoreParts D) (fault : Option StoreFault) : Type 0 where
   pub once : WritesTidied seen Failed Written old new (answer_of fault)
   pub one : StoresOne seen Is old.journal new.journal (answer_of fault)
+
+-- at each moment since a write began that tries no checkpoint, a crash leaves what stood at entry, or what it writes
+abbrev pub WritesWithin : {D : Type 0} → (D → DiskView) → (Written : Entries → Type 0) → (old new : StoreParts D) → Type 0
+WritesWithin seen Written old new = (pending : Option Entries) → Holds seen old pending →
+    LeavesPairs seen old.journal.first.disk new.journal.first.disk old.journal.second.disk new.journal.second.disk
+    (IsWithin Written old.entries pending)
 
 -- the runs of a stored state are canonical
 abbrev pub AreCanonical : Option ShareState → Type 0
@@ -111,3 +118,14 @@ abbrev pub AcksOnce : List AckBatch → (still : Type 0) → (AckOutcome → Typ
 AcksOnce acks still Settles ack = ((fault : AckFault) × (ack ≡ Malformed fault) × IsFirstFault acks fault × still)
     ⊎ ((IsWellFormed acks × NameNone (kind_at acks) × (ack ≡ Done) × still)
     ⊎ (IsWellFormed acks × NameOne (kind_at acks) × Settles ack))
+
+-- what the write of acknowledgements leaves of the store: they are well formed, and of what the member holds
+pub record IsAcksWritten (conf : PartConfParts) (log : List Batch) (group member : List ℕ) (acks : List AckBatch) (held : Held)
+    (old new : Entries) : Type 0 where
+  pub formed : IsWellFormed acks
+  pub theirs : AreHeldBy member (kind_at acks) held
+  pub state : ShareState
+  pub change : Change
+  pub known : share_state_at (states_of old) (key_of conf group) ≡ Some state
+  pub is : IsChange conf.limit (kind_at acks) log (table_of state held) change
+  pub stored : IsStored old (key_of conf group) change.start change.runs new

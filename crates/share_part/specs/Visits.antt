@@ -2,19 +2,19 @@
 -- them (KIP-932; the order of the two is that of Kafka's ShareFetch). This project's own are the pending writes.
 -- Worked example: `a` holds 0 and 1 of a log from 0 to 2. A visit of `a` accepts 0 and fetches one record: a start of 1 is stored, the hold of
 -- 0 ends, and then 2 is acquired.
-use Rattle.std.specs.Prelude.{◌≡◌, ◌≤◌, max, ℕ}
+use Rattle.std.specs.Prelude.{◌≡◌, ◌≤◌, max, ℕ, List, []}
 use Rattle.ack_ranges.specs.Batches.{kind_at}
-use Rattle.share_model.specs.declared.fault.StoreFault.TheVariants.{Device, Full}
 use Rattle.share_model.specs.declared.visit.AckOutcome.{AckOutcome}
-use Rattle.share_model.specs.declared.visit.AckOutcome.TheVariants.{Done, Malformed, NotHeld, Store}
-use Rattle.share_model.specs.declared.visit.Then.TheVariants.{Release}
+use Rattle.share_model.specs.declared.ack.AckBatch.{AckBatch}
+use Rattle.share_model.specs.declared.visit.Then.TheVariants.{Nothing}
+use Rattle.share_model.specs.declared.visit.ThenOutcome.TheVariants.{Done as done_then}
 use Rattle.share_model.specs.declared.visit.Visit.{Visit}
 use Rattle.share_model.specs.declared.visit.VisitAnswer.{VisitAnswer}
 use Rattle.edge_io.specs.Causes.{Rose}
 use Rattle.share_part.specs.Acknowledging.{Acknowledges, AreTheirs, NameOne}
-use Rattle.share_part.specs.Following.{Follows, HasNothingToWrite, Reading, releases_of}
+use Rattle.share_part.specs.Following.{Follows, HasNothingToWrite, Reading}
 use Rattle.share_part.specs.Hosting.{PartConfParts}
-use Rattle.share_part.specs.Shards.{PartShardState, raised_to}
+use Rattle.share_part.specs.Shards.{PartShardState}
 
 -- the acknowledgements are done, and the log and the clock are as they were
 pub record StepsAcks (conf : PartConfParts) (rose : Type 0) (end : ℕ) (old : PartShardState) (visit : Visit) (ack : AckOutcome)
@@ -23,17 +23,16 @@ pub record StepsAcks (conf : PartConfParts) (rose : Type 0) (end : ℕ) (old : P
   pub clock : new.clock ≡ old.clock
   pub does : Acknowledges conf rose end old visit new ack
 
--- Acknowledgements whose write came to the device: they are stored, or it failed.
-abbrev pub AreWritten : Visit → AckOutcome → Type 0
-AreWritten visit Done = NameOne (kind_at visit.acks)
-AreWritten visit (Malformed fault) = ⊥
-AreWritten visit (NotHeld offset) = ⊥
-AreWritten visit (Store Device) = Unit {0}
-AreWritten visit (Store (Full end)) = ⊥
-
 -- there are acknowledgements to write: they are of what the member holds, and name an offset
 abbrev pub AreToWrite : PartShardState → Visit → Type 0
 AreToWrite old visit = AreTheirs old visit × NameOne (kind_at visit.acks)
+
+-- the visit of a member with acknowledgements that asks for nothing more, and its answer
+abbrev pub acks_alone : (group member : List ℕ) → List AckBatch → Visit
+acks_alone group member acks = record { group = group; member = member; acks = acks; then = Nothing }
+
+abbrev pub told_alone : AckOutcome → VisitAnswer
+told_alone ack = record { ack = ack; then = done_then; grants = []; batches = [] }
 
 -- A visit at the moment `now`. `reading` tells how the batches of a fetch were read, `count` and `later` are how many calls of the two
 -- state disks have failed before it and behind it, `end` and `last` are where the live journal of the states ends before it and behind
@@ -51,14 +50,3 @@ pub record StepsVisit (conf : PartConfParts) (reading : Reading) (count later en
   pub does : Follows conf reading.told reading.rose (Rose counted later) at between visit answer new reading.failed
   pub clock : new.clock ≡ max old.clock now
   pub log : new.log ≡ old.log
-
--- Memory ran out behind the acknowledgements of a visit: their write came to the device, and what they left stands,
--- with the clock raised. A release follows them, of a record at least: a fetch takes its memory before they are
--- written.
-pub record VisitsPart (conf : PartConfParts) (rose : Type 0) (end : ℕ) (old : PartShardState) (now : ℕ) (visit : Visit)
-    (new : PartShardState) : Type 0 where
-  pub ack : AckOutcome
-  pub written : AreWritten visit ack
-  pub acks : StepsAcks conf rose end (raised_to now old) visit ack new
-  pub follows : visit.then ≡ Release
-  pub some : NameOne (releases_of visit.member (new.held visit.group))

@@ -23,7 +23,7 @@ use Rattle.share_model.specs.declared.visit.ExpireAnswer.TheVariants.{Done as ex
 use Rattle.share_model.specs.declared.visit.Then.{Then}
 use Rattle.share_model.specs.declared.visit.Then.TheVariants.{Nothing, Release, Fetch}
 use Rattle.share_model.specs.declared.visit.ThenOutcome.{ThenOutcome}
-use Rattle.share_model.specs.declared.visit.ThenOutcome.TheVariants.{Store as then_store}
+use Rattle.share_model.specs.declared.visit.ThenOutcome.TheVariants.{Done as then_done, Store as then_store}
 use Rattle.share_model.specs.declared.visit.Visit.{Visit}
 use Rattle.share_model.specs.declared.visit.VisitAnswer.{VisitAnswer}
 use Rattle.share_part.specs.Acknowledging.{NameNone, NameOne}
@@ -34,7 +34,6 @@ use Rattle.share_part.specs.Hosting.{PartConfParts}
 use Rattle.share_part.specs.Making.{MakesTableOnce}
 use Rattle.share_part.specs.Settling.{Acts, held_after}
 use Rattle.share_part.specs.Storing.{IsActsStored}
-use Rattle.share_part.specs.Visits.{AreWritten}
 
 -- Acts on the table of a group that held this, by the fault that their write met, if it met one. Where they name no
 -- offset there is no write.
@@ -64,7 +63,7 @@ held_behind visit was (NotHeld offset) = was
 held_behind visit was Done = held_after (kind_at visit.acks) was
 held_behind visit was (Store fault) = was
 
--- what follows them, by its answer
+-- what follows them, by what became of its write
 abbrev pub WritesThen : {D : Type 0} → (D → DiskView) → PartConfParts → (log : Log) → Visit → (was : Held)
     → (old new : StoreParts D) → ThenOutcome → Then → Type 0
 WritesThen seen conf log visit was old new outcome Nothing = new ≡ old
@@ -73,11 +72,10 @@ WritesThen seen conf log visit was old new outcome Release =
 WritesThen seen conf log visit was old new outcome (Fetch records bytes first) =
     MakesTableOnce seen (HasFailed seen) conf visit.group log old new (Ok outcome)
 
--- the same by whether a batch of it couldn't be read: then nothing is written
-abbrev pub WritesUnless : {D : Type 0} → (unread : Bool) → (D → DiskView) → PartConfParts → (log : Log) → Visit
-    → (was : Held) → (old new : StoreParts D) → ThenOutcome → Then → Type 0
-WritesUnless true seen conf log visit was old new outcome asked = new ≡ old
-WritesUnless false seen conf log visit was old new outcome asked = WritesThen seen conf log visit was old new outcome asked
+-- what became of its write, by what is told of it: a batch that couldn't be read is met behind the write
+abbrev pub write_outcome : (unread : Bool) → ThenOutcome → ThenOutcome
+write_outcome true told = then_done
+write_outcome false told = told
 
 -- a visit that is answered
 pub record WritesVisit {D : Type 0} (unread : Bool) (seen : D → DiskView) (conf : PartConfParts) (log : Log)
@@ -85,11 +83,11 @@ pub record WritesVisit {D : Type 0} (unread : Bool) (seen : D → DiskView) (con
   -- the states between the two writes
   pub between : StoreParts D
   pub acks : WritesAcks seen conf log.batches visit was old between answer.ack
-  pub follows :
-      WritesUnless unread seen conf log visit (held_behind visit was answer.ack) between new answer.then visit.then
-  -- where no store fault is told of one of both, no call of the state disks failed in it, but those of a checkpoint
+  pub follows : WritesThen seen conf log visit (held_behind visit was answer.ack) between new
+      (write_outcome unread answer.then) visit.then
+  -- where no store fault was met by one of both, no call of the state disks failed in it, but those of a checkpoint
   pub quiet_acks : ((fault : StoreFault) → answer.ack ≢ Store fault) → AreQuiet seen old between
-  pub quiet_then : (unread ≡ false → (fault : StoreFault) → answer.then ≢ then_store fault) → AreQuiet seen between new
+  pub quiet_then : ((fault : StoreFault) → write_outcome unread answer.then ≢ then_store fault) → AreQuiet seen between new
 
 -- ---- an expiry
 

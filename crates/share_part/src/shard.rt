@@ -1,13 +1,14 @@
-ghost use Rattle.std.specs.Prelude.{◌≡◌, ◌≢◌, ◌↔◌, ◌≤◌, ◌^◌, ℕ, Ok, IsErr, IsSome, None, max, true, IfOk, IfErr, IfSome, MatchResult, slice_get, ◌⊎◌};
+ghost use Rattle.std.specs.Prelude.{◌≡◌, ◌≢◌, ◌↔◌, ◌≤◌, ◌<◌, ◌^◌, ℕ, length, Ok, IsErr, IsOk, IsSome, None, OnErr, OnOk, max, true, IfOk, IfErr, IfSome, MatchResult, slice_get, ◌⊎◌};
 ghost use Rattle.std.specs.List.{AllByRecursion};
 ghost use Rattle.std.specs.Map.{keys_of};
 ghost use Rattle.std.specs.Option.{option_copied, option_map};
 ghost use Rattle.edge_io.specs.Armed.{ArmsAlone, RunsOn};
 ghost use Rattle.edge_io.specs.declared.name.DiskPlace.TheVariants.{Log, StateA, StateB};
+ghost use Rattle.share_model.specs.Acks.{types_in};
 ghost use Rattle.share_model.specs.ForeignRules.{share_state_at};
 ghost use Rattle.share_model.specs.declared.fault.LogFault.{LogFault};
 ghost use Rattle.coord_checkpoint.specs.Disks.{RunsBoth};
-ghost use Rattle.edge_io.specs.Moments.{LeavesOnly};
+ghost use Rattle.edge_io.specs.Moments.{LeavesOnly, LeavesPairs};
 ghost use Rattle.gate_journal.specs.Frames.{StandsAs};
 ghost use Rattle.share_part.specs.Failures.{RunOnBoth};
 ghost use Rattle.share_coord.specs.Opening.{IsOpened as AreOpened, IsNotOpened as AreNotOpened};
@@ -16,13 +17,15 @@ ghost use Rattle.offset_runs.specs.Changes.{room_of};
 ghost use Rattle.share_part.specs.Foreseeing.{with_ack};
 ghost use Rattle.share_part.specs.Hosting.{key_of};
 ghost use Rattle.share_coord.specs.States.{state_found, states_of};
+ghost use Rattle.share_part.specs.Acknowledging.{AreWithinAcks};
 ghost use Rattle.share_part.specs.Following.{IsEmptyAnswer, IsFetch};
-ghost use Rattle.share_part.specs.Shards.{Carries, PartShardState, held_in};
+ghost use Rattle.share_part.specs.Shards.{Carries, PartShardState, held_in, spare_of};
 ghost use Rattle.share_part.specs.Releasing.{ReleasesOnce};
+ghost use Rattle.share_part.specs.Visits.{acks_alone, told_alone};
 ghost use Rattle.share_part.specs.Walks.{IsSmallGrant};
 ghost use Rattle.share_part.specs.Once.{ExpiresOnce, FollowsOnce, VisitsOnce, ProducesOnce};
 
-use crate::acks::{judge_acks, settle_acks};
+use crate::acks::{judge_acks, judge_given, settle_acks, settle_given};
 use crate::conf::PartConf;
 use crate::fetch::{append_batches, has_table, make_table};
 use crate::judge::are_hosted;
@@ -39,8 +42,8 @@ use offset_runs::Runs;
 use part_log::PartLog;
 use share_coord::{Coord, CoordOpen, StateView, States};
 use share_model::{
-    AckOutcome, ExpireAnswer, LogFault, Name, NoMemory, Room, StoreFault, Then, ThenOutcome, Visit,
-    VisitAnswer,
+    AckBatch, AckOutcome, ExpireAnswer, LogFault, Name, NoMemory, Room, StoreFault, Then,
+    ThenOutcome, Visit, VisitAnswer,
 };
 use std::alloc::Global;
 use std::collections::BTreeMap;
@@ -239,6 +242,7 @@ impl<D: Disk, W: Window> PartShard<D, W> {
         empty(self.alloc, ThenOutcome::Done)
     }
 
+    // Fetches, by the table that the group has or that is made for it. All memory is taken before a disk is called.
     fn fetch(&mut self, now: u64, visit: &Visit, limits: Limits) -> Result<VisitAnswer, NoMemory>
         requires now { now ≤ 2 ^ 62 }
         requires fetch { visit.now.then ≡ Then.Fetch limits.records limits.bytes limits.first }
@@ -256,15 +260,14 @@ impl<D: Disk, W: Window> PartShard<D, W> {
             group,
             limits,
         )?;
-        if let Err(_) = append_batches(&mut self.log, &plan.numbers, &mut out) {
-            self.clock = self.clock.max(now);
-            return Ok(unread(self.alloc));
-        }
         let outcome = make_table(&mut self.states, &self.conf, group, &self.log)?;
         self.clock = self.clock.max(now);
         let ThenOutcome::Done = outcome else {
             return Ok(empty(self.alloc, outcome));
         };
+        if let Err(_) = append_batches(&mut self.log, &plan.numbers, &mut out) {
+            return Ok(unread(self.alloc));
+        }
         Ok(hand_out(&self.conf, &mut self.windows, self.clock, visit, plan, out))
     }
 
@@ -420,11 +423,11 @@ impl<D: Disk, W: Window> PartShard<D, W> {
     /// or none is. What the visit asks for follows them, whatever became of them.
     ///
     /// A fetch walks the first 2000 slots from the start of the group's table, in order, and acquires those that are
-    /// available, until the record limit is used up, or a batch doesn't fit. The batches that it answers are read from
-    /// the disk of the log, in order, behind the write of the acknowledgements; where one can't be read, the answer is a
-    /// device fault, and nothing is acquired. The first fetch of a group makes its table, which is stored when they were
-    /// read; where that fails nothing is acquired. A fetch of a group that has a table takes all its memory before the
-    /// acknowledgements are written; they, and a release, take none. After want of memory nothing has changed.
+    /// available, until the record limit is used up, or a batch doesn't fit. The first fetch of a group stores its table;
+    /// where that fails nothing is read or acquired. The batches that a fetch answers are read from the disk of the log,
+    /// in order, behind what it and the acknowledgements write; where one can't be read, the answer is a device fault,
+    /// and nothing is acquired. A fetch takes all its memory before that write; acknowledgements and a release take
+    /// none. After want of memory nothing has changed, and no disk was called.
     pub fn visit(&mut self, now: u64, visit: &Visit) -> Result<VisitAnswer, NoMemory>
         requires now { now ≤ 2 ^ 62 }
         ensures once { VisitsOnce D.seen W.held now visit.now self.old self.new result }
@@ -448,6 +451,71 @@ impl<D: Disk, W: Window> PartShard<D, W> {
             first,
         };
         self.visit_table(now, visit, limits)
+    }
+
+    /// Makes the spare number at least `n`: so many pieces may acknowledgements have that [`PartShard::ack_reserved`]
+    /// stores without taking memory. It asks the store for room for 6000 runs of each table whatever `n` is: 2000 rows,
+    /// and two for each of those. That much is set aside at the opening, and stays. After want of memory nothing has
+    /// changed.
+    pub fn reserve(&mut self, n: u32) -> Result<(), NoMemory>
+        ensures ok { OnOk result (n ≤ spare_of self.new) }
+        ensures err { OnErr result (self.new ≡ self.old) }
+        ensures same { self.new ≡ record self.old { states = record self.old.states { room = self.new.states.room } } }
+        ensures kept { spare_of self.old ≤ spare_of self.new }
+        ensures spared { n ≤ spare_of self.old → IsOk result }
+    {
+        self.states.reserve(6000)
+    }
+
+    /// Does acknowledgements of a member of a group, as those of a visit at the moment `now` that asks for nothing more,
+    /// by one write. There are fewer than 2^32 of them, with fewer than 2^32 types in all. It takes no memory, tries no
+    /// checkpoint before its write, and leaves the spare number.
+    ///
+    /// It is answered as a visit's acknowledgements are. At each moment while it runs a crash leaves the tables of before,
+    /// with or without the write that was pending, or those with this one.
+    pub fn ack_reserved(
+        &mut self,
+        now: u64,
+        group: &Name,
+        member: &Name,
+        acks: &[AckBatch],
+    ) -> AckOutcome
+        requires now { now ≤ 2 ^ 62 }
+        requires few { length acks.now < 2 ^ 32 }
+        requires few_types { types_in acks.now < 2 ^ 32 }
+        ensures once { VisitsOnce D.seen W.held now (acks_alone group.now member.now acks.now)
+            self.old self.new (Ok (told_alone result)) }
+        ensures any_moment { (old : PartShardState) → Carries D.seen W.held self.old old → LeavesPairs D.seen
+            self.old.states.journal.first.disk self.new.states.journal.first.disk
+            self.old.states.journal.second.disk self.new.states.journal.second.disk
+            (AreWithinAcks self.old.conf old (acks_alone group.now member.now acks.now)) }
+        ensures spare { spare_of self.new ≡ spare_of self.old }
+        ensures runs { RunOnBoth D.seen self.old.states self.new.states }
+    {
+        let judged = judge_given(
+            &mut self.changed,
+            &self.conf,
+            &self.log,
+            &self.states,
+            &self.windows,
+            group,
+            member,
+            acks,
+        );
+        let ack = settle_given(
+            &self.changed,
+            &self.conf,
+            &self.log,
+            &mut self.states,
+            &mut self.windows,
+            group,
+            member,
+            acks,
+            &judged,
+            false,
+        );
+        self.clock = self.clock.max(now);
+        ack
     }
 
     /// Gives back the records whose acquisition lock has ended. The clock is raised to `now` first, and a lock has

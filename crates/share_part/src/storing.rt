@@ -1,9 +1,9 @@
 // Stores what acts change.
-ghost use Rattle.std.specs.Prelude.{◌≡◌, ◌≤◌, ◌^◌, pos, IfSome, None};
+ghost use Rattle.std.specs.Prelude.{◌≡◌, ◌≤◌, ◌^◌, pos, IfSome, None, false};
 ghost use Rattle.coord_checkpoint.specs.Disks.{HasFailed};
 ghost use Rattle.share_coord.specs.Calls.{write_refusal};
 ghost use Rattle.share_coord.specs.Stored.{kept_at};
-ghost use Rattle.share_part.specs.Storing.{IsRecordOf, IsReserved, IsStored, StoresOnce, start_number};
+ghost use Rattle.share_part.specs.Storing.{IsRecordOf, IsReserved, IsStored, StoresOnce, WritesWithin, start_number};
 ghost use Rattle.share_part.specs.Failures.{RunOnBoth};
 
 use edge_io::Disk;
@@ -34,6 +34,7 @@ fn store_alone<D: Disk>(
     ensures once { StoresOnce D.seen (HasFailed D.seen)
         (IsStored states.old.entries key.now start runs.now) (IsRecordOf states.old.entries key.now start runs.now)
         states.old states.new result }
+    ensures moments { WritesWithin D.seen (IsStored states.old.entries key.now start runs.now) states.old states.new }
     ensures room { states.new.room ≡ states.old.room }
     ensures runs { RunOnBoth D.seen states.old states.new }
 {
@@ -82,6 +83,8 @@ pub fn store_change<D: Disk>(
     ensures once { StoresOnce D.seen (HasFailed D.seen)
         (IsStored states.old.entries key.now start runs.now) (IsRecordOf states.old.entries key.now start runs.now)
         states.old states.new result }
+    ensures moments { tidies ≡ false →
+        WritesWithin D.seen (IsStored states.old.entries key.now start runs.now) states.old states.new }
     ensures room { states.new.room ≡ states.old.room }
     ensures runs { RunOnBoth D.seen states.old states.new }
 {

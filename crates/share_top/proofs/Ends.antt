@@ -35,7 +35,7 @@ use Rattle.broker_core.proofs.Places.{is_same, one_in_either, same_self}
 use Rattle.share_top.specs.declared.status.Status.{Status}
 use Rattle.share_top.specs.declared.status.Status.TheVariants.{Done, Usage, Malformed, ReadFault, WriteFault, Damaged, Device, NoMemory, Listener, Spawner}
 use Rattle.share_top.specs.Changes.{InputChange, OutputChange}
-use Rattle.share_top.specs.Sessions.{Ending, Leaves, LeavesWithin, Ran, IsSession, OfBay, OverBay, CountRose, Writes, WritesAll, WritesAllFront, WritesThen, WritesThenFront, WritesFront}
+use Rattle.share_top.specs.Sessions.{Ending, Leaves, MayLeaveMore, Ran, IsSession, OfBay, OverBay, CountRose, Writes, WritesAll, WritesAllFront, WritesThen, WritesThenFront, WritesFront}
 use Rattle.share_top.specs.Dumping.{IsDumped, dump_text}
 use Rattle.share_top.specs.Statuses.{ComesNext, DisksStay, IsPlayed, IsNotOpened, IsRefusedScript, IsDone, IsBegun}
 use Rattle.share_top.specs.Going.{FromCore, NeverFrom, IsRefusal}
@@ -56,8 +56,8 @@ leaves_ends conf = record {
   along = λ S T Q R now last f g l. record { known = l.known; stands = f last.machine.shards l.stands; reach = g last.ends l.reach };
 }
 
-pub within_ends : (conf : ConfigParts) (Next : Event → Type 0) → IsEnding (LeavesWithin conf Next)
-within_ends conf Next = record {
+pub more_ends : (conf : ConfigParts) (Next : Event → Type 0) → IsEnding (MayLeaveMore conf Next)
+more_ends conf Next = record {
   some = λ S Q now last l. (l.after.shards, l.stands);
   along = λ S T Q R now last f g l. record {
     after = l.after;
@@ -75,14 +75,14 @@ within_ends conf Next = record {
 module _ (conf : ConfigParts) (summary : Bool) (input : InputChange) (output : OutputChange)
     (S T : List Event → (List Outcome → Type 0) → Ending → Type 0) (Untold Never Rises Rose_over : Type 0)
     (leaves : (events : List Event) (Tells : List Outcome → Type 0) → S events Tells (Leaves conf) → T events Tells (Leaves conf))
-    (within : (Next : Event → Type 0) (events : List Event) (Tells : List Outcome → Type 0) → S events Tells (LeavesWithin conf Next) → T events Tells (LeavesWithin conf Next))
+    (more : (Next : Event → Type 0) (events : List Event) (Tells : List Outcome → Type 0) → S events Tells (MayLeaveMore conf Next) → T events Tells (MayLeaveMore conf Next))
     (never : Untold → Never) (rises : Rises → Rose_over) where
   abbrev Front : List Outcome → Type 0
   Front xs = WritesFront conf summary output xs
 
-  begun : IsBegun input (λ events. S events Front (LeavesWithin conf (ComesNext input events)))
-      → IsBegun input (λ events. T events Front (LeavesWithin conf (ComesNext input events)))
-  begun b = record { events = b.events; begins = b.begins; session = within (ComesNext input b.events) b.events Front b.session }
+  begun : IsBegun input (λ events. S events Front (MayLeaveMore conf (ComesNext input events)))
+      → IsBegun input (λ events. T events Front (MayLeaveMore conf (ComesNext input events)))
+  begun b = record { events = b.events; begins = b.begins; session = more (ComesNext input b.events) b.events Front b.session }
 
   refused : (Tells : ℕ → List Outcome → Type 0) → IsRefusedScript input (λ events fault. S events (Tells fault) (Leaves conf))
       → IsRefusedScript input (λ events fault. T events (Tells fault) (Leaves conf))
@@ -123,10 +123,10 @@ module _ (conf : ConfigParts) (summary : Bool) (input : InputChange) (output : O
     },
   )
   played WriteFault r = (r.0, stopped r.1) where
-    stopped : IsBegun input (λ events. S events Front (LeavesWithin conf (ComesNext input events)))
+    stopped : IsBegun input (λ events. S events Front (MayLeaveMore conf (ComesNext input events)))
         ⊎ (IsRefusedScript input (λ events fault. S events (LineFront fault) (Leaves conf))
         ⊎ IsDone input (λ events. S events (WritesAllFront conf summary output) (Leaves conf)))
-        → IsBegun input (λ events. T events Front (LeavesWithin conf (ComesNext input events)))
+        → IsBegun input (λ events. T events Front (MayLeaveMore conf (ComesNext input events)))
         ⊎ (IsRefusedScript input (λ events fault. T events (LineFront fault) (Leaves conf))
         ⊎ IsDone input (λ events. T events (WritesAllFront conf summary output) (Leaves conf)))
     stopped (inl b) = inl (begun b)
@@ -576,7 +576,7 @@ module _ {B D : Type 0} (bay_seen : B → BayView D) (seen : D → DiskView) whe
         played conf summary input output (FromCore seen core left) Session
         (NeverFrom seen core) (OfBay bay_seen seen conf old (λ contents was. ⊥)) Rises Rose_over
         (λ events Says from. over (Leaves conf) (leaves_ends conf) events Says from)
-        (λ Next events Says from. over (LeavesWithin conf Next) (within_ends conf Next) events Says from)
+        (λ Next events Says from. over (MayLeaveMore conf Next) (more_ends conf Next) events Says from)
         (λ never contents was t. let o = opens contents was t in never o.0 o.1) rises
         status
         (subst (λ (c : ConfigParts). IsPlayed c summary input output (FromCore seen core left)

@@ -13,7 +13,7 @@ use Rattle.broker_core.specs.Cores.{CoreParts, IsCore, Reaches, state_of}
 use Rattle.broker_core.proofs.Leading.{still_all}
 use Rattle.broker_core.proofs.Reaching.{reach_all, reach_less}
 use Rattle.broker_core.proofs.Events.{later as counts_later}
-use Rattle.share_top.specs.Sessions.{DoesMore, Leaves, LeavesWithin, Ran, counts_since, ends_since}
+use Rattle.share_top.specs.Sessions.{DoesMore, Leaves, MayLeaveMore, Ran, counts_since, ends_since}
 use Rattle.share_top.specs.Going.{Goes, Plays, Halts}
 use Rattle.share_top.proofs.Steps.{run_then, events_then, outcomes_then}
 use Rattle.edge_io.specs.Views.{DiskView}
@@ -85,9 +85,9 @@ module _ {D : Type 0} (seen : D → DiskView) where
     ends = record { known = λ name taken. refl; stands = core_still core g.machine g.core; reach = core_reach core g.machine g.core };
   }
 
-  pub ran_within : (conf : ConfigParts) (Next : Event → Type 0) (first : State) (events : List Event) (T : List Outcome → Type 0) (core : CoreParts D) → G conf first events T core
-      → Ran conf first events T (LeavesWithin conf Next (Still (disks_in core.hosts)) (Reach (disks_in core.hosts)) (facts_in seen (disks_in core.hosts)))
-  ran_within conf Next first events T core g = record {
+  pub ran_or_more : (conf : ConfigParts) (Next : Event → Type 0) (first : State) (events : List Event) (T : List Outcome → Type 0) (core : CoreParts D) → G conf first events T core
+      → Ran conf first events T (MayLeaveMore conf Next (Still (disks_in core.hosts)) (Reach (disks_in core.hosts)) (facts_in seen (disks_in core.hosts)))
+  ran_or_more conf Next first events T core g = record {
     steps = g.steps;
     last = at g.machine core;
     run = g.run;
@@ -109,7 +109,7 @@ module _ {D : Type 0} (seen : D → DiskView) where
   abbrev known : CoreParts D → Disks
   known core = facts_in seen (disks_in core.hosts)
 
-  -- the event was done, or left within, or not begun
+  -- the event was done, or not begun
   reached : (conf : ConfigParts) (Next : Event → Type 0) (core next : CoreParts D) → core.conf ≡ conf → (old after : Machine) (ends : List ℕ → ℕ)
       (e : Event) → Next e
       → Reaches core.conf (counts_since (at old core) (known next)) (ends_since (at old core) ends) old e after
@@ -121,7 +121,7 @@ module _ {D : Type 0} (seen : D → DiskView) where
   pub halted : (conf : ConfigParts) (Next : Event → Type 0) (first : State) (events : List Event) (e : Event) → Next e → (T U : List Outcome → Type 0)
       → ((xs : List Outcome) → T xs → U xs) → (core next : CoreParts D) → core.conf ≡ conf → G conf first events T core
       → ((m : Machine) → Stands core m → Halts seen core m e next)
-      → Ran conf first events U (LeavesWithin conf Next (Still (disks_in next.hosts)) (Reach (disks_in next.hosts)) (facts_in seen (disks_in next.hosts)))
+      → Ran conf first events U (MayLeaveMore conf Next (Still (disks_in next.hosts)) (Reach (disks_in next.hosts)) (facts_in seen (disks_in next.hosts)))
   halted conf Next first events e comes T U keep core next same g halts =
       let h = halts g.machine g.core in
       record {

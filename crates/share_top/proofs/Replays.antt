@@ -15,12 +15,12 @@ use Rattle.broker_core.proofs.Leading.{go_on_same}
 use Rattle.share_top.specs.declared.replay.Stopped.{Stopped}
 use Rattle.share_top.specs.declared.replay.Stopped.TheVariants as stop
 use Rattle.share_top.specs.Changes.{InputChange}
-use Rattle.share_top.specs.Sessions.{Ending, Leaves, LeavesWithin}
+use Rattle.share_top.specs.Sessions.{Ending, Leaves, MayLeaveMore}
 use Rattle.share_top.specs.Statuses.{ComesNext, IsDone, IsRefusedScript, IsCut}
 use Rattle.share_top.specs.Going.{Going, FromCore, Halts, HasBegun, NeverFrom, Plays, IsNotPlayed, IsStopped}
 use Rattle.share_top.proofs.ScriptReads as reads
 use Rattle.share_top.proofs.Counts.{go_on_then, rises}
-use Rattle.share_top.proofs.Goes.{begins, goes_on, retold, ran, ran_within, halted}
+use Rattle.share_top.proofs.Goes.{begins, goes_on, retold, ran, ran_or_more, halted}
 use Rattle.edge_io.specs.Views.{DiskView}
 
 module _ {D : Type 0} (seen : D → DiskView) where
@@ -80,8 +80,8 @@ module _ {D : Type 0} (seen : D → DiskView) where
       (going : Going seen input.left mid u T first now) where
     -- so far
     pub has_begun : (U : List Outcome → Type 0) → ((xs : List Outcome) → T xs → U xs) → HasBegun first.conf input (From first now) U
-    has_begun U f = reads.begun_now input mid u going.read (λ events. From first now events U (LeavesWithin first.conf (ComesNext input events)))
-        (λ m k. ran_within seen first.conf (ComesNext input going.read.events) (state_of seen m first) going.read.events U now
+    has_begun U f = reads.begun_now input mid u going.read (λ events. From first now events U (MayLeaveMore first.conf (ComesNext input events)))
+        (λ m k. ran_or_more seen first.conf (ComesNext input going.read.events) (state_of seen m first) going.read.events U now
         (retold seen first.conf (state_of seen m first) going.read.events T U f now (going.goes m k)))
 
   -- another thing is told, and the reader is the same
@@ -108,13 +108,13 @@ module _ {D : Type 0} (seen : D → DiskView) where
 
     -- it was done, and told so
     did : (S U : List Outcome → Type 0) → ((xs ys : List Outcome) → T xs → S ys → U (xs ++ ys)) → Plays seen now e S next → Begun U
-    did S U join plays = reads.begun_behind input mid u v going.read (λ events. From first next events U (LeavesWithin first.conf (ComesNext input events))) e t is le
-        (λ m k. ran_within seen first.conf (ComesNext input (going.read.events ++ e ∷ [])) (began m) (going.read.events ++ e ∷ []) U next
+    did S U join plays = reads.begun_behind input mid u v going.read (λ events. From first next events U (MayLeaveMore first.conf (ComesNext input events))) e t is le
+        (λ m k. ran_or_more seen first.conf (ComesNext input (going.read.events ++ e ∷ [])) (began m) (going.read.events ++ e ∷ []) U next
         (goes_on seen first.conf (began m) going.read.events e T S U join now next going.conf (going.goes m k) plays))
 
     -- no memory was found in it
     left : (U : List Outcome → Type 0) → ((xs : List Outcome) → T xs → U xs) → ((m : Machine) → IsCore seen now m → Halts seen now m e next) → Begun U
-    left U keep halts = reads.begun_before input mid u v going.read (λ events. From first next events U (LeavesWithin first.conf (ComesNext input events))) e t is le
+    left U keep halts = reads.begun_before input mid u v going.read (λ events. From first next events U (MayLeaveMore first.conf (ComesNext input events))) e t is le
         (λ m k. halted seen first.conf (ComesNext input going.read.events) (began m) going.read.events e
         (reads.begins_behind input mid u v going.read e t is le) T U keep now next going.conf (going.goes m k) halts)
 
@@ -132,7 +132,7 @@ module _ {D : Type 0} (seen : D → DiskView) where
       never p.0,
       p.1,
       λ device. rises seen first.hosts (disks_in now.hosts) (disks_in next.hosts) opened going.disks (p.2 device),
-      reads.begun_before input mid u v going.read (λ events. From first next events (λ xs. ⊥) (LeavesWithin first.conf (ComesNext input events))) e t is le
+      reads.begun_before input mid u v going.read (λ events. From first next events (λ xs. ⊥) (MayLeaveMore first.conf (ComesNext input events))) e t is le
           (λ m k. absurd (never p.0 m k)),
     )
     stopped Told U V Part Front Kept Fails Failed some failed kept fails opened stop.End p = absurd p

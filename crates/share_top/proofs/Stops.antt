@@ -22,7 +22,7 @@ use Rattle.share_top.specs.declared.replay.Stopped.TheVariants as stopped
 use Rattle.share_top.specs.declared.status.Status.{Status}
 use Rattle.share_top.specs.declared.status.Status.TheVariants.{Done, Usage, Malformed, ReadFault, WriteFault, Damaged, Device, NoMemory, Listener, Spawner}
 use Rattle.share_top.specs.Changes.{InputChange, OutputChange}
-use Rattle.share_top.specs.Sessions.{Ending, Leaves, LeavesWithin, Writes, WritesAll, WritesAllFront, WritesFront, WritesFrontOf, WritesThen, WritesThenFront}
+use Rattle.share_top.specs.Sessions.{Ending, Leaves, MayLeaveMore, Writes, WritesAll, WritesAllFront, WritesFront, WritesFrontOf, WritesThen, WritesThenFront}
 use Rattle.share_top.specs.Statuses.{ComesNext, IsCut, IsDone, IsPlayed, IsRefusedScript}
 use Rattle.share_top.specs.Going.{FromCore, HasBegun, IsRefusal, IsStopped, NeverFrom, TellsEnd, TellsLine}
 use Rattle.session_script.specs.Telling.{Held, Tells, TellsFront, TellsMore, TellsPart, TellsSome, TellsSomeOf, TellsStill, is_summary, told_in_all, told_so_far}
@@ -113,7 +113,7 @@ module _ {D : Type 0} (seen : D → DiskView) (core : CoreParts D) (left : LeftD
   retold S T f events Ends from = retold_core seen core left events S T Ends f from
 
   pub begun : (S T : List Outcome → Type 0) → ((xs : List Outcome) → S xs → T xs) → Begun S → Begun T
-  begun S T f b = record { events = b.events; begins = b.begins; session = retold S T f b.events (LeavesWithin conf (ComesNext input b.events)) b.session }
+  begun S T f b = record { events = b.events; begins = b.begins; session = retold S T f b.events (MayLeaveMore conf (ComesNext input b.events)) b.session }
 
   done : (S T : List Outcome → Type 0) → ((xs : List Outcome) → S xs → T xs) → IsDone input (λ events. Session events S (Leaves conf))
       → IsDone input (λ events. Session events T (Leaves conf))

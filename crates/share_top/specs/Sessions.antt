@@ -19,7 +19,7 @@ use Rattle.broker_model.specs.Hosted.{IsLogName, IsTaken}
 use Rattle.broker_model.specs.Shards.{Counts, Ends, Shards, ShardCall}
 use Rattle.broker_model.specs.Machine.{Machine, StandsFor}
 use Rattle.broker_model.specs.Disks.{Disks}
-use Rattle.broker_model.specs.Steps.{StepsTo, StopsWithin}
+use Rattle.broker_model.specs.Steps.{StepsTo}
 use Rattle.broker_model.specs.States.{ReachTo, State, faults_of}
 use Rattle.broker_model.specs.Runs.{Step, IsRun, events_of, outcomes_of}
 use Rattle.broker_model.specs.Laws.{HoldsOfRun}
@@ -82,17 +82,15 @@ counts_since last now name = (faults_of last name, (now name).faults)
 abbrev pub ends_since : State → (List ℕ → ℕ) → Ends
 ends_since last ends name = (last.ends name, ends name)
 
--- one event more was done, or it was left in the midst of its part; the journals end there now
+-- one event more was done; the journals end there now
 abbrev pub DoesMore : ConfigParts → State → Disks → (ends : List ℕ → ℕ) → Event → Machine → Type 0
-DoesMore conf last now ends event after =
-    ((call : Option ShardCall) × (outcomes : List Outcome)
-    × StepsTo conf (counts_since last now) (ends_since last ends) last.machine event call outcomes after)
-    ⊎ StopsWithin conf (counts_since last now) (ends_since last ends) last.machine event after
+DoesMore conf last now ends event after = (call : Option ShardCall) × (outcomes : List Outcome)
+    × StepsTo conf (counts_since last now) (ends_since last ends) last.machine event call outcomes after
 
--- The disks stand for the last state's shards, or for those of the next event, done or left within, of whose outcomes
+-- The disks stand for the last state's shards, or for those behind the next event, done whole, of whose outcomes
 -- nothing was written. Those of logs reach to the last byte before where their journals end: a power loss after which
 -- no memory was found may leave that one out.
-pub record LeavesWithin (conf : ConfigParts) (Next : Event → Type 0) (Stand : Shards → Type 0)
+pub record MayLeaveMore (conf : ConfigParts) (Next : Event → Type 0) (Stand : Shards → Type 0)
     (Reach : (List ℕ → ℕ) → Type 0) (now : Disks)
     (last : State) : Type 0 where
   pub after : Machine

@@ -1,7 +1,6 @@
 use Rattle.std.proofs.Common.{◌≡◌, ◌<◌, inr, length, get_or, rules}
 use Rattle.share_model.specs.declared.visit.ExpireAnswer.{ExpireAnswer}
 use Rattle.broker_model.specs.Shards.PartCall.{Expires}
-use Rattle.broker_model.specs.Acting.Begun.{BeginsExpiry}
 use Rattle.broker_core.specs.Hosts.{LeadsSlot, HaltsSlot}
 use Rattle.broker_core.proofs.Stepping.{ok_weaker, on_err_weaker}
 use Rattle.broker_core.proofs.Places.{changes_set}
@@ -21,6 +20,6 @@ returns-clause-stopped g c =
     let lt : c.args.shard < length c.args.parts.now.items = search rules in
     let is : c.in-Some.slot.now ≡ get_or c.args.parts.now.items c.args.shard c.in-Some.slot.now = search rules in
     on_err_weaker c.expire_in.result
-    (λ p. inr (changes_set (HaltsSlot g.D.Disk.seen c.args.now (λ did. (answer : ExpireAnswer) × (did ≡ Expires answer)) (λ begun. begun ≡ BeginsExpiry))
+    (λ p. inr (changes_set (HaltsSlot g.D.Disk.seen c.args.now (λ did. (answer : ExpireAnswer) × (did ≡ Expires answer)))
     c.args.shard c.args.parts.now.items c.in-Some.slot.now c.expire_in.new.slot lt is p))
     c.expire_in.ensures.stopped

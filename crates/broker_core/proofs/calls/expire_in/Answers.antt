@@ -2,7 +2,6 @@ use Rattle.std.proofs.Common.{◌≡◌, refl}
 use Rattle.share_model.specs.declared.visit.ExpireAnswer.{ExpireAnswer}
 use Rattle.broker_model.specs.Shards.PartCall.{Expires}
 use Rattle.broker_core.specs.Carried.{HaltsPart, LeadsPart}
-use Rattle.broker_model.specs.Acting.Begun.{BeginsExpiry}
 use Rattle.broker_core.proofs.Parting.{of_conf}
 use Rattle.broker_core.proofs.Stepping.{ok_weaker, on_err_weaker}
 use Rattle.broker_core.proofs.calls.expire_in.Goals as goal
@@ -33,6 +32,6 @@ returns-clause-stopped g c = on_err_weaker c.expire.result
       conf = refl;
       goes = c.expire.ensures.disks;
       halts = of_conf g.D.Disk.seen c.args.slot.now.conf c.in-Open.part
-          (λ conf s. HaltsPart g.D.Disk.seen conf c.args.now (λ did. (answer : ExpireAnswer) × (did ≡ Expires answer)) (λ begun. begun ≡ BeginsExpiry) c.in-Open.part s c.expire.new.part) h;
+          (λ conf s. HaltsPart g.D.Disk.seen conf c.args.now (λ did. (answer : ExpireAnswer) × (did ≡ Expires answer)) c.in-Open.part s c.expire.new.part) h;
     })
     c.expire.ensures.stopped

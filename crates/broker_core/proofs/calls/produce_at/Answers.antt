@@ -20,6 +20,6 @@ returns-clause-stopped g c =
     let lt : c.args.shard < length c.args.parts.now.items = search rules in
     let is : c.in-Some.slot.now ≡ get_or c.args.parts.now.items c.args.shard c.in-Some.slot.now = search rules in
     on_err_weaker c.produce_in.result
-    (λ p. inr (changes_set (HaltsSlot g.D.Disk.seen c.args.now (λ did. (produced : Produced) × (did ≡ Produces c.args.batch.now produced)) (λ begun. ⊥))
+    (λ p. inr (changes_set (HaltsSlot g.D.Disk.seen c.args.now (λ did. (produced : Produced) × (did ≡ Produces c.args.batch.now produced)))
     c.args.shard c.args.parts.now.items c.in-Some.slot.now c.produce_in.new.slot lt is p))
     c.produce_in.ensures.stopped

@@ -32,6 +32,6 @@ returns-clause-stopped g c = on_err_weaker c.produce.result
       conf = refl;
       goes = c.produce.ensures.disks;
       halts = of_conf g.D.Disk.seen c.args.slot.now.conf c.in-Open.part
-          (λ conf s. HaltsPart g.D.Disk.seen conf c.args.now (λ did. (produced : Produced) × (did ≡ Produces c.args.batch.now produced)) (λ begun. ⊥) c.in-Open.part s c.produce.new.part) h;
+          (λ conf s. HaltsPart g.D.Disk.seen conf c.args.now (λ did. (produced : Produced) × (did ≡ Produces c.args.batch.now produced)) c.in-Open.part s c.produce.new.part) h;
     })
     c.produce.ensures.stopped

@@ -1,7 +1,6 @@
 use Rattle.std.proofs.Common.{◌≡◌, ◌<◌, inr, length, get_or, rules, Bool}
 use Rattle.share_model.specs.declared.visit.VisitAnswer.{VisitAnswer}
 use Rattle.broker_model.specs.Shards.PartCall.{Visits}
-use Rattle.broker_model.specs.Acting.Begun.{BeginsVisit}
 use Rattle.broker_core.specs.Hosts.{LeadsSlot, HaltsSlot}
 use Rattle.broker_core.proofs.Stepping.{ok_weaker, on_err_weaker}
 use Rattle.broker_core.proofs.Places.{changes_set}
@@ -24,6 +23,6 @@ returns-clause-stopped g c =
     let lt : c.args.shard < length c.args.parts.now.items = search rules in
     let is : c.in-Some.slot.now ≡ get_or c.args.parts.now.items c.args.shard c.in-Some.slot.now = search rules in
     on_err_weaker c.visit_in.result
-    (λ p. inr (changes_set (HaltsSlot g.D.Disk.seen c.args.now (λ did. (answer : VisitAnswer) × (unread : Bool) × (did ≡ Visits c.args.asked.now answer unread)) (λ begun. begun ≡ BeginsVisit c.args.asked.now))
+    (λ p. inr (changes_set (HaltsSlot g.D.Disk.seen c.args.now (λ did. (answer : VisitAnswer) × (unread : Bool) × (did ≡ Visits c.args.asked.now answer unread)))
     c.args.shard c.args.parts.now.items c.in-Some.slot.now c.visit_in.new.slot lt is p))
     c.visit_in.ensures.stopped

@@ -2,7 +2,6 @@ use Rattle.std.proofs.Common.{◌≡◌, refl, Bool}
 use Rattle.share_model.specs.declared.visit.VisitAnswer.{VisitAnswer}
 use Rattle.broker_model.specs.Shards.PartCall.{Visits}
 use Rattle.broker_core.specs.Carried.{HaltsPart, LeadsPart}
-use Rattle.broker_model.specs.Acting.Begun.{BeginsVisit}
 use Rattle.broker_core.proofs.Parting.{of_conf}
 use Rattle.broker_core.proofs.Stepping.{ok_weaker, on_err_weaker}
 use Rattle.broker_core.proofs.calls.visit_in.Goals as goal
@@ -36,6 +35,6 @@ returns-clause-stopped g c = on_err_weaker c.visit.result
       conf = refl;
       goes = c.visit.ensures.disks;
       halts = of_conf g.D.Disk.seen c.args.slot.now.conf c.in-Open.part
-          (λ conf s. HaltsPart g.D.Disk.seen conf c.args.now (λ did. (answer : VisitAnswer) × (unread : Bool) × (did ≡ Visits c.args.asked.now answer unread)) (λ begun. begun ≡ BeginsVisit c.args.asked.now) c.in-Open.part s c.visit.new.part) h;
+          (λ conf s. HaltsPart g.D.Disk.seen conf c.args.now (λ did. (answer : VisitAnswer) × (unread : Bool) × (did ≡ Visits c.args.asked.now answer unread)) c.in-Open.part s c.visit.new.part) h;
     })
     c.visit.ensures.stopped

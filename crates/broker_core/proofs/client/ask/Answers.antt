@@ -11,7 +11,7 @@ use Rattle.broker_core.proofs.client.ask.Goals as goal
 pub returns-in_err-answer-clause-stopped : goal.returns-in_err-answer-clause-stopped
 returns-in_err-answer-clause-stopped g c = on_err c.from_residual.result
     (λ s k. halts_so g.D.Disk.seen
-    (parts_of c.act.new.hosts) s _ _ _ _
+    (parts_of c.act.new.hosts) s _ _
     (λ a call b h.
     let conn = conn_after_answer h.0 c.args.conn.now in (
       faults_in c.args.part.now h.0 ++ replies_to c.args.id conn,
@@ -19,7 +19,6 @@ returns-in_err-answer-clause-stopped g c = on_err c.from_residual.result
       part_done (counts_in g.D.Disk.seen (disks_in (parts_of c.args.hosts.now)) (disks_in (parts_of c.act.new.hosts))) (ends_over (parts_of c.args.hosts.now) (parts_of c.act.new.hosts))
           c.args.id c.args.now c.args.part.now h.0 c.args.conn.now _ _ refl refl a call b h.1,
     ))
-    (λ a b h. (c.args.part.now, refl, h))
     (c.in_err-answer.ensures.stopped s k))
 
 pub returns-in_err-outcomes-clause-stopped : goal.returns-in_err-outcomes-clause-stopped
@@ -27,7 +26,7 @@ returns-in_err-outcomes-clause-stopped g c = on_err c.from_residual-in_err-outco
     (λ s k.
     let conn = conn_after_answer c.in_ok-answer.answer c.args.conn.now in
     leads_halts g.D.Disk.seen
-    (parts_of c.args.hosts.now) (parts_of c.act.new.hosts) s _ _ _
+    (parts_of c.args.hosts.now) (parts_of c.act.new.hosts) s _ _
     (λ a call b h. (
       faults_in c.args.part.now c.in_ok-answer.answer ++ replies_to c.args.id conn,
       without_replies conn,
@@ -40,7 +39,7 @@ returns-in_err-give-clause-stopped g c = on_err c.from_residual-in_err-give.resu
     (λ s k.
     let conn = conn_after_answer c.in_ok-answer.answer c.args.conn.now in
     leads_halts g.D.Disk.seen
-    (parts_of c.args.hosts.now) (parts_of c.act.new.hosts) s _ _ _
+    (parts_of c.args.hosts.now) (parts_of c.act.new.hosts) s _ _
     (λ a call b h. (
       faults_in c.args.part.now c.in_ok-answer.answer ++ replies_to c.args.id conn,
       without_replies conn,
@@ -53,7 +52,7 @@ returns-in_err-replies-clause-stopped g c = on_err c.from_residual-in_err-replie
     (λ s k.
     let conn = conn_after_answer c.in_ok-answer.answer c.args.conn.now in
     leads_halts g.D.Disk.seen
-    (parts_of c.args.hosts.now) (parts_of c.act.new.hosts) s _ _ _
+    (parts_of c.args.hosts.now) (parts_of c.act.new.hosts) s _ _
     (λ a call b h. (
       faults_in c.args.part.now c.in_ok-answer.answer ++ replies_to c.args.id conn,
       without_replies conn,

@@ -2,7 +2,7 @@ use Rattle.std.proofs.Common.{ap, ◌∙◌, ◌++◌}
 use Rattle.broker_model.specs.Steps.{replies_to}
 use Rattle.broker_core.specs.Hosts.{disks_in, ends_over, parts_of, counts_in}
 use Rattle.broker_core.proofs.Stepping.{ok_weaker, on_err, on_err_weaker}
-use Rattle.broker_core.proofs.Clients.{asks_next, halves_asked, replies_told}
+use Rattle.broker_core.proofs.Clients.{asks_next, replies_told}
 use Rattle.broker_core.proofs.Leading.{go_on_same, halts_so, halts_still, leads_to}
 use Rattle.broker_core.proofs.client.done.Goals as goal
 
@@ -19,7 +19,7 @@ returns-in-Ask-clause-ok g c = ok_weaker _ _ c.ask.result
 pub returns-in-Ask-clause-stopped : goal.returns-in-Ask-clause-stopped
 returns-in-Ask-clause-stopped g c = on_err_weaker c.ask.result
     (λ h s k. halts_so g.D.Disk.seen
-    (parts_of c.ask.new.hosts) s _ _ _ _
+    (parts_of c.ask.new.hosts) s _ _
     (λ a call b does. (
       does.0,
       does.1,
@@ -27,12 +27,11 @@ returns-in-Ask-clause-stopped g c = on_err_weaker c.ask.result
           (counts_in g.D.Disk.seen (disks_in (parts_of c.args.hosts.now)) (disks_in (parts_of c.ask.new.hosts))) (ends_over (parts_of c.args.hosts.now) (parts_of c.ask.new.hosts))
           c.args.id c.args.now c.in-Ask.part c.args.next c.args.conn.now does.1 does.0 c.in-Ask.is a call b does.2,
     ))
-    (halves_asked (counts_in g.D.Disk.seen (disks_in (parts_of c.args.hosts.now)) (disks_in (parts_of c.ask.new.hosts))) (ends_over (parts_of c.args.hosts.now) (parts_of c.ask.new.hosts)) c.args.now c.in-Ask.part c.args.next c.in-Ask.is)
     (h s k))
     c.ask.ensures.stopped
 
 pub returns-in_err-replies-in-Ready-clause-stopped : goal.returns-in_err-replies-in-Ready-clause-stopped
-returns-in_err-replies-in-Ready-clause-stopped g c = on_err c.from_residual.result (λ s k. halts_still g.D.Disk.seen (parts_of c.args.hosts.now) s _ _ k)
+returns-in_err-replies-in-Ready-clause-stopped g c = on_err c.from_residual.result (λ s k. halts_still g.D.Disk.seen (parts_of c.args.hosts.now) s _ k)
 
 pub returns-in_err-replies-in-Ready-clause-disks : goal.returns-in_err-replies-in-Ready-clause-disks
 returns-in_err-replies-in-Ready-clause-disks g c = go_on_same g.D.Disk.seen (disks_in (parts_of c.args.hosts.now))
@@ -45,7 +44,7 @@ pub returns-in_ok-replies-in-Ready-clause-disks : goal.returns-in_ok-replies-in-
 returns-in_ok-replies-in-Ready-clause-disks g c = go_on_same g.D.Disk.seen (disks_in (parts_of c.args.hosts.now))
 
 pub returns-in-Closed-clause-stopped : goal.returns-in-Closed-clause-stopped
-returns-in-Closed-clause-stopped g c = on_err c.one.result (λ s k. halts_still g.D.Disk.seen (parts_of c.args.hosts.now) s _ _ k)
+returns-in-Closed-clause-stopped g c = on_err c.one.result (λ s k. halts_still g.D.Disk.seen (parts_of c.args.hosts.now) s _ k)
 
 pub returns-in-Closed-clause-disks : goal.returns-in-Closed-clause-disks
 returns-in-Closed-clause-disks g c = go_on_same g.D.Disk.seen (disks_in (parts_of c.args.hosts.now))

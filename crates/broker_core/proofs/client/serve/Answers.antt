@@ -3,7 +3,7 @@ use Rattle.std.specs.Map.{set_value, remove_entry}
 use Rattle.conn_core.specs.Conns.{is_gone}
 use Rattle.broker_model.specs.Machine.{named, conn_at, left}
 use Rattle.broker_model.specs.Steps.{Serves}
-use Rattle.broker_core.specs.Hosts.{HalvesServe, counts_in, disks_in, ends_over, parts_of}
+use Rattle.broker_core.specs.Hosts.{counts_in, disks_in, ends_over, parts_of}
 use Rattle.broker_core.proofs.Stepping.{on_err, left_at}
 use Rattle.broker_core.proofs.Leading.{go_on_same, halts_so, leads_to}
 use Rattle.broker_core.proofs.client.serve.Goals as goal
@@ -14,7 +14,7 @@ returns-in_err-outcomes-clause-stopped g c =
     let found : conn_at c.args.id es ≡ Some c.in-Some.conn.now = search rules in
     on_err c.from_residual.result
     (λ s k. halts_so g.D.Disk.seen
-    (parts_of c.step.new.hosts) s _ _ _ _
+    (parts_of c.step.new.hosts) s _ _
     (λ a call b h. (
       h.0,
       record { connections = left c.args.id h.1 es; shards = b },
@@ -23,7 +23,6 @@ returns-in_err-outcomes-clause-stopped g c =
           (record { connections = es; shards = a }) c.args.id c.args.now o call h.0 (record { connections = left c.args.id h.1 es; shards = b })) (sym found)
           (record { after = h.1; does = h.2; leaves = refl }),
     ))
-    (λ a b h. subst (λ o. HalvesServe c.args.conf.now (counts_in g.D.Disk.seen (disks_in (parts_of c.args.hosts.now)) (disks_in (parts_of c.step.new.hosts))) (ends_over (parts_of c.args.hosts.now) (parts_of c.step.new.hosts)) c.args.now o a b) (sym found) h)
     (c.in_err-outcomes.ensures.stopped s k))
 
 pub returns-clause-ok : goal.returns-clause-ok

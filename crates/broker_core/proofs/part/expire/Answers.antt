@@ -18,7 +18,7 @@ pub returns-then-starved-clause-stopped : goal.returns-then-starved-clause-stopp
 returns-then-starved-clause-stopped g c =
     let is : c.expire.result ≡ Ok c.in_ok-answer.answer = search rules in
     let steps : Expired g.D.Disk.seen holding c.args.now c.args.part.now c.expire.new.self c.in_ok-answer.answer = subst (λ r. IfOk r (Expired g.D.Disk.seen holding c.args.now c.args.part.now c.expire.new.self)) is c.expire.ensures.once.steps in
-    expire_whole g.D.Disk.seen c.args.part.now c.expire.new.self c.args.now c.in_ok-answer.answer _
+    expire_whole g.D.Disk.seen c.args.part.now c.expire.new.self c.args.now c.in_ok-answer.answer
     (expiry_on g.D.Disk.seen c.args.part.now c.expire.new.self c.args.now c.expire.result c.expire.ensures.once c.expire.ensures.runs) c.expire.ensures.once.log steps
 
 pub returns-clause-ok : goal.returns-clause-ok

@@ -10,7 +10,7 @@ use Rattle.broker_core.proofs.part.visit.Goals as goal
 pub returns-in_err-answer-clause-stopped : goal.returns-in_err-answer-clause-stopped
 returns-in_err-answer-clause-stopped g c =
     let is : c.visit.result ≡ Err c.in_err-answer.field-0.0 = search rules in
-    let memory = subst (λ r. OnErr r (IsUntouched g.D.Disk.seen holding c.args.part.now c.visit.new.self)) is c.visit.ensures.once.memory in
+    let memory = subst (λ r. OnErr r (IsUntouched holding c.args.part.now c.visit.new.self)) is c.visit.ensures.once.memory in
     on_err c.from_residual.result
     (visit_refused g.D.Disk.seen c.args.part.now c.visit.new.self c.args.now c.args.visit.now
     (visit_on g.D.Disk.seen c.args.part.now c.visit.new.self c.args.now c.args.visit.now c.visit.result c.visit.ensures.once c.visit.ensures.runs) memory)
@@ -19,7 +19,7 @@ pub returns-then-starved-clause-stopped : goal.returns-then-starved-clause-stopp
 returns-then-starved-clause-stopped g c =
     let is : c.visit.result ≡ Ok c.in_ok-answer.answer = search rules in
     let steps : Visited g.D.Disk.seen holding c.args.now c.args.visit.now c.args.part.now c.visit.new.self c.visit.ensures.once.unread c.in_ok-answer.answer = subst (λ r. IfOk r (Visited g.D.Disk.seen holding c.args.now c.args.visit.now c.args.part.now c.visit.new.self c.visit.ensures.once.unread)) is c.visit.ensures.once.steps in
-    visit_whole g.D.Disk.seen c.args.part.now c.visit.new.self c.args.now c.args.visit.now c.in_ok-answer.answer c.visit.ensures.once.unread _
+    visit_whole g.D.Disk.seen c.args.part.now c.visit.new.self c.args.now c.args.visit.now c.in_ok-answer.answer c.visit.ensures.once.unread
     (visit_on g.D.Disk.seen c.args.part.now c.visit.new.self c.args.now c.args.visit.now c.visit.result c.visit.ensures.once c.visit.ensures.runs) c.visit.ensures.once.log steps
 
 pub returns-clause-ok : goal.returns-clause-ok

@@ -21,9 +21,8 @@ returns-in-Some-clause-stopped g c =
     let found : shard_named c.args.topic.now c.args.part c.args.conf.now.topics ≡ Some c.in-Some.shard = search rules in
     on_err_weaker c.expire_shard.result
     (λ h s k. halts_so g.D.Disk.seen
-    (parts_of c.expire_shard.new.hosts) s _ _ _ _
+    (parts_of c.expire_shard.new.hosts) s _ _
     (λ a call b d. (d.0, expired_at (counts_in g.D.Disk.seen (disks_in (parts_of c.args.hosts.now)) (disks_in (parts_of c.expire_shard.new.hosts))) (ends_over (parts_of c.args.hosts.now) (parts_of c.expire_shard.new.hosts)) c.args.now c.in-Some.shard d.0 _ found a call b d.1))
-    (λ a b half. (c.in-Some.shard, found, half))
     (h s k))
     c.expire_shard.ensures.stopped
 

@@ -1,6 +1,6 @@
 use Rattle.broker_shards.specs.Hosts.{holding}
 use Rattle.broker_shards.proofs.Finding.{expiry_found}
-use Rattle.broker_shards.proofs.Parting.{expired, expiry_refused, states_go, still_ends, still_runs}
+use Rattle.broker_shards.proofs.Parting.{call_refused, expired, states_go, still_ends, still_runs}
 use Rattle.broker_shards.proofs.part.expire.Goals as goal
 
 pub returns-in-Ok-clause-acts : goal.returns-in-Ok-clause-acts
@@ -12,7 +12,7 @@ returns-in-Ok-clause-goes_on g c = let once = c.in-Ok.ensures.once in
     (still_ends g.D.Disk.seen holding c.args.part.now c.expire.new.self once.log) c.in-Ok.ensures.runs
 
 pub returns-in-Err-clause-acts : goal.returns-in-Err-clause-acts
-returns-in-Err-clause-acts g c = expiry_refused g.D.Disk.seen holding c.args.part.now c.expire.new.self c.args.now c.in-Err.ensures.once.memory
+returns-in-Err-clause-acts g c = call_refused g.D.Disk.seen holding c.args.part.now c.expire.new.self c.in-Err.ensures.once.memory
 
 pub returns-in-Err-clause-goes_on : goal.returns-in-Err-clause-goes_on
 returns-in-Err-clause-goes_on g c = let once = c.in-Err.ensures.once in

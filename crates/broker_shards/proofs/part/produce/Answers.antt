@@ -1,6 +1,6 @@
 use Rattle.broker_shards.specs.Hosts.{holding}
 use Rattle.broker_shards.proofs.Finding.{batch_found}
-use Rattle.broker_shards.proofs.Parting.{added, batch_refused, log_goes}
+use Rattle.broker_shards.proofs.Parting.{added, call_refused, log_goes}
 use Rattle.broker_shards.proofs.part.produce.Goals as goal
 
 pub returns-in-Ok-clause-acts : goal.returns-in-Ok-clause-acts
@@ -12,7 +12,7 @@ returns-in-Ok-clause-goes_on g c = let once = c.produce-added.ensures.once in
     log_goes g.D.Disk.seen holding c.args.part.now c.produce-added.new.self once.conf c.produce-added.ensures.runs once.states once.ends
 
 pub returns-in-Err-clause-acts : goal.returns-in-Err-clause-acts
-returns-in-Err-clause-acts g c = batch_refused g.D.Disk.seen holding c.args.part.now c.produce-added.new.self c.args.now c.args.batch.now
+returns-in-Err-clause-acts g c = call_refused g.D.Disk.seen holding c.args.part.now c.produce-added.new.self
     (c.produce-added.ensures.once.memory c.in-Err.ensures.memory)
 
 pub returns-in-Err-clause-goes_on : goal.returns-in-Err-clause-goes_on

@@ -13,7 +13,7 @@ returns-in-Ok-clause-goes_on g c = let once = c.in-Ok.ensures.once in
     (read_ends g.D.Disk.seen holding c.args.part.now c.visit.new.self once.log.reads) c.in-Ok.ensures.runs
 
 pub returns-in-Err-clause-acts : goal.returns-in-Err-clause-acts
-returns-in-Err-clause-acts g c = visit_refused g.D.Disk.seen holding c.args.part.now c.visit.new.self c.args.now c.args.visit.now c.in-Err.ensures.once.memory
+returns-in-Err-clause-acts g c = visit_refused g.D.Disk.seen holding c.args.part.now c.visit.new.self c.in-Err.ensures.once.memory
 
 pub returns-in-Err-clause-goes_on : goal.returns-in-Err-clause-goes_on
 returns-in-Err-clause-goes_on g c = let once = c.in-Err.ensures.once in

@@ -1,73 +1,29 @@
-use Rattle.std.proofs.Common.{inr, refl, subst, List, ◌≡◌, ℕ}
+use Rattle.std.proofs.Common.{◌≡◌, subst, sym, ℕ, List}
 use Rattle.ack_ranges.specs.Batches.{kind_at}
 use Rattle.coord_checkpoint.specs.Disks.{HasFailed}
+use Rattle.share_coord.specs.States.{states_of}
 use Rattle.share_model.specs.ForeignRules.{share_state_at}
 use Rattle.share_model.specs.declared.ack.AckBatch.{AckBatch}
-use Rattle.share_part.specs.Foreseeing.{JudgesAcks}
+use Rattle.share_part.specs.Foreseeing.{JudgesGiven}
 use Rattle.share_part.specs.Hosting.{key_of}
-use Rattle.share_coord.specs.States.{states_of}
-use Rattle.share_part.specs.Settling.{change_of, held_after}
+use Rattle.share_part.specs.Settling.{held_after}
 use Rattle.share_part.specs.Shards.{held_in, with_held}
-use Rattle.share_part.proofs.Settlement.{all_stored, granted_there, none_stored, reserved_there, start_within}
+use Rattle.share_part.specs.Storing.{AcksOnce, SettlesGroup}
 use Rattle.share_part.proofs.acks.settle_acks.Goals as goal
 
-pub store_change-fault-requires-clause-start : goal.store_change-fault-requires-clause-start
-store_change-fault-requires-clause-start g c =
-    let j = subst (JudgesAcks c.args.conf.now.limit c.args.visit.now c.args.log.now.batches (held_in g.W.Window.held c.args.windows.now.entries c.args.visit.now.group)
-    (share_state_at (states_of c.args.states.now.entries) (key_of c.args.conf.now c.args.visit.now.group)) c.args.rows.now.list) c.in-Changes.is c.requires.judged in
-    start_within c.args.conf.now c.args.log.now.batches c.args.visit.now.group (kind_at c.args.visit.now.acks) (held_in g.W.Window.held c.args.windows.now.entries c.args.visit.now.group) c.args.states.now
-    c.requires.sound c.requires.limit.few c.requires.hosted c.requires.well (change_of c.in-Changes.moved c.args.rows.now.list) j.3
-
-pub store_change-fault-requires-clause-granted : goal.store_change-fault-requires-clause-granted
-store_change-fault-requires-clause-granted g c =
-    let j = subst (JudgesAcks c.args.conf.now.limit c.args.visit.now c.args.log.now.batches (held_in g.W.Window.held c.args.windows.now.entries c.args.visit.now.group)
-    (share_state_at (states_of c.args.states.now.entries) (key_of c.args.conf.now c.args.visit.now.group)) c.args.rows.now.list) c.in-Changes.is c.requires.judged in
-    granted_there c.args.conf.now c.args.log.now.batches c.args.visit.now.group (kind_at c.args.visit.now.acks) (held_in g.W.Window.held c.args.windows.now.entries c.args.visit.now.group) c.args.states.now
-    c.requires.sound c.requires.limit.few c.requires.hosted c.requires.well (change_of c.in-Changes.moved c.args.rows.now.list) j.3 c.key-key.result c.list.result.now c.key-key.ensures c.list.ensures.same
-
-pub returns-in-Some-clause-once : goal.returns-in-Some-clause-once
-returns-in-Some-clause-once g c =
-    let j = subst (JudgesAcks c.args.conf.now.limit c.args.visit.now c.args.log.now.batches (held_in g.W.Window.held c.args.windows.now.entries c.args.visit.now.group)
-    (share_state_at (states_of c.args.states.now.entries) (key_of c.args.conf.now c.args.visit.now.group)) c.args.rows.now.list) c.in-Changes.is c.requires.judged in
-    inr (inr (
-      j.0,
-      j.1,
-      (
-        j.2,
-        (
-          j.1,
-          none_stored c.args.conf.now c.args.log.now.batches c.args.visit.now.group (kind_at c.args.visit.now.acks) (held_in g.W.Window.held c.args.windows.now.entries c.args.visit.now.group) c.args.states.now
-              c.requires.sound c.requires.limit.few c.requires.hosted c.requires.well (change_of c.in-Changes.moved c.args.rows.now.list) j.3 c.key-key.result c.list.result.now c.key-key.ensures c.list.ensures.same
-              g.D.Disk.seen (HasFailed g.D.Disk.seen) c.store_change-fault.new.states c.store_change-fault.result c.in-Some.fault c.in-Some.is c.store_change-fault.ensures.once,
-          λ other. refl,
-        ),
-      ),
-    ))
+pub settle_given-requires-clause-judged : goal.settle_given-requires-clause-judged
+settle_given-requires-clause-judged g c = subst (λ (l : List AckBatch). JudgesGiven c.args.conf.now.limit c.args.visit.now.member l c.args.log.now.batches
+    (held_in g.W.Window.held c.args.windows.now.entries c.args.visit.now.group)
+    (share_state_at (states_of c.args.states.now.entries) (key_of c.args.conf.now c.args.visit.now.group)) c.args.rows.now.list c.args.acks.now)
+    (sym c.as_slice.ensures.items) c.requires.judged
 
 pub returns-clause-once : goal.returns-clause-once
 returns-clause-once g c =
-    let j = subst (JudgesAcks c.args.conf.now.limit c.args.visit.now c.args.log.now.batches (held_in g.W.Window.held c.args.windows.now.entries c.args.visit.now.group)
-    (share_state_at (states_of c.args.states.now.entries) (key_of c.args.conf.now c.args.visit.now.group)) c.args.rows.now.list) c.in-Changes.is c.requires.judged in
-    inr (inr (
-      j.0,
-      j.1,
-      (
-        j.2,
-        inr (
-          j.1,
-          all_stored c.args.conf.now c.args.log.now.batches c.args.visit.now.group (kind_at c.args.visit.now.acks) (held_in g.W.Window.held c.args.windows.now.entries c.args.visit.now.group) c.args.states.now
-              c.requires.sound c.requires.limit.few c.requires.hosted c.requires.well (change_of c.in-Changes.moved c.args.rows.now.list) j.3 c.key-key.result c.list.result.now c.key-key.ensures c.list.ensures.same
-              g.D.Disk.seen (HasFailed g.D.Disk.seen) c.store_change-fault.new.states c.store_change-fault.result c.in_default.is c.store_change-fault.ensures.once,
-          subst (λ (l : List AckBatch). (other : List ℕ) → held_in g.W.Window.held c.end_acknowledged.new.windows.entries other ≡ with_held (held_in g.W.Window.held c.args.windows.now.entries) c.args.visit.now.group
-              (held_after (kind_at l) (held_in g.W.Window.held c.args.windows.now.entries c.args.visit.now.group)) other) c.as_slice.ensures.items c.end_acknowledged.ensures.held,
-        ),
-      ),
-    ))
-
-pub store_change-fault-requires-clause-reserved : goal.store_change-fault-requires-clause-reserved
-store_change-fault-requires-clause-reserved g c =
-    let j = subst (JudgesAcks c.args.conf.now.limit c.args.visit.now c.args.log.now.batches (held_in g.W.Window.held c.args.windows.now.entries c.args.visit.now.group)
-    (share_state_at (states_of c.args.states.now.entries) (key_of c.args.conf.now c.args.visit.now.group)) c.args.rows.now.list) c.in-Changes.is c.requires.judged in
-    reserved_there c.args.conf.now c.args.log.now.batches c.args.visit.now.group (kind_at c.args.visit.now.acks) (held_in g.W.Window.held c.args.windows.now.entries c.args.visit.now.group) c.args.states.now
-    c.requires.sound c.requires.limit.few c.requires.hosted c.requires.well (change_of c.in-Changes.moved c.args.rows.now.list) j.3 c.key-key.result c.list.result.now c.key-key.ensures c.list.ensures.same
-    (c.requires.canonical c.in-Changes.moved c.in-Changes.is j.3.0 j.3.1) c.args.states.now.room c.requires.room
+    let held = held_in g.W.Window.held c.args.windows.now.entries in
+    let after = held_in g.W.Window.held c.settle_given.new.windows.entries in
+    let group = c.args.visit.now.group in
+    subst (λ (l : List AckBatch). AcksOnce l ((c.settle_given.new.states ≡ c.args.states.now) × ((other : List ℕ) → after other ≡ held other))
+    (SettlesGroup g.D.Disk.seen (HasFailed g.D.Disk.seen) c.args.conf.now c.args.log.now.batches group c.args.visit.now.member (kind_at l) (held group)
+    c.args.states.now c.settle_given.new.states ((other : List ℕ) → after other ≡ held other)
+    ((other : List ℕ) → after other ≡ with_held held group (held_after (kind_at l) (held group)) other)) c.settle_given.result)
+    c.as_slice.ensures.items c.settle_given.ensures.once

@@ -1,7 +1,7 @@
 use Rattle.std.proofs.Common.{◌≡◌, ◌∙◌, refl, arith, to_z, of_z, w64}
 use Rattle.std.specs.Prelude.{Ok, Err, Some, None}
 use Rattle.std.proofs.lemmas.Int.{to_z-of_z}
-use Rattle.share_part.proofs.Keeping.{granted_own, stored_own}
+use Rattle.share_part.proofs.Keeping.{granted_own, moments_own, stored_own}
 use Rattle.share_part.proofs.storing.store_alone.Goals as goal
 
 pub write_reserved-requires : goal.write_reserved-requires
@@ -20,3 +20,15 @@ returns-in-Err-clause-once g c =
     let same : to_z w64 (of_z w64 c.start_number.result) ≡ c.start_number.result = grind (arith, to_z-of_z) in
     stored_own c.args.states.now.entries c.args.key.now c.args.start _ c.args.runs.now c.args.states.now.room (same ∙ c.start_number.ensures) c.requires.reserved
     g.D.Disk.seen c.args.states.now c.write_reserved.new.self (Err c.in-Err.fault) (Some c.in-Err.fault) refl c.in-Err.ensures.once c.in-Err.ensures.stored
+
+pub returns-in-Ok-clause-moments : goal.returns-in-Ok-clause-moments
+returns-in-Ok-clause-moments g c =
+    let same : to_z w64 (of_z w64 c.start_number.result) ≡ c.start_number.result = grind (arith, to_z-of_z) in
+    moments_own c.args.states.now.entries c.args.key.now c.args.start _ c.args.runs.now c.args.states.now.room (same ∙ c.start_number.ensures) c.requires.reserved
+    g.D.Disk.seen c.args.states.now c.write_reserved.new.self (Ok c.in-Ok.field-0) c.in-Ok.ensures.once
+
+pub returns-in-Err-clause-moments : goal.returns-in-Err-clause-moments
+returns-in-Err-clause-moments g c =
+    let same : to_z w64 (of_z w64 c.start_number.result) ≡ c.start_number.result = grind (arith, to_z-of_z) in
+    moments_own c.args.states.now.entries c.args.key.now c.args.start _ c.args.runs.now c.args.states.now.room (same ∙ c.start_number.ensures) c.requires.reserved
+    g.D.Disk.seen c.args.states.now c.write_reserved.new.self (Err c.in-Err.fault) c.in-Err.ensures.once

@@ -9,7 +9,6 @@ use Rattle.share_part.specs.Once.{VisitsOnce}
 use Rattle.share_part.specs.Shards.{PartParts}
 use Rattle.share_part.proofs.Acked.{stands, unfollowed, unheld_by, visited}
 use Rattle.share_part.proofs.Failing.{run_then}
-use Rattle.share_part.proofs.Looked.{nothing_read}
 use Rattle.share_part.proofs.Visiting.{err_is}
 use Rattle.share_part.proofs.shard.PartShard.visit_plain.Goals as goal
 
@@ -24,7 +23,7 @@ pub returns-in-Err-clause-once : goal.returns-in-Err-clause-once
 returns-in-Err-clause-once g c = rw (← c.self.view_is) (unfollowed g.D.Disk.seen g.W.Window.held c.args.visit.now
     (record { conf = c.self.inside.conf; log = c.self.inside.log; states = c.self.inside.states; windows = c.self.inside.windows.entries; clock = c.self.inside.clock })
     c.settle_acks-ack.new.states c.settle_acks-ack.new.windows.entries c.self.invariant.log_is c.settle_acks-ack.ensures.range.few c.self.invariant.hosted c.self.invariant.holds c.args.now c.follow.new.self c.settle_acks-ack.result c.settle_acks-ack.ensures.once c.settle_acks-ack.ensures.runs c.follow.ensures.runs
-    (nothing_read g.D.Disk.seen g.met.D.Disk.only_now c.self.inside.log).reads _ c.follow.result c.in-Err.is c.follow.ensures.once
+    _ c.follow.result c.in-Err.is c.follow.ensures.once
     (unheld_by g.D.Disk.seen g.W.Window.held c.args.visit.now
     (record { conf = c.self.inside.conf; log = c.self.inside.log; states = c.self.inside.states; windows = c.self.inside.windows.entries; clock = c.self.inside.clock })
     c.settle_acks-ack.new.states c.settle_acks-ack.new.windows.entries c.self.invariant.log_is c.settle_acks-ack.ensures.range.few c.self.invariant.hosted c.self.invariant.holds

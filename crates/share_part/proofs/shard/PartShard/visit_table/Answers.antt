@@ -11,7 +11,6 @@ use Rattle.share_model.specs.Held.{Held}
 use Rattle.share_model.specs.Logs.{Batch, end_of}
 use Rattle.share_model.specs.Rooms.{Filled}
 use Rattle.share_model.specs.declared.visit.VisitAnswer.{VisitAnswer}
-use Rattle.share_part.specs.Following.{IsFetch}
 use Rattle.share_part.specs.Foreseeing.{HasRoomFor, JudgesAcks}
 use Rattle.share_part.specs.Hosting.{AreHosted, key_of}
 use Rattle.share_part.specs.Making.{numbered_bytes, state_for}
@@ -23,7 +22,8 @@ use Rattle.share_part.proofs.Appending.{all_within, numbered_is}
 use Rattle.share_part.proofs.Failing.{run_none}
 use Rattle.share_part.proofs.Holding.{AreKept, same_kept}
 use Rattle.share_part.proofs.Looked.{nothing_read, read_all, read_not}
-use Rattle.share_part.proofs.Visiting.{err_is, fetched, held_by, took_by, unread_so, wells_took}
+use Rattle.share_part.proofs.Unreads.{unread_so}
+use Rattle.share_part.proofs.Visiting.{err_is, fetched, held_by, took_by, wells_took}
 use Rattle.share_part.proofs.shard.PartShard.visit_table.Goals as goal
 
 pub returns-in_err-ready-clause-once : goal.returns-in_err-ready-clause-once
@@ -103,6 +103,17 @@ invariant_of-self-in-Err g c =
 
 pub returns-in-Err-clause-once : goal.returns-in-Err-clause-once
 returns-in-Err-clause-once g c =
+    let goes = (goes_by g.D.Disk.seen g.W.Window.held c.args.visit.now
+    (record { conf = c.self.inside.conf; log = c.self.inside.log; states = c.self.inside.states; windows = c.self.inside.windows.entries; clock = c.self.inside.clock })
+    c.settle_acks-ack.new.states c.settle_acks-ack.new.windows.entries c.self.invariant.log_is c.settle_acks-ack.ensures.range.few c.self.invariant.hosted c.self.invariant.holds
+    c.args.limits (subst (λ (p : PartParts g.row.D.Denot g.row.W.Denot). IsSome (share_state_at (states_of p.states.entries) (key_of p.conf c.args.visit.now.group))) (sym c.self.view_is) c.requires.table)
+    c.judge_acks-acks.new.rows.list c.judge_acks-acks.result c.in_ok-ready.ready.stays c.in_ok-ready.ready.moves c.judge_acks-acks.ensures.judged
+    c.in_ok-ready.ensures.ready.stays c.in_ok-ready.ensures.ready.moves c.chosen-plan.result.0 c.settle_acks-ack.result
+    (acked_from g.D.Disk.seen g.W.Window.held c.args.visit.now
+    (record { conf = c.self.inside.conf; log = c.self.inside.log; states = c.self.inside.states; windows = c.self.inside.windows.entries; clock = c.self.inside.clock })
+    c.settle_acks-ack.new.states c.settle_acks-ack.new.windows.entries c.self.invariant.log_is c.settle_acks-ack.ensures.range.few c.self.invariant.hosted c.self.invariant.holds
+    (held_in g.W.Window.held c.ready.new.windows.entries) c.in_ok-ready.ensures.held c.settle_acks-ack.result c.settle_acks-ack.ensures.once)
+    c.settle_acks-ack.ensures.malformed c.chosen-plan.ensures.done c.chosen-plan.ensures.others) in
     rw (← c.self.view_is) (subst (λ (a : VisitAnswer). VisitsOnce g.D.Disk.seen g.W.Window.held c.args.now c.args.visit.now
     (record { conf = c.self.inside.conf; log = c.self.inside.log; states = c.self.inside.states; windows = c.self.inside.windows.entries; clock = c.self.inside.clock }) (record { conf = c.self.inside.conf; log = c.append_batches.new.log; states = c.settle_acks-ack.new.states; windows = c.settle_acks-ack.new.windows.entries; clock = c.max-self-inside.result }) (Ok a)) (sym c.with_ack.ensures)
     (visited g.D.Disk.seen g.W.Window.held c.args.visit.now
@@ -114,8 +125,9 @@ returns-in-Err-clause-once g c =
     (held_in g.W.Window.held c.ready.new.windows.entries) c.in_ok-ready.ensures.held c.settle_acks-ack.result c.settle_acks-ack.ensures.once)
     c.settle_acks-ack.ensures.runs (run_none g.D.Disk.seen c.settle_acks-ack.new.states)
     c.unread.result (Ok c.unread.result) refl
-    (unread_so g.D.Disk.seen g.W.Window.held c.args.now c.args.visit.now (record { conf = c.self.inside.conf; log = c.self.inside.log; states = c.settle_acks-ack.new.states; windows = c.settle_acks-ack.new.windows.entries; clock = c.self.inside.clock }) (record { conf = c.self.inside.conf; log = c.append_batches.new.log; states = c.settle_acks-ack.new.states; windows = c.settle_acks-ack.new.windows.entries; clock = c.max-self-inside.result }) refl (read_not g.D.Disk.seen c.self.inside.log c.append_batches.new.log c.append_batches.result (err_is c.append_batches.result _ c.in-Err.is) c.append_batches.ensures.log) refl
-    (subst IsFetch (sym c.requires.fetch) tt) c.unread.result c.unread.ensures.ack c.unread.ensures.answer (λ group. refl) c.max-self-inside.ensures)))
+    (unread_so g.D.Disk.seen g.W.Window.held c.args.now c.args.visit.now (record { conf = c.self.inside.conf; log = c.self.inside.log; states = c.settle_acks-ack.new.states; windows = c.settle_acks-ack.new.windows.entries; clock = c.self.inside.clock }) (record { conf = c.self.inside.conf; log = c.append_batches.new.log; states = c.settle_acks-ack.new.states; windows = c.settle_acks-ack.new.windows.entries; clock = c.max-self-inside.result }) refl (read_not g.D.Disk.seen c.self.inside.log c.append_batches.new.log c.append_batches.result (err_is c.append_batches.result _ c.in-Err.is) c.append_batches.ensures.log)
+    c.args.limits c.requires.fetch c.unread.result c.unread.ensures.ack c.unread.ensures.answer (λ group. refl) c.max-self-inside.ensures
+    (Ok _) refl (made_there g.D.Disk.seen c.self.inside.conf c.args.visit.now.group (log_in c.self.inside.log) c.settle_acks-ack.new.states goes.its goes.there))))
 
 pub hand_out-answer-requires-clause-plan : goal.hand_out-answer-requires-clause-plan
 hand_out-answer-requires-clause-plan g c = (

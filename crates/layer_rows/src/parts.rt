@@ -1,0 +1,227 @@
+// The shard of a hosted partition, on three disks in memory. New groups begin at the log's start, a lock lasts 30000
+// milliseconds, and a record goes out five times at most. All is at the moment 0.
+//
+// | Line | Gives |
+// |---|---|
+// | `open` | a shard on empty disks: `ok` |
+// | `produce HEX ..` | adds a batch: its base, or why it is refused |
+// | `fetch GROUP MEMBER` | acquires what there is: `FIRST..LAST xCOUNT, ..`, or `fails` |
+// | `reserve NUMBER` | makes the spare number so large |
+// | `arm DISK N MODE` | N calls on `log`, `state-a` or `state-b` pass, and the next fails: `once`, `torn` or `dead` |
+// | `acknowledge GROUP MEMBER FIRST..LAST:TYPE,TYPE ..` | in memory that is set aside: `done`, `malformed`, `not held OFFSET`, `fails`, `full END` |
+// | `table GROUP` | its start, and the runs of its stored rows |
+use crate::acks::{batches_of, type_count};
+use crate::disks::{mode_of, new_disk, word_number};
+use crate::logs::answer_text;
+use crate::plain::word;
+use crate::runs::{done_text, list_text};
+use edge_io::DiskPlace;
+use edge_mem::MemDisk;
+use flex_fields::Items;
+use row_text::bytes_of;
+use share_model::{
+    AckList, AckOutcome, Grant, Name, NoMemory, Reset, StoreFault, Then, ThenOutcome, Visit,
+    VisitAnswer,
+};
+use share_part::{PartConf, PartShard};
+use std::alloc::Global;
+use std::{io, mem};
+use uuid::Uuid;
+use window_runs::WindowRuns;
+
+/// A shard, once one is opened.
+#[derive(Drop)]
+pub enum Parts {
+    None,
+    Shard(PartShard<MemDisk, WindowRuns>),
+}
+
+/// A shard on empty disks.
+fn opened(alloc: Global) -> io::Result<Parts> {
+    let log = new_disk(alloc, Vec::new(alloc))?;
+    let first = new_disk(alloc, Vec::new(alloc))?;
+    let second = new_disk(alloc, Vec::new(alloc))?;
+    let topic = Uuid::from_bytes([0x11; 16]);
+    let conf = PartConf::new(topic, 0, Reset::Earliest, 30000, 5);
+    match PartShard::open(alloc, (log, first, second), conf) {
+        Ok(shard) => Ok(Parts::Shard(shard)),
+        Err(_) => Ok(Parts::None),
+    }
+}
+
+/// Adds grants.
+fn grants_text(alloc: Global, grants: &[Grant]) -> io::Result<String> {
+    let mut text = String::new(alloc);
+    for grant in grants {
+        let Grant { first, last, count } = *grant;
+        let one = format!(in alloc; ", {first}..{last} x{count}")?;
+        text.push_str(one.as_str())?;
+    }
+    match text.as_str().strip_prefix(", ") {
+        Some(text) => word(alloc, text),
+        None => word(alloc, "none"),
+    }
+}
+
+fn fetched_text(alloc: Global, answer: &VisitAnswer) -> io::Result<String> {
+    match answer.then {
+        ThenOutcome::Done => grants_text(alloc, answer.grants.as_slice()),
+        ThenOutcome::Store(_) => word(alloc, "fails"),
+    }
+}
+
+/// The group and the member of words, and what stands behind them.
+fn names_of(text: &str) -> Option<(Name, Name, &str)> {
+    let (group, rest) = text.split_once(' ')?;
+    let (member, rest) = rest.split_once(' ').unwrap_or((rest, ""));
+    Some((Name::new(group)?, Name::new(member)?, rest))
+}
+
+/// Acquires what there is for a member of a group.
+fn fetch(
+    alloc: Global,
+    shard: &mut PartShard<MemDisk, WindowRuns>,
+    group: Name,
+    member: Name,
+) -> io::Result<String> {
+    let visit = Visit {
+        group,
+        member,
+        acks: AckList::new(Items::new(Vec::new(alloc))),
+        then: Then::Fetch {
+            records: 500,
+            bytes: 1 << 20,
+            first: true,
+        },
+    };
+    match shard.visit(0, &visit) {
+        Ok(answer) => fetched_text(alloc, &answer),
+        Err(_) => word(alloc, "no memory"),
+    }
+}
+
+fn outcome_text(alloc: Global, outcome: AckOutcome) -> io::Result<String> {
+    match outcome {
+        AckOutcome::Done => word(alloc, "done"),
+        AckOutcome::Malformed(_) => word(alloc, "malformed"),
+        AckOutcome::NotHeld { offset } => word_number(alloc, "not held", offset),
+        AckOutcome::Store(StoreFault::Device) => word(alloc, "fails"),
+        AckOutcome::Store(StoreFault::Full { end }) => word_number(alloc, "full", end),
+    }
+}
+
+/// Acknowledges what words say, in memory that is set aside.
+fn acknowledge(
+    alloc: Global,
+    shard: &mut PartShard<MemDisk, WindowRuns>,
+    group: &Name,
+    member: &Name,
+    words: &str,
+) -> io::Result<String> {
+    let batches = batches_of(alloc, words)?;
+    if type_count(&batches).is_none() || batches.len() >= 1 << 31 {
+        return word(alloc, "too many");
+    }
+    let outcome = shard.ack_reserved(0, group, member, &batches);
+    outcome_text(alloc, outcome)
+}
+
+/// Adds a batch. `None` where the text isn't one of bytes.
+fn produce(
+    alloc: Global,
+    shard: &mut PartShard<MemDisk, WindowRuns>,
+    text: &str,
+) -> io::Result<Option<String>> {
+    let Some(batch) = bytes_of(alloc, text)? else {
+        return Ok(None);
+    };
+    let answer = shard.produce(0, &batch);
+    Ok(Some(answer_text(alloc, answer)?))
+}
+
+fn reserve(shard: &mut PartShard<MemDisk, WindowRuns>, text: &str) -> Option<Result<(), NoMemory>> {
+    Some(shard.reserve(text.parse().ok()?))
+}
+
+/// A fault of one of the three disks is armed. `None` where there is no such disk.
+fn arm(shard: &mut PartShard<MemDisk, WindowRuns>, text: &str) -> Option<Result<(), NoMemory>> {
+    let mut words = text.split(' ');
+    let disk = match words.next()? {
+        "log" => DiskPlace::Log,
+        "state-a" => DiskPlace::StateA,
+        "state-b" => DiskPlace::StateB,
+        _ => return None,
+    };
+    shard.arm(disk, words.next()?.parse().ok()?, mode_of(words.next()?));
+    Some(Ok(()))
+}
+
+/// The start of a group's table and the runs of its stored rows.
+fn table_text(
+    alloc: Global,
+    shard: &PartShard<MemDisk, WindowRuns>,
+    text: &str,
+) -> io::Result<String> {
+    let Some(group) = Name::new(text) else {
+        return word(alloc, "no such words");
+    };
+    let Some(view) = shard.look_state(&group) else {
+        return word(alloc, "none");
+    };
+    let rows = list_text(alloc, view.runs.list())?;
+    Ok(format!(in alloc; "start {}, {rows}", view.start)?)
+}
+
+/// Does a line that names a member of a group. `None` where there is no such line.
+fn on_names(
+    alloc: Global,
+    shard: &mut PartShard<MemDisk, WindowRuns>,
+    kind: &str,
+    text: &str,
+) -> io::Result<Option<String>> {
+    let Some((group, member, rest)) = names_of(text) else {
+        return Ok(None);
+    };
+    let told = match kind {
+        "fetch" => fetch(alloc, shard, group, member),
+        "acknowledge" => acknowledge(alloc, shard, &group, &member, rest),
+        _ => return Ok(None),
+    };
+    Ok(Some(told?))
+}
+
+/// Does a line on a shard. `None` where there is no such line.
+fn told_by(
+    alloc: Global,
+    shard: &mut PartShard<MemDisk, WindowRuns>,
+    kind: &str,
+    text: &str,
+) -> io::Result<Option<String>> {
+    let told = match kind {
+        "produce" => return produce(alloc, shard, text),
+        "reserve" => done_text(alloc, reserve(shard, text)),
+        "arm" => done_text(alloc, arm(shard, text)),
+        "table" => table_text(alloc, shard, text),
+        _ => return on_names(alloc, shard, kind, text),
+    };
+    Ok(Some(told?))
+}
+
+impl Parts {
+    /// Puts another shard in place of this one.
+    pub fn set(&mut self, parts: Parts) {
+        drop(mem::replace(self, parts));
+    }
+
+    /// What a line gives. `None` where there is no such line.
+    pub fn told(&mut self, alloc: Global, kind: &str, text: &str) -> io::Result<Option<String>> {
+        if kind == "open" {
+            self.set(opened(alloc)?);
+            return Ok(Some(word(alloc, "ok")?));
+        }
+        match self {
+            Parts::None => Ok(None),
+            Parts::Shard(shard) => told_by(alloc, shard, kind, text),
+        }
+    }
+}
